@@ -1,0 +1,7 @@
+-- What a message carries.
+use Rattle.std.specs.Prelude.{ℕ, List}
+
+-- a name and a body, as bytes
+pub record Content : Type 0 where
+  pub name : List ℕ
+  pub body : List ℕ

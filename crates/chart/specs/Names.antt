@@ -1,0 +1,38 @@
+-- What a name is, and the first fault of bytes that are none.
+use Rattle.std.specs.Prelude.{◌≡◌, ℕ, ◌+◌, Bool, true, false, not, ◌||◌, ◌&&◌, List, [], ◌∷◌, length, Option, None, Some, Result, Ok, Err, position, option_map, codes, bytes_eq, nat_lt, nat_le, ◌==◌, if◌then◌else◌}
+use Rattle.chart.specs.declared.name.NameError.{NameError}
+use Rattle.chart.specs.declared.name.NameError.TheVariants.{Empty, TooLong, BadByte, Reserved}
+use Rattle.chart.specs.declared.name.TheConstants.{MAX_NAME}
+
+-- A to Z or a to z
+abbrev pub is_letter : ℕ → Bool
+is_letter b = (nat_le 65 b && nat_le b 90) || (nat_le 97 b && nat_le b 122)
+
+-- a letter, 0 to 9 or _
+abbrev pub is_name_byte : ℕ → Bool
+is_name_byte b = is_letter b || (nat_le 48 b && nat_le b 57) || b == 95
+
+-- the first place, from 1, of a byte that doesn't belong: a name is a letter, and then letters, digits and _
+abbrev pub bad_place : List ℕ → Option ℕ
+bad_place [] = None
+bad_place (b ∷ bs) = if is_letter b then option_map (λ i. i + 2) (position (λ c. not (is_name_byte c)) bs) else Some 1
+
+-- the words that the chart text keeps for itself
+unfoldable pub is_reserved : List ℕ → Bool
+is_reserved w =
+    bytes_eq w (codes "msc") || bytes_eq w (codes "endmsc") || bytes_eq w (codes "instance") || bytes_eq w (codes "endinstance")
+    || bytes_eq w (codes "out") || bytes_eq w (codes "to") || bytes_eq w (codes "in") || bytes_eq w (codes "from")
+    || bytes_eq w (codes "concurrent") || bytes_eq w (codes "endconcurrent")
+
+-- the bytes as a name, or their first fault
+unfoldable pub name_of : List ℕ → Result (List ℕ) NameError
+name_of w =
+    if length w == 0 then Err Empty else (if nat_lt MAX_NAME (length w) then Err TooLong else (bad_or_reserved (bad_place w)))
+  where
+    bad_or_reserved : Option ℕ → Result (List ℕ) NameError
+    bad_or_reserved (Some place) = Err (BadByte place)
+    bad_or_reserved None = if is_reserved w then Err Reserved else Ok w
+
+-- the bytes are a name
+abbrev pub IsName : List ℕ → Type 0
+IsName w = name_of w ≡ Ok w

@@ -1,0 +1,15 @@
+//! The events of a history: of all instances, in one order.
+
+use crate::instance::InstanceNo;
+use crate::message::Message;
+
+/// What an instance did. Contracts alone speak of histories, so no value of this type is made.
+#[derive(Drop)]
+pub enum Event {
+    /// The first instance sends the message to the second.
+    Send(InstanceNo, InstanceNo, Message),
+    /// The first instance receives from the second, in this coregion, or outside of one at 0.
+    Receive(InstanceNo, InstanceNo, u32),
+    /// The first instance closes the lane to the second.
+    Close(InstanceNo, InstanceNo),
+}

@@ -1,0 +1,18 @@
+//! Message sequence charts: instances, names, messages, events, lines and charts, each within its limits.
+//!
+//! `specs/` has the definitions that every promise of this repository cites: histories, the chart of a
+//! history, the enforced order, reports and clocks.
+#![tactic(auto)]
+
+mod event;
+pub mod history;
+mod instance;
+mod line;
+mod message;
+mod name;
+
+pub use event::Event;
+pub use instance::{EventNo, InstanceNo, MAX_INSTANCES};
+pub use line::MAX_EVENTS;
+pub use message::{MAX_BODY, Message};
+pub use name::{MAX_NAME, Name, NameError};

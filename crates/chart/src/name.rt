@@ -1,0 +1,192 @@
+//! The names of instances and messages.
+ghost use Rattle.std.specs.Prelude.{◌≡◌, ◌≤◌, ◌<◌, length, nat_eq, bytes_eq, [], ◌∷◌, position, not, replicate, IfSome};
+ghost use Rattle.std.specs.Cmp.{on_equiv, on_per, partial_equiv_from_equiv};
+ghost use Rattle.std.specs.Cmp.Lexicographic.{pointwise, nat_list_eq_equiv};
+ghost use Rattle.std.specs.Cmp.Rules.{hashing};
+ghost use Rattle.std.proofs.Common.{rules};
+ghost use Rattle.chart.specs.Names.{IsName, name_of, bad_place, is_letter, is_name_byte, is_reserved};
+ghost use Rattle.chart.specs.declared.name.TheConstants.{MAX_NAME};
+
+use std::hash::{Hash, Hasher};
+use std::marker::Model;
+use thiserror::Error;
+
+/// The most bytes in a name.
+pub const MAX_NAME: usize = 32;
+
+/// Why bytes are no name: the first of these that applies.
+#[derive(Clone, Copy, Debug, PartialEq, Eq, Error)]
+pub enum NameError {
+    /// F1: there are no bytes.
+    #[error("the name is empty")]
+    Empty,
+    /// F2: there are more than [`MAX_NAME`] bytes.
+    #[error("the name is longer than 32 bytes")]
+    TooLong,
+    /// F3: the byte at this place, from 1, is the first that doesn't belong. A name is a letter `A` to `Z` or
+    /// `a` to `z`, and then letters, digits and `_`.
+    #[error("byte {0} doesn't belong in a name")]
+    BadByte(usize),
+    /// F4: the chart text keeps the word for itself.
+    #[error("the name is a reserved word")]
+    Reserved,
+}
+
+/// The name of an instance or of a message: 1 to [`MAX_NAME`] bytes, held in place. A contract sees the bytes.
+#[derive(Clone, Copy, Debug)]
+pub struct Name {
+    bytes: [u8; 32],
+    len: u64,
+}
+
+impl Model for Name {
+    ghost use Rattle.std.specs.Prelude.{◌≡◌, ◌≤◌, ◌-◌, ◌++◌, ℕ, List, length, take, drop, replicate};
+    ghost use Rattle.chart.specs.declared.name.TheConstants.{MAX_NAME};
+
+    ghost Value = { List ℕ };
+
+    ghost use Rattle.chart.specs.Names.{IsName};
+    ghost use Rattle.chart.specs.Padding.{unpadded, length-unpadded};
+
+    ghost view = { λ n. take n.len n.bytes };
+
+    ghost invariant = { λ n. (n.len ≤ MAX_NAME) × IsName (take n.len n.bytes) × (drop n.len n.bytes ≡ replicate (MAX_NAME - n.len) 0) × (length n.bytes ≡ MAX_NAME) };
+
+    ghost inverse = { λ w. record { bytes = w ++ replicate (MAX_NAME - length w) 0; len = length w } };
+
+    ghost inverse_ok = { λ n h i. record { bytes = unpadded MAX_NAME n.len n.bytes h.0 h.2 h.3 i; len = length-unpadded MAX_NAME n.len n.bytes h.0 h.3 i } };
+}
+
+fn is_letter(byte: u8) -> bool
+    ensures { result ≡ is_letter byte }
+{
+    (b'A' <= byte && byte <= b'Z') || (b'a' <= byte && byte <= b'z')
+}
+
+fn is_name_byte(byte: u8) -> bool
+    ensures { result ≡ is_name_byte byte }
+{
+    is_letter(byte) || (b'0' <= byte && byte <= b'9') || byte == b'_'
+}
+
+fn first_other(bytes: &[u8]) -> Option<usize>
+    ensures value { result ≡ position (λ b. not (is_name_byte b)) bytes.now }
+    ensures within { IfSome result (λ place. place < length bytes.now) }
+{
+    bytes.iter().position(|b| !is_name_byte(*b))
+}
+
+/// The first place, from 1, of a byte that doesn't belong in a name.
+fn bad_place(bytes: &[u8]) -> Option<usize>
+    requires { length bytes.now ≤ MAX_NAME }
+    ensures { result ≡ bad_place bytes.now }
+{
+    match bytes {
+        [] => None,
+        [first, rest @ ..] => {
+            if !is_letter(*first) {
+                return Some(1);
+            }
+            match first_other(rest) {
+                None => None,
+                Some(place) => Some(place + 2),
+            }
+        }
+    }
+}
+
+fn is(word: &[u8], other: &[u8]) -> bool
+    ensures { result ≡ bytes_eq word.now other.now }
+{
+    word == other
+}
+
+#[tactic(auto, unfolding(crate::specs::Names::is_reserved))]
+fn is_reserved(word: &[u8]) -> bool
+    ensures { result ≡ is_reserved word.now }
+{
+    is(word, b"msc")
+        || is(word, b"endmsc")
+        || is(word, b"instance")
+        || is(word, b"endinstance")
+        || is(word, b"out")
+        || is(word, b"to")
+        || is(word, b"in")
+        || is(word, b"from")
+        || is(word, b"concurrent")
+        || is(word, b"endconcurrent")
+}
+
+fn zeros() -> [u8; MAX_NAME]
+    ensures { result ≡ replicate MAX_NAME 0 }
+{
+    [0; MAX_NAME]
+}
+
+impl Name {
+    /// The bytes as a name, or the first of F1 to F4 that applies. It takes no memory.
+    #[tactic(auto, unfolding(crate::specs::Names::name_of))]
+    pub fn new(bytes: &[u8]) -> Result<Name, NameError>
+        ensures { result ≡ name_of bytes.now }
+    {
+        if bytes.is_empty() {
+            return Err(NameError::Empty);
+        }
+        if bytes.len() > MAX_NAME {
+            return Err(NameError::TooLong);
+        }
+        if let Some(place) = bad_place(bytes) {
+            return Err(NameError::BadByte(place));
+        }
+        if is_reserved(bytes) {
+            return Err(NameError::Reserved);
+        }
+        Ok(Name::held(bytes))
+    }
+
+    /// The name that these bytes are.
+    fn held(bytes: &[u8]) -> Name
+        requires name { IsName bytes.now }
+        requires short { length bytes.now ≤ MAX_NAME }
+        ensures { result ≡ bytes.now }
+    {
+        let mut held = zeros();
+        held[..bytes.len()].copy_from_slice(bytes);
+        Name {
+            bytes: held,
+            len: bytes.len() as u64,
+        }
+    }
+
+    pub fn as_bytes(&self) -> &[u8]
+        ensures value { result.now ≡ self.now }
+        ensures name { IsName result.now }
+        ensures short { length result.now ≤ MAX_NAME }
+    {
+        &self.bytes[..self.len as usize]
+    }
+}
+
+impl PartialEq for Name {
+    ghost eq = { pointwise nat_eq };
+
+    ghost laws = { partial_equiv_from_equiv nat_list_eq_equiv };
+
+    fn eq(&self, other: &Name) -> bool {
+        self.as_bytes() == other.as_bytes()
+    }
+}
+
+impl Eq for Name {
+    ghost laws = { nat_list_eq_equiv };
+}
+
+impl Hash for Name {
+    ghost hash_input = { λ n. n ∷ [] };
+
+    ghost respects_eq = { Prim.search (hashing, rules) };
+
+    fn hash<H: Hasher>(&self, state: &mut H) {
+        state.write(self.as_bytes());
+    }
+}
