@@ -1,8 +1,12 @@
 pub mod Charts
 pub mod Histories
 pub mod Knowing
+pub mod LineLayout
 pub mod Marks
 pub mod Messages
+pub mod NameSets
 pub mod Names
 pub mod Order
 pub mod Padding
+pub mod Reports
+pub mod Runs

@@ -1,5 +1,5 @@
 -- What a name is, and the first fault of bytes that are none.
-use Rattle.std.specs.Prelude.{◌≡◌, ℕ, ◌+◌, Bool, true, false, not, ◌||◌, ◌&&◌, List, [], ◌∷◌, length, Option, None, Some, Result, Ok, Err, position, option_map, codes, bytes_eq, nat_lt, nat_le, ◌==◌, if◌then◌else◌}
+use Rattle.std.specs.Prelude.{◌≡◌, ℕ, suc, ◌+◌, Bool, true, false, not, ◌||◌, ◌&&◌, List, [], ◌∷◌, length, Option, None, Some, Result, Ok, Err, position, option_map, codes, bytes_eq, nat_lt, nat_le, ◌==◌, if◌then◌else◌}
 use Rattle.chart.specs.declared.name.NameError.{NameError}
 use Rattle.chart.specs.declared.name.NameError.TheVariants.{Empty, TooLong, BadByte, Reserved}
 use Rattle.chart.specs.declared.name.TheConstants.{MAX_NAME}
@@ -36,3 +36,7 @@ name_of w =
 -- the bytes are a name
 abbrev pub IsName : List ℕ → Type 0
 IsName w = name_of w ≡ Ok w
+
+-- the instance that has the name: its place in the list of names, from 1
+abbrev pub instance_of : List (List ℕ) → List ℕ → Option ℕ
+instance_of names w = option_map suc (position (bytes_eq w) names)

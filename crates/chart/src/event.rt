@@ -1,5 +1,4 @@
 //! The events of a line.
-
 use crate::instance::InstanceNo;
 use crate::name::Name;
 
@@ -16,4 +15,56 @@ pub enum Event {
         /// The coregion that the receive is in, counted along the line from 1, or 0 outside of one.
         region: u32,
     },
+}
+
+impl Event {
+    ghost use Rattle.std.specs.Prelude.{◌≡◌};
+    ghost use Rattle.chart.specs.Marks.{partner_of, name_of, region_of, is_receive_from, is_in};
+
+    /// The instance at the other end of the message.
+    pub fn partner(&self) -> InstanceNo
+        ensures { result ≡ partner_of self.now }
+    {
+        match self {
+            Event::Send { to, .. } => *to,
+            Event::Receive { from, .. } => *from,
+        }
+    }
+
+    /// The name of the message.
+    pub fn name(&self) -> Name
+        ensures { result ≡ name_of self.now }
+    {
+        match self {
+            Event::Send { name, .. } => *name,
+            Event::Receive { name, .. } => *name,
+        }
+    }
+
+    /// The coregion that the event is in, from 1, or 0 outside of one. A send is in none.
+    pub fn region(&self) -> u32
+        ensures { result ≡ region_of self.now }
+    {
+        match self {
+            Event::Send { .. } => 0,
+            Event::Receive { region, .. } => *region,
+        }
+    }
+
+    /// Whether it is a receive from this instance.
+    pub fn is_receive_from(&self, sender: InstanceNo) -> bool
+        ensures { result ≡ is_receive_from sender self.now }
+    {
+        match self {
+            Event::Send { .. } => false,
+            Event::Receive { from, .. } => *from == sender,
+        }
+    }
+
+    /// Whether it is a receive of this coregion. Nothing is in 0.
+    pub fn is_in(&self, region: u32) -> bool
+        ensures { result ≡ is_in region self.now }
+    {
+        self.region() == region && region != 0
+    }
 }

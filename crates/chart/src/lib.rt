@@ -4,15 +4,21 @@
 //! history, the enforced order, reports and clocks.
 #![tactic(auto)]
 
+mod chart;
 mod event;
 pub mod history;
 mod instance;
 mod line;
 mod message;
 mod name;
+mod names;
+mod report;
 
+pub use chart::{Chart, LinesError};
 pub use event::Event;
 pub use instance::{EventNo, InstanceNo, MAX_INSTANCES};
-pub use line::MAX_EVENTS;
+pub use line::{Line, LineError, MAX_EVENTS};
 pub use message::{MAX_BODY, Message};
 pub use name::{MAX_NAME, Name, NameError};
+pub use names::{Names, NamesError};
+pub use report::Report;

@@ -1,0 +1,8 @@
+-- What a list of the instances' names keeps.
+use Rattle.std.specs.Prelude.{◌≡◌, ℕ, ◌<◌, ◌≤◌, List, length, slice_get, Some}
+use Rattle.chart.specs.declared.instance.TheConstants.{MAX_INSTANCES}
+
+-- at most as many names as there may be instances, none twice
+pub record AreNames (names : List (List ℕ)) : Type 0 where
+  pub limit : length names ≤ MAX_INSTANCES
+  pub distinct : (i j : ℕ) (w : List ℕ) → slice_get names i ≡ Some w → slice_get names j ≡ Some w → i ≡ j
