@@ -1,0 +1,33 @@
+-- What a schedule is to a contract.
+use Rattle.std.specs.Prelude.{◌≡◌, ◌≢◌, ℕ, ◌≤◌, List, length, All}
+use Rattle.schedule.specs.declared.command.Action.{Action}
+use Rattle.schedule.specs.declared.command.Action.TheVariants.{Send, Receive, Any, Close, Open, Shut}
+use Rattle.schedule.specs.declared.command.Command.{Command}
+use Rattle.schedule.specs.declared.schedule.TheConstants.{MAX_CAPACITY}
+use Rattle.chart.specs.declared.instance.TheConstants.{MAX_INSTANCES}
+use Rattle.chart.specs.NameSets.{AreNames}
+
+-- the instances' names, the capacity of each lane, and the commands in order
+pub record Plan : Type 0 where
+  pub names : List (List ℕ)
+  pub capacity : ℕ
+  pub commands : List Command
+
+-- the action is one of the actor p's with another of n instances
+abbrev pub HasPartner : ℕ → ℕ → Action → Type 0
+HasPartner n p (Send q name) = (q ≤ n) × (p ≢ q)
+HasPartner n p (Receive q) = (q ≤ n) × (p ≢ q)
+HasPartner n p Any = Unit {0}
+HasPartner n p (Close q) = (q ≤ n) × (p ≢ q)
+HasPartner n p Open = Unit {0}
+HasPartner n p Shut = Unit {0}
+
+-- the command is of one of n instances, with another
+abbrev pub IsAmong : ℕ → Command → Type 0
+IsAmong n command = (command.actor ≤ n) × HasPartner n command.actor command.action
+
+-- what each schedule keeps
+pub record IsPlan (plan : Plan) : Type 0 where
+  pub several : 2 ≤ length plan.names
+  pub names : AreNames plan.names
+  pub commands : All (IsAmong (length plan.names)) plan.commands

@@ -1,0 +1,10 @@
+//! Schedules: who does what, in which order, and what that means.
+//!
+//! `specs/Meaning.antt` says what a schedule's commands do: a history, and a note for each command that is refused.
+#![tactic(auto)]
+
+mod command;
+mod schedule;
+
+pub use command::{Action, Command, Note, Word};
+pub use schedule::{Capacity, MAX_CAPACITY, Schedule};
