@@ -22,3 +22,6 @@ pub use message::{MAX_BODY, Message};
 pub use name::{MAX_NAME, Name, NameError};
 pub use names::{Names, NamesError};
 pub use report::Report;
+
+#[cfg(test)]
+mod tests;
