@@ -1,2 +1,3 @@
+pub mod EventLoops
 pub mod Parts
 pub mod Writes

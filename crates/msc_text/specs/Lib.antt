@@ -1,3 +1,4 @@
+pub mod ChartText
 pub mod Faults
 pub mod Lines
 pub mod Outs

@@ -3,12 +3,14 @@
 //! A writer puts bytes into any [`Out`], gathered in a buffer of a fixed size, and takes no memory.
 #![tactic(auto)]
 
+mod chart_text;
 mod fault;
 mod gathering;
 mod lines;
 mod out;
 mod word;
 
+pub use chart_text::{add_chart, write};
 pub use fault::{Cause, Fault, TextError};
 pub use gathering::{GATHERED, Gathering, WriteError};
 pub use lines::next_line;

@@ -1,0 +1,22 @@
+use Rattle.std.proofs.Common.{◌≡◌, ◌+◌, drop, sym, subst, arith}
+use Rattle.msc_text.proofs.EventLoops.{HasCome, come_at, come_all, come_more, come_stops, come_ends}
+use Rattle.msc_text.specs.ChartText.{events_text}
+use Rattle.msc_text.specs.Writing.{Adds}
+use Rattle.msc_text.proofs.chart_text.add_events.Goals as goal
+
+pub returns-in_err-add_marked : goal.returns-in_err-add_marked
+returns-in_err-add_marked g c =
+    let m = c.event-item.result in
+    let come = come_at c.args.events.now c.loop-event.event-index m c.loop-event-test.true c.event-item.is c.loop-event.invariant in
+    come_stops m c.from_residual.result c.from_residual.ensures.0 come c.in_err-add_marked.ensures
+
+pub loop-event-preserved : goal.loop-event-preserved
+loop-event-preserved g c =
+    let m = c.event-item.result in
+    let come = come_at c.args.events.now c.loop-event.event-index m c.loop-event-test.true c.event-item.is c.loop-event.invariant in
+    rw c.region-before.ensures (come_more m come c.in_ok-add_marked.ensures)
+
+pub returns : goal.returns
+returns g c =
+    let come = come_all c.args.events.now c.loop-event.event-index c.loop-event-test.false c.loop-event.invariant in
+    come_ends c.add.new.out c.add.new.self c.add.result come (rw (← c.ending.ensures) c.add.ensures)

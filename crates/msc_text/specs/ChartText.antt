@@ -1,0 +1,55 @@
+-- The text of a chart (a profile of the instance-oriented text of ITU-T Z.120).
+use Rattle.std.specs.Prelude.{ℕ, zero, suc, ◌==◌, ◌||◌, List, [], ◌∷◌, ◌++◌, codes, slice_get, unwrap_or, if◌then◌else◌}
+use Rattle.std.specs.List.{flat_map}
+use Rattle.chart.specs.declared.event.Event.{Event as Mark}
+use Rattle.chart.specs.declared.event.Event.TheVariants.{Send, Receive}
+use Rattle.chart.specs.Marks.{region_of}
+use Rattle.chart.specs.Charts.{LineView}
+
+-- the name of an instance, by its number from 1
+abbrev pub name_at : List (List ℕ) → ℕ → List ℕ
+name_at names zero = []
+name_at names (suc place) = unwrap_or (slice_get names place) []
+
+-- out MESSAGE to NAME; or in MESSAGE from NAME;
+unfoldable pub event_text : List (List ℕ) → Mark → List ℕ
+event_text names (Send to name) = codes "out " ++ (name ++ (codes " to " ++ (name_at names to ++ codes ";\n")))
+event_text names (Receive from name region) = codes "in " ++ (name ++ (codes " from " ++ (name_at names from ++ codes ";\n")))
+
+-- the line that ends the coregion r, where what comes next is in c
+unfoldable pub ending : ℕ → ℕ → List ℕ
+ending r c = if r == c || r == 0 then [] else codes "endconcurrent;\n"
+
+-- the line that begins the coregion c, where what came before was in r
+unfoldable pub beginning : ℕ → ℕ → List ℕ
+beginning r c = if r == c || c == 0 then [] else codes "concurrent;\n"
+
+-- an event behind one that is in the coregion r
+unfoldable pub marked_text : List (List ℕ) → ℕ → Mark → List ℕ
+marked_text names r m = ending r (region_of m) ++ (beginning r (region_of m) ++ event_text names m)
+
+-- the events of a line, of which those before are in the coregion r at last
+abbrev pub events_text : List (List ℕ) → ℕ → List Mark → List ℕ
+events_text names r [] = ending r 0
+events_text names r (m ∷ line) = marked_text names r m ++ events_text names (region_of m) line
+
+-- instance NAME;
+unfoldable pub head_text : List (List ℕ) → ℕ → List ℕ
+head_text names p = codes "instance " ++ (name_at names p ++ codes ";\n")
+
+unfoldable pub foot_text : List ℕ
+foot_text = codes "endinstance;\n"
+
+-- an instance and the events of its line
+unfoldable pub line_text : List (List ℕ) → LineView → List ℕ
+line_text names line = head_text names line.instance ++ (events_text names 0 line.events ++ foot_text)
+
+unfoldable pub begin_text : List ℕ
+begin_text = codes "msc run;\n"
+
+unfoldable pub end_text : List ℕ
+end_text = codes "endmsc;\n"
+
+-- the text of the chart, whose instances have these names
+unfoldable pub chart_text : List (List ℕ) → List LineView → List ℕ
+chart_text names lines = begin_text ++ (flat_map (line_text names) lines ++ end_text)
