@@ -1,0 +1,2 @@
+pub use Rattle.msc_text.specs.Writing
+pub mod Refusals

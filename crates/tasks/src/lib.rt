@@ -1,0 +1,8 @@
+//! What the program `mscrun` does with the bytes of a file, and what it says where it can't.
+#![tactic(auto)]
+
+mod error;
+mod refusal;
+
+pub use error::ProgramError;
+pub use refusal::refused;
