@@ -1,0 +1,3 @@
+mod Belongs
+mod Chains
+mod Tally
