@@ -44,6 +44,11 @@ pub before_later_send : (c : Chart) (q : ℕ) (e t s : Place) → IsUpTo c t e �
 before_later_send c q e t s (inl same) l sends = subst (λ x. Before c x s) (sym same) (direct (to_send q l sends))
 before_later_send c q e t s (inr before) l sends = through before (direct (to_send q l sends))
 
+-- a send and what is before it are before its receive
+pub before_its_receive : (c : Chart) (e s r : Place) → IsUpTo c s e → BelongsTo c s r → Before c e r
+before_its_receive c e s r (inl same) b = subst (λ x. Before c x r) (sym same) (direct (message b))
+before_its_receive c e s r (inr before) b = through before (direct (message b))
+
 -- the last step to a receive is from its send, or from an earlier receive from the same sender
 last_step : (c : Chart) (d r s : Place) → Direct c d r → BelongsTo c s r → (d ≡ s) ⊎ (IsEarlier d r × IsReceiveFrom c s.instance d)
 last_step c d r s (message x) b = inl (same_send c d s r x b)

@@ -1,3 +1,6 @@
 mod Belongs
 mod Chains
+mod Counts
+mod Knowledge
+mod Reports
 mod Tally

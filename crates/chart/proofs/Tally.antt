@@ -1,5 +1,5 @@
 -- Places of a list, from 1, and how many of the events up to a place pass a test.
-use Rattle.std.proofs.Common.{◌≡◌, ℕ, zero, suc, ◌+◌, ◌<◌, ◌≤◌, ◌⊎◌, inl, inr, Bool, true, false, cond, List, [], ◌∷◌, ◌++◌, length, take, slice_get, Option, Some, None, count_by, refl, sym, ap, ◌∙◌, subst, arith, add-one, take_all, ⊎_elim}
+use Rattle.std.proofs.Common.{◌≡◌, ℕ, zero, suc, ◌+◌, ◌<◌, ◌≤◌, ◌⊎◌, inl, inr, Bool, true, false, cond, List, [], ◌∷◌, ◌++◌, length, take, slice_get, Option, Some, None, count_by, refl, sym, ap, ◌∙◌, subst, arith, add-one, take_all, length-take}
 use Rattle.std.proofs.lemmas.Option.{none-some, slice_get_within, slice_get_cases, get_or_from_slice_get, slice_get_past}
 use Rattle.std.proofs.lemmas.Bool.{cases_Bool, cases_lt, cases_eq}
 use Rattle.std.proofs.lemmas.List.Sums.{sum_by_more, sum_by-append}
@@ -42,6 +42,12 @@ ith-take zero xs (suc i) h = absurd (omega arith)
 ith-take (suc n) [] (suc i) h = refl
 ith-take (suc n) (x ∷ xs) (suc zero) h = refl
 ith-take (suc n) (x ∷ xs) (suc (suc i)) h = ith-take n xs (suc i) (omega arith)
+
+-- an element of a front is within it, and is the list's
+pub ith_from_take : {X : Type 0} (n : ℕ) (xs : List X) (i : ℕ) (x : X) → ith (take n xs) i ≡ Some x → (i ≤ n) × (ith xs i ≡ Some x)
+ith_from_take n xs i x h =
+    let within : i ≤ n = omega (arith, (ith_within (take n xs) i x h).1, length-take n xs) in
+    (within, sym (ith-take n xs i within) ∙ h)
 
 -- the event at a place is there, and passes the test
 abbrev pub Passes : (Mark → Bool) → List Mark → ℕ → Type 0

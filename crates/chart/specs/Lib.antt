@@ -1,6 +1,7 @@
 pub mod Charts
 pub mod Histories
 pub mod Knowing
+pub mod Laws
 pub mod Marks
 pub mod Messages
 pub mod Names

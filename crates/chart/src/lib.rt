@@ -7,6 +7,7 @@
 mod event;
 pub mod history;
 mod instance;
+pub mod laws;
 mod line;
 mod message;
 mod name;
