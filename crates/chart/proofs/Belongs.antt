@@ -5,7 +5,7 @@ use Rattle.std.proofs.lemmas.Bool.{false≢true}
 use Rattle.chart.specs.declared.event.Event.{Event as Mark}
 use Rattle.chart.specs.declared.event.Event.TheVariants.{Send, Receive}
 use Rattle.chart.specs.Marks.{is_send_to, is_receive_from, tally}
-use Rattle.chart.specs.Charts.{Chart, Place, at, IsSendTo, IsReceiveFrom, BelongsTo}
+use Rattle.chart.specs.Charts.{Chart, Place, at, mark_at, IsSendTo, IsReceiveFrom, BelongsTo}
 use Rattle.chart.specs.Order.{IsEarlier}
 use Rattle.chart.proofs.Tally.{Passes, ith_within, tally-lt, same_from_tally, tally_reached}
 
@@ -16,6 +16,10 @@ IsEvent c e = (1 ≤ e.index) × (e.index ≤ length (c e.instance))
 -- places with the same parts are one
 pub same_place : (e f : Place) → e.instance ≡ f.instance → e.index ≡ f.index → e ≡ f
 same_place e f p q = ap (λ x. at x e.index) p ∙ ap (λ x. at f.instance x) q
+
+-- where there is a mark there is an event
+pub IsEvent-from_mark : (c : Chart) (e : Place) (m : Mark) → mark_at c e ≡ Some m → IsEvent c e
+IsEvent-from_mark c e m h = ith_within (c e.instance) e.index m h
 
 -- where an event passes a test there is an event
 pub IsEvent-from_passes : (c : Chart) (test : Mark → Bool) (e : Place) → Passes test (c e.instance) e.index → IsEvent c e

@@ -29,7 +29,7 @@ before_of (only s) = direct s
 before_of (then x s) = through (before_of x) (direct s)
 
 -- a direct step is between events
-direct_events : (c : Chart) (e f : Place) → Direct c e f → IsEvent c e × IsEvent c f
+pub direct_events : (c : Chart) (e f : Place) → Direct c e f → IsEvent c e × IsEvent c f
 direct_events c e f (message b) = (IsEvent-from_passes c (is_send_to f.instance) e b.sent, IsEvent-from_passes c (is_receive_from e.instance) f b.received)
 direct_events c e f (to_send q l s) = let w = IsEvent-from_passes c (is_send_to q) f s in ((l.begun, rw l.line (let m = l.less in omega arith)), w)
 direct_events c e f (same_sender q l r s) = (IsEvent-from_passes c (is_receive_from q) e r, IsEvent-from_passes c (is_receive_from q) f s)

@@ -45,8 +45,8 @@ count_from_front P (suc n) k le front =
         (counted ((front (suc n) (omega arith) (omega arith)).1 (omega arith))
         (count_from_front P n n (omega arith) (upto_itself n (λ j low high. (front j low (omega arith)).1 (omega arith)))))
     | inr differs ↦
-        passed (λ here. let w = (front (suc n) (omega arith) (omega arith)).0 here in omega arith)
-        (count_from_front P n k (omega arith) (λ j low high. front j low (omega arith)))
+        let past : P (suc n) → ⊥ = λ here. absurd (differs (omega (arith, (front (suc n) (omega arith) (omega arith)).0 here))) in
+        passed past (count_from_front P n k (omega arith) (λ j low high. front j low (omega arith)))
     ]
   where
     upto_itself : (n : ℕ) → ((j : ℕ) → 1 ≤ j → j ≤ n → P j) → IsFront P n n

@@ -11,17 +11,17 @@ use Rattle.chart.proofs.Belongs.{IsEvent, IsEvent-from_passes, not_both, same_se
 use Rattle.chart.proofs.Chains.{chain_of, before_events, before_from_above, before_its_receive, heard_from}
 use Rattle.chart.proofs.Counts.{IsFront, count-le, same_count, front_from_count, count_from_front}
 
--- what a send knows of are events
-pub up_to_event : (c : Chart) (q : ℕ) (s e : Place) → IsSendTo c q s → IsUpTo c s e → IsEvent c e
-up_to_event c q s e sends (inl same) = subst (λ x. IsEvent c x) (sym same) (IsEvent-from_passes c (is_send_to q) s sends)
-up_to_event c q s e sends (inr before) = (before_events before).0
+-- what is up to an event are events
+pub up_to_event : (c : Chart) (s e : Place) → IsEvent c s → IsUpTo c s e → IsEvent c e
+up_to_event c s e is_event (inl same) = subst (λ x. IsEvent c x) (sym same) is_event
+up_to_event c s e is_event (inr before) = (before_events before).0
 
 -- a send knows of an event of a line just where the event's number is at most the known number
 pub known_front : (c : Chart) (q : ℕ) (s : Place) (p k : ℕ) → IsSendTo c q s → IsKnown c s p k → (j : ℕ) → 1 ≤ j → IsUpTo c s (at p j) ↔ (j ≤ k)
 known_front c q s p k sends known j low =
     let front : IsFront (λ i. IsUpTo c s (at p i)) (length (c p)) k = front_from_count (λ h i first less here. inr (before_from_above c q s (at p h) (at p i) sends (record { line = refl; begun = first; less = less }) here)) known in
     let bound = count-le known in
-    (λ here. (front j low (up_to_event c q s (at p j) sends here).1).0 here, λ le. (front j low (omega arith)).1 le)
+    (λ here. (front j low (up_to_event c s (at p j) (IsEvent-from_passes c (is_send_to q) s sends) here).1).0 here, λ le. (front j low (omega arith)).1 le)
 
 -- a send knows of the events of its line up to itself
 up_to_itself : (c : Chart) (a p i j : ℕ) → IsSendTo c a (at p i) → 1 ≤ j → j ≤ i → IsUpTo c (at p i) (at p j)

@@ -26,27 +26,24 @@ before_in_line c s p i j k b known low less =
     ])
 
 -- the races of the line before the receive, above what its send knows, are its report
-pub report_from_races : (c : Chart) (s : Place) (p i k : ℕ) (xs : List ℕ) → BelongsTo c s (at p (i + 1)) → IsKnown c s p k → IsRaces (take i (c p)) k s.instance (region_of_event (mark_at c (at p (i + 1)))) xs → IsReport c (at p (i + 1)) xs
-report_from_races c s p i k xs b known races = record {
+pub report_from_races : (c : Chart) (s : Place) (p i k region : ℕ) (xs : List ℕ) → BelongsTo c s (at p (i + 1)) → region_of_event (mark_at c (at p (i + 1))) ≡ region → IsKnown c s p k → IsRaces (take i (c p)) k s.instance region xs → IsReport c (at p (i + 1)) xs
+report_from_races c s p i k region xs b of_region known races = record {
   rising = races.rising;
   exact = λ j. (λ here. to_report j ((races.exact j).0 here), λ w. (races.exact j).1 (to_races j w));
 }
   where
-    c_region : ℕ
-    c_region = region_of_event (mark_at c (at p (i + 1)))
-
-    to_report : (j : ℕ) → (k < j) × ((m : Mark) × (ith (take i (c p)) j ≡ Some m) × (is_receive_from s.instance m ≡ false) × (is_in c_region m ≡ false)) → (j < i + 1) × ((m : Mark) × (mark_at c (at p j) ≡ Some m) × (is_in c_region m ≡ false)) × (Before c (at p j) (at p (i + 1)) → ⊥)
+    to_report : (j : ℕ) → (k < j) × ((m : Mark) × (ith (take i (c p)) j ≡ Some m) × (is_receive_from s.instance m ≡ false) × (is_in region m ≡ false)) → (j < i + 1) × ((m : Mark) × (mark_at c (at p j) ≡ Some m) × (is_in (region_of_event (mark_at c (at p (i + 1)))) m ≡ false)) × (Before c (at p j) (at p (i + 1)) → ⊥)
     to_report j (above, (m, at_j, other, outside)) =
         let w = ith_from_take i (c p) j m at_j in
         let less : j < i + 1 = omega (arith, w.0) in
         let splits = before_in_line c s p (i + 1) j k b known (ith_within (c p) j m w.1).0 less in
-        (less, (m, w.1, outside), λ before. elim (splits.0 before) [
+        (less, (m, w.1, subst (λ x. is_in x m ≡ false) (sym of_region) outside), λ before. elim (splits.0 before) [
           inl from ↦ false≢true (sym other ∙ subst (λ x. is_receive_from s.instance x ≡ true) (same_Some from.0 m (sym from.1 ∙ w.1)) from.2)
         | inr le ↦ omega arith
         ])
 
-    to_races : (j : ℕ) → (j < i + 1) × ((m : Mark) × (mark_at c (at p j) ≡ Some m) × (is_in c_region m ≡ false)) × (Before c (at p j) (at p (i + 1)) → ⊥) → (k < j) × ((m : Mark) × (ith (take i (c p)) j ≡ Some m) × (is_receive_from s.instance m ≡ false) × (is_in c_region m ≡ false))
+    to_races : (j : ℕ) → (j < i + 1) × ((m : Mark) × (mark_at c (at p j) ≡ Some m) × (is_in (region_of_event (mark_at c (at p (i + 1)))) m ≡ false)) × (Before c (at p j) (at p (i + 1)) → ⊥) → (k < j) × ((m : Mark) × (ith (take i (c p)) j ≡ Some m) × (is_receive_from s.instance m ≡ false) × (is_in region m ≡ false))
     to_races j (less, (m, at_j, outside), apart) =
         let splits = before_in_line c s p (i + 1) j k b known (ith_within (c p) j m at_j).0 less in
         let above : k < j = elim (cases_lt k j) [ inl w ↦ w | inr w ↦ absurd (apart (splits.1 (inr w))) ] in
-        (above, (m, ith-take i (c p) j (omega arith) ∙ at_j, false_from_ne_true (is_receive_from s.instance m) (λ from. apart (splits.1 (inl (m, at_j, from)))), outside))
+        (above, (m, ith-take i (c p) j (omega arith) ∙ at_j, false_from_ne_true (is_receive_from s.instance m) (λ from. apart (splits.1 (inl (m, at_j, from)))), subst (λ x. is_in x m ≡ false) of_region outside))

@@ -11,7 +11,7 @@ ReportLaw = (c : Chart) (s : Place) (p i j k : ℕ) → BelongsTo c s (at p i) �
 
 -- the races of the line as it was before the receive, above what the send knows, are the receive's report
 abbrev pub RacesLaw : Type 0
-RacesLaw = (c : Chart) (s : Place) (p i k : ℕ) (races : List ℕ) → BelongsTo c s (at p (i + 1)) → IsKnown c s p k → IsRaces (take i (c p)) k s.instance (region_of_event (mark_at c (at p (i + 1)))) races → IsReport c (at p (i + 1)) races
+RacesLaw = (c : Chart) (s : Place) (p i k region : ℕ) (races : List ℕ) → BelongsTo c s (at p (i + 1)) → region_of_event (mark_at c (at p (i + 1))) ≡ region → IsKnown c s p k → IsRaces (take i (c p)) k s.instance region races → IsReport c (at p (i + 1)) races
 
 -- a send at i of p's line knows i of this line, if it is the last or the chart has no cycle
 abbrev pub OwnKnowledgeLaw : Type 0
