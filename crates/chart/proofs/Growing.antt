@@ -32,7 +32,7 @@ module _ (c d : Chart) (grows : GrowsTo c d) where
   mark_grown e here = let w = grows e.instance in ap (λ l. ith l e.index) w.1 ∙ ith-append (c e.instance) w.0 e.index here.1
 
   -- so do the counts up to them
-  tally_grown : (test : Mark → Bool) (e : Place) → IsEvent c e → tally test (d e.instance) e.index ≡ tally test (c e.instance) e.index
+  pub tally_grown : (test : Mark → Bool) (e : Place) → IsEvent c e → tally test (d e.instance) e.index ≡ tally test (c e.instance) e.index
   tally_grown test e here = let w = grows e.instance in ap (λ l. tally test l e.index) w.1 ∙ tally-append test (c e.instance) w.0 e.index here.1
 
   -- an event that passes a test is one that did

@@ -3,5 +3,7 @@ mod Chains
 mod Counts
 mod Growing
 mod Knowledge
+mod Lanes
 mod Reports
+mod Sends
 mod Tally

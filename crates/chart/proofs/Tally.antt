@@ -1,6 +1,6 @@
 -- Places of a list, from 1, and how many of the events up to a place pass a test.
-use Rattle.std.proofs.Common.{◌≡◌, ℕ, zero, suc, ◌+◌, ◌<◌, ◌≤◌, ◌⊎◌, inl, inr, Bool, true, false, cond, List, [], ◌∷◌, ◌++◌, length, take, slice_get, Option, Some, None, count_by, refl, sym, ap, ◌∙◌, subst, arith, add-one, take_all, length-take}
-use Rattle.std.proofs.lemmas.Option.{none-some, slice_get_within, slice_get_cases, get_or_from_slice_get, slice_get_past}
+use Rattle.std.proofs.Common.{◌≡◌, ℕ, zero, suc, ◌+◌, ◌<◌, ◌≤◌, ◌⊎◌, inl, inr, Bool, true, false, cond, List, [], ◌∷◌, ◌++◌, length, take, drop, slice_get, Option, Some, None, count_by, refl, sym, ap, ◌∙◌, subst, arith, add-one, take_all, length-take}
+use Rattle.std.proofs.lemmas.Option.{none-some, same_Some, slice_get_within, slice_get_cases, get_or_from_slice_get, slice_get_past}
 use Rattle.std.proofs.lemmas.Bool.{cases_Bool, cases_lt, cases_eq}
 use Rattle.std.proofs.lemmas.List.Sums.{sum_by_more, sum_by-append}
 use Rattle.std.proofs.lemmas.List.{take-append-le}
@@ -34,6 +34,35 @@ ith-append (x ∷ xs) ys (suc (suc i)) h = ith-append xs ys (suc i) (omega arith
 pub ith-append_next : {X : Type 0} (xs ys : List X) (y : X) → ith (xs ++ y ∷ ys) (suc (length xs)) ≡ Some y
 ith-append_next [] ys y = refl
 ith-append_next (x ∷ xs) ys y = ith-append_next xs ys y
+
+-- the same, counted from the end
+pub ith_push : {X : Type 0} (xs : List X) (y : X) → ith (xs ++ y ∷ []) (length xs + 1) ≡ Some y
+ith_push xs y = ap (ith (xs ++ y ∷ [])) (add-one (length xs)) ∙ ith-append_next xs [] y
+
+-- an element of two lists is the first's or the second's
+pub ith_from_append : {X : Type 0} (xs ys : List X) (i : ℕ) (x : X) → ith (xs ++ ys) i ≡ Some x → (ith xs i ≡ Some x) ⊎ ((j : ℕ) × (i ≡ length xs + j) × (ith ys j ≡ Some x))
+ith_from_append xs ys zero x h = absurd (none-some x h)
+ith_from_append [] ys (suc i) x h = inr (suc i, omega arith, h)
+ith_from_append (y ∷ xs) ys (suc zero) x h = inl h
+ith_from_append (y ∷ xs) ys (suc (suc i)) x h =
+    elim (ith_from_append xs ys (suc i) x h) [ inl w ↦ inl w | inr w ↦ inr (w.0, omega (arith, w.1), w.2) ]
+
+-- an empty list has no element
+pub ith_nil : {X : Type 0} (i : ℕ) (x : X) → ith [] i ≡ Some x → ⊥
+ith_nil i x h = let w = ith_within [] i x h in omega arith
+
+-- an element of a list of one is that one
+pub ith_single : {X : Type 0} (y : X) (i : ℕ) (x : X) → ith (y ∷ []) i ≡ Some x → (i ≡ 1) × (y ≡ x)
+ith_single y zero x h = absurd (none-some x h)
+ith_single y (suc zero) x h = (omega arith, same_Some y x h)
+ith_single y (suc (suc i)) x h = absurd (none-some x h)
+
+-- the first element of what is left of a list
+pub ith_at_drop : {X : Type 0} (n : ℕ) (xs : List X) (x : X) (rest : List X) → drop n xs ≡ x ∷ rest → ith xs (suc n) ≡ Some x
+ith_at_drop zero [] x rest h = absurd (cc)
+ith_at_drop zero (y ∷ xs) x rest h = let e : y ≡ x = cc in ap (λ z. Some z) e
+ith_at_drop (suc n) [] x rest h = absurd (cc)
+ith_at_drop (suc n) (y ∷ xs) x rest h = ith_at_drop n xs x rest h
 
 -- the elements of a front of a list
 pub ith-take : {X : Type 0} (n : ℕ) (xs : List X) (i : ℕ) → i ≤ n → ith (take n xs) i ≡ ith xs i
