@@ -1,9 +1,11 @@
 mod Belongs
 mod Chains
 mod Counts
+mod Cycles
 mod Growing
 mod Knowledge
 mod Lanes
 mod Reports
+mod Rising
 mod Sends
 mod Tally
