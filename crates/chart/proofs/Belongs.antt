@@ -6,12 +6,9 @@ use Rattle.chart.specs.declared.event.Event.{Event as Mark}
 use Rattle.chart.specs.declared.event.Event.TheVariants.{Send, Receive}
 use Rattle.chart.specs.Marks.{is_send_to, is_receive_from, tally}
 use Rattle.chart.specs.Charts.{Chart, Place, at, mark_at, IsSendTo, IsReceiveFrom, BelongsTo}
+use Rattle.chart.specs.Growing.{IsEvent}
 use Rattle.chart.specs.Order.{IsEarlier}
 use Rattle.chart.proofs.Tally.{Passes, ith_within, tally-lt, same_from_tally, tally_reached}
-
--- the chart has an event at the place
-abbrev pub IsEvent : Chart → Place → Type 0
-IsEvent c e = (1 ≤ e.index) × (e.index ≤ length (c e.instance))
 
 -- places with the same parts are one
 pub same_place : (e f : Place) → e.instance ≡ f.instance → e.index ≡ f.index → e ≡ f

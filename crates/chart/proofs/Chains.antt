@@ -6,7 +6,8 @@ use Rattle.chart.specs.Order.{IsEarlier, Direct, Before}
 use Rattle.chart.specs.Order.Direct.{message, to_send, same_sender}
 use Rattle.chart.specs.Order.Before.{direct, through}
 use Rattle.chart.specs.Knowing.{IsUpTo}
-use Rattle.chart.proofs.Belongs.{IsEvent, IsEvent-from_passes, IsEarlier-trans, not_both, one_sender, same_send, earlier_send}
+use Rattle.chart.specs.Growing.{IsEvent}
+use Rattle.chart.proofs.Belongs.{IsEvent-from_passes, IsEarlier-trans, not_both, one_sender, same_send, earlier_send}
 
 -- e is enforced before f, with the last direct step at hand
 pub data Chain (c : Chart) (e : Place) : Place → Type 0 where

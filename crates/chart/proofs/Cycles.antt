@@ -11,7 +11,8 @@ use Rattle.chart.specs.Charts.{Chart, Place, at, IsSendTo, IsReceiveFrom, Belong
 use Rattle.chart.specs.Order.{IsEarlier, Direct, Before, IsCyclic}
 use Rattle.chart.specs.Order.Direct.{message, to_send, same_sender}
 use Rattle.chart.proofs.Tally.{ith_within, ith_at, ith_from_append, ith_nil, ith_single}
-use Rattle.chart.proofs.Belongs.{IsEvent, IsEvent-from_mark, IsEvent-from_passes, same_place, not_both}
+use Rattle.chart.specs.Growing.{IsEvent}
+use Rattle.chart.proofs.Belongs.{IsEvent-from_mark, IsEvent-from_passes, same_place, not_both}
 use Rattle.chart.proofs.Chains.{Chain, chain_of, before_of, before_events}
 use Rattle.chart.proofs.Chains.Chain.{only, then}
 use Rattle.chart.proofs.Growing.{before_shrunk}

@@ -8,7 +8,8 @@ use Rattle.chart.specs.Order.Direct.{message, to_send, same_sender}
 use Rattle.chart.specs.Order.Before.{direct, through}
 use Rattle.chart.specs.Knowing.{IsUpTo, IsKnown, IsGreatestHeard}
 use Rattle.chart.proofs.Tally.{Passes, ith-append, tally-append}
-use Rattle.chart.proofs.Belongs.{IsEvent, IsEvent-from_mark, IsEvent-from_passes, same_send}
+use Rattle.chart.specs.Growing.{IsEvent}
+use Rattle.chart.proofs.Belongs.{IsEvent-from_mark, IsEvent-from_passes, same_send}
 use Rattle.chart.proofs.Chains.{Chain, chain_of, direct_events}
 use Rattle.chart.proofs.Chains.Chain.{only, then}
 use Rattle.chart.proofs.Counts.{count_agrees, count_further}
@@ -40,7 +41,7 @@ module _ (c d : Chart) (grows : GrowsTo c d) where
   passes_grown test e p = (p.0, mark_grown e (IsEvent-from_passes c test e p) ∙ p.1, p.2)
 
   -- and the other way round
-  passes_shrunk : (test : Mark → Bool) (e : Place) → IsEvent c e → Passes test (d e.instance) e.index → Passes test (c e.instance) e.index
+  pub passes_shrunk : (test : Mark → Bool) (e : Place) → IsEvent c e → Passes test (d e.instance) e.index → Passes test (c e.instance) e.index
   passes_shrunk test e here p = (p.0, sym (mark_grown e here) ∙ p.1, p.2)
 
   -- a receive belongs to the send that it belonged to

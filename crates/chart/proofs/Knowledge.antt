@@ -7,7 +7,8 @@ use Rattle.chart.specs.Order.{IsEarlier, Before, IsCyclic}
 use Rattle.chart.specs.Order.Direct.{message, to_send}
 use Rattle.chart.specs.Order.Before.{direct, through}
 use Rattle.chart.specs.Knowing.{IsUpTo, IsCount, IsKnown, IsGreatestHeard}
-use Rattle.chart.proofs.Belongs.{IsEvent, IsEvent-from_passes, not_both, same_send}
+use Rattle.chart.specs.Growing.{IsEvent}
+use Rattle.chart.proofs.Belongs.{IsEvent-from_passes, not_both, same_send}
 use Rattle.chart.proofs.Chains.{chain_of, before_events, before_from_above, before_its_receive, heard_from}
 use Rattle.chart.proofs.Counts.{IsFront, count-le, same_count, front_from_count, count_from_front}
 

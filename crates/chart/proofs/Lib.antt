@@ -2,6 +2,7 @@ mod Belongs
 mod Chains
 mod Counts
 mod Cycles
+mod Existence
 mod Growing
 mod Knowledge
 mod Lanes

@@ -11,7 +11,8 @@ use Rattle.chart.specs.Marks.{ith, tally, is_send_to, is_receive_from, name_of, 
 use Rattle.chart.specs.Histories.{received, waiting, receive_of, mark_of, chart_of, IsLegal}
 use Rattle.chart.specs.Charts.{Chart, Place, at, mark_at, IsReceiveFrom, BelongsTo, HasNoSend, HasOtherName}
 use Rattle.chart.proofs.Tally.{ith_push, ith_from_append, ith_nil, ith_single, tally_all, tally-le-count_by}
-use Rattle.chart.proofs.Belongs.{IsEvent, IsEvent-from_mark, same_send}
+use Rattle.chart.specs.Growing.{IsEvent}
+use Rattle.chart.proofs.Belongs.{IsEvent-from_mark, same_send}
 use Rattle.chart.proofs.Growing.{GrowsTo, HasSends, mark_grown, tally_grown, belongs_grown}
 use Rattle.chart.proofs.Lanes.{SentAt, count_push, received_count, first_waiting}
 

@@ -1,4 +1,5 @@
 pub mod Charts
+pub mod Growing
 pub mod Histories
 pub mod Knowing
 pub mod Laws
