@@ -137,3 +137,19 @@ report_exists n k h legal q r from = go r.index refl
         let belongs = subst (λ x. BelongsTo c s.0 (at r.instance x)) place s.1 in
         let races = races_exist (take i (c r.instance)) known.0 s.0.instance (region_of_event (mark_at c (at r.instance (i + 1)))) in
         (races.0, subst (λ x. IsReport c (at r.instance x) races.0) (sym place) (report_from_races c s.0 r.instance i known.0 (region_of_event (mark_at c (at r.instance (i + 1)))) races.0 belongs refl known.1 races.1))
+
+-- in a legal history's chart each send knows one number of each line
+pub known_once : (n k : ℕ) (h : List Event) → IsLegal n k h → (to : ℕ) (s : Place) (p : ℕ) → IsSendTo (chart_of h) to s → (m : ℕ) × IsKnown (chart_of h) s p m × ((l : ℕ) → IsKnown (chart_of h) s p l → l ≡ m)
+known_once n k h legal to s p sends = let w = known_exists n k h legal to s sends p in (w.0, w.1, λ l known. same_count known w.1)
+
+-- each front of a line has heard one number of each line
+pub heard_once : (n k : ℕ) (h : List Event) → IsLegal n k h → (p i q : ℕ) → i ≤ length (chart_of h p) → (m : ℕ) × IsGreatestHeard (chart_of h) p i q m × ((l : ℕ) → IsGreatestHeard (chart_of h) p i q l → l ≡ m)
+heard_once n k h legal p i q within =
+    let w = heard_exists (chart_of h) (sends_of n k h legal) (known_exists n k h legal) p q i within in
+    (w.0, w.1, λ l heard. same_heard (chart_of h) p i q l w.0 heard w.1)
+
+-- each receive has one report
+pub report_once : (n k : ℕ) (h : List Event) → IsLegal n k h → (q : ℕ) (r : Place) → IsReceiveFrom (chart_of h) q r → (report : List ℕ) × IsReport (chart_of h) r report × ((other : List ℕ) → IsReport (chart_of h) r other → other ≡ report)
+report_once n k h legal q r from =
+    let w = report_exists n k h legal q r from in
+    (w.0, w.1, λ xs report. same_report (chart_of h) r xs w.0 report w.1)

@@ -1,5 +1,6 @@
 -- The marks on the lines of a history's chart, against the messages of its lanes.
 use Rattle.std.proofs.Common.{◌≡◌, ℕ, zero, suc, ◌+◌, ◌<◌, ◌≤◌, ◌==◌, ◌&&◌, ◌⊎◌, inl, inr, Bool, true, false, cond, List, [], ◌∷◌, ◌++◌, length, Option, Some, None, count_by, slice_get, refl, sym, ap, ap₂, ◌∙◌, subst, arith, append-nil, length-append, eqb-true, eq-eqb}
+use Rattle.std.proofs.lemmas.Bool.{false≢true}
 use Rattle.std.proofs.lemmas.Option.{none-some, same_Some}
 use Rattle.std.proofs.lemmas.List.Sums.{sum_by_push, sum_by-append}
 use Rattle.std.proofs.lemmas.List.{length_push}
@@ -31,6 +32,17 @@ sent_count (Receive a b c ∷ h) q p = go (a == q) (waiting h b a) (sent_count h
     go true (m ∷ ms) before = omega (arith, count_push (is_send_to p) (chart_of h q) (receive_mark b m.name c))
     go false ms before = ap (count_by (is_send_to p)) (append-nil (chart_of h q)) ∙ before
 sent_count (Close a b ∷ h) q p = ap (count_by (is_send_to p)) (append-nil (chart_of h q)) ∙ sent_count h q p
+
+-- a new send has one more above it, itself included, than messages were sent
+pub newest_turn : (h : List Event) (p q : ℕ) (x : Content) → tally (is_send_to q) (chart_of (Send p q x ∷ h) p) (length (chart_of h p) + 1) ≡ length (sent h p q) + 1
+newest_turn h p q x = go (p == p) (eq-eqb p p refl)
+  where
+    line : List Mark
+    line = chart_of h p
+
+    go : (mine : Bool) → mine ≡ true → tally (is_send_to q) (line ++ cond mine (send_mark q x.name ∷ []) []) (length line + 1) ≡ length (sent h p q) + 1
+    go false e = absurd (false≢true e)
+    go true e = omega (arith, tally_all (is_send_to q) (line ++ send_mark q x.name ∷ []) (length line + 1) (omega (arith, length_push line (send_mark q x.name))), rw (eq-eqb q q refl) at (count_push (is_send_to q) line (send_mark q x.name)), sent_count h p q)
 
 -- in a legal history as many receives stand on a line as messages were received
 pub received_count : (n k : ℕ) (h : List Event) → IsLegal n k h → (q p : ℕ) → count_by (is_receive_from q) (chart_of h p) ≡ received h q p

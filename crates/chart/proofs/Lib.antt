@@ -1,12 +1,13 @@
-mod Belongs
-mod Chains
-mod Counts
-mod Cycles
-mod Existence
-mod Growing
-mod Knowledge
-mod Lanes
-mod Reports
-mod Rising
-mod Sends
-mod Tally
+pub mod Begun
+pub mod Belongs
+pub mod Chains
+pub mod Counts
+pub mod Cycles
+pub mod Existence
+pub mod Growing
+pub mod Knowledge
+pub mod Lanes
+pub mod Reports
+pub mod Rising
+pub mod Sends
+pub mod Tally

@@ -103,17 +103,17 @@ has_its_send n k (e ∷ h) legal q r (m, at_r, from) =
 pub sends_of : (n k : ℕ) (h : List Event) → IsLegal n k h → HasSends (chart_of h)
 sends_of n k h legal q r from = let w = has_its_send n k h legal q r from in (at q w.0, w.3)
 
--- none has no send
-pub has_send : (n k : ℕ) (h : List Event) → IsLegal n k h → (r : Place) → HasNoSend (chart_of h) r → ⊥
-has_send n k h legal r (q, from, fewer) =
+-- in a legal history no receive lacks a send
+pub none_without_send : (n k : ℕ) (h : List Event) → IsLegal n k h → (r : Place) → HasNoSend (chart_of h) r → ⊥
+none_without_send n k h legal r (q, from, fewer) =
     let w = has_its_send n k h legal q r from in
     let turn = w.3.turn in
     let all = tally-le-count_by (is_send_to r.instance) (chart_of h q) w.0 in
     omega arith
 
--- none has a send of another name
-pub has_its_name : (n k : ℕ) (h : List Event) → IsLegal n k h → (r : Place) → HasOtherName (chart_of h) r → ⊥
-has_its_name n k h legal r (s, a, b, belongs, at_s, at_r, differs) =
+-- in a legal history no receive has another name than its send
+pub none_of_other_name : (n k : ℕ) (h : List Event) → IsLegal n k h → (r : Place) → HasOtherName (chart_of h) r → ⊥
+none_of_other_name n k h legal r (s, a, b, belongs, at_s, at_r, differs) =
     let w = has_its_send n k h legal s.instance r belongs.received in
     let same = same_send (chart_of h) (at s.instance w.0) s r w.3 belongs in
     let a_same = same_Some w.1 a (sym w.4 ∙ subst (λ x. mark_at (chart_of h) x ≡ Some a) (sym same) at_s) in

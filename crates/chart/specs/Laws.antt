@@ -1,8 +1,17 @@
 -- The laws of charts: statements that the functions of `laws` prove.
-use Rattle.std.specs.Prelude.{◌≡◌, ℕ, ◌+◌, ◌<◌, ◌≤◌, ◌↔◌, ◌⊎◌, max, List, take, length}
-use Rattle.chart.specs.Charts.{Chart, Place, at, mark_at, IsSendTo, IsReceiveFrom, BelongsTo}
+use Rattle.std.specs.Prelude.{◌≡◌, ℕ, ◌+◌, ◌<◌, ◌≤◌, ◌↔◌, ◌⊎◌, max, Bool, List, [], ◌∷◌, ◌++◌, take, length, slice_get, Some}
+use Rattle.chart.specs.declared.history.Event.{Event}
+use Rattle.chart.specs.declared.history.Event.TheVariants.{Send, Receive}
+use Rattle.chart.specs.declared.event.Event.{Event as Mark}
+use Rattle.chart.specs.Messages.{Content}
+use Rattle.chart.specs.Marks.{send_mark, receive_mark, is_send_to, tally}
+use Rattle.chart.specs.Histories.{sent, received, waiting, chart_of, IsLegal, Begins}
+use Rattle.chart.specs.Charts.{Chart, Place, at, mark_at, IsSendTo, IsReceiveFrom, BelongsTo, HasNoSend, HasOtherName}
+use Rattle.chart.specs.Growing.{IsEvent}
 use Rattle.chart.specs.Order.{Before, IsCyclic, IsReport, IsRaces, region_of_event}
 use Rattle.chart.specs.Knowing.{IsKnown, IsGreatestHeard}
+
+-- Of any chart.
 
 -- where the receive at i of p's line belongs to s, and s knows k of this line, an earlier event of the line is before the
 -- receive just where it is a receive from the same sender or among the first k
@@ -32,3 +41,93 @@ ReceiveHearingLaw = (c : Chart) (s : Place) (p n q k m : ℕ) → IsGreatestHear
 -- after a send it is what it was
 abbrev pub SendHearingLaw : Type 0
 SendHearingLaw = (c : Chart) (to p n q k : ℕ) → IsGreatestHeard c p n q k → IsSendTo c to (at p (n + 1)) → IsGreatestHeard c p (n + 1) q k
+
+-- Of legal histories.
+
+-- no receive lacks a send
+abbrev pub NoSendLaw : Type 0
+NoSendLaw = (n k : ℕ) (h : List Event) → IsLegal n k h → (r : Place) → HasNoSend (chart_of h) r → ⊥
+
+-- no receive has another name than its send
+abbrev pub OtherNameLaw : Type 0
+OtherNameLaw = (n k : ℕ) (h : List Event) → IsLegal n k h → (r : Place) → HasOtherName (chart_of h) r → ⊥
+
+-- each receive belongs to a send
+abbrev pub SendLaw : Type 0
+SendLaw = (n k : ℕ) (h : List Event) → IsLegal n k h → (from : ℕ) (r : Place) → IsReceiveFrom (chart_of h) from r → (s : Place) × BelongsTo (chart_of h) s r
+
+-- no event is before itself
+abbrev pub NoCycleLaw : Type 0
+NoCycleLaw = (n k : ℕ) (h : List Event) → IsLegal n k h → IsCyclic (chart_of h) → ⊥
+
+-- a send is the last of its line
+abbrev pub NewestSendLaw : Type 0
+NewestSendLaw = (h : List Event) (p q : ℕ) (m : Content) → chart_of (Send p q m ∷ h) p ≡ chart_of h p ++ send_mark q m.name ∷ []
+
+-- a receive is the last of its line, and has the name of the first message that waited
+abbrev pub NewestReceiveLaw : Type 0
+NewestReceiveLaw = (h : List Event) (p q c : ℕ) (m : Content) (rest : List Content) → waiting h q p ≡ m ∷ rest → chart_of (Receive p q c ∷ h) p ≡ chart_of h p ++ receive_mark q m.name c ∷ []
+
+-- a new send is one more on its lane than messages were sent
+abbrev pub NewestTurnLaw : Type 0
+NewestTurnLaw = (h : List Event) (p q : ℕ) (m : Content) → tally (is_send_to q) (chart_of (Send p q m ∷ h) p) (length (chart_of h p) + 1) ≡ length (sent h p q) + 1
+
+-- each message of a lane has its send on the line of its sender, with as many above it on the lane as were sent before
+abbrev pub SentLaw : Type 0
+SentLaw = (h : List Event) (q p i : ℕ) (m : Content) → slice_get (sent h q p) i ≡ Some m → (j : ℕ) × (mark_at (chart_of h) (at q j) ≡ Some (send_mark p m.name)) × (tally (is_send_to p) (chart_of h q) j ≡ i + 1)
+
+-- the first message that waits has its send on the line of its sender, with as many above it on the lane as were received
+abbrev pub FirstWaitingLaw : Type 0
+FirstWaitingLaw = (h : List Event) (q p : ℕ) (m : Content) (rest : List Content) → waiting h q p ≡ m ∷ rest → (j : ℕ) × (mark_at (chart_of h) (at q j) ≡ Some (send_mark p m.name)) × (tally (is_send_to p) (chart_of h q) j ≡ received h q p + 1)
+
+-- and it is this send that the next receive belongs to
+abbrev pub NewestBelongsLaw : Type 0
+NewestBelongsLaw = (n k : ℕ) (h : List Event) → IsLegal n k h → (p q c : ℕ) (m : Content) (rest : List Content) → waiting h q p ≡ m ∷ rest → (j : ℕ) → mark_at (chart_of h) (at q j) ≡ Some (send_mark p m.name) → tally (is_send_to p) (chart_of h q) j ≡ received h q p + 1 → BelongsTo (chart_of (Receive p q c ∷ h)) (at q j) (at p (length (chart_of h p) + 1))
+
+-- What stays as it is in each history that begins with another, for the most part a legal one.
+
+-- what a legal history begins with is legal
+abbrev pub LegalGrowthLaw : Type 0
+LegalGrowthLaw = (n k : ℕ) (h g : List Event) → Begins h g → IsLegal n k g → IsLegal n k h
+
+-- the event at a place
+abbrev pub PlaceGrowthLaw : Type 0
+PlaceGrowthLaw = (h g : List Event) → Begins h g → (e : Place) → IsEvent (chart_of h) e → mark_at (chart_of g) e ≡ mark_at (chart_of h) e
+
+-- how many of the events up to a place pass a test
+abbrev pub TallyGrowthLaw : Type 0
+TallyGrowthLaw = (h g : List Event) → Begins h g → (test : Mark → Bool) (e : Place) → IsEvent (chart_of h) e → tally test (chart_of g e.instance) e.index ≡ tally test (chart_of h e.instance) e.index
+
+-- which send a receive belongs to
+abbrev pub BelongingGrowthLaw : Type 0
+BelongingGrowthLaw = (n k : ℕ) (h g : List Event) → IsLegal n k h → Begins h g → (s r : Place) → IsEvent (chart_of h) r → BelongsTo (chart_of h) s r ↔ BelongsTo (chart_of g) s r
+
+-- what is before an event
+abbrev pub OrderGrowthLaw : Type 0
+OrderGrowthLaw = (n k : ℕ) (h g : List Event) → IsLegal n k h → Begins h g → (e f : Place) → IsEvent (chart_of h) f → Before (chart_of h) e f ↔ Before (chart_of g) e f
+
+-- what an event knows of each line
+abbrev pub KnowledgeGrowthLaw : Type 0
+KnowledgeGrowthLaw = (n k : ℕ) (h g : List Event) → IsLegal n k h → Begins h g → (s : Place) (p m : ℕ) → IsEvent (chart_of h) s → IsKnown (chart_of h) s p m → IsKnown (chart_of g) s p m
+
+-- a report
+abbrev pub ReportGrowthLaw : Type 0
+ReportGrowthLaw = (n k : ℕ) (h g : List Event) → IsLegal n k h → Begins h g → (r : Place) (report : List ℕ) → IsEvent (chart_of h) r → IsReport (chart_of h) r report → IsReport (chart_of g) r report
+
+-- the greatest heard of the first events of a line
+abbrev pub HearingGrowthLaw : Type 0
+HearingGrowthLaw = (n k : ℕ) (h g : List Event) → IsLegal n k h → Begins h g → (p i q m : ℕ) → i ≤ length (chart_of h p) → IsGreatestHeard (chart_of h) p i q m → IsGreatestHeard (chart_of g) p i q m
+
+-- What is there once in a legal history's chart.
+
+-- what a send knows of a line
+abbrev pub OneKnowledgeLaw : Type 0
+OneKnowledgeLaw = (n k : ℕ) (h : List Event) → IsLegal n k h → (to : ℕ) (s : Place) (p : ℕ) → IsSendTo (chart_of h) to s → (m : ℕ) × IsKnown (chart_of h) s p m × ((l : ℕ) → IsKnown (chart_of h) s p l → l ≡ m)
+
+-- the greatest heard of the first events of a line
+abbrev pub OneHearingLaw : Type 0
+OneHearingLaw = (n k : ℕ) (h : List Event) → IsLegal n k h → (p i q : ℕ) → i ≤ length (chart_of h p) → (m : ℕ) × IsGreatestHeard (chart_of h) p i q m × ((l : ℕ) → IsGreatestHeard (chart_of h) p i q l → l ≡ m)
+
+-- the report of a receive
+abbrev pub OneReportLaw : Type 0
+OneReportLaw = (n k : ℕ) (h : List Event) → IsLegal n k h → (from : ℕ) (r : Place) → IsReceiveFrom (chart_of h) from r → (report : List ℕ) × IsReport (chart_of h) r report × ((other : List ℕ) → IsReport (chart_of h) r other → other ≡ report)
