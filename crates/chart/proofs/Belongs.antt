@@ -1,5 +1,5 @@
 -- Which send a receive belongs to: one only, and an earlier receive from the same sender belongs to an earlier send.
-use Rattle.std.proofs.Common.{◌≡◌, ℕ, ◌<◌, ◌≤◌, ◌==◌, Bool, true, false, List, length, Some, refl, sym, ap, ◌∙◌, subst, arith, eqb-true}
+use Rattle.std.proofs.Common.{◌≡◌, ℕ, Bool, true, Some, refl, sym, ap, ◌∙◌, subst, arith, eqb-true}
 use Rattle.std.proofs.lemmas.Option.{same_Some}
 use Rattle.std.proofs.lemmas.Bool.{false≢true}
 use Rattle.chart.specs.declared.event.Event.{Event as Mark}
@@ -72,12 +72,15 @@ earlier_send c s r d b l from =
     let found = tally_reached to_r (c s.instance) (tally from_s (c r.instance) d.index) s.index (omega arith) (omega arith) in
     let t : Place = at s.instance found.0 in
     let mine : BelongsTo c t (at r.instance d.index) = record { sent = found.2; received = passes; turn = found.3 } in
-    let differs : found.0 ≡ s.index → ⊥ = λ e. let same = ap (tally to_r (c s.instance)) e in omega (arith, same, found.3) in
-    (t, subst (λ x. BelongsTo c t (at x d.index)) (sym l.line) mine, record {
-      line = refl;
-      begun = (IsEvent-from_passes c to_r t found.2).0;
-      less = omega (arith, found.1, differs);
-    })
+    let differs : found.0 ≡ s.index → ⊥ = λ e. let same = ap (tally to_r (c s.instance)) e in omega (arith, same, found.3) in (
+      t,
+      subst (λ x. BelongsTo c t (at x d.index)) (sym l.line) mine,
+      record {
+        line = refl;
+        begun = (IsEvent-from_passes c to_r t found.2).0;
+        less = omega (arith, found.1, differs);
+      },
+    )
 
 -- of three events of a line
 pub IsEarlier-trans : (d e f : Place) → IsEarlier d e → IsEarlier e f → IsEarlier d f

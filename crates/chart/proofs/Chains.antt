@@ -1,5 +1,5 @@
 -- The enforced order as chains of direct steps, taken apart at the last step.
-use Rattle.std.proofs.Common.{◌≡◌, ℕ, ◌<◌, ◌≤◌, ◌⊎◌, inl, inr, Bool, true, List, length, Some, refl, sym, ap, ◌∙◌, subst, arith}
+use Rattle.std.proofs.Common.{◌≡◌, ℕ, ◌≤◌, ◌⊎◌, inl, inr, refl, sym, ◌∙◌, subst, arith}
 use Rattle.chart.specs.Marks.{is_send_to, is_receive_from}
 use Rattle.chart.specs.Charts.{Chart, Place, at, IsSendTo, IsReceiveFrom, BelongsTo}
 use Rattle.chart.specs.Order.{IsEarlier, Direct, Before}
@@ -62,13 +62,13 @@ before_receive {c = c} {e = e} {r = r} (only x) s b =
     elim (last_step c e r s x b) [ inl same ↦ inr (inl same) | inr w ↦ inl w ]
 before_receive {c = c} {e = e} {r = r} (then {d = d} x y) s b =
     elim (last_step c d r s y b) [
-      inl same ↦ inr (inr (subst (λ z. Before c e z) same (before_of x)))
-    | inr w ↦
-        let t = earlier_send c s r d b w.0 w.1 in
-        elim (before_receive x t.0 t.1) [
-          inl v ↦ inl (IsEarlier-trans e d r v.0 w.0, subst (λ a. IsReceiveFrom c a e) t.2.line v.1)
-        | inr v ↦ inr (inr (before_later_send c r.instance e t.0 s v t.2 b.sent))
-        ]
+      | inl same ↦ inr (inr (subst (λ z. Before c e z) same (before_of x)))
+      | inr w ↦
+          let t = earlier_send c s r d b w.0 w.1 in
+          elim (before_receive x t.0 t.1) [
+            | inl v ↦ inl (IsEarlier-trans e d r v.0 w.0, subst (λ a. IsReceiveFrom c a e) t.2.line v.1)
+            | inr v ↦ inr (inr (before_later_send c r.instance e t.0 s v t.2 b.sent))
+          ]
     ]
 
 -- of an event of a line and a later one, what the later is directly before: the earlier is before it too, or it is a later
@@ -83,12 +83,12 @@ from_later : {c : Chart} {e f : Place} → Chain c e f → (d : Place) → IsEar
 from_later {c = c} {e = e} {f = f} (only x) d l = step_from_later c d e f l x
 from_later {c = c} {e = e} {f = f} (then {d = m} x y) d l =
     elim (from_later x d l) [
-      inl before ↦ inl (through before (direct y))
-    | inr w ↦
-        elim (step_from_later c d m f (IsEarlier-trans d e m l w.0) y) [
-          inl before ↦ inl before
-        | inr v ↦ inr (IsEarlier-trans e m f w.0 v.0, v.1)
-        ]
+      | inl before ↦ inl (through before (direct y))
+      | inr w ↦
+          elim (step_from_later c d m f (IsEarlier-trans d e m l w.0) y) [
+            | inl before ↦ inl before
+            | inr v ↦ inr (IsEarlier-trans e m f w.0 v.0, v.1)
+          ]
     ]
 
 -- what stands above the events up to a send is before it
@@ -96,8 +96,8 @@ pub before_from_above : (c : Chart) (q : ℕ) (s d e : Place) → IsSendTo c q s
 before_from_above c q s d e sends l (inl same) = direct (to_send q (subst (λ x. IsEarlier d x) same l) sends)
 before_from_above c q s d e sends l (inr before) =
     elim (from_later (chain_of before) d l) [
-      inl w ↦ w
-    | inr w ↦ absurd (not_both c q w.1.0 s sends w.1.1)
+      | inl w ↦ w
+      | inr w ↦ absurd (not_both c q w.1.0 s sends w.1.1)
     ]
 
 -- what is before an event of another line was heard of by a receive of that line

@@ -40,13 +40,13 @@ pub count_from_front : (P : ℕ → Type 0) (n k : ℕ) → k ≤ n → IsFront 
 count_from_front P zero k le front = let e : 0 ≡ k = omega arith in subst (λ x. IsCount P 0 x) e none
 count_from_front P (suc n) k le front =
     elim (cases_eq k (suc n)) [
-      inl e ↦
-        subst (λ x. IsCount P (suc n) x) (sym e)
-        (counted ((front (suc n) (omega arith) (omega arith)).1 (omega arith))
-        (count_from_front P n n (omega arith) (upto_itself n (λ j low high. (front j low (omega arith)).1 (omega arith)))))
-    | inr differs ↦
-        let past : P (suc n) → ⊥ = λ here. absurd (differs (omega (arith, (front (suc n) (omega arith) (omega arith)).0 here))) in
-        passed past (count_from_front P n k (omega arith) (λ j low high. front j low (omega arith)))
+      | inl e ↦
+          subst (λ x. IsCount P (suc n) x) (sym e)
+          (counted ((front (suc n) (omega arith) (omega arith)).1 (omega arith))
+          (count_from_front P n n (omega arith) (upto_itself n (λ j low high. (front j low (omega arith)).1 (omega arith)))))
+      | inr differs ↦
+          let past : P (suc n) → ⊥ = λ here. absurd (differs (omega (arith, (front (suc n) (omega arith) (omega arith)).0 here))) in
+          passed past (count_from_front P n k (omega arith) (λ j low high. front j low (omega arith)))
     ]
   where
     upto_itself : (n : ℕ) → ((j : ℕ) → 1 ≤ j → j ≤ n → P j) → IsFront P n n
@@ -63,6 +63,6 @@ pub count_further : (P : ℕ → Type 0) (n k m : ℕ) → n ≤ m → IsCount P
 count_further P n k zero le count none_past = let e : n ≡ 0 = omega arith in subst (λ x. IsCount P x k) e count
 count_further P n k (suc m) le count none_past =
     elim (cases_eq n (suc m)) [
-      inl e ↦ subst (λ x. IsCount P x k) e count
-    | inr differs ↦ passed (none_past (suc m) (omega arith)) (count_further P n k m (omega arith) count none_past)
+      | inl e ↦ subst (λ x. IsCount P x k) e count
+      | inr differs ↦ passed (none_past (suc m) (omega arith)) (count_further P n k m (omega arith) count none_past)
     ]

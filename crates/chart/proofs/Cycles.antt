@@ -1,16 +1,15 @@
 -- The order of a legal history's chart has no cycle.
-use Rattle.std.proofs.Common.{◌≡◌, ℕ, suc, ◌+◌, ◌<◌, ◌≤◌, ◌==◌, ◌⊎◌, inl, inr, Bool, true, false, cond, List, [], ◌∷◌, length, Some, refl, sym, ap, ◌∙◌, subst, arith, eqb-true}
-use Rattle.std.proofs.lemmas.Bool.{cases_lt}
+use Rattle.std.proofs.Common.{◌≡◌, ℕ, ◌+◌, ◌≤◌, ◌==◌, ◌⊎◌, inl, inr, Bool, true, false, cond, List, [], ◌∷◌, length, Some, refl, sym, ap, ◌∙◌, subst, arith, eqb-true}
 use Rattle.chart.specs.declared.history.Event.{Event}
 use Rattle.chart.specs.declared.history.Event.TheVariants.{Send, Receive, Close}
 use Rattle.chart.specs.declared.event.Event.{Event as Mark}
 use Rattle.chart.specs.Messages.{Content}
-use Rattle.chart.specs.Marks.{ith, is_send_to, is_receive_from, send_mark, receive_mark}
+use Rattle.chart.specs.Marks.{ith, is_send_to, send_mark, receive_mark}
 use Rattle.chart.specs.Histories.{by, waiting, receive_of, mark_of, chart_of, IsLegal}
-use Rattle.chart.specs.Charts.{Chart, Place, at, IsSendTo, IsReceiveFrom, BelongsTo}
-use Rattle.chart.specs.Order.{IsEarlier, Direct, Before, IsCyclic}
+use Rattle.chart.specs.Charts.{Place, IsSendTo}
+use Rattle.chart.specs.Order.{Direct, IsCyclic}
 use Rattle.chart.specs.Order.Direct.{message, to_send, same_sender}
-use Rattle.chart.proofs.Tally.{ith_within, ith_at, ith_from_append, ith_nil, ith_single}
+use Rattle.chart.proofs.Tally.{ith_at, ith_from_append, ith_nil, ith_single}
 use Rattle.chart.specs.Growing.{IsEvent}
 use Rattle.chart.proofs.Belongs.{IsEvent-from_mark, IsEvent-from_passes, same_place, not_both}
 use Rattle.chart.proofs.Chains.{Chain, chain_of, before_of, before_events}
@@ -38,8 +37,8 @@ pub event_cases : (h : List Event) (e : Event) (x : Place) → IsEvent (chart_of
 event_cases h e x here =
     let m = ith_at (chart_of (e ∷ h) x.instance) x.index here.0 here.1 in
     elim (ith_from_append (chart_of h x.instance) (mark_of h x.instance e) x.index m.0 m.1) [
-      inl old ↦ inl (IsEvent-from_mark (chart_of h) x m.0 old)
-    | inr new ↦ let w = one_mark h x.instance e new.0 m.0 new.2 in inr (w.0, omega (arith, new.1, w.1))
+      | inl old ↦ inl (IsEvent-from_mark (chart_of h) x m.0 old)
+      | inr new ↦ let w = one_mark h x.instance e new.0 m.0 new.2 in inr (w.0, omega (arith, new.1, w.1))
     ]
 
 -- what is directly before the newest event is an old one
@@ -48,11 +47,11 @@ from_old h e d x newest (to_send q l s) = (l.begun, subst (λ p. d.index ≤ len
 from_old h e d x newest (same_sender q l y z) = (l.begun, subst (λ p. d.index ≤ length (chart_of h p)) (sym l.line) (omega (arith, l.less, newest.1)))
 from_old h e d x newest (message b) =
     elim (event_cases h e d (IsEvent-from_passes (chart_of (e ∷ h)) (is_send_to x.instance) d b.sent)) [
-      inl old ↦ old
-    | inr new ↦
-        let line = sym new.0 ∙ newest.0 in
-        let same = same_place d x line (new.1 ∙ ap (λ p. length (chart_of h p) + 1) line ∙ sym newest.1) in
-        absurd (not_both (chart_of (e ∷ h)) x.instance d.instance x (subst (λ z. IsSendTo (chart_of (e ∷ h)) x.instance z) same b.sent) b.received)
+      | inl old ↦ old
+      | inr new ↦
+          let line = sym new.0 ∙ newest.0 in
+          let same = same_place d x line (new.1 ∙ ap (λ p. length (chart_of h p) + 1) line ∙ sym newest.1) in
+          absurd (not_both (chart_of (e ∷ h)) x.instance d.instance x (subst (λ z. IsSendTo (chart_of (e ∷ h)) x.instance z) same b.sent) b.received)
     ]
 
 -- nothing is before itself
@@ -60,8 +59,8 @@ pub acyclic : (n k : ℕ) (h : List Event) → IsLegal n k h → IsCyclic (chart
 acyclic n k [] legal (x, before) = let w = (before_events before).0 in omega arith
 acyclic n k (e ∷ h) legal (x, before) =
     elim (event_cases h e x (before_events before).0) [
-      inl old ↦ acyclic n k h legal.1 (x, before_shrunk (chart_of h) (chart_of (e ∷ h)) (grows_by_event h e) (sends_of n k h legal.1) x x old before)
-    | inr newest ↦ newest_is_last newest x (chain_of before) refl
+      | inl old ↦ acyclic n k h legal.1 (x, before_shrunk (chart_of h) (chart_of (e ∷ h)) (grows_by_event h e) (sends_of n k h legal.1) x x old before)
+      | inr newest ↦ newest_is_last newest x (chain_of before) refl
     ]
   where
     newest_is_last : (by e ≡ x.instance) × (x.index ≡ length (chart_of h x.instance) + 1) → (y : Place) → Chain (chart_of (e ∷ h)) x y → y ≡ x → ⊥

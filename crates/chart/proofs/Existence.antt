@@ -1,7 +1,6 @@
 -- In a legal history's chart each send knows one number of each line, and each receive has one report.
-use Rattle.std.proofs.Common.{◌≡◌, ℕ, zero, suc, ◌+◌, ◌<◌, ◌≤◌, ◌==◌, ◌↔◌, ◌⊎◌, inl, inr, Bool, true, false, not, ◌&&◌, nat_lt, max, List, [], ◌∷◌, take, length, Option, Some, None, Contains, refl, sym, ap, ◌∙◌, subst, arith, add-one, eq-eqb, lt-ltb, ltb-true}
-use Rattle.std.proofs.lemmas.Bool.{cases_lt, cases_eq, and_parts, and_from, not_from_false, not-true, false≢true}
-use Rattle.std.proofs.lemmas.Option.{same_Some, none-some}
+use Rattle.std.proofs.Common.{◌≡◌, ℕ, zero, suc, ◌+◌, ◌<◌, ◌≤◌, ◌⊎◌, inl, inr, Bool, true, false, not, ◌&&◌, nat_lt, max, List, [], ◌∷◌, take, length, Option, Some, None, refl, sym, subst, arith, add-one, eq-eqb, lt-ltb, ltb-true}
+use Rattle.std.proofs.lemmas.Bool.{cases_eq, and_parts, and_from, not_from_false, not-true, false≢true}
 use Rattle.chart.specs.declared.history.Event.{Event}
 use Rattle.chart.specs.declared.event.Event.{Event as Mark}
 use Rattle.chart.specs.declared.event.Event.TheVariants.{Send, Receive}
@@ -9,7 +8,7 @@ use Rattle.chart.specs.Marks.{ith, is_send_to, is_receive_from, is_in}
 use Rattle.chart.specs.Histories.{chart_of, IsLegal}
 use Rattle.chart.specs.Charts.{Chart, Place, at, mark_at, IsSendTo, IsReceiveFrom, BelongsTo}
 use Rattle.chart.specs.Growing.{IsEvent}
-use Rattle.chart.specs.Order.{Before, IsReport, IsRaces, region_of_event}
+use Rattle.chart.specs.Order.{IsReport, IsRaces, region_of_event}
 use Rattle.chart.specs.Knowing.{IsKnown, IsGreatestHeard}
 use Rattle.chart.proofs.Tally.{ith_within, ith_at}
 use Rattle.chart.proofs.Belongs.{IsEvent-from_passes}
@@ -40,11 +39,11 @@ heard_exists c sends know p q (suc n) within =
     let w = heard_exists c sends know p q n (omega arith) in
     let here : IsEvent c (at p (n + 1)) = (omega arith, omega arith) in
     elim (send_or_receive c (at p (n + 1)) here) [
-      inl send ↦ (w.0, subst (λ x. IsGreatestHeard c p x q w.0) (add-one n) (heard_at_send c send.0 p n q w.0 w.1 send.1))
-    | inr receive ↦
-        let s = sends receive.0 (at p (n + 1)) receive.1 in
-        let m = know p s.0 s.1.sent q in
-        (max w.0 m.0, subst (λ x. IsGreatestHeard c p x q (max w.0 m.0)) (add-one n) (heard_from_send c s.0 p n q w.0 m.0 w.1 s.1 m.1))
+      | inl send ↦ (w.0, subst (λ x. IsGreatestHeard c p x q w.0) (add-one n) (heard_at_send c send.0 p n q w.0 w.1 send.1))
+      | inr receive ↦
+          let s = sends receive.0 (at p (n + 1)) receive.1 in
+          let m = know p s.0 s.1.sent q in
+          (max w.0 m.0, subst (λ x. IsGreatestHeard c p x q (max w.0 m.0)) (add-one n) (heard_from_send c s.0 p n q w.0 m.0 w.1 s.1 m.1))
     ]
 
 -- there is one greatest heard
@@ -54,8 +53,8 @@ same_heard c p n q k l a b = let u = no_less k l a b in let v = no_less l k b a 
     no_less : (i j : ℕ) → IsGreatestHeard c p n q i → IsGreatestHeard c p n q j → i ≤ j
     no_less i j x y =
         elim x.attained [
-          inl none ↦ omega arith
-        | inr w ↦ let g = y.each w.0 w.1 w.2 w.3 in omega (arith, same_count w.4 g.1, g.2)
+          | inl none ↦ omega arith
+          | inr w ↦ let g = y.each w.0 w.1 w.2 w.3 in omega (arith, same_count w.4 g.1, g.2)
         ]
 
 -- in a legal history's chart each send knows a number of each line
@@ -63,17 +62,17 @@ pub known_exists : (n k : ℕ) (h : List Event) → IsLegal n k h → SendsKnow 
 known_exists n k [] legal to s sends p = let w = IsEvent-from_passes (chart_of []) (is_send_to to) s sends in absurd (omega arith)
 known_exists n k (e ∷ h) legal to s sends p =
     elim (event_cases h e s (IsEvent-from_passes new (is_send_to to) s sends)) [
-      inl was ↦
-        let w = known_exists n k h legal.1 to s (passes_shrunk old new grows (is_send_to to) s was sends) p in
-        (w.0, known_grown old new grows each_has s p w.0 was w.1)
-    | inr newest ↦
-        elim (cases_eq p s.instance) [
-          inl own ↦ (s.index, subst (λ x. IsKnown new s x s.index) (sym own) (known_own new to s.instance s.index sends (inr (acyclic n k (e ∷ h) legal))))
-        | inr other ↦
-            let i = length (old s.instance) in
-            let heard = heard_exists old each_has (known_exists n k h legal.1) s.instance p i (omega arith) in
-            (heard.0, subst (λ x. IsKnown new (at s.instance x) p heard.0) (sym newest.1) (known_other new to s.instance i p heard.0 (subst (λ x. IsSendTo new to (at s.instance x)) newest.1 sends) other (heard_grown old new grows each_has s.instance i p heard.0 (omega arith) heard.1)))
-        ]
+      | inl was ↦
+          let w = known_exists n k h legal.1 to s (passes_shrunk old new grows (is_send_to to) s was sends) p in
+          (w.0, known_grown old new grows each_has s p w.0 was w.1)
+      | inr newest ↦
+          elim (cases_eq p s.instance) [
+            | inl own ↦ (s.index, subst (λ x. IsKnown new s x s.index) (sym own) (known_own new to s.instance s.index sends (inr (acyclic n k (e ∷ h) legal))))
+            | inr other ↦
+                let i = length (old s.instance) in
+                let heard = heard_exists old each_has (known_exists n k h legal.1) s.instance p i (omega arith) in
+                (heard.0, subst (λ x. IsKnown new (at s.instance x) p heard.0) (sym newest.1) (known_other new to s.instance i p heard.0 (subst (λ x. IsSendTo new to (at s.instance x)) newest.1 sends) other (heard_grown old new grows each_has s.instance i p heard.0 (omega arith) heard.1)))
+          ]
     ]
   where
     old : Chart
@@ -91,11 +90,13 @@ known_exists n k (e ∷ h) legal to s sends p =
 -- a line has its races above an entry
 pub races_exist : (line : List Mark) (entry q region : ℕ) → (xs : List ℕ) × IsRaces line entry q region xs
 races_exist line entry q region =
-    let w = passing (λ j. nat_lt entry j && races (ith line j)) (length line) in
-    (w.0, record {
-      rising = w.1;
-      exact = λ j. (λ here. of_test j ((w.2 j).0 here).2, λ there. (w.2 j).1 (to_test j there));
-    })
+    let w = passing (λ j. nat_lt entry j && races (ith line j)) (length line) in (
+      w.0,
+      record {
+        rising = w.1;
+        exact = λ j. (λ here. of_test j ((w.2 j).0 here).2, λ there. (w.2 j).1 (to_test j there));
+      },
+    )
   where
     races : Option Mark → Bool
     races None = false

@@ -1,8 +1,8 @@
 -- What later events leave as it is: places, belonging, the enforced order, what is known, reports and what is heard.
-use Rattle.std.proofs.Common.{◌≡◌, ℕ, suc, ◌+◌, ◌<◌, ◌≤◌, ◌↔◌, ◌⊎◌, inl, inr, Bool, true, false, List, ◌++◌, length, Some, refl, sym, ap, ◌∙◌, subst, arith, length-append}
+use Rattle.std.proofs.Common.{◌≡◌, ℕ, ◌<◌, ◌≤◌, inl, inr, Bool, false, List, ◌++◌, length, Some, sym, ap, ◌∙◌, subst, arith, length-append}
 use Rattle.chart.specs.declared.event.Event.{Event as Mark}
 use Rattle.chart.specs.Marks.{ith, tally, is_send_to, is_receive_from, is_in}
-use Rattle.chart.specs.Charts.{Chart, Place, at, mark_at, IsSendTo, IsReceiveFrom, BelongsTo}
+use Rattle.chart.specs.Charts.{Chart, Place, at, mark_at, IsReceiveFrom, BelongsTo}
 use Rattle.chart.specs.Order.{IsEarlier, Direct, Before, IsReport, region_of_event}
 use Rattle.chart.specs.Order.Direct.{message, to_send, same_sender}
 use Rattle.chart.specs.Order.Before.{direct, through}
@@ -131,12 +131,12 @@ module _ (c d : Chart) (grows : GrowsTo c d) where
     pub heard_grown : (p n q k : ℕ) → n ≤ length (c p) → IsGreatestHeard c p n q k → IsGreatestHeard d p n q k
     heard_grown p n q k within heard = record {
       each = λ l s le b.
-        let here : IsEvent c (at p l) = ((IsEvent-from_passes d (is_receive_from s.instance) (at p l) b.received).0, omega arith) in
-        let was = belongs_shrunk s (at p l) here b in
-        let g = heard.each l s le was in
-        (g.0, known_grown s q g.0 (IsEvent-from_passes c (is_send_to p) s was.sent) g.1, g.2);
+          let here : IsEvent c (at p l) = ((IsEvent-from_passes d (is_receive_from s.instance) (at p l) b.received).0, omega arith) in
+          let was = belongs_shrunk s (at p l) here b in
+          let g = heard.each l s le was in
+          (g.0, known_grown s q g.0 (IsEvent-from_passes c (is_send_to p) s was.sent) g.1, g.2);
       attained = elim heard.attained [
-        inl none ↦ inl none
-      | inr w ↦ inr (w.0, w.1, w.2, belongs_grown w.1 (at p w.0) w.3, known_grown w.1 q k (IsEvent-from_passes c (is_send_to p) w.1 w.3.sent) w.4)
+        | inl none ↦ inl none
+        | inr w ↦ inr (w.0, w.1, w.2, belongs_grown w.1 (at p w.0) w.3, known_grown w.1 q k (IsEvent-from_passes c (is_send_to p) w.1 w.3.sent) w.4)
       ];
     }

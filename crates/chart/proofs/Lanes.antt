@@ -1,15 +1,15 @@
 -- The marks on the lines of a history's chart, against the messages of its lanes.
-use Rattle.std.proofs.Common.{◌≡◌, ℕ, zero, suc, ◌+◌, ◌<◌, ◌≤◌, ◌==◌, ◌&&◌, ◌⊎◌, inl, inr, Bool, true, false, cond, List, [], ◌∷◌, ◌++◌, length, Option, Some, None, count_by, slice_get, refl, sym, ap, ap₂, ◌∙◌, subst, arith, append-nil, length-append, eqb-true, eq-eqb}
+use Rattle.std.proofs.Common.{◌≡◌, ℕ, suc, ◌+◌, ◌<◌, ◌==◌, ◌&&◌, inl, inr, Bool, true, false, cond, List, [], ◌∷◌, ◌++◌, length, Some, count_by, refl, ap, ap₂, ◌∙◌, arith, append-nil, eqb-true, eq-eqb}
 use Rattle.std.proofs.lemmas.Bool.{false≢true}
-use Rattle.std.proofs.lemmas.Option.{none-some, same_Some}
-use Rattle.std.proofs.lemmas.List.Sums.{sum_by_push, sum_by-append}
+use Rattle.std.proofs.lemmas.Option.{none-some}
+use Rattle.std.proofs.lemmas.List.Sums.{sum_by_push}
 use Rattle.std.proofs.lemmas.List.{length_push}
 use Rattle.chart.specs.declared.history.Event.{Event}
 use Rattle.chart.specs.declared.history.Event.TheVariants.{Send, Receive, Close}
 use Rattle.chart.specs.declared.event.Event.{Event as Mark}
 use Rattle.chart.specs.Messages.{Content}
 use Rattle.chart.specs.Marks.{ith, tally, is_send_to, is_receive_from, send_mark, receive_mark}
-use Rattle.chart.specs.Histories.{sent, received, waiting, receive_of, mark_of, chart_of, MayFollow, IsLegal}
+use Rattle.chart.specs.Histories.{sent, received, waiting, receive_of, mark_of, chart_of, IsLegal}
 use Rattle.chart.proofs.Tally.{ith_within, ith-append, ith_push, ith_from_append, ith_single, ith_at_drop, tally-append, tally_all}
 
 -- one more mark adds one if it passes
@@ -80,13 +80,13 @@ sent_at (Send a b m ∷ h) q p i x at_i = go (a == q) (b == p) refl at_i (sent_a
     go : (mine its : Bool) → (b == p) ≡ its → ith (cond (mine && its) (sent h q p ++ m ∷ []) (sent h q p)) (suc i) ≡ Some x → (ith (sent h q p) (suc i) ≡ Some x → SentAt (chart_of h q) p x i) → SentAt (chart_of h q ++ cond mine (send_mark b m.name ∷ []) []) p x i
     go true true e found before =
         elim (ith_from_append (sent h q p) (m ∷ []) (suc i) x found) [
-          inl old ↦ SentAt-append (chart_of h q) (send_mark b m.name ∷ []) p x i (before old)
-        | inr new ↦
-            let only = ith_single m new.0 x new.2 in
-            let line = chart_of h q in
-            let whole = tally_all (is_send_to p) (line ++ send_mark b m.name ∷ []) (length line + 1) (omega (arith, length_push line (send_mark b m.name))) in
-            let more = rw e at (count_push (is_send_to p) line (send_mark b m.name)) in
-            (length line + 1, ith_push line (send_mark b m.name) ∙ ap₂ (λ to (y : Content). Some (send_mark to y.name)) (eqb-true b p e) only.1, omega (arith, whole, more, sent_count h q p, new.1, only.0))
+          | inl old ↦ SentAt-append (chart_of h q) (send_mark b m.name ∷ []) p x i (before old)
+          | inr new ↦
+              let only = ith_single m new.0 x new.2 in
+              let line = chart_of h q in
+              let whole = tally_all (is_send_to p) (line ++ send_mark b m.name ∷ []) (length line + 1) (omega (arith, length_push line (send_mark b m.name))) in
+              let more = rw e at (count_push (is_send_to p) line (send_mark b m.name)) in
+              (length line + 1, ith_push line (send_mark b m.name) ∙ ap₂ (λ to (y : Content). Some (send_mark to y.name)) (eqb-true b p e) only.1, omega (arith, whole, more, sent_count h q p, new.1, only.0))
         ]
     go true false e found before = SentAt-append (chart_of h q) (send_mark b m.name ∷ []) p x i (before found)
     go false its e found before = SentAt-append (chart_of h q) [] p x i (before found)

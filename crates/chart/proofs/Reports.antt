@@ -1,14 +1,14 @@
 -- What is before a receive on its own line: earlier receives from the sender, and what the send knows.
-use Rattle.std.proofs.Common.{◌≡◌, ℕ, zero, suc, ◌+◌, ◌<◌, ◌≤◌, ◌↔◌, ◌⊎◌, inl, inr, true, false, List, take, length, Some, Contains, refl, sym, ap, ◌∙◌, subst, arith, add-one}
-use Rattle.std.proofs.lemmas.Bool.{cases_lt, cases_Bool, false_from_ne_true, false≢true}
+use Rattle.std.proofs.Common.{◌≡◌, ℕ, ◌+◌, ◌<◌, ◌≤◌, ◌↔◌, ◌⊎◌, inl, inr, true, false, List, take, Some, refl, sym, ◌∙◌, subst, arith}
+use Rattle.std.proofs.lemmas.Bool.{cases_lt, false_from_ne_true, false≢true}
 use Rattle.std.proofs.lemmas.Option.{same_Some}
 use Rattle.chart.specs.declared.event.Event.{Event as Mark}
-use Rattle.chart.specs.Marks.{ith, is_receive_from, is_in, region_of}
-use Rattle.chart.specs.Charts.{Chart, Place, at, mark_at, IsSendTo, IsReceiveFrom, BelongsTo}
-use Rattle.chart.specs.Order.{IsEarlier, Before, IsReport, IsRaces, region_of_event}
-use Rattle.chart.specs.Order.Direct.{message, same_sender}
-use Rattle.chart.specs.Order.Before.{direct, through}
-use Rattle.chart.specs.Knowing.{IsUpTo, IsKnown}
+use Rattle.chart.specs.Marks.{ith, is_receive_from, is_in}
+use Rattle.chart.specs.Charts.{Chart, Place, at, mark_at, IsReceiveFrom, BelongsTo}
+use Rattle.chart.specs.Order.{Before, IsReport, IsRaces, region_of_event}
+use Rattle.chart.specs.Order.Direct.{same_sender}
+use Rattle.chart.specs.Order.Before.{direct}
+use Rattle.chart.specs.Knowing.{IsKnown}
 use Rattle.chart.proofs.Tally.{ith_within, ith-take, ith_from_take}
 use Rattle.chart.proofs.Chains.{chain_of, before_receive, before_its_receive}
 use Rattle.chart.proofs.Knowledge.{known_front}
@@ -16,14 +16,16 @@ use Rattle.chart.proofs.Knowledge.{known_front}
 -- an earlier event of a receive's line is before it just where it is a receive from the same sender or is known to the send
 pub before_in_line : (c : Chart) (s : Place) (p i j k : ℕ) → BelongsTo c s (at p i) → IsKnown c s p k → 1 ≤ j → j < i → Before c (at p j) (at p i) ↔ (IsReceiveFrom c s.instance (at p j) ⊎ (j ≤ k))
 before_in_line c s p i j k b known low less =
-    let front = known_front c p s p k b.sent known j low in
-    (λ before. elim (before_receive (chain_of before) s b) [
-      inl w ↦ inl w.1
-    | inr w ↦ inr (front.0 w)
-    ], λ h. elim h [
-      inl from ↦ direct (same_sender s.instance (record { line = refl; begun = low; less = less }) from b.received)
-    | inr le ↦ before_its_receive c (at p j) s (at p i) (front.1 le) b
-    ])
+    let front = known_front c p s p k b.sent known j low in (
+      λ before. elim (before_receive (chain_of before) s b) [
+        | inl w ↦ inl w.1
+        | inr w ↦ inr (front.0 w)
+      ],
+      λ h. elim h [
+        | inl from ↦ direct (same_sender s.instance (record { line = refl; begun = low; less = less }) from b.received)
+        | inr le ↦ before_its_receive c (at p j) s (at p i) (front.1 le) b
+      ],
+    )
 
 -- the races of the line before the receive, above what its send knows, are its report
 pub report_from_races : (c : Chart) (s : Place) (p i k region : ℕ) (xs : List ℕ) → BelongsTo c s (at p (i + 1)) → region_of_event (mark_at c (at p (i + 1))) ≡ region → IsKnown c s p k → IsRaces (take i (c p)) k s.instance region xs → IsReport c (at p (i + 1)) xs
@@ -36,11 +38,14 @@ report_from_races c s p i k region xs b of_region known races = record {
     to_report j (above, (m, at_j, other, outside)) =
         let w = ith_from_take i (c p) j m at_j in
         let less : j < i + 1 = omega (arith, w.0) in
-        let splits = before_in_line c s p (i + 1) j k b known (ith_within (c p) j m w.1).0 less in
-        (less, (m, w.1, subst (λ x. is_in x m ≡ false) (sym of_region) outside), λ before. elim (splits.0 before) [
-          inl from ↦ false≢true (sym other ∙ subst (λ x. is_receive_from s.instance x ≡ true) (same_Some from.0 m (sym from.1 ∙ w.1)) from.2)
-        | inr le ↦ omega arith
-        ])
+        let splits = before_in_line c s p (i + 1) j k b known (ith_within (c p) j m w.1).0 less in (
+          less,
+          (m, w.1, subst (λ x. is_in x m ≡ false) (sym of_region) outside),
+          λ before. elim (splits.0 before) [
+            | inl from ↦ false≢true (sym other ∙ subst (λ x. is_receive_from s.instance x ≡ true) (same_Some from.0 m (sym from.1 ∙ w.1)) from.2)
+            | inr le ↦ omega arith
+          ],
+        )
 
     to_races : (j : ℕ) → (j < i + 1) × ((m : Mark) × (mark_at c (at p j) ≡ Some m) × (is_in (region_of_event (mark_at c (at p (i + 1)))) m ≡ false)) × (Before c (at p j) (at p (i + 1)) → ⊥) → (k < j) × ((m : Mark) × (ith (take i (c p)) j ≡ Some m) × (is_receive_from s.instance m ≡ false) × (is_in region m ≡ false))
     to_races j (less, (m, at_j, outside), apart) =

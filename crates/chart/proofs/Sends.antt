@@ -1,6 +1,6 @@
 -- In a legal history each receive has its send.
-use Rattle.std.proofs.Common.{◌≡◌, ℕ, zero, suc, ◌+◌, ◌<◌, ◌≤◌, ◌==◌, ◌⊎◌, inl, inr, Bool, true, false, cond, List, [], ◌∷◌, ◌++◌, length, Option, Some, None, refl, sym, ap, ap₂, ◌∙◌, subst, subst₂, arith, append-nil, append_assoc, eqb-true, eq-eqb}
-use Rattle.std.proofs.lemmas.Option.{none-some, same_Some}
+use Rattle.std.proofs.Common.{◌≡◌, ℕ, ◌+◌, ◌==◌, inl, inr, Bool, true, false, cond, List, [], ◌∷◌, ◌++◌, length, Some, refl, sym, ap, ap₂, ◌∙◌, subst, subst₂, arith, append-nil, append_assoc, eqb-true, eq-eqb}
+use Rattle.std.proofs.lemmas.Option.{same_Some}
 use Rattle.std.proofs.lemmas.Bool.{false≢true}
 use Rattle.std.proofs.lemmas.List.{length_push}
 use Rattle.chart.specs.declared.history.Event.{Event}
@@ -11,7 +11,6 @@ use Rattle.chart.specs.Marks.{ith, tally, is_send_to, is_receive_from, name_of, 
 use Rattle.chart.specs.Histories.{received, waiting, receive_of, mark_of, chart_of, IsLegal}
 use Rattle.chart.specs.Charts.{Chart, Place, at, mark_at, IsReceiveFrom, BelongsTo, HasNoSend, HasOtherName}
 use Rattle.chart.proofs.Tally.{ith_push, ith_from_append, ith_nil, ith_single, tally_all, tally-le-count_by}
-use Rattle.chart.specs.Growing.{IsEvent}
 use Rattle.chart.proofs.Belongs.{IsEvent-from_mark, same_send}
 use Rattle.chart.proofs.Growing.{GrowsTo, HasSends, mark_grown, tally_grown, belongs_grown}
 use Rattle.chart.proofs.Lanes.{SentAt, count_push, received_count, first_waiting}
@@ -44,7 +43,7 @@ newest_belongs n k h legal p q c x rest e y at_y turn =
     let mark = receive_mark q x.name c in
     let line = line_after_receive h p q c x rest e in
     let whole : tally (is_receive_from q) (chart_of h p ++ mark ∷ []) (length (chart_of h p) + 1) ≡ received h q p + 1 =
-      omega (arith, tally_all (is_receive_from q) (chart_of h p ++ mark ∷ []) (length (chart_of h p) + 1) (omega (arith, length_push (chart_of h p) mark)), rw (eq-eqb q q refl) at (count_push (is_receive_from q) (chart_of h p) mark), received_count n k h legal q p) in
+    omega (arith, tally_all (is_receive_from q) (chart_of h p ++ mark ∷ []) (length (chart_of h p) + 1) (omega (arith, length_push (chart_of h p) mark)), rw (eq-eqb q q refl) at (count_push (is_receive_from q) (chart_of h p) mark), received_count n k h legal q p) in
     record {
       sent = (send_mark p x.name, mark_grown (chart_of h) new grows (at q y) here ∙ at_y, eq-eqb p p refl);
       received = (mark, ap (λ l. ith l (length (chart_of h p) + 1)) line ∙ ith_push (chart_of h p) mark, eq-eqb q q refl);
@@ -92,11 +91,11 @@ pub has_its_send : (n k : ℕ) (h : List Event) → IsLegal n k h → (q : ℕ) 
 has_its_send n k [] legal q r (m, at_r, from) = absurd (ith_nil r.index m at_r)
 has_its_send n k (e ∷ h) legal q r (m, at_r, from) =
     elim (ith_from_append (chart_of h r.instance) (mark_of h r.instance e) r.index m at_r) [
-      inl old ↦ HasItsSend-grown (chart_of h) (chart_of (e ∷ h)) (grows_by_event h e) q r (has_its_send n k h legal.1 q r (m, old, from))
-    | inr new ↦
-        let w = receive_event h r.instance q e new.0 m new.2 from in
-        let place : r.index ≡ length (chart_of h r.instance) + 1 = omega (arith, new.1, w.5) in
-        subst₂ (λ (f : Event) (i : ℕ). HasItsSend (chart_of (f ∷ h)) q (at r.instance i)) (sym w.3) (sym place) (newest_has_send n k h legal.1 r.instance q w.0 w.1 w.2 w.4)
+      | inl old ↦ HasItsSend-grown (chart_of h) (chart_of (e ∷ h)) (grows_by_event h e) q r (has_its_send n k h legal.1 q r (m, old, from))
+      | inr new ↦
+          let w = receive_event h r.instance q e new.0 m new.2 from in
+          let place : r.index ≡ length (chart_of h r.instance) + 1 = omega (arith, new.1, w.5) in
+          subst₂ (λ (f : Event) (i : ℕ). HasItsSend (chart_of (f ∷ h)) q (at r.instance i)) (sym w.3) (sym place) (newest_has_send n k h legal.1 r.instance q w.0 w.1 w.2 w.4)
     ]
 
 -- each receive of a legal history's chart has its send

@@ -1,8 +1,8 @@
 -- Places of a list, from 1, and how many of the events up to a place pass a test.
-use Rattle.std.proofs.Common.{◌≡◌, ℕ, zero, suc, ◌+◌, ◌<◌, ◌≤◌, ◌⊎◌, inl, inr, Bool, true, false, cond, List, [], ◌∷◌, ◌++◌, length, take, drop, slice_get, Option, Some, None, count_by, refl, sym, ap, ◌∙◌, subst, arith, add-one, take_all, length-take}
-use Rattle.std.proofs.lemmas.Option.{none-some, same_Some, slice_get_within, slice_get_cases, get_or_from_slice_get, slice_get_past}
-use Rattle.std.proofs.lemmas.Bool.{cases_Bool, cases_lt, cases_eq}
-use Rattle.std.proofs.lemmas.List.Sums.{sum_by_more, sum_by-append}
+use Rattle.std.proofs.Common.{◌≡◌, ℕ, zero, suc, ◌+◌, ◌<◌, ◌≤◌, ◌⊎◌, inl, inr, Bool, true, false, cond, List, [], ◌∷◌, ◌++◌, length, take, drop, Some, count_by, refl, sym, ap, ◌∙◌, arith, add-one, take_all, length-take}
+use Rattle.std.proofs.lemmas.Option.{none-some, same_Some, slice_get_within, slice_get_cases, get_or_from_slice_get}
+use Rattle.std.proofs.lemmas.Bool.{cases_Bool, cases_lt}
+use Rattle.std.proofs.lemmas.List.Sums.{sum_by_more}
 use Rattle.std.proofs.lemmas.List.{take-append-le}
 use Rattle.chart.specs.declared.event.Event.{Event as Mark}
 use Rattle.chart.specs.Marks.{ith, tally}
@@ -19,8 +19,8 @@ pub ith_at : {X : Type 0} (xs : List X) (i : ℕ) → 1 ≤ i → i ≤ length x
 ith_at xs zero low high = absurd (omega arith)
 ith_at xs (suc i) low high =
     elim (slice_get_cases xs i).1 [
-      inl w ↦ (w.0, w.2)
-    | inr w ↦ absurd (omega (arith, w.0))
+      | inl w ↦ (w.0, w.2)
+      | inr w ↦ absurd (omega (arith, w.0))
     ]
 
 -- a longer list has the same elements at the places of the shorter one
@@ -92,8 +92,8 @@ tally_next test xs i m h =
 pub tally_cases : (test : Mark → Bool) (xs : List Mark) (i : ℕ) → (tally test xs (suc i) ≡ tally test xs i) ⊎ (Passes test xs (suc i) × (tally test xs (suc i) ≡ tally test xs i + 1))
 tally_cases test xs i =
     elim (slice_get_cases xs i).1 [
-      inl w ↦ step w.0 w.2 (cases_Bool (test w.0))
-    | inr w ↦ inl (ap (count_by test) (take_all (suc i) xs (omega (arith, w.0)) ∙ sym (take_all i xs w.0)))
+      | inl w ↦ step w.0 w.2 (cases_Bool (test w.0))
+      | inr w ↦ inl (ap (count_by test) (take_all (suc i) xs (omega (arith, w.0)) ∙ sym (take_all i xs w.0)))
     ]
   where
     step : (m : Mark) → ith xs (suc i) ≡ Some m → (test m ≡ true) ⊎ (test m ≡ false) → (tally test xs (suc i) ≡ tally test xs i) ⊎ (Passes test xs (suc i) × (tally test xs (suc i) ≡ tally test xs i + 1))
@@ -105,10 +105,10 @@ pub tally-le : (test : Mark → Bool) (xs : List Mark) (i j : ℕ) → i ≤ j �
 tally-le test xs i zero h = rw (let e : i ≡ zero = omega arith in e) (omega arith)
 tally-le test xs i (suc j) h =
     elim (cases_lt j i) [
-      inl w ↦ let e : i ≡ suc j = omega arith in rw e (omega arith)
-    | inr w ↦
-        let before = tally-le test xs i j w in
-        elim (tally_cases test xs j) [ inl e ↦ omega arith | inr e ↦ omega (arith, e.1) ]
+      | inl w ↦ let e : i ≡ suc j = omega arith in rw e (omega arith)
+      | inr w ↦
+          let before = tally-le test xs i j w in
+          elim (tally_cases test xs j) [ inl e ↦ omega arith | inr e ↦ omega (arith, e.1) ]
     ]
 
 -- up to a later event that passes there are more
@@ -123,8 +123,8 @@ tally-lt test xs i (suc j) h (m, at, t) =
 pub same_from_tally : (test : Mark → Bool) (xs : List Mark) (i j : ℕ) → Passes test xs i → Passes test xs j → tally test xs i ≡ tally test xs j → i ≡ j
 same_from_tally test xs i j p q e =
     elim (cases_lt i j) [
-      inl w ↦ let l = tally-lt test xs i j w q in absurd (omega arith)
-    | inr w ↦ elim (cases_lt j i) [ inl v ↦ let l = tally-lt test xs j i v p in absurd (omega arith) | inr v ↦ omega arith ]
+      | inl w ↦ let l = tally-lt test xs i j w q in absurd (omega arith)
+      | inr w ↦ elim (cases_lt j i) [ inl v ↦ let l = tally-lt test xs j i v p in absurd (omega arith) | inr v ↦ omega arith ]
     ]
 
 -- each smaller count but 0 is reached at an event that passes
@@ -132,12 +132,12 @@ pub tally_reached : (test : Mark → Bool) (xs : List Mark) (n i : ℕ) → 1 �
 tally_reached test xs n zero low high = absurd (omega arith)
 tally_reached test xs n (suc i) low high =
     elim (cases_lt (tally test xs i) n) [
-      inl w ↦
-        elim (tally_cases test xs i) [
-          inl e ↦ absurd (omega arith)
-        | inr e ↦ (suc i, omega arith, e.0, omega (arith, e.1))
-        ]
-    | inr w ↦ let found = tally_reached test xs n i low w in (found.0, omega (arith, found.1), found.2, found.3)
+      | inl w ↦
+          elim (tally_cases test xs i) [
+            | inl e ↦ absurd (omega arith)
+            | inr e ↦ (suc i, omega arith, e.0, omega (arith, e.1))
+          ]
+      | inr w ↦ let found = tally_reached test xs n i low w in (found.0, omega (arith, found.1), found.2, found.3)
     ]
 
 -- up to a place of the shorter list there are as many in a longer one
@@ -152,6 +152,6 @@ tally_all test xs i h = ap (count_by test) (take_all i xs h)
 pub tally-le-count_by : (test : Mark → Bool) (xs : List Mark) (i : ℕ) → tally test xs i ≤ count_by test xs
 tally-le-count_by test xs i =
     elim (cases_lt i (length xs)) [
-      inl w ↦ let l = tally-le test xs i (length xs) (omega arith) in omega (arith, l, tally_all test xs (length xs) (omega arith))
-    | inr w ↦ omega (arith, tally_all test xs i w)
+      | inl w ↦ let l = tally-le test xs i (length xs) (omega arith) in omega (arith, l, tally_all test xs (length xs) (omega arith))
+      | inr w ↦ omega (arith, tally_all test xs i w)
     ]

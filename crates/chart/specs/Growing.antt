@@ -1,5 +1,5 @@
 -- What later events of a history leave as it is.
-use Rattle.std.specs.Prelude.{ℕ, ◌≤◌, length}
+use Rattle.std.specs.Prelude.{◌≤◌, length}
 use Rattle.chart.specs.Charts.{Chart, Place}
 
 -- the chart has an event at the place

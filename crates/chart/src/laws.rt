@@ -6,168 +6,140 @@ ghost use Rattle.chart.specs.Laws.{ReportLaw, RacesLaw, OwnKnowledgeLaw, Knowled
 /// knows of it.
 pub fn report_law()
     ensures { ReportLaw }
-{
-}
+{}
 
 /// The events of the line before a receive that its send doesn't know of, that aren't from its sender, and that aren't in
 /// its coregion, are its report.
 pub fn races_law()
     ensures { RacesLaw }
-{
-}
+{}
 
 /// A send knows of its own line the events up to itself: where it is the last of the line, and where the chart has no cycle.
 pub fn own_knowledge_law()
     ensures { OwnKnowledgeLaw }
-{
-}
+{}
 
 /// A send knows of another line the most that was heard of it on the send's line before.
 pub fn knowledge_law()
     ensures { KnowledgeLaw }
-{
-}
+{}
 
 /// Nothing is heard of any line before the first event.
 pub fn first_hearing_law()
     ensures { FirstHearingLaw }
-{
-}
+{}
 
 /// A receive hears what its send knows.
 pub fn receive_hearing_law()
     ensures { ReceiveHearingLaw }
-{
-}
+{}
 
 /// A send hears nothing.
 pub fn send_hearing_law()
     ensures { SendHearingLaw }
-{
-}
+{}
 
 /// In a legal history no receive lacks a send.
 pub fn no_send_law()
     ensures { NoSendLaw }
-{
-}
+{}
 
 /// In a legal history no receive has another name than its send.
 pub fn other_name_law()
     ensures { OtherNameLaw }
-{
-}
+{}
 
 /// In a legal history each receive belongs to a send.
 pub fn send_law()
     ensures { SendLaw }
-{
-}
+{}
 
 /// In a legal history no event is enforced before itself.
 pub fn no_cycle_law()
     ensures { NoCycleLaw }
-{
-}
+{}
 
 /// A send is the last of its line.
 pub fn newest_send_law()
     ensures { NewestSendLaw }
-{
-}
+{}
 
 /// A receive is the last of its line, and has the name of the first message that waited.
 pub fn newest_receive_law()
     ensures { NewestReceiveLaw }
-{
-}
+{}
 
 /// A send is one more on its lane than messages were sent.
 pub fn newest_turn_law()
     ensures { NewestTurnLaw }
-{
-}
+{}
 
 /// Each message of a lane has its send on its sender's line, with as many above it on the lane as were sent before.
 pub fn sent_law()
     ensures { SentLaw }
-{
-}
+{}
 
 /// The first message that waits has its send on its sender's line, with as many above it on the lane as were received.
 pub fn first_waiting_law()
     ensures { FirstWaitingLaw }
-{
-}
+{}
 
 /// A receive belongs to the send of the first message that waited.
 pub fn newest_belongs_law()
     ensures { NewestBelongsLaw }
-{
-}
+{}
 
 /// What a legal history begins with is legal.
 pub fn legal_growth_law()
     ensures { LegalGrowthLaw }
-{
-}
+{}
 
 /// Later events leave the event at a place as it is.
 pub fn place_growth_law()
     ensures { PlaceGrowthLaw }
-{
-}
+{}
 
 /// Later events leave the counts of events up to a place as they are.
 pub fn tally_growth_law()
     ensures { TallyGrowthLaw }
-{
-}
+{}
 
 /// Later events leave which send a receive belongs to as it is.
 pub fn belonging_growth_law()
     ensures { BelongingGrowthLaw }
-{
-}
+{}
 
 /// Later events leave what is before an event as it is.
 pub fn order_growth_law()
     ensures { OrderGrowthLaw }
-{
-}
+{}
 
 /// Later events leave what an event knows as it is.
 pub fn knowledge_growth_law()
     ensures { KnowledgeGrowthLaw }
-{
-}
+{}
 
 /// Later events leave reports as they are.
 pub fn report_growth_law()
     ensures { ReportGrowthLaw }
-{
-}
+{}
 
 /// Later events leave what was heard as it is.
 pub fn hearing_growth_law()
     ensures { HearingGrowthLaw }
-{
-}
+{}
 
 /// In a legal history a send knows one number of each line.
 pub fn one_knowledge_law()
     ensures { OneKnowledgeLaw }
-{
-}
+{}
 
 /// In a legal history the first events of a line have heard one number of each line.
 pub fn one_hearing_law()
     ensures { OneHearingLaw }
-{
-}
+{}
 
 /// In a legal history a receive has one report.
 pub fn one_report_law()
     ensures { OneReportLaw }
-{
-}
+{}
