@@ -1,14 +1,14 @@
 -- What stays as it is from a legal history to one that begins with it.
 use Rattle.std.proofs.Common.{◌≡◌, ℕ, ◌≤◌, ◌↔◌, Bool, List, [], ◌∷◌, ◌++◌, length, ap, ◌∙◌, subst}
 use Rattle.chart.specs.declared.history.Event.{Event}
-use Rattle.chart.specs.declared.event.Event.{Event as Mark}
-use Rattle.chart.specs.Marks.{tally}
+use Rattle.chart.specs.Marks.{is_send_to}
 use Rattle.chart.specs.Histories.{chart_of, IsLegal, Begins}
-use Rattle.chart.specs.Charts.{Place, mark_at, BelongsTo}
-use Rattle.chart.specs.Growing.{IsEvent}
+use Rattle.chart.specs.Charts.{Place, at, mark_at, BelongsTo}
+use Rattle.chart.specs.Places.{IsEvent, IsSendAfter}
 use Rattle.chart.specs.Order.{Before, IsReport}
 use Rattle.chart.specs.Knowing.{IsKnown, IsGreatestHeard}
-use Rattle.chart.proofs.Growing.{GrowsTo, mark_grown, tally_grown, belongs_grown, belongs_shrunk, before_grown, before_shrunk, known_grown, report_grown, heard_grown}
+use Rattle.chart.proofs.Belongs.{IsEvent-from_passes}
+use Rattle.chart.proofs.Growing.{GrowsTo, mark_grown, tally_grown, passes_grown, belongs_grown, belongs_shrunk, before_grown, before_shrunk, known_grown, report_grown, heard_grown}
 use Rattle.chart.proofs.Sends.{grows_by_events, sends_of}
 
 -- what a legal history begins with is legal
@@ -27,9 +27,11 @@ grows_from_begun h g (more, e) p = let w = grows_by_events more h p in (w.0, ap 
 pub mark_begun : (h g : List Event) → Begins h g → (e : Place) → IsEvent (chart_of h) e → mark_at (chart_of g) e ≡ mark_at (chart_of h) e
 mark_begun h g begins = mark_grown (chart_of h) (chart_of g) (grows_from_begun h g begins)
 
--- how many of the events up to a place pass a test
-pub tally_begun : (h g : List Event) → Begins h g → (test : Mark → Bool) (e : Place) → IsEvent (chart_of h) e → tally test (chart_of g e.instance) e.index ≡ tally test (chart_of h e.instance) e.index
-tally_begun h g begins = tally_grown (chart_of h) (chart_of g) (grows_from_begun h g begins)
+-- where a send of a lane is
+pub send_begun : (h g : List Event) → Begins h g → (q p i j : ℕ) → IsSendAfter (chart_of h q) p i j → IsSendAfter (chart_of g q) p i j
+send_begun h g begins q p i j (passes, turn) =
+    let grows = grows_from_begun h g begins in
+    (passes_grown (chart_of h) (chart_of g) grows (is_send_to p) (at q j) passes, tally_grown (chart_of h) (chart_of g) grows (is_send_to p) (at q j) (IsEvent-from_passes (chart_of h) (is_send_to p) (at q j) passes) ∙ turn)
 
 -- which send a receive belongs to
 pub belongs_begun : (n k : ℕ) (h g : List Event) → IsLegal n k h → Begins h g → (s r : Place) → IsEvent (chart_of h) r → BelongsTo (chart_of h) s r ↔ BelongsTo (chart_of g) s r

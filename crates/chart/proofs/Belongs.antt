@@ -6,7 +6,7 @@ use Rattle.chart.specs.declared.event.Event.{Event as Mark}
 use Rattle.chart.specs.declared.event.Event.TheVariants.{Send, Receive}
 use Rattle.chart.specs.Marks.{is_send_to, is_receive_from, tally}
 use Rattle.chart.specs.Charts.{Chart, Place, at, mark_at, IsSendTo, IsReceiveFrom, BelongsTo}
-use Rattle.chart.specs.Growing.{IsEvent}
+use Rattle.chart.specs.Places.{IsEvent}
 use Rattle.chart.specs.Order.{IsEarlier}
 use Rattle.chart.proofs.Tally.{Passes, ith_within, tally-lt, same_from_tally, tally_reached}
 

@@ -6,7 +6,7 @@ use Rattle.chart.specs.Order.{IsEarlier, Direct, Before}
 use Rattle.chart.specs.Order.Direct.{message, to_send, same_sender}
 use Rattle.chart.specs.Order.Before.{direct, through}
 use Rattle.chart.specs.Knowing.{IsUpTo}
-use Rattle.chart.specs.Growing.{IsEvent}
+use Rattle.chart.specs.Places.{IsEvent}
 use Rattle.chart.proofs.Belongs.{IsEvent-from_passes, IsEarlier-trans, not_both, one_sender, same_send, earlier_send}
 
 -- e is enforced before f, with the last direct step at hand
@@ -100,15 +100,19 @@ before_from_above c q s d e sends l (inr before) =
       | inr w ↦ absurd (not_both c q w.1.0 s sends w.1.1)
     ]
 
--- what is before an event of another line was heard of by a receive of that line
-pub heard_from : {c : Chart} {e f : Place} → Chain c e f → (e.instance ≡ f.instance → ⊥) → (l : ℕ) × (t : Place) × (l ≤ f.index) × BelongsTo c t (at f.instance l) × IsUpTo c t e
+-- a receive of the line, at or above f, belongs to a send that is e or after it
+abbrev pub IsHeardBy : (c : Chart) (f e : Place) → Type 0
+IsHeardBy c f e = (l : ℕ) × (t : Place) × (l ≤ f.index) × BelongsTo c t (at f.instance l) × IsUpTo c t e
+
+-- what was heard above was heard
+heard_below : (c : Chart) (d f e : Place) → IsEarlier d f → IsHeardBy c d e → IsHeardBy c f e
+heard_below c d f e l (i, t, le, b, up) = (i, t, omega (arith, l.less), subst (λ a. BelongsTo c t (at a i)) l.line b, up)
+
+-- what is before an event of another line was heard of there
+pub heard_from : {c : Chart} {e f : Place} → Chain c e f → (e.instance ≡ f.instance → ⊥) → IsHeardBy c f e
 heard_from {e = e} {f = f} (only (message b)) differs = (f.index, e, omega arith, b, inl refl)
 heard_from (only (to_send q l s)) differs = absurd (differs l.line)
 heard_from (only (same_sender q l x y)) differs = absurd (differs l.line)
 heard_from {f = f} (then {d = d} x (message b)) differs = (f.index, d, omega arith, b, inr (before_of x))
-heard_from {c = c} {f = f} (then {d = d} x (to_send q l s)) differs =
-    let w = heard_from x (λ p. differs (p ∙ l.line)) in
-    (w.0, w.1, omega (arith, w.2, l.less), subst (λ a. BelongsTo c w.1 (at a w.0)) l.line w.3, w.4)
-heard_from {c = c} {f = f} (then {d = d} x (same_sender q l y z)) differs =
-    let w = heard_from x (λ p. differs (p ∙ l.line)) in
-    (w.0, w.1, omega (arith, w.2, l.less), subst (λ a. BelongsTo c w.1 (at a w.0)) l.line w.3, w.4)
+heard_from {c = c} {e = e} {f = f} (then {d = d} x (to_send q l s)) differs = heard_below c d f e l (heard_from x (λ p. differs (p ∙ l.line)))
+heard_from {c = c} {e = e} {f = f} (then {d = d} x (same_sender q l y z)) differs = heard_below c d f e l (heard_from x (λ p. differs (p ∙ l.line)))

@@ -7,10 +7,10 @@ use Rattle.chart.specs.Messages.{Content}
 use Rattle.chart.specs.Marks.{ith, is_send_to, send_mark, receive_mark}
 use Rattle.chart.specs.Histories.{by, waiting, receive_of, mark_of, chart_of, IsLegal}
 use Rattle.chart.specs.Charts.{Place, IsSendTo}
-use Rattle.chart.specs.Order.{Direct, IsCyclic}
+use Rattle.chart.specs.Order.{IsEarlier, Direct, IsCyclic}
 use Rattle.chart.specs.Order.Direct.{message, to_send, same_sender}
 use Rattle.chart.proofs.Tally.{ith_at, ith_from_append, ith_nil, ith_single}
-use Rattle.chart.specs.Growing.{IsEvent}
+use Rattle.chart.specs.Places.{IsEvent}
 use Rattle.chart.proofs.Belongs.{IsEvent-from_mark, IsEvent-from_passes, same_place, not_both}
 use Rattle.chart.proofs.Chains.{Chain, chain_of, before_of, before_events}
 use Rattle.chart.proofs.Chains.Chain.{only, then}
@@ -41,10 +41,14 @@ event_cases h e x here =
       | inr new ↦ let w = one_mark h x.instance e new.0 m.0 new.2 in inr (w.0, omega (arith, new.1, w.1))
     ]
 
+-- what stands above the newest event is an old one
+above_newest : (h : List Event) (d x : Place) → x.index ≡ length (chart_of h x.instance) + 1 → IsEarlier d x → IsEvent (chart_of h) d
+above_newest h d x last l = (l.begun, subst (λ p. d.index ≤ length (chart_of h p)) (sym l.line) (omega (arith, l.less)))
+
 -- what is directly before the newest event is an old one
 from_old : (h : List Event) (e : Event) (d x : Place) → (by e ≡ x.instance) × (x.index ≡ length (chart_of h x.instance) + 1) → Direct (chart_of (e ∷ h)) d x → IsEvent (chart_of h) d
-from_old h e d x newest (to_send q l s) = (l.begun, subst (λ p. d.index ≤ length (chart_of h p)) (sym l.line) (omega (arith, l.less, newest.1)))
-from_old h e d x newest (same_sender q l y z) = (l.begun, subst (λ p. d.index ≤ length (chart_of h p)) (sym l.line) (omega (arith, l.less, newest.1)))
+from_old h e d x newest (to_send q l s) = above_newest h d x newest.1 l
+from_old h e d x newest (same_sender q l y z) = above_newest h d x newest.1 l
 from_old h e d x newest (message b) =
     elim (event_cases h e d (IsEvent-from_passes (chart_of (e ∷ h)) (is_send_to x.instance) d b.sent)) [
       | inl old ↦ old

@@ -7,14 +7,14 @@ use Rattle.chart.specs.declared.event.Event.TheVariants.{Send, Receive}
 use Rattle.chart.specs.Marks.{ith, is_send_to, is_receive_from, is_in}
 use Rattle.chart.specs.Histories.{chart_of, IsLegal}
 use Rattle.chart.specs.Charts.{Chart, Place, at, mark_at, IsSendTo, IsReceiveFrom, BelongsTo}
-use Rattle.chart.specs.Growing.{IsEvent}
+use Rattle.chart.specs.Places.{IsEvent}
 use Rattle.chart.specs.Order.{IsReport, IsRaces, region_of_event}
 use Rattle.chart.specs.Knowing.{IsKnown, IsGreatestHeard}
 use Rattle.chart.proofs.Tally.{ith_within, ith_at}
 use Rattle.chart.proofs.Belongs.{IsEvent-from_passes}
 use Rattle.chart.proofs.Counts.{same_count}
 use Rattle.chart.proofs.Knowledge.{known_own, known_other, heard_at_first, heard_from_send, heard_at_send}
-use Rattle.chart.proofs.Reports.{report_from_races}
+use Rattle.chart.proofs.Reports.{IsRace, report_from_races}
 use Rattle.chart.proofs.Growing.{GrowsTo, HasSends, passes_shrunk, known_grown, heard_grown}
 use Rattle.chart.proofs.Sends.{grows_by_event, sends_of}
 use Rattle.chart.proofs.Cycles.{event_cases, acyclic}
@@ -106,10 +106,10 @@ races_exist line entry q region =
     of_mark None h = absurd (false≢true h)
     of_mark (Some m) h = let w = and_parts (not (is_receive_from q m)) (not (is_in region m)) h in (m, refl, not-true (is_receive_from q m) w.0, not-true (is_in region m) w.1)
 
-    of_test : (j : ℕ) → (nat_lt entry j && races (ith line j)) ≡ true → (entry < j) × ((m : Mark) × (ith line j ≡ Some m) × (is_receive_from q m ≡ false) × (is_in region m ≡ false))
+    of_test : (j : ℕ) → (nat_lt entry j && races (ith line j)) ≡ true → IsRace line entry q region j
     of_test j h = let w = and_parts (nat_lt entry j) (races (ith line j)) h in (ltb-true entry j w.0, of_mark (ith line j) w.1)
 
-    to_test : (j : ℕ) → (entry < j) × ((m : Mark) × (ith line j ≡ Some m) × (is_receive_from q m ≡ false) × (is_in region m ≡ false)) → (1 ≤ j) × (j ≤ length line) × ((nat_lt entry j && races (ith line j)) ≡ true)
+    to_test : (j : ℕ) → IsRace line entry q region j → (1 ≤ j) × (j ≤ length line) × ((nat_lt entry j && races (ith line j)) ≡ true)
     to_test j (above, (m, at_j, other, outside)) =
         let within = ith_within line j m at_j in
         (within.0, within.1, and_from (nat_lt entry j) (races (ith line j)) (lt-ltb entry j above) (subst (λ o. races o ≡ true) (sym at_j) (and_from (not (is_receive_from q m)) (not (is_in region m)) (not_from_false (is_receive_from q m) other) (not_from_false (is_in region m) outside))))

@@ -8,12 +8,13 @@ use Rattle.chart.specs.Order.Direct.{message, to_send, same_sender}
 use Rattle.chart.specs.Order.Before.{direct, through}
 use Rattle.chart.specs.Knowing.{IsUpTo, IsKnown, IsGreatestHeard}
 use Rattle.chart.proofs.Tally.{Passes, ith-append, tally-append}
-use Rattle.chart.specs.Growing.{IsEvent}
+use Rattle.chart.specs.Places.{IsEvent}
 use Rattle.chart.proofs.Belongs.{IsEvent-from_mark, IsEvent-from_passes, same_send}
 use Rattle.chart.proofs.Chains.{Chain, chain_of, direct_events}
 use Rattle.chart.proofs.Chains.Chain.{only, then}
 use Rattle.chart.proofs.Counts.{count_agrees, count_further}
 use Rattle.chart.proofs.Knowledge.{up_to_event}
+use Rattle.chart.proofs.Reports.{IsReported}
 
 -- each line of d is that of c, and what came after
 abbrev pub GrowsTo : Chart → Chart → Type 0
@@ -37,7 +38,7 @@ module _ (c d : Chart) (grows : GrowsTo c d) where
   tally_grown test e here = let w = grows e.instance in ap (λ l. tally test l e.index) w.1 ∙ tally-append test (c e.instance) w.0 e.index here.1
 
   -- an event that passes a test is one that did
-  passes_grown : (test : Mark → Bool) (e : Place) → Passes test (c e.instance) e.index → Passes test (d e.instance) e.index
+  pub passes_grown : (test : Mark → Bool) (e : Place) → Passes test (c e.instance) e.index → Passes test (d e.instance) e.index
   passes_grown test e p = (p.0, mark_grown e (IsEvent-from_passes c test e p) ∙ p.1, p.2)
 
   -- and the other way round
@@ -117,12 +118,12 @@ module _ (c d : Chart) (grows : GrowsTo c d) where
       exact = λ j. (λ is_in_report. forth j ((report.exact j).0 is_in_report), λ w. (report.exact j).1 (back j w));
     }
       where
-        forth : (j : ℕ) → (j < r.index) × ((m : Mark) × (mark_at c (at r.instance j) ≡ Some m) × (is_in (region_of_event (mark_at c r)) m ≡ false)) × (Before c (at r.instance j) r → ⊥) → (j < r.index) × ((m : Mark) × (mark_at d (at r.instance j) ≡ Some m) × (is_in (region_of_event (mark_at d r)) m ≡ false)) × (Before d (at r.instance j) r → ⊥)
+        forth : (j : ℕ) → IsReported c r j → IsReported d r j
         forth j (less, (m, at_j, outside), apart) =
             let within = IsEvent-from_mark c (at r.instance j) m at_j in
             (less, (m, mark_grown (at r.instance j) within ∙ at_j, subst (λ x. is_in (region_of_event x) m ≡ false) (sym (mark_grown r here)) outside), λ before. apart (before_shrunk (at r.instance j) r here before))
 
-        back : (j : ℕ) → (j < r.index) × ((m : Mark) × (mark_at d (at r.instance j) ≡ Some m) × (is_in (region_of_event (mark_at d r)) m ≡ false)) × (Before d (at r.instance j) r → ⊥) → (j < r.index) × ((m : Mark) × (mark_at c (at r.instance j) ≡ Some m) × (is_in (region_of_event (mark_at c r)) m ≡ false)) × (Before c (at r.instance j) r → ⊥)
+        back : (j : ℕ) → IsReported d r j → IsReported c r j
         back j (less, (m, at_j, outside), apart) =
             let within : IsEvent c (at r.instance j) = ((IsEvent-from_mark d (at r.instance j) m at_j).0, omega (arith, here.1)) in
             (less, (m, sym (mark_grown (at r.instance j) within) ∙ at_j, subst (λ x. is_in (region_of_event x) m ≡ false) (mark_grown r here) outside), λ before. apart (before_grown before))

@@ -7,7 +7,7 @@ use Rattle.chart.specs.Order.{IsCyclic}
 use Rattle.chart.specs.Order.Direct.{to_send}
 use Rattle.chart.specs.Order.Before.{direct, through}
 use Rattle.chart.specs.Knowing.{IsUpTo, IsKnown, IsGreatestHeard}
-use Rattle.chart.specs.Growing.{IsEvent}
+use Rattle.chart.specs.Places.{IsEvent}
 use Rattle.chart.proofs.Belongs.{IsEvent-from_passes, not_both, same_send}
 use Rattle.chart.proofs.Chains.{chain_of, before_events, before_from_above, before_its_receive, heard_from}
 use Rattle.chart.proofs.Counts.{IsFront, count-le, front_from_count, count_from_front}

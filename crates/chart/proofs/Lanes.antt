@@ -1,5 +1,5 @@
 -- The marks on the lines of a history's chart, against the messages of its lanes.
-use Rattle.std.proofs.Common.{◌≡◌, ℕ, suc, ◌+◌, ◌<◌, ◌==◌, ◌&&◌, inl, inr, Bool, true, false, cond, List, [], ◌∷◌, ◌++◌, length, Some, count_by, refl, ap, ap₂, ◌∙◌, arith, append-nil, eqb-true, eq-eqb}
+use Rattle.std.proofs.Common.{slice_get, ◌≡◌, ℕ, suc, ◌+◌, ◌<◌, ◌==◌, ◌&&◌, inl, inr, Bool, true, false, cond, List, [], ◌∷◌, ◌++◌, length, Some, count_by, refl, sym, ap, ap₂, ◌∙◌, arith, append-nil, eqb-true, eq-eqb}
 use Rattle.std.proofs.lemmas.Bool.{false≢true}
 use Rattle.std.proofs.lemmas.Option.{none-some}
 use Rattle.std.proofs.lemmas.List.Sums.{sum_by_push}
@@ -10,7 +10,9 @@ use Rattle.chart.specs.declared.event.Event.{Event as Mark}
 use Rattle.chart.specs.Messages.{Content}
 use Rattle.chart.specs.Marks.{ith, tally, is_send_to, is_receive_from, send_mark, receive_mark}
 use Rattle.chart.specs.Histories.{sent, received, waiting, receive_of, mark_of, chart_of, IsLegal}
-use Rattle.chart.proofs.Tally.{ith_within, ith-append, ith_push, ith_from_append, ith_single, ith_at_drop, tally-append, tally_all}
+use Rattle.chart.specs.Charts.{at, mark_at}
+use Rattle.chart.specs.Places.{IsSendAfter}
+use Rattle.chart.proofs.Tally.{same_from_tally, ith_within, ith-append, ith_push, ith_from_append, ith_single, ith_at_drop, tally-append, tally_all}
 
 -- one more mark adds one if it passes
 pub count_push : (test : Mark → Bool) (line : List Mark) (m : Mark) → count_by test (line ++ m ∷ []) ≡ count_by test line + cond {A = ℕ} (test m) 1 0
@@ -33,16 +35,16 @@ sent_count (Receive a b c ∷ h) q p = go (a == q) (waiting h b a) (sent_count h
     go false ms before = ap (count_by (is_send_to p)) (append-nil (chart_of h q)) ∙ before
 sent_count (Close a b ∷ h) q p = ap (count_by (is_send_to p)) (append-nil (chart_of h q)) ∙ sent_count h q p
 
--- a new send has one more above it, itself included, than messages were sent
-pub newest_turn : (h : List Event) (p q : ℕ) (x : Content) → tally (is_send_to q) (chart_of (Send p q x ∷ h) p) (length (chart_of h p) + 1) ≡ length (sent h p q) + 1
-newest_turn h p q x = go (p == p) (eq-eqb p p refl)
+-- a new send has as many above it as messages were sent
+pub newest_is_send : (h : List Event) (p q : ℕ) (x : Content) → IsSendAfter (chart_of (Send p q x ∷ h) p) q (length (sent h p q)) (length (chart_of h p) + 1)
+newest_is_send h p q x = go (p == p) (eq-eqb p p refl)
   where
     line : List Mark
     line = chart_of h p
 
-    go : (mine : Bool) → mine ≡ true → tally (is_send_to q) (line ++ cond mine (send_mark q x.name ∷ []) []) (length line + 1) ≡ length (sent h p q) + 1
+    go : (mine : Bool) → mine ≡ true → IsSendAfter (line ++ cond mine (send_mark q x.name ∷ []) []) q (length (sent h p q)) (length line + 1)
     go false e = absurd (false≢true e)
-    go true e = omega (arith, tally_all (is_send_to q) (line ++ send_mark q x.name ∷ []) (length line + 1) (omega (arith, length_push line (send_mark q x.name))), rw (eq-eqb q q refl) at (count_push (is_send_to q) line (send_mark q x.name)), sent_count h p q)
+    go true e = ((send_mark q x.name, ith_push line (send_mark q x.name), eq-eqb q q refl), omega (arith, tally_all (is_send_to q) (line ++ send_mark q x.name ∷ []) (length line + 1) (omega (arith, length_push line (send_mark q x.name))), rw (eq-eqb q q refl) at (count_push (is_send_to q) line (send_mark q x.name)), sent_count h p q))
 
 -- in a legal history as many receives stand on a line as messages were received
 pub received_count : (n k : ℕ) (h : List Event) → IsLegal n k h → (q p : ℕ) → count_by (is_receive_from q) (chart_of h p) ≡ received h q p
@@ -93,6 +95,18 @@ sent_at (Send a b m ∷ h) q p i x at_i = go (a == q) (b == p) refl at_i (sent_a
 sent_at (Receive a b c ∷ h) q p i x at_i = SentAt-append (chart_of h q) (mark_of h q (Receive a b c)) p x i (sent_at h q p i x at_i)
 sent_at (Close a b ∷ h) q p i x at_i = SentAt-append (chart_of h q) [] p x i (sent_at h q p i x at_i)
 
--- the first message that waits has its send on the line, as many sends to p above it as were received
-pub first_waiting : (h : List Event) (q p : ℕ) (x : Content) (rest : List Content) → waiting h q p ≡ x ∷ rest → SentAt (chart_of h q) p x (received h q p)
-first_waiting h q p x rest e = sent_at h q p (received h q p) x (ith_at_drop (received h q p) (sent h q p) x rest e)
+-- that send is one of the lane, with i above it
+pub IsSendAfter-from_sent_at : (line : List Mark) (p : ℕ) (x : Content) (i : ℕ) (at_i : SentAt line p x i) → IsSendAfter line p i at_i.0
+IsSendAfter-from_sent_at line p x i (j, at_j, turn) = ((send_mark p x.name, at_j, eq-eqb p p refl), turn)
+
+-- each message of a lane has its send on the line of its sender, with its name
+pub send_of_message : (h : List Event) (q p i : ℕ) (x : Content) → slice_get (sent h q p) i ≡ Some x → (j : ℕ) × IsSendAfter (chart_of h q) p i j × (mark_at (chart_of h) (at q j) ≡ Some (send_mark p x.name))
+send_of_message h q p i x found = let w = sent_at h q p i x found in (w.0, IsSendAfter-from_sent_at (chart_of h q) p x i w, w.1)
+
+-- and so has the first that waits
+pub send_of_first : (h : List Event) (q p : ℕ) (x : Content) (rest : List Content) → waiting h q p ≡ x ∷ rest → (j : ℕ) × IsSendAfter (chart_of h q) p (received h q p) j × (mark_at (chart_of h) (at q j) ≡ Some (send_mark p x.name))
+send_of_first h q p x rest e = send_of_message h q p (received h q p) x (ith_at_drop (received h q p) (sent h q p) x rest e)
+
+-- one send of a lane has i above it
+pub same_place_on_lane : (line : List Mark) (q i j l : ℕ) → IsSendAfter line q i j → IsSendAfter line q i l → j ≡ l
+same_place_on_lane line q i j l a b = same_from_tally (is_send_to q) line j l a.0 b.0 (a.1 ∙ sym b.1)

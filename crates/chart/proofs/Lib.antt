@@ -10,4 +10,5 @@ pub mod Lanes
 pub mod Reports
 pub mod Rising
 pub mod Sends
+pub mod Steps
 pub mod Tally

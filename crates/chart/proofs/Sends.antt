@@ -10,10 +10,11 @@ use Rattle.chart.specs.Messages.{Content}
 use Rattle.chart.specs.Marks.{ith, tally, is_send_to, is_receive_from, name_of, send_mark, receive_mark}
 use Rattle.chart.specs.Histories.{received, waiting, receive_of, mark_of, chart_of, IsLegal}
 use Rattle.chart.specs.Charts.{Chart, Place, at, mark_at, IsReceiveFrom, BelongsTo, HasNoSend, HasOtherName}
+use Rattle.chart.specs.Places.{IsSendAfter}
 use Rattle.chart.proofs.Tally.{ith_push, ith_from_append, ith_nil, ith_single, tally_all, tally-le-count_by}
-use Rattle.chart.proofs.Belongs.{IsEvent-from_mark, same_send}
-use Rattle.chart.proofs.Growing.{GrowsTo, HasSends, mark_grown, tally_grown, belongs_grown}
-use Rattle.chart.proofs.Lanes.{SentAt, count_push, received_count, first_waiting}
+use Rattle.chart.proofs.Belongs.{IsEvent-from_mark, IsEvent-from_passes, same_send}
+use Rattle.chart.proofs.Growing.{GrowsTo, HasSends, mark_grown, tally_grown, passes_grown, belongs_grown}
+use Rattle.chart.proofs.Lanes.{count_push, received_count, send_of_first}
 
 -- the chart of a history grows with each event
 pub grows_by_event : (h : List Event) (e : Event) → GrowsTo (chart_of h) (chart_of (e ∷ h))
@@ -34,20 +35,22 @@ line_after_send h p q x = ap (λ mine. chart_of h p ++ cond mine (send_mark q x.
 pub line_after_receive : (h : List Event) (p q c : ℕ) (x : Content) (rest : List Content) → waiting h q p ≡ x ∷ rest → chart_of (Receive p q c ∷ h) p ≡ chart_of h p ++ receive_mark q x.name c ∷ []
 line_after_receive h p q c x rest e = ap₂ (λ mine ms. chart_of h p ++ cond mine (receive_of ms q c) []) (eq-eqb p p refl) e
 
--- the newest receive belongs to the send of the first message that waited, wherever that is on the sender's line
-pub newest_belongs : (n k : ℕ) (h : List Event) → IsLegal n k h → (p q c : ℕ) (x : Content) (rest : List Content) → waiting h q p ≡ x ∷ rest → (y : ℕ) → ith (chart_of h q) y ≡ Some (send_mark p x.name) → tally (is_send_to p) (chart_of h q) y ≡ received h q p + 1 → BelongsTo (chart_of (Receive p q c ∷ h)) (at q y) (at p (length (chart_of h p) + 1))
-newest_belongs n k h legal p q c x rest e y at_y turn =
+-- the newest receive belongs to the send of the first message that waited
+pub newest_belongs : (n k : ℕ) (h : List Event) → IsLegal n k h → (p q c : ℕ) (x : Content) (rest : List Content) → waiting h q p ≡ x ∷ rest → (j : ℕ) → IsSendAfter (chart_of h q) p (received h q p) j → BelongsTo (chart_of (Receive p q c ∷ h)) (at q j) (at p (length (chart_of h p) + 1))
+newest_belongs n k h legal p q c x rest e j (passes, turn) =
     let new = chart_of (Receive p q c ∷ h) in
     let grows = grows_by_event h (Receive p q c) in
-    let here = IsEvent-from_mark (chart_of h) (at q y) (send_mark p x.name) at_y in
+    let here = IsEvent-from_passes (chart_of h) (is_send_to p) (at q j) passes in
     let mark = receive_mark q x.name c in
+    let last = length (chart_of h p) + 1 in
     let line = line_after_receive h p q c x rest e in
-    let whole : tally (is_receive_from q) (chart_of h p ++ mark ∷ []) (length (chart_of h p) + 1) ≡ received h q p + 1 =
-    omega (arith, tally_all (is_receive_from q) (chart_of h p ++ mark ∷ []) (length (chart_of h p) + 1) (omega (arith, length_push (chart_of h p) mark)), rw (eq-eqb q q refl) at (count_push (is_receive_from q) (chart_of h p) mark), received_count n k h legal q p) in
+    let whole = tally_all (is_receive_from q) (chart_of h p ++ mark ∷ []) last (omega (arith, length_push (chart_of h p) mark)) in
+    let more = rw (eq-eqb q q refl) at (count_push (is_receive_from q) (chart_of h p) mark) in
+    let turns : tally (is_receive_from q) (chart_of h p ++ mark ∷ []) last ≡ received h q p + 1 = omega (arith, whole, more, received_count n k h legal q p) in
     record {
-      sent = (send_mark p x.name, mark_grown (chart_of h) new grows (at q y) here ∙ at_y, eq-eqb p p refl);
-      received = (mark, ap (λ l. ith l (length (chart_of h p) + 1)) line ∙ ith_push (chart_of h p) mark, eq-eqb q q refl);
-      turn = tally_grown (chart_of h) new grows (is_send_to p) (at q y) here ∙ turn ∙ sym (ap (λ l. tally (is_receive_from q) l (length (chart_of h p) + 1)) line ∙ whole);
+      sent = passes_grown (chart_of h) new grows (is_send_to p) (at q j) passes;
+      received = (mark, ap (λ l. ith l last) line ∙ ith_push (chart_of h p) mark, eq-eqb q q refl);
+      turn = tally_grown (chart_of h) new grows (is_send_to p) (at q j) here ∙ turn ∙ sym (ap (λ l. tally (is_receive_from q) l last) line ∙ turns);
     }
 
 -- a receive from q on a line is what a receive event put there, of the first message that waited
@@ -81,10 +84,10 @@ HasItsSend-grown c d grows q r (y, a, b, belongs, at_y, at_r, same) =
 -- the newest receive has its send
 newest_has_send : (n k : ℕ) (h : List Event) → IsLegal n k h → (p q c : ℕ) (x : Content) (rest : List Content) → waiting h q p ≡ x ∷ rest → HasItsSend (chart_of (Receive p q c ∷ h)) q (at p (length (chart_of h p) + 1))
 newest_has_send n k h legal p q c x rest e =
-    let first : SentAt (chart_of h q) p x (received h q p) = first_waiting h q p x rest e in
+    let first = send_of_first h q p x rest e in
     let new = chart_of (Receive p q c ∷ h) in
-    let here = IsEvent-from_mark (chart_of h) (at q first.0) (send_mark p x.name) first.1 in
-    (first.0, send_mark p x.name, receive_mark q x.name c, newest_belongs n k h legal p q c x rest e first.0 first.1 first.2, mark_grown (chart_of h) new (grows_by_event h (Receive p q c)) (at q first.0) here ∙ first.1, ap (λ l. ith l (length (chart_of h p) + 1)) (line_after_receive h p q c x rest e) ∙ ith_push (chart_of h p) (receive_mark q x.name c), refl)
+    let here = IsEvent-from_mark (chart_of h) (at q first.0) (send_mark p x.name) first.2 in
+    (first.0, send_mark p x.name, receive_mark q x.name c, newest_belongs n k h legal p q c x rest e first.0 first.1, mark_grown (chart_of h) new (grows_by_event h (Receive p q c)) (at q first.0) here ∙ first.2, ap (λ l. ith l (length (chart_of h p) + 1)) (line_after_receive h p q c x rest e) ∙ ith_push (chart_of h p) (receive_mark q x.name c), refl)
 
 -- in a legal history each receive has its send, with its name
 pub has_its_send : (n k : ℕ) (h : List Event) → IsLegal n k h → (q : ℕ) (r : Place) → IsReceiveFrom (chart_of h) q r → HasItsSend (chart_of h) q r

@@ -1,13 +1,13 @@
 -- The laws of charts: statements that the functions of `laws` prove.
-use Rattle.std.specs.Prelude.{◌≡◌, ℕ, ◌+◌, ◌<◌, ◌≤◌, ◌↔◌, ◌⊎◌, max, Bool, List, [], ◌∷◌, ◌++◌, take, length, slice_get, Some}
+use Rattle.std.specs.Prelude.{◌≡◌, ℕ, ◌+◌, ◌<◌, ◌≤◌, ◌↔◌, ◌⊎◌, max, List, [], ◌∷◌, ◌++◌, take, length, slice_get, Some}
 use Rattle.chart.specs.declared.history.Event.{Event}
-use Rattle.chart.specs.declared.history.Event.TheVariants.{Send, Receive}
+use Rattle.chart.specs.declared.history.Event.TheVariants.{Send, Receive, Close}
 use Rattle.chart.specs.declared.event.Event.{Event as Mark}
 use Rattle.chart.specs.Messages.{Content}
-use Rattle.chart.specs.Marks.{send_mark, receive_mark, is_send_to, tally}
-use Rattle.chart.specs.Histories.{sent, received, waiting, chart_of, IsLegal, Begins}
+use Rattle.chart.specs.Marks.{send_mark, receive_mark}
+use Rattle.chart.specs.Histories.{by, sent, received, waiting, chart_of, IsLegal, Begins}
 use Rattle.chart.specs.Charts.{Chart, Place, at, mark_at, IsSendTo, IsReceiveFrom, BelongsTo, HasNoSend, HasOtherName}
-use Rattle.chart.specs.Growing.{IsEvent}
+use Rattle.chart.specs.Places.{IsEvent, IsSendAfter}
 use Rattle.chart.specs.Order.{Before, IsCyclic, IsReport, IsRaces, region_of_event}
 use Rattle.chart.specs.Knowing.{IsKnown, IsGreatestHeard}
 
@@ -60,29 +60,59 @@ SendLaw = (n k : ℕ) (h : List Event) → IsLegal n k h → (from : ℕ) (r : P
 abbrev pub NoCycleLaw : Type 0
 NoCycleLaw = (n k : ℕ) (h : List Event) → IsLegal n k h → IsCyclic (chart_of h) → ⊥
 
+-- What one more event adds.
+
+-- an event of another instance leaves a line as it is
+abbrev pub OtherLineLaw : Type 0
+OtherLineLaw = (h : List Event) (e : Event) (p : ℕ) → (by e ≡ p → ⊥) → chart_of (e ∷ h) p ≡ chart_of h p
+
+-- a close leaves each line as it is
+abbrev pub CloseLineLaw : Type 0
+CloseLineLaw = (h : List Event) (p q r : ℕ) → chart_of (Close p q ∷ h) r ≡ chart_of h r
+
 -- a send is the last of its line
-abbrev pub NewestSendLaw : Type 0
-NewestSendLaw = (h : List Event) (p q : ℕ) (m : Content) → chart_of (Send p q m ∷ h) p ≡ chart_of h p ++ send_mark q m.name ∷ []
+abbrev pub SendLineLaw : Type 0
+SendLineLaw = (h : List Event) (p q : ℕ) (m : Content) → chart_of (Send p q m ∷ h) p ≡ chart_of h p ++ send_mark q m.name ∷ []
 
 -- a receive is the last of its line, and has the name of the first message that waited
-abbrev pub NewestReceiveLaw : Type 0
-NewestReceiveLaw = (h : List Event) (p q c : ℕ) (m : Content) (rest : List Content) → waiting h q p ≡ m ∷ rest → chart_of (Receive p q c ∷ h) p ≡ chart_of h p ++ receive_mark q m.name c ∷ []
+abbrev pub ReceiveLineLaw : Type 0
+ReceiveLineLaw = (h : List Event) (p q c : ℕ) (m : Content) (rest : List Content) → waiting h q p ≡ m ∷ rest → chart_of (Receive p q c ∷ h) p ≡ chart_of h p ++ receive_mark q m.name c ∷ []
 
--- a new send is one more on its lane than messages were sent
-abbrev pub NewestTurnLaw : Type 0
-NewestTurnLaw = (h : List Event) (p q : ℕ) (m : Content) → tally (is_send_to q) (chart_of (Send p q m ∷ h) p) (length (chart_of h p) + 1) ≡ length (sent h p q) + 1
+-- a new send has as many sends of its lane above it as messages were sent
+abbrev pub NewSendLaw : Type 0
+NewSendLaw = (h : List Event) (p q : ℕ) (m : Content) → IsSendAfter (chart_of (Send p q m ∷ h) p) q (length (sent h p q)) (length (chart_of h p) + 1)
 
--- each message of a lane has its send on the line of its sender, with as many above it on the lane as were sent before
-abbrev pub SentLaw : Type 0
-SentLaw = (h : List Event) (q p i : ℕ) (m : Content) → slice_get (sent h q p) i ≡ Some m → (j : ℕ) × (mark_at (chart_of h) (at q j) ≡ Some (send_mark p m.name)) × (tally (is_send_to p) (chart_of h q) j ≡ i + 1)
+-- it knows of its own line all events, with itself
+abbrev pub NewSendOwnLaw : Type 0
+NewSendOwnLaw = (h : List Event) (p q : ℕ) (m : Content) → IsKnown (chart_of (Send p q m ∷ h)) (at p (length (chart_of h p) + 1)) p (length (chart_of h p) + 1)
 
--- the first message that waits has its send on the line of its sender, with as many above it on the lane as were received
-abbrev pub FirstWaitingLaw : Type 0
-FirstWaitingLaw = (h : List Event) (q p : ℕ) (m : Content) (rest : List Content) → waiting h q p ≡ m ∷ rest → (j : ℕ) × (mark_at (chart_of h) (at q j) ≡ Some (send_mark p m.name)) × (tally (is_send_to p) (chart_of h q) j ≡ received h q p + 1)
+-- it knows of another line what was most heard of it
+abbrev pub NewSendKnowledgeLaw : Type 0
+NewSendKnowledgeLaw = (n k : ℕ) (h : List Event) → IsLegal n k h → (p q : ℕ) (m : Content) (r l : ℕ) → (r ≡ p → ⊥) → IsGreatestHeard (chart_of h) p (length (chart_of h p)) r l → IsKnown (chart_of (Send p q m ∷ h)) (at p (length (chart_of h p) + 1)) r l
 
--- and it is this send that the next receive belongs to
-abbrev pub NewestBelongsLaw : Type 0
-NewestBelongsLaw = (n k : ℕ) (h : List Event) → IsLegal n k h → (p q c : ℕ) (m : Content) (rest : List Content) → waiting h q p ≡ m ∷ rest → (j : ℕ) → mark_at (chart_of h) (at q j) ≡ Some (send_mark p m.name) → tally (is_send_to p) (chart_of h q) j ≡ received h q p + 1 → BelongsTo (chart_of (Receive p q c ∷ h)) (at q j) (at p (length (chart_of h p) + 1))
+-- it hears nothing
+abbrev pub NewSendHearingLaw : Type 0
+NewSendHearingLaw = (n k : ℕ) (h : List Event) → IsLegal n k h → (p q : ℕ) (m : Content) (r l : ℕ) → IsGreatestHeard (chart_of h) p (length (chart_of h p)) r l → IsGreatestHeard (chart_of (Send p q m ∷ h)) p (length (chart_of h p) + 1) r l
+
+-- each message of a lane has its send on its sender's line, with its name
+abbrev pub MessageSendLaw : Type 0
+MessageSendLaw = (h : List Event) (q p i : ℕ) (m : Content) → slice_get (sent h q p) i ≡ Some m → (j : ℕ) × IsSendAfter (chart_of h q) p i j × (mark_at (chart_of h) (at q j) ≡ Some (send_mark p m.name))
+
+-- and one only
+abbrev pub OneSendLaw : Type 0
+OneSendLaw = (line : List Mark) (p i j l : ℕ) → IsSendAfter line p i j → IsSendAfter line p i l → j ≡ l
+
+-- a new receive belongs to the send of the first message that waited
+abbrev pub NewReceiveLaw : Type 0
+NewReceiveLaw = (n k : ℕ) (h : List Event) → IsLegal n k h → (p q c : ℕ) (m : Content) (rest : List Content) → waiting h q p ≡ m ∷ rest → (j : ℕ) → IsSendAfter (chart_of h q) p (received h q p) j → BelongsTo (chart_of (Receive p q c ∷ h)) (at q j) (at p (length (chart_of h p) + 1))
+
+-- it hears what that send knows
+abbrev pub NewReceiveHearingLaw : Type 0
+NewReceiveHearingLaw = (n k : ℕ) (h : List Event) → IsLegal n k h → (p q c : ℕ) (m : Content) (rest : List Content) → waiting h q p ≡ m ∷ rest → (j : ℕ) → IsSendAfter (chart_of h q) p (received h q p) j → (r heard known : ℕ) → IsGreatestHeard (chart_of h) p (length (chart_of h p)) r heard → IsKnown (chart_of h) (at q j) r known → IsGreatestHeard (chart_of (Receive p q c ∷ h)) p (length (chart_of h p) + 1) r (max heard known)
+
+-- its report is the races of the line above what that send knows of it
+abbrev pub NewReportLaw : Type 0
+NewReportLaw = (n k : ℕ) (h : List Event) → IsLegal n k h → (p q c : ℕ) (m : Content) (rest : List Content) → waiting h q p ≡ m ∷ rest → (j : ℕ) → IsSendAfter (chart_of h q) p (received h q p) j → (known : ℕ) (races : List ℕ) → IsKnown (chart_of h) (at q j) p known → IsRaces (chart_of h p) known q c races → IsReport (chart_of (Receive p q c ∷ h)) (at p (length (chart_of h p) + 1)) races
 
 -- What stays as it is in each history that begins with another, for the most part a legal one.
 
@@ -94,9 +124,9 @@ LegalGrowthLaw = (n k : ℕ) (h g : List Event) → Begins h g → IsLegal n k g
 abbrev pub PlaceGrowthLaw : Type 0
 PlaceGrowthLaw = (h g : List Event) → Begins h g → (e : Place) → IsEvent (chart_of h) e → mark_at (chart_of g) e ≡ mark_at (chart_of h) e
 
--- how many of the events up to a place pass a test
-abbrev pub TallyGrowthLaw : Type 0
-TallyGrowthLaw = (h g : List Event) → Begins h g → (test : Mark → Bool) (e : Place) → IsEvent (chart_of h) e → tally test (chart_of g e.instance) e.index ≡ tally test (chart_of h e.instance) e.index
+-- where a send of a lane is
+abbrev pub SendGrowthLaw : Type 0
+SendGrowthLaw = (h g : List Event) → Begins h g → (q p i j : ℕ) → IsSendAfter (chart_of h q) p i j → IsSendAfter (chart_of g q) p i j
 
 -- which send a receive belongs to
 abbrev pub BelongingGrowthLaw : Type 0

@@ -1,5 +1,4 @@
 pub mod Charts
-pub mod Growing
 pub mod Histories
 pub mod Knowing
 pub mod Laws
@@ -8,3 +7,4 @@ pub mod Messages
 pub mod Names
 pub mod Order
 pub mod Padding
+pub mod Places

@@ -1,6 +1,8 @@
-//! The laws of charts, each the contract of a function that does nothing: what is before a receive on its own line, what
-//! a send knows of each line, and what a receive hears.
-ghost use Rattle.chart.specs.Laws.{ReportLaw, RacesLaw, OwnKnowledgeLaw, KnowledgeLaw, FirstHearingLaw, ReceiveHearingLaw, SendHearingLaw, NoSendLaw, OtherNameLaw, SendLaw, NoCycleLaw, NewestSendLaw, NewestReceiveLaw, FirstWaitingLaw, NewestBelongsLaw, LegalGrowthLaw, BelongingGrowthLaw, OrderGrowthLaw, KnowledgeGrowthLaw, ReportGrowthLaw, HearingGrowthLaw, OneKnowledgeLaw, OneHearingLaw, OneReportLaw, NewestTurnLaw, SentLaw, PlaceGrowthLaw, TallyGrowthLaw};
+//! The laws of charts, each the contract of a function that does nothing. Of any chart: what is before a receive on its own
+//! line, what a send knows of each line, and what a receive hears. Of the charts of legal histories: that each receive has
+//! its send and no event is before itself, what one more event adds, what later events leave as it is, and what is there
+//! once.
+ghost use Rattle.chart.specs.Laws.{ReportLaw, RacesLaw, OwnKnowledgeLaw, KnowledgeLaw, FirstHearingLaw, ReceiveHearingLaw, SendHearingLaw, NoSendLaw, OtherNameLaw, SendLaw, NoCycleLaw, OtherLineLaw, CloseLineLaw, SendLineLaw, ReceiveLineLaw, NewSendLaw, NewSendOwnLaw, NewSendKnowledgeLaw, NewSendHearingLaw, MessageSendLaw, OneSendLaw, NewReceiveLaw, NewReceiveHearingLaw, NewReportLaw, LegalGrowthLaw, PlaceGrowthLaw, SendGrowthLaw, BelongingGrowthLaw, OrderGrowthLaw, KnowledgeGrowthLaw, ReportGrowthLaw, HearingGrowthLaw, OneKnowledgeLaw, OneHearingLaw, OneReportLaw};
 
 /// An earlier event of a receive's line is enforced before it just where it is a receive from the same sender, or the send
 /// knows of it.
@@ -59,34 +61,69 @@ pub fn no_cycle_law()
     ensures { NoCycleLaw }
 {}
 
+/// An event of another instance leaves a line as it is.
+pub fn other_line_law()
+    ensures { OtherLineLaw }
+{}
+
+/// A close leaves each line as it is.
+pub fn close_line_law()
+    ensures { CloseLineLaw }
+{}
+
 /// A send is the last of its line.
-pub fn newest_send_law()
-    ensures { NewestSendLaw }
+pub fn send_line_law()
+    ensures { SendLineLaw }
 {}
 
 /// A receive is the last of its line, and has the name of the first message that waited.
-pub fn newest_receive_law()
-    ensures { NewestReceiveLaw }
+pub fn receive_line_law()
+    ensures { ReceiveLineLaw }
 {}
 
-/// A send is one more on its lane than messages were sent.
-pub fn newest_turn_law()
-    ensures { NewestTurnLaw }
+/// A new send has as many sends of its lane above it as messages were sent.
+pub fn new_send_law()
+    ensures { NewSendLaw }
 {}
 
-/// Each message of a lane has its send on its sender's line, with as many above it on the lane as were sent before.
-pub fn sent_law()
-    ensures { SentLaw }
+/// A new send knows of its own line all events, with itself.
+pub fn new_send_own_law()
+    ensures { NewSendOwnLaw }
 {}
 
-/// The first message that waits has its send on its sender's line, with as many above it on the lane as were received.
-pub fn first_waiting_law()
-    ensures { FirstWaitingLaw }
+/// A new send knows of another line what was most heard of it.
+pub fn new_send_knowledge_law()
+    ensures { NewSendKnowledgeLaw }
 {}
 
-/// A receive belongs to the send of the first message that waited.
-pub fn newest_belongs_law()
-    ensures { NewestBelongsLaw }
+/// A new send hears nothing.
+pub fn new_send_hearing_law()
+    ensures { NewSendHearingLaw }
+{}
+
+/// Each message of a lane has its send on its sender's line, with its name.
+pub fn message_send_law()
+    ensures { MessageSendLaw }
+{}
+
+/// A message of a lane has one send.
+pub fn one_send_law()
+    ensures { OneSendLaw }
+{}
+
+/// A new receive belongs to the send of the first message that waited.
+pub fn new_receive_law()
+    ensures { NewReceiveLaw }
+{}
+
+/// A new receive hears what its send knows.
+pub fn new_receive_hearing_law()
+    ensures { NewReceiveHearingLaw }
+{}
+
+/// The report of a new receive is the races of its line above what its send knows of it.
+pub fn new_report_law()
+    ensures { NewReportLaw }
 {}
 
 /// What a legal history begins with is legal.
@@ -99,9 +136,9 @@ pub fn place_growth_law()
     ensures { PlaceGrowthLaw }
 {}
 
-/// Later events leave the counts of events up to a place as they are.
-pub fn tally_growth_law()
-    ensures { TallyGrowthLaw }
+/// Later events leave the sends of a lane where they are.
+pub fn send_growth_law()
+    ensures { SendGrowthLaw }
 {}
 
 /// Later events leave which send a receive belongs to as it is.
