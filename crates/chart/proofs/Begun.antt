@@ -1,5 +1,5 @@
 -- What stays as it is from a legal history to one that begins with it.
-use Rattle.std.proofs.Common.{◌≡◌, ℕ, ◌≤◌, ◌↔◌, Bool, List, [], ◌∷◌, ◌++◌, length, ap, ◌∙◌, subst}
+use Rattle.std.proofs.Common.{◌≡◌, ℕ, ◌≤◌, ◌↔◌, List, [], ◌∷◌, ◌++◌, length, ap, ◌∙◌, subst}
 use Rattle.chart.specs.declared.history.Event.{Event}
 use Rattle.chart.specs.Marks.{is_send_to}
 use Rattle.chart.specs.Histories.{chart_of, IsLegal, Begins}

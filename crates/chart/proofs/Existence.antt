@@ -1,5 +1,5 @@
 -- In a legal history's chart each send knows one number of each line, and each receive has one report.
-use Rattle.std.proofs.Common.{◌≡◌, ℕ, zero, suc, ◌+◌, ◌<◌, ◌≤◌, ◌⊎◌, inl, inr, Bool, true, false, not, ◌&&◌, nat_lt, max, List, [], ◌∷◌, take, length, Option, Some, None, refl, sym, subst, arith, add-one, eq-eqb, lt-ltb, ltb-true}
+use Rattle.std.proofs.Common.{◌≡◌, ℕ, zero, suc, ◌+◌, ◌≤◌, ◌⊎◌, inl, inr, Bool, true, false, not, ◌&&◌, nat_lt, max, List, [], ◌∷◌, take, length, Option, Some, None, refl, sym, subst, arith, add-one, eq-eqb, lt-ltb, ltb-true}
 use Rattle.std.proofs.lemmas.Bool.{cases_eq, and_parts, and_from, not_from_false, not-true, false≢true}
 use Rattle.chart.specs.declared.history.Event.{Event}
 use Rattle.chart.specs.declared.event.Event.{Event as Mark}

@@ -1,5 +1,5 @@
 -- What later events leave as it is: places, belonging, the enforced order, what is known, reports and what is heard.
-use Rattle.std.proofs.Common.{◌≡◌, ℕ, ◌<◌, ◌≤◌, inl, inr, Bool, false, List, ◌++◌, length, Some, sym, ap, ◌∙◌, subst, arith, length-append}
+use Rattle.std.proofs.Common.{◌≡◌, ℕ, ◌≤◌, inl, inr, Bool, false, List, ◌++◌, length, sym, ap, ◌∙◌, subst, arith, length-append}
 use Rattle.chart.specs.declared.event.Event.{Event as Mark}
 use Rattle.chart.specs.Marks.{ith, tally, is_send_to, is_receive_from, is_in}
 use Rattle.chart.specs.Charts.{Chart, Place, at, mark_at, IsReceiveFrom, BelongsTo}

@@ -1,13 +1,13 @@
 -- What one more event adds to a legal history's chart: what a new send knows, what a new receive hears and reports.
-use Rattle.std.proofs.Common.{◌≡◌, ℕ, ◌+◌, ◌≤◌, ◌==◌, inl, Bool, cond, max, List, [], ◌∷◌, ◌++◌, take, length, refl, sym, ap, ◌∙◌, subst, arith, append-nil, ne_eqb}
+use Rattle.std.proofs.Common.{◌≡◌, ℕ, ◌+◌, inl, cond, max, List, [], ◌∷◌, ◌++◌, take, length, refl, sym, ap, ◌∙◌, subst, arith, append-nil, ne_eqb}
 use Rattle.std.proofs.lemmas.List.{length_push, take_at}
 use Rattle.chart.specs.declared.history.Event.{Event}
 use Rattle.chart.specs.declared.history.Event.TheVariants.{Send, Receive, Close}
 use Rattle.chart.specs.Messages.{Content}
 use Rattle.chart.specs.Marks.{ith, is_send_to, send_mark, receive_mark}
 use Rattle.chart.specs.Histories.{by, received, waiting, receive_of, chart_of, IsLegal}
-use Rattle.chart.specs.Charts.{Chart, at, mark_at, BelongsTo}
-use Rattle.chart.specs.Places.{IsEvent, IsSendAfter}
+use Rattle.chart.specs.Charts.{at, BelongsTo}
+use Rattle.chart.specs.Places.{IsSendAfter}
 use Rattle.chart.specs.Order.{IsRaces, IsReport, region_of_event}
 use Rattle.chart.specs.Knowing.{IsKnown, IsGreatestHeard}
 use Rattle.chart.proofs.Tally.{ith_push}
