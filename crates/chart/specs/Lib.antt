@@ -1,6 +1,7 @@
 pub mod Charts
 pub mod Histories
 pub mod Knowing
+pub mod Laws
 pub mod LineLayout
 pub mod Marks
 pub mod Messages
@@ -8,5 +9,6 @@ pub mod NameSets
 pub mod Names
 pub mod Order
 pub mod Padding
+pub mod Places
 pub mod Reports
 pub mod Runs

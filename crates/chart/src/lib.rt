@@ -8,6 +8,7 @@ mod chart;
 mod event;
 pub mod history;
 mod instance;
+pub mod laws;
 mod line;
 mod message;
 mod name;

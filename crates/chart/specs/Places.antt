@@ -1,0 +1,13 @@
+-- Places of charts: where there is an event, and where the sends of a lane are.
+use Rattle.std.specs.Prelude.{◌≡◌, ℕ, ◌+◌, ◌≤◌, true, List, length, Some}
+use Rattle.chart.specs.declared.event.Event.{Event as Mark}
+use Rattle.chart.specs.Marks.{ith, tally, is_send_to}
+use Rattle.chart.specs.Charts.{Chart, Place}
+
+-- the chart has an event at the place
+abbrev pub IsEvent : Chart → Place → Type 0
+IsEvent c e = (1 ≤ e.index) × (e.index ≤ length (c e.instance))
+
+-- at j of the line is the send to q that has i sends to q above it
+abbrev pub IsSendAfter : List Mark → ℕ → ℕ → ℕ → Type 0
+IsSendAfter line q i j = ((m : Mark) × (ith line j ≡ Some m) × (is_send_to q m ≡ true)) × (tally (is_send_to q) line j ≡ i + 1)

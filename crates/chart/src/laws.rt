@@ -1,0 +1,82 @@
+//! The laws of charts, each the contract of a function that does nothing. Of any chart: what is before a receive on its own
+//! line, what a send knows of each line, and what a receive hears. Of the charts of legal histories: that each receive has
+//! its send and no event is before itself, what one more event adds, what later events leave as it is, and what is there
+//! once.
+ghost use Rattle.chart.specs.Laws.{ReportLaw, RacesLaw, OwnKnowledgeLaw, KnowledgeLaw, FirstHearingLaw, ReceiveHearingLaw, SendHearingLaw, NoSendLaw, OtherNameLaw, SendLaw, NoCycleLaw, OtherLineLaw, CloseLineLaw, SendLineLaw, ReceiveLineLaw, NewSendLaw, NewSendOwnLaw, NewSendKnowledgeLaw, NewSendHearingLaw, MessageSendLaw, OneSendLaw, NewReceiveLaw, NewReceiveHearingLaw, NewReportLaw, LegalGrowthLaw, PlaceGrowthLaw, SendGrowthLaw, BelongingGrowthLaw, OrderGrowthLaw, KnowledgeGrowthLaw, ReportGrowthLaw, HearingGrowthLaw, OneKnowledgeLaw, OneHearingLaw, OneReportLaw};
+
+/// What is enforced before a receive on its own line, by what its send knows, and so what its report is.
+pub fn report_law()
+    ensures before { ReportLaw }
+    ensures races { RacesLaw }
+{}
+
+/// What a send knows: of its own line all up to itself, where it is the last of the line or nothing is cyclic, and of
+/// another line the most that was heard of it before.
+pub fn knowledge_law()
+    ensures own { OwnKnowledgeLaw }
+    ensures other { KnowledgeLaw }
+{}
+
+/// What is heard along a line: nothing at first, by a receive what its send knows, and nothing by a send.
+pub fn hearing_law()
+    ensures first { FirstHearingLaw }
+    ensures receive { ReceiveHearingLaw }
+    ensures send { SendHearingLaw }
+{}
+
+/// In the chart of a legal history each receive has its send, with its name, and no event is before itself.
+pub fn legal_law()
+    ensures send { NoSendLaw }
+    ensures name { OtherNameLaw }
+    ensures belongs { SendLaw }
+    ensures acyclic { NoCycleLaw }
+{}
+
+/// What one more event adds to the lines.
+pub fn line_law()
+    ensures other { OtherLineLaw }
+    ensures close { CloseLineLaw }
+    ensures send { SendLineLaw }
+    ensures receive { ReceiveLineLaw }
+{}
+
+/// What one more send is in the chart, what it knows, and that nothing is heard by it.
+pub fn new_send_law()
+    ensures send { NewSendLaw }
+    ensures own { NewSendOwnLaw }
+    ensures other { NewSendKnowledgeLaw }
+    ensures hearing { NewSendHearingLaw }
+{}
+
+/// Where the sends of the messages of a lane stand, each in one place.
+pub fn lane_law()
+    ensures message { MessageSendLaw }
+    ensures once { OneSendLaw }
+{}
+
+/// Which send one more receive belongs to, what it hears, and what its report is.
+pub fn new_receive_law()
+    ensures belongs { NewReceiveLaw }
+    ensures hearing { NewReceiveHearingLaw }
+    ensures report { NewReportLaw }
+{}
+
+/// What comes later leaves all of this as it is.
+pub fn growth_law()
+    ensures legal { LegalGrowthLaw }
+    ensures place { PlaceGrowthLaw }
+    ensures send { SendGrowthLaw }
+    ensures belonging { BelongingGrowthLaw }
+    ensures order { OrderGrowthLaw }
+    ensures knowledge { KnowledgeGrowthLaw }
+    ensures report { ReportGrowthLaw }
+    ensures hearing { HearingGrowthLaw }
+{}
+
+/// In the chart of a legal history each send knows one number of each line and one only, the most that was heard is
+/// one number, and each receive has one report.
+pub fn existence_law()
+    ensures knowledge { OneKnowledgeLaw }
+    ensures hearing { OneHearingLaw }
+    ensures report { OneReportLaw }
+{}
