@@ -42,6 +42,7 @@ impl Clock {
         requires at_least_two { 2 ≤ n }
         requires at_most { n ≤ MAX_INSTANCES }
         ensures value { IfOk result (λ clock. clock ≡ replicate n 0) }
+        ensures len { IfOk result (λ clock. length clock ≡ n) }
         ensures succeeds { n ≤ INLINE_ENTRIES → IsOk result }
     {
         Ok(Clock {
@@ -71,7 +72,8 @@ impl Clock {
     /// Takes the greater of each two entries. It takes no memory.
     pub fn merge(&mut self, other: &Clock)
         requires { length self.old ≡ length other.now }
-        ensures { self.new ≡ merged self.old other.now }
+        ensures value { self.new ≡ merged self.old other.now }
+        ensures len { length self.new ≡ length self.old }
     {
         raise(self.entries.as_mut_slice(), other.entries.as_slice());
     }
@@ -81,6 +83,7 @@ impl Clock {
     /// F6: it fails only where there is no memory, and up to [`INLINE_ENTRIES`] instances it takes none.
     pub fn copied(&self, alloc: Global) -> Result<Clock, AllocError>
         ensures value { IfOk result (λ clock. clock ≡ self.now) }
+        ensures len { IfOk result (λ clock. length clock ≡ length self.now) }
         ensures succeeds { length self.now ≤ INLINE_ENTRIES → IsOk result }
     {
         Ok(Clock {
@@ -94,6 +97,7 @@ impl Clock {
     pub fn stamped(&self, alloc: Global, p: InstanceNo, index: u32) -> Result<Clock, AllocError>
         requires { p ≤ length self.now }
         ensures value { IfOk result (λ clock. clock ≡ with_entry self.now p index) }
+        ensures len { IfOk result (λ clock. length clock ≡ length self.now) }
         ensures succeeds { length self.now ≤ INLINE_ENTRIES → IsOk result }
     {
         let mut stamped = self.copied(alloc)?;
@@ -120,7 +124,8 @@ impl Clock {
     /// Sets the entries that the difference lists. It takes no memory.
     pub fn apply(&mut self, diff: &Diff)
         requires { All (λ change. change.instance ≤ length self.old) diff.now }
-        ensures { self.new ≡ apply_diff self.old diff.now }
+        ensures value { self.new ≡ apply_diff self.old diff.now }
+        ensures len { length self.new ≡ length self.old }
     {
         set_changes(self.entries.as_mut_slice(), diff.changes());
     }
