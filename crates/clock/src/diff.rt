@@ -67,3 +67,27 @@ impl Diff {
         self.changes.is_empty()
     }
 }
+
+impl PartialEq for Diff {
+    ghost use Rattle.std.specs.Prelude.{nat_eq};
+    ghost use Rattle.std.specs.Cmp.Rules.{comparing};
+    ghost use Rattle.std.specs.Ordering.{on, eq_of_both};
+    ghost use Rattle.std.specs.Cmp.Lexicographic.{pointwise};
+    ghost use Rattle.std.proofs.Common.{rules};
+    ghost use Rattle.clock.specs.declared.diff.Change.{Change};
+
+    ghost eq = { pointwise (eq_of_both (on (λ (change : Change). change.instance) nat_eq) (on (λ (change : Change). change.entry) nat_eq)) };
+
+    ghost laws = { Prim.search (comparing, rules) };
+
+    fn eq(&self, other: &Diff) -> bool {
+        self.changes() == other.changes()
+    }
+}
+
+impl Eq for Diff {
+    ghost use Rattle.std.specs.Cmp.Rules.{comparing};
+    ghost use Rattle.std.proofs.Common.{rules};
+
+    ghost laws = { Prim.search (comparing, rules) };
+}

@@ -179,6 +179,9 @@ fn difference_of_eight(rt: HostRuntime) -> Result<(), Fail> {
     let zero = Clock::zero(alloc, 8)?;
     let clock = clock(alloc, &[1, 2, 3, 4, 5, 6, 7, 8])?;
     assert_eq!(rt; clock.copied(alloc)?, clock);
-    assert_eq!(rt; clock.diff_from(alloc, &zero)?.len(), 8);
+    let diff = clock.diff_from(alloc, &zero)?;
+    assert_eq!(rt; diff.len(), 8);
+    assert_eq!(rt; diff, clock.diff_from(alloc, &zero)?);
+    assert_ne!(rt; diff, zero.diff_from(alloc, &zero)?);
     Ok(())
 }
