@@ -1,0 +1,128 @@
+-- Lemmas on differences: the changes of the first instances, one more instance at a time.
+use Rattle.std.proofs.Common.{◌≡◌, ◌≢◌, ◌⊎◌, ℕ, suc, ◌+◌, ◌<◌, ◌≤◌, List, [], ◌∷◌, ◌++◌, map, length, get_or, set, take, drop, All, Contains, subst, refl, sym, ap, ◌∙◌, inl, inr, arith, append_assoc}
+use Rattle.std.proofs.lemmas.Bool.{cases_lt}
+use Rattle.std.proofs.lemmas.List.{take_more, drop_more, set_at, length-take-le, take_all, drop_all, append-nil, map_push, length_push, get_or_append_left, get_or_push}
+use Rattle.std.proofs.lemmas.List.Elements.{All-nil, All-push, All-map, Contains-push, Contains-append_left, Contains-push_cases}
+use Rattle.std.specs.List.Sorted.{IsStrictlyIncreasing}
+use Rattle.clock.specs.Clocks.{with_entry}
+use Rattle.clock.specs.Diffs.{apply_diff, IsChange, IsDiff}
+use Rattle.clock.specs.declared.diff.Change.{Change}
+
+-- the changes of the first n instances, applied and counted
+pub record IsDiffUpTo (base clock : List ℕ) (n : ℕ) (diff : List Change) : Type 0 where
+  pub rising : IsStrictlyIncreasing (map (λ change. change.instance) diff)
+  pub below : All (λ change. change.instance ≤ n) diff
+  pub sound : (change : Change) → Contains diff change → IsChange base clock change
+  pub complete : (change : Change) → IsChange base clock change → change.instance ≤ n → Contains diff change
+  pub applied : apply_diff base diff ≡ take n clock ++ drop n base
+  pub count : length diff ≤ n
+
+-- a bound on the instances may be raised
+lower : (n m : ℕ) (diff : List Change) → n ≤ m → All (λ change. change.instance ≤ n) diff → All (λ change. change.instance ≤ m) diff
+lower n m diff le below k d within = let here : (get_or diff k d).instance ≤ n = below k d within in omega arith
+
+-- the changes up to now are of instances below the next one
+below_next : (n : ℕ) (diff : List Change) → All (λ change. change.instance ≤ n) diff → All (λ p. p < suc n) (map (λ change. change.instance) diff)
+below_next n diff below = All-map (λ p. p < suc n) (λ change. change.instance) diff (λ k d within. let here : (get_or diff k d).instance ≤ n = below k d within in omega arith)
+
+-- no change is among the first 0
+pub up_to_none : (base clock : List ℕ) → IsDiffUpTo base clock 0 []
+up_to_none base clock = record {
+  rising = λ k within. absurd (omega arith);
+  below = All-nil _;
+  sound = λ change (k, within, _). absurd (omega arith);
+  complete = λ change is low. absurd (omega (arith, is.first));
+  applied = refl;
+  count = omega arith;
+}
+
+-- one more change is one more write
+pub apply_diff-push : (clock : List ℕ) (diff : List Change) (change : Change) → apply_diff clock (diff ++ change ∷ []) ≡ with_entry (apply_diff clock diff) change.instance change.entry
+apply_diff-push clock [] change = refl
+apply_diff-push clock (first ∷ rest) change = apply_diff-push (with_entry clock first.instance first.entry) rest change
+
+-- what clock and base give where they meet, one more entry on
+seam_more : (base clock : List ℕ) (n : ℕ) → n < length clock → take (n + 1) clock ++ drop (n + 1) base ≡ take n clock ++ get_or clock n 0 ∷ drop (n + 1) base
+seam_more base clock n within = rw (take_more clock n 0 within) (append_assoc (take n clock) (get_or clock n 0 ∷ []) (drop (n + 1) base))
+
+-- an instance past the first n is the next one, or past that
+next_or_low : (n p : ℕ) → p ≤ n + 1 → (p ≤ n) ⊎ (p ≡ suc n)
+next_or_low n p low = elim (cases_lt n p) [ inl above ↦ inr (omega arith) | inr within ↦ inl within ]
+
+-- the next instance has the same entry in both
+pub up_to_same : (base clock : List ℕ) (n : ℕ) (diff : List Change) → n < length clock → length clock ≡ length base
+    → get_or clock n 0 ≡ get_or base n 0 → IsDiffUpTo base clock n diff → IsDiffUpTo base clock (n + 1) diff
+up_to_same base clock n diff within same entry h = record {
+  rising = h.rising;
+  below = lower n (n + 1) diff (omega arith) h.below;
+  sound = h.sound;
+  complete = λ change is low. elim (next_or_low n change.instance low) [
+    | inl early ↦ h.complete change is early
+    | inr next ↦ absurd ((rw next at is.differs) ((rw next at is.entry) ∙ entry))
+  ];
+  applied = h.applied ∙ ap (λ rest. take n clock ++ rest) (drop_more base n 0 (omega arith)) ∙ ap (λ x. take n clock ++ x ∷ drop (n + 1) base) (sym entry) ∙ sym (seam_more base clock n within);
+  count = omega (arith, h.count);
+}
+
+-- a number above the others is put last
+rising_push : (xs : List ℕ) (x : ℕ) → IsStrictlyIncreasing xs → All (λ y. y < x) xs → IsStrictlyIncreasing (xs ++ x ∷ [])
+rising_push xs x rising above k within = elim (cases_lt (k + 1) (length xs)) [
+  | inl inside ↦ rw (get_or_append_left xs (x ∷ []) 0 k (omega arith), get_or_append_left xs (x ∷ []) 0 (k + 1) inside) (rising k inside)
+  | inr outside ↦
+      let size : length xs ≡ k + 1 = omega (arith, length_push xs x) in
+      rw (get_or_append_left xs (x ∷ []) 0 k (omega arith), get_or_push xs x 0 (k + 1) size) (above k 0 (omega arith))
+]
+
+-- a change is its instance and its entry
+same_change : (change : Change) (p x : ℕ) → p ≡ change.instance → x ≡ change.entry → record { instance = p; entry = x } ≡ change
+same_change change p x same_instance same_entry =
+    ap (λ i. record { instance = i; entry = x }) same_instance ∙ ap (λ e. record { instance = change.instance; entry = e }) same_entry
+
+-- what the changes up to now and the next one make of base
+applied_more : (base clock : List ℕ) (n x : ℕ) (clock' : List ℕ) → n < length clock → length clock ≡ length base → x ≡ get_or clock n 0
+    → clock' ≡ take n clock ++ drop n base → set clock' n x ≡ take (n + 1) clock ++ drop (n + 1) base
+applied_more base clock n x clock' within same entry applied =
+    ap (λ w. set w n x) applied
+    ∙ ap (λ rest. set (take n clock ++ rest) n x) (drop_more base n 0 (omega arith))
+    ∙ set_at (take n clock) (get_or base n 0) (drop (n + 1) base) x n (length-take-le n clock (omega arith))
+    ∙ ap (λ e. take n clock ++ e ∷ drop (n + 1) base) entry
+    ∙ sym (seam_more base clock n within)
+
+-- the next instance has another entry
+pub up_to_change : (base clock : List ℕ) (n x : ℕ) (diff : List Change) → n < length clock → length clock ≡ length base
+    → x ≡ get_or clock n 0 → x ≢ get_or base n 0 → IsDiffUpTo base clock n diff
+    → IsDiffUpTo base clock (n + 1) (diff ++ record { instance = suc n; entry = x } ∷ [])
+up_to_change base clock n x diff within same entry differs h =
+    let change : Change = record { instance = suc n; entry = x } in
+    let is : IsChange base clock change = record { first = omega arith; last = omega arith; entry = entry; differs = differs } in
+    record {
+      rising = rw (map_push (λ other. other.instance) diff change)
+          (rising_push _ (suc n) h.rising (below_next n diff h.below));
+      below = All-push (λ other. other.instance ≤ n + 1) diff change (lower n (n + 1) diff (omega arith) h.below) (omega arith);
+      sound = λ other found. elim (Contains-push_cases diff change other found) [
+        | inl earlier ↦ h.sound other earlier
+        | inr last ↦ subst (IsChange base clock) last is
+      ];
+      complete = λ other other_is low. elim (next_or_low n other.instance low) [
+        | inl early ↦ Contains-append_left diff (change ∷ []) other (h.complete other other_is early)
+        | inr next ↦
+            let entries : x ≡ other.entry = entry ∙ sym (rw next at other_is.entry) in
+            subst (Contains (diff ++ change ∷ [])) (same_change other (suc n) x (sym next) entries) (Contains-push diff change)
+      ];
+      applied = apply_diff-push base diff change ∙ applied_more base clock n x _ within same entry h.applied;
+      count = omega (arith, h.count, length_push diff change);
+    }
+
+-- the changes of all instances
+pub up_to_all : (base clock : List ℕ) (n : ℕ) (diff : List Change) → length clock ≡ length base → n ≡ length clock
+    → IsDiffUpTo base clock n diff → IsDiff base clock diff
+up_to_all base clock n diff same all h = record {
+  rising = h.rising;
+  exact = λ change. (h.sound change, λ is. h.complete change is (omega (arith, is.last)));
+}
+
+-- they make base the clock
+pub restored : (base clock : List ℕ) (n : ℕ) (diff : List Change) → length clock ≡ length base → n ≡ length clock
+    → IsDiffUpTo base clock n diff → apply_diff base diff ≡ clock
+restored base clock n diff same all h =
+    h.applied ∙ ap (λ rest. take n clock ++ rest) (drop_all n base (omega arith)) ∙ append-nil (take n clock) ∙ take_all n clock (omega arith)

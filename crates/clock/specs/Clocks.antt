@@ -1,0 +1,17 @@
+-- Vector time: one entry for each instance, that of instance p at place p - 1 (Fidge 1988, Mattern 1989).
+use Rattle.std.specs.Prelude.{ℕ, zero, suc, max, List, map, slice_index, slice_set}
+use Rattle.std.specs.List.{zip}
+
+-- the entry of an instance, which has a number from 1
+abbrev pub entry_of : List ℕ → ℕ → ℕ
+entry_of clock zero = 0
+entry_of clock (suc place) = slice_index clock place
+
+-- the clock with this entry for the instance, and its other entries
+abbrev pub with_entry : List ℕ → ℕ → ℕ → List ℕ
+with_entry clock zero entry = clock
+with_entry clock (suc place) entry = slice_set clock place entry
+
+-- the greater of each two entries
+abbrev pub merged : List ℕ → List ℕ → List ℕ
+merged ours theirs = map (λ both. max both.0 both.1) (zip ours theirs)

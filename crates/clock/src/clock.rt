@@ -1,0 +1,146 @@
+//! The clock of an instance.
+ghost use Rattle.std.specs.Prelude.{◌≡◌, ◌≤◌, length, replicate, nat_eq, All, IsOk, IfOk};
+ghost use Rattle.std.specs.Cmp.{partial_equiv_from_equiv};
+ghost use Rattle.std.specs.Cmp.Lexicographic.{pointwise, nat_list_eq_equiv};
+ghost use Rattle.clock.specs.Clocks.{entry_of, with_entry, merged};
+ghost use Rattle.clock.specs.Diffs.{IsDiff, apply_diff};
+
+use crate::Diff;
+use crate::entries::{changes, raise, set_changes};
+use chart::{InstanceNo, MAX_INSTANCES};
+use smallvec::SmallVec;
+use std::alloc::{AllocError, Global};
+use std::marker::Model;
+
+/// The most entries that a [`Clock`] holds in place. With more it takes memory.
+pub const INLINE_ENTRIES: usize = 8;
+
+/// A vector time: one entry for each of 2 to [`MAX_INSTANCES`] instances (Fidge 1988, Mattern 1989).
+///
+/// A contract sees the list of the entries, that of instance `p` at place `p - 1`.
+#[derive(Debug, Drop)]
+pub struct Clock {
+    entries: SmallVec<u32, INLINE_ENTRIES>,
+}
+
+impl Model for Clock {
+    ghost use Rattle.std.specs.Prelude.{ℕ, ◌≤◌, List, length};
+    ghost use Rattle.chart.specs.declared.instance.TheConstants.{MAX_INSTANCES};
+
+    ghost Value = { List ℕ };
+
+    ghost view = { λ clock. clock.entries.items };
+
+    ghost invariant = { λ clock. (2 ≤ length clock.entries.items) × (length clock.entries.items ≤ MAX_INSTANCES) };
+}
+
+impl Clock {
+    /// The clock of `n` instances of which no event is known.
+    ///
+    /// F6: it fails only where there is no memory, and up to [`INLINE_ENTRIES`] instances it takes none.
+    pub fn zero(alloc: Global, n: usize) -> Result<Clock, AllocError>
+        requires at_least_two { 2 ≤ n }
+        requires at_most { n ≤ MAX_INSTANCES }
+        ensures value { IfOk result (λ clock. clock ≡ replicate n 0) }
+        ensures len { IfOk result (λ clock. length clock ≡ n) }
+        ensures succeeds { n ≤ INLINE_ENTRIES → IsOk result }
+    {
+        Ok(Clock {
+            entries: SmallVec::from_elem(alloc, 0, n)?,
+        })
+    }
+
+    /// How many instances it has an entry for.
+    #[inline]
+    pub fn len(&self) -> usize
+        ensures value { result ≡ length self.now }
+        ensures at_least_two { 2 ≤ result }
+        ensures at_most { result ≤ MAX_INSTANCES }
+    {
+        self.entries.len()
+    }
+
+    /// The entry of instance `p`: how many of its events are known.
+    #[inline]
+    pub fn entry(&self, p: InstanceNo) -> u32
+        requires { p ≤ length self.now }
+        ensures { result ≡ entry_of self.now p }
+    {
+        self.entries.as_slice()[p.place()]
+    }
+
+    /// Takes the greater of each two entries. It takes no memory.
+    pub fn merge(&mut self, other: &Clock)
+        requires { length self.old ≡ length other.now }
+        ensures value { self.new ≡ merged self.old other.now }
+        ensures len { length self.new ≡ length self.old }
+    {
+        raise(self.entries.as_mut_slice(), other.entries.as_slice());
+    }
+
+    /// A copy.
+    ///
+    /// F6: it fails only where there is no memory, and up to [`INLINE_ENTRIES`] instances it takes none.
+    pub fn copied(&self, alloc: Global) -> Result<Clock, AllocError>
+        ensures value { IfOk result (λ clock. clock ≡ self.now) }
+        ensures len { IfOk result (λ clock. length clock ≡ length self.now) }
+        ensures succeeds { length self.now ≤ INLINE_ENTRIES → IsOk result }
+    {
+        Ok(Clock {
+            entries: SmallVec::from_slice(alloc, self.entries.as_slice())?,
+        })
+    }
+
+    /// A copy whose entry for `p` is `index`, as the clock of the event of `p` with this number.
+    ///
+    /// F6: it fails only where there is no memory, and up to [`INLINE_ENTRIES`] instances it takes none.
+    pub fn stamped(&self, alloc: Global, p: InstanceNo, index: u32) -> Result<Clock, AllocError>
+        requires { p ≤ length self.now }
+        ensures value { IfOk result (λ clock. clock ≡ with_entry self.now p index) }
+        ensures len { IfOk result (λ clock. length clock ≡ length self.now) }
+        ensures succeeds { length self.now ≤ INLINE_ENTRIES → IsOk result }
+    {
+        let mut stamped = self.copied(alloc)?;
+        stamped.entries.as_mut_slice()[p.place()] = index;
+        Ok(stamped)
+    }
+
+    /// The entries that differ from `base`'s, rising by instance. Applied to `base` they give this clock.
+    ///
+    /// F6: it fails only where there is no memory, and up to [`INLINE_ENTRIES`] instances it takes none.
+    pub fn diff_from(&self, alloc: Global, base: &Clock) -> Result<Diff, AllocError>
+        requires { length self.now ≡ length base.now }
+        ensures exact { IfOk result (IsDiff base.now self.now) }
+        ensures restores { IfOk result (λ diff. apply_diff base.now diff ≡ self.now) }
+        ensures within { IfOk result (All (λ change. change.instance ≤ length self.now)) }
+        ensures at_most { IfOk result (λ diff. length diff ≤ length self.now) }
+        ensures succeeds { length self.now ≤ INLINE_ENTRIES → IsOk result }
+    {
+        Ok(Diff {
+            changes: changes(alloc, self.entries.as_slice(), base.entries.as_slice())?,
+        })
+    }
+
+    /// Sets the entries that the difference lists. It takes no memory.
+    pub fn apply(&mut self, diff: &Diff)
+        requires { All (λ change. change.instance ≤ length self.old) diff.now }
+        ensures value { self.new ≡ apply_diff self.old diff.now }
+        ensures len { length self.new ≡ length self.old }
+    {
+        set_changes(self.entries.as_mut_slice(), diff.changes());
+    }
+}
+
+impl PartialEq for Clock {
+    ghost eq = { pointwise nat_eq };
+
+    ghost laws = { partial_equiv_from_equiv nat_list_eq_equiv };
+
+    fn eq(&self, other: &Clock) -> bool {
+        self.entries.as_slice() == other.entries.as_slice()
+    }
+}
+
+impl Eq for Clock {
+    ghost laws = { nat_list_eq_equiv };
+}

@@ -1,0 +1,56 @@
+//! What clocks do to their entries, as slices.
+ghost use Rattle.std.specs.Prelude.{◌≡◌, ◌≤◌, length, All, IsOk, IfOk};
+ghost use Rattle.smallvec.specs.SmallVec.{small_vec_len};
+ghost use Rattle.clock.specs.Clocks.{merged};
+ghost use Rattle.clock.specs.Diffs.{IsDiff, apply_diff};
+
+use crate::{Change, INLINE_ENTRIES};
+use chart::{InstanceNo, MAX_INSTANCES};
+use smallvec::SmallVec;
+use std::alloc::{AllocError, Global};
+
+/// Raises each entry to the other's, where that is greater.
+pub(crate) fn raise(entries: &mut [u32], others: &[u32])
+    requires { length entries.old ≡ length others.now }
+    ensures { entries.new ≡ merged entries.old others.now }
+{
+    for (place, other) in others.iter().enumerate() {
+        entries[place] = entries[place].max(*other);
+    }
+}
+
+/// The entries that differ from the base's, each with its instance.
+pub(crate) fn changes(
+    alloc: Global,
+    entries: &[u32],
+    base: &[u32],
+) -> Result<SmallVec<Change, INLINE_ENTRIES>, AllocError>
+    requires same_length { length entries.now ≡ length base.now }
+    requires few { length entries.now ≤ MAX_INSTANCES }
+    ensures exact { IfOk result (λ changes. IsDiff base.now entries.now changes.items) }
+    ensures restores { IfOk result (λ changes. apply_diff base.now changes.items ≡ entries.now) }
+    ensures within { IfOk result (λ changes. All (λ change. change.instance ≤ length entries.now) changes.items) }
+    ensures at_most { IfOk result (λ changes. small_vec_len changes ≤ length entries.now) }
+    ensures succeeds { length entries.now ≤ INLINE_ENTRIES → IsOk result }
+{
+    let mut changes = SmallVec::new(alloc);
+    for (place, entry) in entries.iter().enumerate() {
+        if *entry != base[place] {
+            changes.push(Change {
+                instance: InstanceNo::at_place(place),
+                entry: *entry,
+            })?;
+        }
+    }
+    Ok(changes)
+}
+
+/// Sets the entries that the changes give.
+pub(crate) fn set_changes(entries: &mut [u32], changes: &[Change])
+    requires { All (λ change. change.instance ≤ length entries.old) changes.now }
+    ensures { entries.new ≡ apply_diff entries.old changes.now }
+{
+    for change in changes {
+        entries[change.instance.place()] = change.entry;
+    }
+}
