@@ -1,0 +1,12 @@
+-- What a contract sees of each type that takes a text.
+use Rattle.std.specs.Prelude.{ℕ, List}
+
+-- a text in memory, and how many puts have failed
+pub record Stored : Type 0 where
+  pub bytes : List ℕ
+  pub failures : ℕ
+
+-- the writer that takes a text, and how many puts have failed
+pub record Streamed (W : Type 0) : Type 0 where
+  pub writer : W
+  pub failures : ℕ

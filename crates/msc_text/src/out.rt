@@ -1,0 +1,151 @@
+//! Where a text is put.
+ghost use Rattle.std.specs.Prelude.{◌≡◌, ◌≤◌, ◌<◌, ◌+◌, ◌++◌, ℕ, List, [], take, length, Option, None, Some, IfOk, OnErr};
+ghost use Rattle.std.specs.Io.KnownBytes.{Appends};
+ghost use Rattle.msc_text.specs.Outs.{Stored, Streamed};
+
+use std::alloc::Global;
+use std::io::Write;
+use std::marker::Model;
+use thiserror::Error;
+
+/// Why an [`Out`] took no byte.
+#[derive(Clone, Copy, Debug, PartialEq, Eq, Error)]
+pub enum OutFault {
+    /// There is no memory to hold the bytes.
+    #[error("there is no memory left")]
+    Memory,
+    /// The writer below failed.
+    #[error("the writer failed")]
+    Failed,
+    /// The writer below took none of the bytes, as a full device does.
+    #[error("the writer takes no more")]
+    Full,
+}
+
+/// What takes the bytes of a text, some at a time.
+pub trait Out {
+    /// The bytes that it holds, where it tells them.
+    ghost contents: { Self → Option (List ℕ) } = { λ _. None };
+
+    /// How many puts have failed.
+    ghost failures: { Self → ℕ };
+
+    /// Takes a beginning of the bytes, and answers how many they are: of a piece that isn't empty at least
+    /// one byte. A fault takes none.
+    fn put(&mut self, bytes: &[u8]) -> Result<usize, OutFault>
+        requires { failures self.old < u64.MAX }
+        ensures count { IfOk result (λ k. (k ≤ length bytes.now) × (0 < length bytes.now → 1 ≤ k)) }
+        ensures taken { IfOk result (λ k. Appends (contents self.old) (contents self.new) (take k bytes.now) × (failures self.new ≡ failures self.old)) }
+        ensures fault { OnErr result (Appends (contents self.old) (contents self.new) [] × (failures self.new ≡ failures self.old + 1)) };
+}
+
+/// An [`Out`] over memory, which tells its bytes. A put fails where there is no memory left for it.
+#[derive(Drop)]
+pub struct MemoryOut {
+    bytes: Vec<u8>,
+    failures: u64,
+}
+
+impl Model for MemoryOut {
+    ghost Value = { Stored };
+
+    ghost view = { λ out. record { bytes = out.bytes.items; failures = out.failures } };
+}
+
+impl MemoryOut {
+    /// One with no bytes. It takes no memory yet.
+    pub fn new(alloc: Global) -> MemoryOut
+        ensures { result ≡ record { bytes = []; failures = 0 } }
+    {
+        MemoryOut {
+            bytes: Vec::new(alloc),
+            failures: 0,
+        }
+    }
+
+    pub fn as_bytes(&self) -> &[u8]
+        ensures { result.now ≡ self.now.bytes }
+    {
+        &self.bytes
+    }
+
+    pub fn into_bytes(self) -> Vec<u8>
+        ensures { result.items ≡ self.bytes }
+    {
+        let MemoryOut { bytes, failures: _ } = self;
+        bytes
+    }
+}
+
+impl Out for MemoryOut {
+    ghost contents = { λ out. Some out.bytes };
+
+    ghost failures = { λ out. out.failures };
+
+    fn put(&mut self, bytes: &[u8]) -> Result<usize, OutFault> {
+        match self.bytes.extend_from_slice(bytes) {
+            Ok(()) => Ok(bytes.len()),
+            Err(_) => {
+                self.failures += 1;
+                Err(OutFault::Memory)
+            }
+        }
+    }
+}
+
+/// An [`Out`] over any writer. Each error of the writer is a fault, and so is its taking no byte.
+#[derive(Drop)]
+pub struct StreamOut<W> {
+    writer: W,
+    failures: u64,
+}
+
+impl<W> Model for StreamOut<W> {
+    ghost Value = { Streamed W };
+
+    ghost view = { λ out. record { writer = out.writer; failures = out.failures } };
+}
+
+impl<W> StreamOut<W> {
+    pub fn new(writer: W) -> StreamOut<W>
+        ensures { result ≡ record { writer = writer; failures = 0 } }
+    {
+        StreamOut {
+            writer,
+            failures: 0,
+        }
+    }
+
+    pub fn into_inner(self) -> W
+        ensures { result ≡ self.writer }
+    {
+        let StreamOut {
+            writer,
+            failures: _,
+        } = self;
+        writer
+    }
+}
+
+impl<W: Write> Out for StreamOut<W> {
+    ghost contents = { λ out. W.contents out.writer };
+
+    ghost failures = { λ out. out.failures };
+
+    fn put(&mut self, bytes: &[u8]) -> Result<usize, OutFault> {
+        if bytes.is_empty() {
+            return Ok(0);
+        }
+        match self.writer.write(bytes) {
+            Ok(0) => {
+                self.failures += 1;
+                Err(OutFault::Full)
+            }
+            Ok(taken) => Ok(taken),
+            Err(_) => {
+                self.failures += 1;
+                Err(OutFault::Failed)
+            }
+        }
+    }
+}
