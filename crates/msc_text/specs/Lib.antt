@@ -1,3 +1,6 @@
+pub mod Faults
+pub mod Lines
 pub mod Outs
 pub mod Samples
+pub mod Shapes
 pub mod Writing

@@ -3,11 +3,17 @@
 //! A writer puts bytes into any [`Out`], gathered in a buffer of a fixed size, and takes no memory.
 #![tactic(auto)]
 
+mod fault;
 mod gathering;
+mod lines;
 mod out;
+mod word;
 
+pub use fault::{Cause, Fault, TextError};
 pub use gathering::{GATHERED, Gathering, WriteError};
+pub use lines::next_line;
 pub use out::{MemoryOut, Out, OutFault, StreamOut};
+pub use word::{Words, name_in, next_word, words_in};
 
 #[cfg(test)]
 mod sample;
