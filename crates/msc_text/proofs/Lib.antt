@@ -1,3 +1,4 @@
 pub mod EventLoops
 pub mod Parts
+pub mod Results
 pub mod Writes

@@ -19,3 +19,5 @@ pub use word::{Words, name_in, next_word, words_in};
 
 #[cfg(test)]
 mod sample;
+#[cfg(test)]
+mod tests;

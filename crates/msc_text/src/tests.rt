@@ -1,0 +1,150 @@
+//! Each public function once, and a failure of each put.
+ghost use Rattle.std.specs.Prelude.{◌≡◌};
+
+use crate::sample::write_sample;
+use crate::{
+    Cause, Fault, GATHERED, Gathering, MemoryOut, Out, OutFault, StreamOut, TextError, Words,
+    WriteError, name_in, next_line, next_word, words_in,
+};
+use chart::NameError;
+use std::alloc::{AllocError, Global};
+use std::test::Fail;
+
+const SAMPLE: &[u8] = b"sample abc:\nabc 7\nabc 40\nend\n";
+
+/// Takes one byte a call, and fails once `left` are taken.
+#[derive(Drop)]
+struct Slow {
+    taken: Vec<u8>,
+    left: usize,
+    failures: u64,
+}
+
+impl Out for Slow {
+    ghost failures = { λ out. out.failures };
+
+    fn put(&mut self, bytes: &[u8]) -> Result<usize, OutFault> {
+        if bytes.is_empty() {
+            return Ok(0);
+        }
+        if self.left == 0 || self.taken.push(bytes[0]).is_err() {
+            self.failures += 1;
+            return Err(OutFault::Failed);
+        }
+        self.left -= 1;
+        Ok(1)
+    }
+}
+
+fn failing_after(alloc: Global, left: usize) -> Slow
+    ensures { result.failures ≡ 0 }
+{
+    Slow {
+        taken: Vec::new(alloc),
+        left,
+        failures: 0,
+    }
+}
+
+#[test]
+fn fails_at_each_put(rt: HostRuntime) {
+    for left in 0..=SAMPLE.len() {
+        let mut out = failing_after(rt.alloc(), left);
+        let result = write_sample(b"abc", &[7, 40], &mut out);
+        let whole = left == SAMPLE.len();
+        assert_eq!(rt; result.is_ok(), whole, "at {left}");
+        assert_eq!(rt; out.failures, u64::from(!whole), "at {left}");
+        assert_eq!(rt; out.taken.as_slice(), &SAMPLE[..left], "at {left}");
+    }
+}
+
+#[test]
+fn writes_to_memory(rt: HostRuntime) -> Result<(), Fail> {
+    let mut out = MemoryOut::new(rt.alloc());
+    write_sample(b"abc", &[7, 40], &mut out)?;
+    assert_eq!(rt; out.as_bytes(), SAMPLE);
+    assert_eq!(rt; out.into_bytes().as_slice(), SAMPLE);
+    Ok(())
+}
+
+#[test]
+fn takes_pieces_of_any_length(rt: HostRuntime) -> Result<(), Fail> {
+    let long = [b'x'; 5000];
+    let mut out = MemoryOut::new(rt.alloc());
+    let mut gathering = Gathering::new();
+    let front = &long[..GATHERED - 1];
+    let full = &long[..GATHERED];
+    gathering.add_all(&mut out, &[b"", b"x", front, b"x", full, &long, b"x"])?;
+    gathering.add_number(&mut out, u64::MAX)?;
+    gathering.add_all(&mut out, &[b"a", b"", b"bc"])?;
+    gathering.finish(&mut out)?;
+    let bytes = out.into_bytes();
+    assert_eq!(rt; bytes.len(), 2 * GATHERED + 5002 + 20 + 3);
+    assert!(rt; bytes.ends_with(b"x18446744073709551615abc"));
+    Ok(())
+}
+
+#[test]
+fn writes_to_a_stream(rt: HostRuntime) -> Result<(), Fail> {
+    let mut out = StreamOut::new(Vec::new(rt.alloc()));
+    write_sample(b"abc", &[7, 40], &mut out)?;
+    assert_eq!(rt; out.into_inner().as_slice(), SAMPLE);
+    Ok(())
+}
+
+#[test]
+fn a_full_stream_fails(rt: HostRuntime) {
+    let mut place = [0; 20];
+    let mut out = StreamOut::new(&mut place[..]);
+    let result = write_sample(b"abc", &[7, 40], &mut out);
+    assert_eq!(rt; result, Err(WriteError::Put(OutFault::Full)));
+    drop(out);
+    assert_eq!(rt; place.as_slice(), &SAMPLE[..20]);
+}
+
+#[test]
+fn cuts_lines(rt: HostRuntime) {
+    assert_eq!(rt;
+        next_line(b"one two\n\nrest"),
+        Some((b"one two".as_slice(), b"\nrest".as_slice()))
+    );
+    assert_eq!(rt;
+        next_line(b"\nrest"),
+        Some((b"".as_slice(), b"rest".as_slice()))
+    );
+    assert_eq!(rt; next_line(b"rest"), None);
+    assert_eq!(rt; next_line(b""), None);
+}
+
+#[test]
+fn cuts_words(rt: HostRuntime) {
+    assert_eq!(rt;
+        next_word(b"a  b"),
+        (b"a".as_slice(), Some(b" b".as_slice()))
+    );
+    assert_eq!(rt; next_word(b""), (b"".as_slice(), None));
+    assert!(rt; matches!(words_in(b""), Words::One(b"")));
+    assert!(rt; matches!(words_in(b"a b"), Words::Two(b"a", b"b")));
+    assert!(rt; matches!(words_in(b"a b "), Words::Three(b"a", b"b", b"")));
+    assert!(rt;
+        matches!(
+            words_in(b"a send b x"),
+            Words::Four(b"a", b"send", b"b", b"x")
+        )
+    );
+    assert!(rt; matches!(words_in(b"a send b x y"), Words::More));
+}
+
+#[test]
+fn reads_names(rt: HostRuntime) -> Result<(), Fail> {
+    assert_eq!(rt; name_in(b"alice")?.as_bytes(), b"alice".as_slice());
+    assert_eq!(rt;
+        name_in(b"x-y").err(),
+        Some(Cause::Name(NameError::BadByte(2)))
+    );
+    let fault = Fault::Line(3, Cause::ToItself);
+    let text = format!(in rt.alloc(); "{fault}")?;
+    assert_eq!(rt; text.as_str(), "line 3: an instance sends to itself");
+    assert_eq!(rt; TextError::from(AllocError), TextError::Memory);
+    Ok(())
+}
