@@ -120,8 +120,6 @@ module _ {S : Type 0} {contents : S → Option (List ℕ)} {failures : S → ℕ
   adds_in f (Ok x) xs k d e below p q = cc
   adds_in f (Err x) xs k d e below p q = stops_in f xs k d below p q
 
-<<<<<<< HEAD
-=======
   -- the same two where the loop reads the element as x, and c.x-item.is says so: at elements that are no numbers and no references
 
   pub gathers_more_read : {X : Type 0} (f : X → List ℕ) {a b c : S} {h i j : List ℕ} (xs : List X) (k : ℕ) (x : X) → k < length xs → x ≡ get_or xs k x
@@ -132,6 +130,5 @@ module _ {S : Type 0} {contents : S → Option (List ℕ)} {failures : S → ℕ
       → Gathers contents failures a b h i (flat_map f (take k xs)) → Stops contents failures b c i j (f x) → Adds contents failures a c h j r (flat_map f xs)
   adds_in_read f {b = b} {c = c} {i = i} {j = j} r xs k x e below is p q = adds_in f r xs k x e below p (subst (λ y. Stops contents failures b c i j (f y)) is q)
 
->>>>>>> texts
   -- for callers, by `using`: what joins the parts of a write, where the text is `first ++ (second ++ (third ++ ..))`
   pub ruleset joining = (adds_then, adds_early, gathers_then, wrote_then, wrote_early)
