@@ -87,7 +87,8 @@ impl Gathering {
     /// Adds the pieces to the text, in their order.
     pub fn add_all<W: Out>(&mut self, out: &mut W, pieces: &[&[u8]]) -> Result<(), WriteError>
         requires { W.failures out.old < u64.MAX }
-        ensures { Adds W.contents W.failures out.old out.new self.old self.new result (flat_map (λ p. p.now) pieces.now) }
+        ensures { Adds W.contents W.failures out.old out.new self.old self.new result
+            (flat_map (λ p. p.now) pieces.now) }
     {
         for piece in pieces {
             self.add(out, piece)?;

@@ -35,8 +35,10 @@ pub trait Out {
     fn put(&mut self, bytes: &[u8]) -> Result<usize, OutFault>
         requires { failures self.old < u64.MAX }
         ensures count { IfOk result (λ k. (k ≤ length bytes.now) × (0 < length bytes.now → 1 ≤ k)) }
-        ensures taken { IfOk result (λ k. Appends (contents self.old) (contents self.new) (take k bytes.now) × (failures self.new ≡ failures self.old)) }
-        ensures fault { OnErr result (Appends (contents self.old) (contents self.new) [] × (failures self.new ≡ failures self.old + 1)) };
+        ensures taken { IfOk result (λ k. Appends (contents self.old) (contents self.new) (take k bytes.now)
+            × (failures self.new ≡ failures self.old)) }
+        ensures fault { OnErr result (Appends (contents self.old) (contents self.new) []
+            × (failures self.new ≡ failures self.old + 1)) };
 }
 
 /// An [`Out`] over memory, which tells its bytes. A put fails where there is no memory left for it.

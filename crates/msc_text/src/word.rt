@@ -20,7 +20,9 @@ pub enum Words<'a> {
 
 /// The first word of a line, and the rest after its space, if there is one.
 pub fn next_word(line: &[u8]) -> (&[u8], Option<&[u8]>)
-    ensures words { MatchOption result.1 (words_of line.now ≡ result.0.now ∷ []) (λ rest. words_of line.now ≡ result.0.now ∷ words_of rest.now) }
+    ensures words { MatchOption result.1
+        (words_of line.now ≡ result.0.now ∷ [])
+        (λ rest. words_of line.now ≡ result.0.now ∷ words_of rest.now) }
     ensures shorter { IfSome result.1 (λ rest. length rest.now < length line.now) }
 {
     match cut_at(b' ', line) {
