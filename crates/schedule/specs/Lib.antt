@@ -4,5 +4,11 @@ pub use Rattle.chart.specs.Marks
 pub use Rattle.chart.specs.Messages
 pub use Rattle.chart.specs.Names
 pub use Rattle.chart.specs.NameSets
+pub use Rattle.msc_text.specs.Faults
+pub use Rattle.msc_text.specs.Lines
+pub mod Deeds
+pub mod FirstLines
+pub mod Keywords
 pub mod Meaning
 pub mod Plans
+pub mod Reading

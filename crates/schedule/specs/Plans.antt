@@ -1,10 +1,8 @@
 -- What a schedule is to a contract.
-use Rattle.std.specs.Prelude.{◌≡◌, ◌≢◌, ℕ, ◌≤◌, List, length, All}
+use Rattle.std.specs.Prelude.{◌≢◌, ℕ, ◌≤◌, List, length, All}
 use Rattle.schedule.specs.declared.command.Action.{Action}
 use Rattle.schedule.specs.declared.command.Action.TheVariants.{Send, Receive, Any, Close, Open, Shut}
 use Rattle.schedule.specs.declared.command.Command.{Command}
-use Rattle.schedule.specs.declared.schedule.TheConstants.{MAX_CAPACITY}
-use Rattle.chart.specs.declared.instance.TheConstants.{MAX_INSTANCES}
 use Rattle.chart.specs.NameSets.{AreNames}
 
 -- the instances' names, the capacity of each lane, and the commands in order

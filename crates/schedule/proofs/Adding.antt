@@ -1,0 +1,88 @@
+-- Names that are added one by one, and the words of a line.
+use Rattle.std.proofs.Common.{◌≡◌, ℕ, Bool, true, false, not, List, [], ◌∷◌, ◌++◌, length, Option, Some, None, Result, Ok, Err, refl, sym, ap, subst, ◌∙◌, Contains, ◌&&◌, eqb, arith, eq-eqb}
+use Rattle.std.specs.Prelude.{bytes_eq, MatchOption}
+use Rattle.std.specs.List.{list_any, list_all}
+use Rattle.std.specs.Cmp.Lexicographic.{nat_list_eq_equiv}
+use Rattle.std.proofs.lemmas.Bool.{ne_eqb, and_right, cond-false}
+use Rattle.std.proofs.lemmas.Map.Views.{list_any-from_Contains}
+use Rattle.chart.proofs.NameLists.{Contains-found}
+use Rattle.chart.specs.declared.instance.TheConstants.{MAX_INSTANCES}
+use Rattle.msc_text.proofs.Parts.{Cons, words_cons}
+use Rattle.msc_text.specs.Faults.{in_line, Fails}
+use Rattle.msc_text.specs.Lines.{words_of, name_or_cause}
+use Rattle.msc_text.specs.declared.fault.Cause.{Cause}
+use Rattle.msc_text.specs.declared.fault.Cause.TheVariants.{Instances, Syntax, Duplicate}
+use Rattle.msc_text.specs.declared.fault.TextError.{TextError}
+use Rattle.schedule.specs.FirstLines.{is_word, are_words, with_name, with_word, with_words, instances_of, instances_by, names_of}
+use Rattle.schedule.specs.Keywords.{is_instances}
+use Rattle.schedule.proofs.Steps.{in_line_ok, then_ok, fails_in_line}
+
+-- ---- words
+
+cons_is_some : {X : Type 0} (xs : List X) → Cons xs → not (eqb (length xs) 0) ≡ true
+cons_is_some [] c = absurd (let is = c.is in cc)
+cons_is_some (x ∷ xs) c = ap not (ne_eqb _ 0 (omega arith))
+
+-- a line has words, so only their bytes matter
+pub are_words_by : (line : List ℕ) (b : Bool) → list_all is_word (words_of line) ≡ b → are_words (words_of line) ≡ b
+unfolding are_words
+are_words_by line b e = ap (λ some. some && list_all is_word (words_of line)) (cons_is_some (words_of line) (words_cons line)) ∙ e
+
+-- an empty word in front is none
+pub empty_first : {X : Type 0} (f : X → List (List ℕ)) (o : Option X) (words : List (List ℕ)) (word : List ℕ) → MatchOption o (words ≡ word ∷ []) (λ more. words ≡ word ∷ f more) → eqb (length word) 0 ≡ true → list_all is_word words ≡ false
+empty_first f None words word are empty = ap (list_all is_word) are ∙ ap (λ b. not b && true) empty
+empty_first f (Some x) words word are empty = ap (list_all is_word) are ∙ ap (λ b. not b && list_all is_word (f x)) empty
+
+-- a word in front leaves it to the others
+pub word_first : (words others : List (List ℕ)) (word : List ℕ) → words ≡ word ∷ others → eqb (length word) 0 ≡ false → list_all is_word words ≡ list_all is_word others
+word_first words others word are some = ap (list_all is_word) are ∙ ap (λ b. not b && list_all is_word others) some
+
+-- line 1 has a name at least
+pub lone_keyword : (line keyword : List ℕ) → words_of line ≡ keyword ∷ [] → names_of line ≡ Err Syntax
+unfolding names_of are_words
+lone_keyword line keyword are = ap instances_by are ∙ cond-false (is_instances keyword && are_words []) (instances_of []) (Err Syntax) (and_right (is_instances keyword) (are_words []) refl)
+
+-- ---- one name
+
+is_given : (names : List (List ℕ)) (name : List ℕ) → Contains names name → list_any (bytes_eq name) names ≡ true
+is_given names name there = list_any-from_Contains nat_list_eq_equiv name names there
+
+-- a name that isn't there is not found
+pub is_new : (names : List (List ℕ)) (name : List ℕ) → (Contains names name → ⊥) → list_any (bytes_eq name) names ≡ false
+is_new names name absent = by (list_any (bytes_eq name) names) refl
+  where
+    by : (b : Bool) → list_any (bytes_eq name) names ≡ b → list_any (bytes_eq name) names ≡ false
+    by true e = absurd (absent (Contains-found names name e))
+    by false e = e
+
+pub with_name-ok : (names : List (List ℕ)) (name : List ℕ) → (Contains names name → ⊥) → (length names ≡ MAX_INSTANCES → ⊥) → with_name names name ≡ Ok (names ++ name ∷ [])
+with_name-ok names name absent room = rw (is_new names name absent, ne_eqb (length names) MAX_INSTANCES room) refl
+
+pub with_name-given : (names : List (List ℕ)) (name : List ℕ) → Contains names name → with_name names name ≡ Err Duplicate
+with_name-given names name there = rw (is_given names name there) refl
+
+pub with_name-full : (names : List (List ℕ)) (name : List ℕ) → (Contains names name → ⊥) → length names ≡ MAX_INSTANCES → with_name names name ≡ Err Instances
+with_name-full names name absent full = rw (is_new names name absent, eq-eqb (length names) MAX_INSTANCES full) refl
+
+-- the name of a word, and what becomes of it
+pub with_word-by : (names : List (List ℕ)) (word name : List ℕ) (r : Result (List (List ℕ)) Cause) → in_line 1 (name_or_cause word) ≡ Ok name → with_name names name ≡ r → with_word names word ≡ r
+unfolding with_word
+with_word-by names word name r e f = then_ok _ (with_name names) name (in_line_ok 1 _ name e) ∙ f
+
+-- ---- one word after the other
+
+pub words_end : (names new : List (List ℕ)) (word : List ℕ) → in_line 1 (with_word names word) ≡ Ok new → with_words names (word ∷ []) ≡ Ok new
+unfolding with_words
+words_end names new word e = then_ok _ (λ more. with_words more []) new (in_line_ok 1 _ new e)
+
+pub words_go_on : (names new : List (List ℕ)) (word : List ℕ) (words : List (List ℕ)) → in_line 1 (with_word names word) ≡ Ok new → with_words names (word ∷ words) ≡ with_words new words
+unfolding with_words
+words_go_on names new word words e = then_ok _ (λ more. with_words more words) new (in_line_ok 1 _ new e)
+
+pub words_stop : {X : Type 0} (f : X → List (List ℕ)) (error : TextError) (names : List (List ℕ)) (o : Option X) (words : List (List ℕ)) (word : List ℕ) (total : Result (List (List ℕ)) Cause)
+    → MatchOption o (words ≡ word ∷ []) (λ more. words ≡ word ∷ f more) → with_words names words ≡ total → Fails error (in_line 1 (with_word names word)) → Fails error (in_line 1 total)
+unfolding with_words
+words_stop f error names None words word total are so_far h =
+    subst (λ r. Fails error (in_line 1 r)) (sym (ap (with_words names) are) ∙ so_far) (fails_in_line 1 error (with_word names word) (λ more. with_words more []) h)
+words_stop f error names (Some x) words word total are so_far h =
+    subst (λ r. Fails error (in_line 1 r)) (sym (ap (with_words names) are) ∙ so_far) (fails_in_line 1 error (with_word names word) (λ more. with_words more (f x)) h)

@@ -1,0 +1,5 @@
+pub mod Adding
+pub mod Commands
+pub mod Numbers
+pub mod Read
+pub mod Steps

@@ -1,0 +1,87 @@
+-- The first two lines of a schedule's text: the instances' names, and the capacity.
+use Rattle.std.specs.Prelude.{ℕ, ◌+◌, ◌-◌, ◌*◌, Bool, false, not, ◌&&◌, ◌||◌, ◌==◌, List, [], ◌∷◌, ◌++◌, length, Result, Ok, Err, nat_lt, nat_le, bytes_eq, if◌then◌else◌}
+use Rattle.std.specs.List.{list_all, list_any}
+use Rattle.chart.specs.declared.instance.TheConstants.{MAX_INSTANCES}
+use Rattle.msc_text.specs.Faults.{◌>>=◌}
+use Rattle.msc_text.specs.Lines.{words_of, name_or_cause}
+use Rattle.msc_text.specs.declared.fault.Cause.{Cause}
+use Rattle.msc_text.specs.declared.fault.Cause.TheVariants.{Instances, Capacity, Syntax, Duplicate}
+use Rattle.schedule.specs.Keywords.{is_instances, is_capacity}
+use Rattle.schedule.specs.declared.schedule.TheConstants.{MAX_CAPACITY}
+
+-- a word has a byte at least
+abbrev pub is_word : List ℕ → Bool
+is_word word = not (length word == 0)
+
+-- there is a word, and each has a byte at least
+unfoldable pub are_words : List (List ℕ) → Bool
+are_words words = not (length words == 0) && list_all is_word words
+
+-- a new name goes behind the names before it
+abbrev pub with_name : List (List ℕ) → List ℕ → Result (List (List ℕ)) Cause
+with_name names name =
+    if list_any (bytes_eq name) names then Err Duplicate else (
+    if length names == MAX_INSTANCES then Err Instances else Ok (names ++ name ∷ []))
+
+-- the word names the next instance
+unfoldable pub with_word : List (List ℕ) → List ℕ → Result (List (List ℕ)) Cause
+with_word names word = do
+  name ← name_or_cause word
+  with_name names name
+
+-- each word names the next instance
+unfoldable pub with_words : List (List ℕ) → List (List ℕ) → Result (List (List ℕ)) Cause
+with_words names [] = Ok names
+with_words names (word ∷ words) = do
+  more ← with_word names word
+  with_words more words
+
+-- two names at least
+abbrev pub several : List (List ℕ) → Result (List (List ℕ)) Cause
+several names = if nat_lt (length names) 2 then Err Instances else Ok names
+
+-- the instances that the words name
+abbrev pub instances_of : List (List ℕ) → Result (List (List ℕ)) Cause
+instances_of words = do
+  names ← with_words [] words
+  several names
+
+-- the names of line 1, by its words
+abbrev pub instances_by : List (List ℕ) → Result (List (List ℕ)) Cause
+instances_by [] = Err Syntax
+instances_by (keyword ∷ words) = if is_instances keyword && are_words words then instances_of words else Err Syntax
+
+-- the names of line 1
+unfoldable pub names_of : List ℕ → Result (List (List ℕ)) Cause
+names_of line = instances_by (words_of line)
+
+-- 0 to 9
+abbrev pub is_digit : ℕ → Bool
+is_digit b = nat_le 48 b && nat_le b 57
+
+-- a number in decimal: digits, of which the first is 0 only where it is alone
+unfoldable pub is_number : List ℕ → Bool
+is_number [] = false
+is_number (b ∷ bs) = is_digit b && list_all is_digit bs && (length bs == 0 || not (b == 48))
+
+-- the number that digits go on with
+abbrev pub number_from : ℕ → List ℕ → ℕ
+number_from n [] = n
+number_from n (b ∷ bs) = number_from (10 * n + (b - 48)) bs
+
+-- so many places, if a lane may have them
+abbrev pub places : ℕ → Result ℕ Cause
+places n = if nat_le 1 n && nat_le n MAX_CAPACITY then Ok n else Err Capacity
+
+-- the places that the digits say
+unfoldable pub places_of : List ℕ → Result ℕ Cause
+places_of digits = places (number_from 0 digits)
+
+-- the capacity of line 2, by its words
+abbrev pub capacity_by : List (List ℕ) → Result ℕ Cause
+capacity_by (keyword ∷ digits ∷ []) = if is_capacity keyword && is_number digits then places_of digits else Err Syntax
+capacity_by _ = Err Syntax
+
+-- the capacity of line 2
+unfoldable pub capacity_of : List ℕ → Result ℕ Cause
+capacity_of line = capacity_by (words_of line)

@@ -1,0 +1,161 @@
+//! The first two lines: the instances' names, and the capacity.
+ghost use Rattle.std.specs.Prelude.{◌≡◌, IsTrue};
+ghost use Rattle.std.specs.List.{list_all};
+ghost use Rattle.msc_text.specs.Faults.{Gives, in_line};
+ghost use Rattle.msc_text.specs.Lines.{words_of};
+ghost use Rattle.schedule.specs.FirstLines.{is_word, are_words, with_word, with_words, instances_of, names_of, is_digit, is_number, places, places_of, capacity_of};
+
+use crate::keyword::{is_capacity, is_instances};
+use crate::schedule::Capacity;
+use chart::{Names, NamesError};
+use msc_text::{Cause, Fault, TextError, Words, name_in, next_word, words_in};
+use std::alloc::Global;
+
+/// What a line is read as, with its number on its fault.
+pub(crate) fn at_line<T>(number: u64, read: Result<T, Cause>) -> Result<T, TextError>
+    ensures { Gives (λ x. x) result (in_line number read) }
+{
+    match read {
+        Ok(value) => Ok(value),
+        Err(cause) => Err(TextError::Fault(Fault::Line(number, cause))),
+    }
+}
+
+/// A fault of line 1.
+fn at_first(cause: Cause) -> TextError
+    ensures { result ≡ TextError.Fault (Fault.Line 1 cause) }
+{
+    TextError::Fault(Fault::Line(1, cause))
+}
+
+/// Whether each word has a byte at least.
+fn are_words(line: &[u8]) -> bool
+    ensures { result ≡ are_words (words_of line.now) }
+{
+    let mut rest = line;
+    'words: loop {
+        let (word, more) = next_word(rest);
+        if word.is_empty() {
+            return false;
+        }
+        match more {
+            None => return true,
+            Some(more) => rest = more,
+        }
+    }
+}
+
+/// The word names the next instance. The first of F1 to F4, F22 and F8 that applies refuses it.
+#[tactic(auto, unfolding(crate::specs::FirstLines::with_word))]
+fn add_word(names: &mut Names, word: &[u8]) -> Result<(), TextError>
+    ensures { Gives (λ _. names.new) result (in_line 1 (with_word names.old word.now)) }
+{
+    let name = at_line(1, name_in(word))?;
+    match names.add(name) {
+        Ok(_) => Ok(()),
+        Err(NamesError::Duplicate) => Err(at_first(Cause::Duplicate)),
+        Err(NamesError::Instances) => Err(at_first(Cause::Instances)),
+        Err(NamesError::Memory) => Err(TextError::Memory),
+    }
+}
+
+/// Each word names the next instance.
+fn add_words(names: &mut Names, words: &[u8]) -> Result<(), TextError>
+    ensures { Gives (λ _. names.new) result (in_line 1 (with_words names.old (words_of words.now))) }
+{
+    let mut rest = words;
+    'words: loop {
+        let (word, more) = next_word(rest);
+        add_word(names, word)?;
+        match more {
+            None => return Ok(()),
+            Some(more) => rest = more,
+        }
+    }
+}
+
+/// The instances that the words name, or F8 where there is only one.
+fn instances_in(alloc: Global, words: &[u8]) -> Result<Names, TextError>
+    ensures { Gives (λ n. n) result (in_line 1 (instances_of (words_of words.now))) }
+{
+    let mut names = Names::new(alloc);
+    add_words(&mut names, words)?;
+    if names.len() < 2 {
+        return Err(at_first(Cause::Instances));
+    }
+    Ok(names)
+}
+
+/// The names of line 1, or F20 where it has another form.
+#[tactic(auto, unfolding(crate::specs::FirstLines::names_of))]
+pub(crate) fn names_in(alloc: Global, line: &[u8]) -> Result<Names, TextError>
+    ensures { Gives (λ n. n) result (in_line 1 (names_of line.now)) }
+{
+    let (keyword, words) = next_word(line);
+    let Some(words) = words else {
+        return Err(at_first(Cause::Syntax));
+    };
+    if !is_instances(keyword) || !are_words(words) {
+        return Err(at_first(Cause::Syntax));
+    }
+    instances_in(alloc, words)
+}
+
+fn is_digit(byte: u8) -> bool
+    ensures { result ≡ is_digit byte }
+{
+    b'0' <= byte && byte <= b'9'
+}
+
+fn are_digits(bytes: &[u8]) -> bool
+    ensures { result ≡ list_all is_digit bytes.now }
+{
+    bytes.iter().all(|b| is_digit(*b))
+}
+
+/// Whether the word is a number in decimal, with no zero before it.
+#[tactic(auto, unfolding(crate::specs::FirstLines::is_number))]
+fn is_number(word: &[u8]) -> bool
+    ensures { result ≡ is_number word.now }
+{
+    match word {
+        [] => false,
+        [first, rest @ ..] => {
+            is_digit(*first) && are_digits(rest) && (rest.is_empty() || *first != b'0')
+        }
+    }
+}
+
+/// So many places, or F9.
+fn places_in(number: u8) -> Result<Capacity, Cause>
+    ensures { result ≡ places number }
+{
+    Capacity::new(usize::from(number)).ok_or(Cause::Capacity)
+}
+
+/// The places that the digits say, or F9. A number of three digits is above each capacity.
+#[tactic(auto, unfolding(crate::specs::FirstLines::places_of, crate::specs::FirstLines::is_number))]
+fn places_of(digits: &[u8]) -> Result<Capacity, Cause>
+    requires { IsTrue (is_number digits.now) }
+    ensures { result ≡ places_of digits.now }
+{
+    match digits {
+        [ones] => places_in(*ones - b'0'),
+        [tens, ones] => places_in(10 * (*tens - b'0') + (*ones - b'0')),
+        [_, _, _, ..] => Err(Cause::Capacity),
+        [] => unreachable!(),
+    }
+}
+
+/// The capacity of line 2, or F20 where it has another form.
+#[tactic(auto, unfolding(crate::specs::FirstLines::capacity_of))]
+pub(crate) fn capacity_in(line: &[u8]) -> Result<Capacity, Cause>
+    ensures { result ≡ capacity_of line.now }
+{
+    match words_in(line) {
+        Words::Two(keyword, digits) if is_capacity(keyword) && is_number(digits) => {
+            places_of(digits)
+        }
+        _ => Err(Cause::Syntax),
+    }
+}
