@@ -1,0 +1,176 @@
+-- The instances stay as far as the run, command by command.
+use Rattle.std.proofs.Common.{◌≡◌, ◌≢◌, ℕ, suc, ◌<◌, ◌≤◌, true, false, List, [], ◌∷◌, ◌++◌, length, set, Some, refl, sym, ap, ◌∙◌, subst, arith}
+use Rattle.std.specs.Prelude.{slice_get}
+use Rattle.std.proofs.lemmas.Bool.{eq-eqb, ne_eqb}
+use Rattle.std.proofs.lemmas.List.{length-set, map-append}
+use Rattle.std.proofs.lemmas.Option.{slice_get_within}
+use Rattle.chart.specs.declared.history.Event.{Event}
+use Rattle.chart.specs.declared.history.Event.TheVariants.{Send, Close}
+use Rattle.chart.specs.declared.line.TheConstants.{MAX_EVENTS}
+use Rattle.chart.specs.Charts.{LineView}
+use Rattle.chart.specs.Messages.{Content}
+use Rattle.chart.specs.Marks.{send_mark, receive_mark, MayHaveRegion}
+use Rattle.chart.specs.Histories.{waiting, chart_of, IsLegal, AreTwo}
+use Rattle.schedule.specs.Meaning.{Run, changed, happens}
+use Rattle.replayer.specs.Views.{LaneView, ActorView, after_receive}
+use Rattle.replayer.specs.Agreement.{names_of, IsLane, IsActor, Agrees}
+use Rattle.replayer.proofs.Actors.{IsOwn-idle, AreLanes-idle, AreLanes-set, IsOwn-push}
+use Rattle.replayer.proofs.Histories.{is_lane-from, is_lane-to, received-le, waiting-send, waiting-send_other, waiting-receive, waiting-receive_other, is_closed-close, is_closed-close_other, chart_of-send, chart_of-send_other, chart_of-receive, chart_of-receive_other, chart_of-close}
+use Rattle.replayer.proofs.Places.{each-set}
+use Rattle.replayer.proofs.Words.{received, message, names-many}
+
+-- two places are two instances
+pub two-places : (n i j : ℕ) → i < n → j < n → i ≢ j → AreTwo n (suc i) (suc j)
+two-places n i j hi hj ne = (omega arith, omega arith, omega arith, omega arith, λ e. ne (omega arith))
+
+-- a changed function at the place of the change
+pub changed-same : (f : ℕ → ℕ) (p v : ℕ) → changed f p v p ≡ v
+changed-same f p v = rw (eq-eqb p p refl)
+
+-- and elsewhere
+pub changed-other : (f : ℕ → ℕ) (p v q : ℕ) → q ≢ p → changed f p v q ≡ f q
+changed-other f p v q ne = rw (ne_eqb q p ne)
+
+-- the first of the messages that have these names
+pub first-of : (ms : List Content) (name : List ℕ) (rest : List (List ℕ)) → names_of ms ≡ name ∷ rest → (m : Content) × (others : List Content) × (ms ≡ m ∷ others) × (m.name ≡ name) × (names_of others ≡ rest)
+first-of [] name rest e = cc
+first-of (m ∷ ms) name rest e = (m, ms, refl, cc, cc)
+
+-- the instances, one of which changed, are as far as a later run
+pub Agrees-set : (n k : ℕ) (r s : Run) (actors : List ActorView) (i : ℕ) (a : ActorView) → Agrees n k r actors → IsLegal n k s.history → ((l : ℕ) (x : ActorView) → l ≢ i → IsActor n r (suc l) x → IsActor n s (suc l) x) → IsActor n s (suc i) a → Agrees n k s (set actors i a)
+Agrees-set n k r s actors i a old legal others new = record {
+  many = length-set actors i a ∙ old.many;
+  limit = old.limit;
+  legal = legal;
+  each = each-set (λ l x. IsActor n s (suc l) x) actors i a (λ l x other e. others l x other (old.each l x e)) new;
+}
+
+-- the same where two changed
+pub Agrees-set_two : (n k : ℕ) (r s : Run) (actors : List ActorView) (i j : ℕ) (a b : ActorView) → Agrees n k r actors → IsLegal n k s.history → ((l : ℕ) (x : ActorView) → l ≢ i → l ≢ j → IsActor n r (suc l) x → IsActor n s (suc l) x) → IsActor n s (suc i) a
+    → IsActor n s (suc j) b → Agrees n k s (set (set actors i a) j b)
+Agrees-set_two n k r s actors i j a b old legal others first second = record {
+  many = length-set (set actors i a) j b ∙ length-set actors i a ∙ old.many;
+  limit = old.limit;
+  legal = legal;
+  each = each-set (λ l x. IsActor n s (suc l) x) (set actors i a) j b
+      (λ l x other e. each-set (λ m y. m ≢ j → IsActor n s (suc m) y) actors i a (λ m y past e' here. others m y past here (old.each m y e')) (λ _. first) l x e other)
+      second;
+}
+
+module _ (n k : ℕ) (r : Run) (actors : List ActorView) (agrees : Agrees n k r actors) (i j : ℕ) (ne : i ≢ j) where
+  -- a send
+  pub sent : (a b : ActorView) (lane : LaneView) (name : List ℕ) → slice_get actors i ≡ Some a → slice_get actors j ≡ Some b → slice_get b.lanes i ≡ Some lane → a.region ≡ 0 → lane.closed ≡ false → length a.line.events < MAX_EVENTS → length lane.names < k
+      → Agrees n k (happens r (Send (suc i) (suc j) (message name))) (set (set actors i (record a { line = record a.line { events = a.line.events ++ send_mark (suc j) name ∷ [] } })) j (record b { lanes = set b.lanes i (record lane { names = lane.names ++ name ∷ [] }) }))
+  sent a b lane name at_a at_b at_lane outside opened room space =
+      let h : List Event = r.history in
+      let m : Content = message name in
+      let s : Run = happens r (Send (suc i) (suc j) m) in
+      let mine : IsActor n r (suc i) a = agrees.each i a at_a in
+      let its : IsActor n r (suc j) b = agrees.each j b at_b in
+      let here : IsLane h (suc i) (suc j) lane = its.lanes.each i lane at_lane in
+      let few : length (chart_of h (suc i)) < MAX_EVENTS = subst (λ (l : LineView). length l.events < MAX_EVENTS) mine.own.line room in
+      let none : r.region (suc i) ≡ 0 = sym mine.own.region ∙ outside in
+      let free : length (waiting h (suc i) (suc j)) < k = subst (λ x. x < k) (names-many (waiting h (suc i) (suc j)) lane.names here.names) space in
+      let i_within : i < n = omega (arith, slice_get_within actors i a at_a, agrees.many) in
+      let j_within : j < n = omega (arith, slice_get_within actors j b at_b, agrees.many) in
+      Agrees-set_two n k r s actors i j _ _ agrees
+      ((two-places n i j i_within j_within ne, sym here.closed ∙ opened, free, few), agrees.legal)
+      (λ l x past other old. record {
+        own = IsOwn-idle n r s (suc l) x x.lanes (record { line = chart_of-send_other h (suc i) (suc j) (suc l) m (λ e. past (omega arith)); last = refl; region = refl }) old.own;
+        lanes = AreLanes-idle n h s.history (suc l) x.lanes (record { waiting = λ q. waiting-send_other h (suc i) (suc j) q (suc l) m (is_lane-to (suc i) (suc j) q (suc l) (λ e. other (omega arith))); closed = λ q. refl }) old.lanes;
+      })
+      (record {
+        own = IsOwn-push n r s (suc i) a _ (send_mark (suc j) name) mine.own (chart_of-send h (suc i) (suc j) m) refl (sym none) few refl mine.own.last mine.own.known refl (omega arith);
+        lanes = AreLanes-idle n h s.history (suc i) a.lanes (record { waiting = λ q. waiting-send_other h (suc i) (suc j) q (suc i) m (is_lane-to (suc i) (suc j) q (suc i) (λ e. ne (omega arith))); closed = λ q. refl }) mine.lanes;
+      })
+      (record {
+        own = IsOwn-idle n r s (suc j) b _ (record { line = chart_of-send_other h (suc i) (suc j) (suc j) m (λ e. ne (omega arith)); last = refl; region = refl }) its.own;
+        lanes = AreLanes-set n h s.history (suc j) i b.lanes _ (λ q past. (waiting-send_other h (suc i) (suc j) q (suc j) m (is_lane-from (suc i) (suc j) q (suc j) past), refl))
+            (record {
+              names = ap (λ ns. ns ++ name ∷ []) here.names ∙ sym (map-append (λ (x : Content). x.name) (waiting h (suc i) (suc j)) (m ∷ [])) ∙ ap names_of (sym (waiting-send h (suc i) (suc j) m (received-le n k h agrees.legal (suc i) (suc j))));
+              closed = here.closed;
+            }) its.lanes;
+      })
+
+  -- a receive
+  pub taken : (a : ActorView) (lane : LaneView) (name : List ℕ) (rest : List (List ℕ)) → j < length actors → slice_get actors i ≡ Some a → slice_get a.lanes j ≡ Some lane → lane.names ≡ name ∷ rest → length a.line.events < MAX_EVENTS
+      → Agrees n k (received r (suc i) (suc j)) (set actors i (after_receive a (suc j) j lane name rest))
+  taken a lane name rest there at_a at_lane front room =
+      let h : List Event = r.history in
+      let p : ℕ = suc i in
+      let q : ℕ = suc j in
+      let c : ℕ = r.region p in
+      let s : Run = received r p q in
+      let mine : IsActor n r p a = agrees.each i a at_a in
+      let here : IsLane h q p lane = mine.lanes.each j lane at_lane in
+      let few : length (chart_of h p) < MAX_EVENTS = subst (λ (l : LineView). length l.events < MAX_EVENTS) mine.own.line room in
+      let first = first-of (waiting h q p) name rest (sym here.names ∙ front) in
+      let some : 0 < length (waiting h q p) = omega (arith, ap length first.2) in
+      let i_within : i < n = omega (arith, slice_get_within actors i a at_a, agrees.many) in
+      let j_within : j < n = omega (arith, agrees.many) in
+      let grown : chart_of s.history p ≡ chart_of h p ++ receive_mark q name a.region ∷ [] =
+      chart_of-receive h p q c first.0 first.1 first.2 ∙ ap (λ w. chart_of h p ++ receive_mark q w c ∷ []) first.3 ∙ ap (λ x. chart_of h p ++ receive_mark q name x ∷ []) (sym mine.own.region) in
+      let last : q ≡ s.last p = sym (changed-same r.last p q) in
+      let known : s.last p ≤ n = subst (λ x. x ≤ n) last (omega arith) in
+      Agrees-set n k r s actors i _ agrees
+      ((two-places n i j i_within j_within ne, some, few, mine.own.may), agrees.legal)
+      (λ l x past old. record {
+        own = IsOwn-idle n r s (suc l) x x.lanes (record { line = chart_of-receive_other h p q c (suc l) (λ e. past (omega arith)); last = changed-other r.last p q (suc l) (λ e. past (omega arith)); region = refl }) old.own;
+        lanes = AreLanes-idle n h s.history (suc l) x.lanes (record { waiting = λ o. waiting-receive_other h p q c o (suc l) (is_lane-to q p o (suc l) (λ e. past (omega arith))); closed = λ o. refl }) old.lanes;
+      })
+      (record {
+        own = IsOwn-push n r s p a _ (receive_mark q name a.region) mine.own grown refl mine.own.region few refl last known refl refl;
+        lanes = AreLanes-set n h s.history p j a.lanes _ (λ o past. (waiting-receive_other h p q c o p (is_lane-from q p o p past), refl))
+            (record { names = sym first.4 ∙ ap names_of (sym (waiting-receive h p q c first.0 first.1 first.2)); closed = here.closed }) mine.lanes;
+      })
+
+  -- a close
+  pub shut-off : (b : ActorView) (lane : LaneView) → i < length actors → slice_get actors j ≡ Some b → slice_get b.lanes i ≡ Some lane → lane.closed ≡ false
+      → Agrees n k (happens r (Close (suc i) (suc j))) (set actors j (record b { lanes = set b.lanes i (record lane { closed = true }) }))
+  shut-off b lane there at_b at_lane opened =
+      let h : List Event = r.history in
+      let p : ℕ = suc i in
+      let q : ℕ = suc j in
+      let s : Run = happens r (Close p q) in
+      let its : IsActor n r q b = agrees.each j b at_b in
+      let here : IsLane h p q lane = its.lanes.each i lane at_lane in
+      let i_within : i < n = omega (arith, agrees.many) in
+      let j_within : j < n = omega (arith, slice_get_within actors j b at_b, agrees.many) in
+      Agrees-set n k r s actors j _ agrees
+      ((two-places n i j i_within j_within ne, sym here.closed ∙ opened), agrees.legal)
+      (λ l x past old. record {
+        own = IsOwn-idle n r s (suc l) x x.lanes (record { line = chart_of-close h p q (suc l); last = refl; region = refl }) old.own;
+        lanes = AreLanes-idle n h s.history (suc l) x.lanes (record { waiting = λ o. refl; closed = λ o. is_closed-close_other h p q o (suc l) (is_lane-to p q o (suc l) (λ e. past (omega arith))) }) old.lanes;
+      })
+      (record {
+        own = IsOwn-idle n r s q b _ (record { line = chart_of-close h p q q; last = refl; region = refl }) its.own;
+        lanes = AreLanes-set n h s.history q i b.lanes _ (λ o past. (refl, is_closed-close_other h p q o q (is_lane-from p q o q past)))
+            (record { names = here.names; closed = sym (is_closed-close h p q) }) its.lanes;
+      })
+
+-- a coregion opens or ends
+pub reopened : (n k : ℕ) (r : Run) (actors : List ActorView) (i c : ℕ) (a : ActorView) → Agrees n k r actors → slice_get actors i ≡ Some a → MayHaveRegion (chart_of r.history (suc i)) c
+    → Agrees n k (record { history = r.history; last = r.last; region = changed r.region (suc i) c }) (set actors i (record a { region = c }))
+reopened n k r actors i c a agrees at_a may =
+    let p : ℕ = suc i in
+    let s : Run = record { history = r.history; last = r.last; region = changed r.region p c } in
+    let mine : IsActor n r p a = agrees.each i a at_a in
+    let now : s.region p ≡ c = changed-same r.region p c in
+    Agrees-set n k r s actors i _ agrees agrees.legal
+    (λ l x past old. record {
+      own = IsOwn-idle n r s (suc l) x x.lanes (record { line = refl; last = refl; region = changed-other r.region p c (suc l) (λ e. past (omega arith)) }) old.own;
+      lanes = old.lanes;
+    })
+    (record {
+      own = record {
+        line = mine.own.line;
+        last = mine.own.last;
+        known = mine.own.known;
+        region = sym now;
+        may = subst (MayHaveRegion (chart_of r.history p)) (sym now) may;
+        greatest = mine.own.greatest;
+        few = mine.own.few;
+        short = mine.own.short;
+      };
+      lanes = mine.lanes;
+    })

@@ -1,0 +1,12 @@
+pub mod Actors
+pub mod Charts
+pub mod Commands
+pub mod Histories
+pub mod Kept
+pub mod Lanes
+pub mod Performed
+pub mod Places
+pub mod Regions
+pub mod Scans
+pub mod Starts
+pub mod Words

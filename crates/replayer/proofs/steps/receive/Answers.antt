@@ -1,0 +1,68 @@
+use Rattle.std.proofs.Common.{get_or, arith, sym, ◌∙◌}
+use Rattle.std.proofs.lemmas.Option.{get_or_from_slice_get, slice_get-get_or}
+use Rattle.replayer.proofs.Places.{slice_get-read_in}
+use Rattle.replayer.proofs.Commands.{lane-within, instance-is, may-now, receive-refused, receive-done}
+use Rattle.replayer.proofs.steps.receive.Goals as goal
+
+pub bounds-lanes-from : goal.bounds-lanes-from
+bounds-lanes-from c =
+    let actors = c.args.actors.now in
+    let reached = c.requires.reached in
+    let at_a = slice_get-get_or actors c.place-to.result c.index-actors-to.result (omega arith) in
+    rw c.lanes.ensures (lane-within reached.1.0 reached.0 reached.1.1 actors c.place-from.result c.place-to.result _ reached.1.2 (omega arith) at_a)
+
+pub returns-in-Some : goal.returns-in-Some
+returns-in-Some c n k r agrees =
+    let actors = c.args.actors.now in
+    let i = c.place-to.result in
+    let j = c.place-from.result in
+    let a = get_or actors i c.index-actors-to.result in
+    let lane = c.index-lanes-from.result in
+    let at_a = slice_get-get_or actors i c.index-actors-to.result (omega arith) in
+    let within = lane-within n k r actors j i a agrees (omega arith) at_a in
+    let at_lane = slice_get-read_in c.lanes.result.now a.lanes j lane c.lanes.ensures within c.index-lanes-from.is in
+    receive-refused n k r actors c.args.receiver c.args.sender i j a lane c.in-Some.word agrees c.place-to.ensures.value c.place-from.ensures.value at_a at_lane (sym c.receive_word.ensures ∙ c.in-Some.is)
+
+pub take-requires-clause-within : goal.take-requires-clause-within
+take-requires-clause-within c =
+    let actors = c.args.actors.now in
+    let i = c.place-to.result in
+    let a = get_or actors i c.index-actors-to.result in
+    let reached = c.requires.reached in
+    let at_a = slice_get-get_or actors i c.index-actors-to.result (omega arith) in
+    let within = lane-within reached.1.0 reached.0 reached.1.1 actors c.place-from.result i a reached.1.2 (omega arith) at_a in
+    rw (get_or_from_slice_get actors i a c.index-actors-to-2.result at_a) (omega arith)
+
+pub take-requires-clause-may : goal.take-requires-clause-may
+take-requires-clause-may c =
+    let actors = c.args.actors.now in
+    let i = c.place-to.result in
+    let a = get_or actors i c.index-actors-to.result in
+    let reached = c.requires.reached in
+    let at_a = slice_get-get_or actors i c.index-actors-to.result (omega arith) in
+    rw (get_or_from_slice_get actors i a c.index-actors-to-2.result at_a) (may-now reached.1.0 reached.0 reached.1.1 actors i a reached.1.2 at_a)
+
+pub take-requires-clause-other : goal.take-requires-clause-other
+take-requires-clause-other c =
+    let actors = c.args.actors.now in
+    let i = c.place-to.result in
+    let a = get_or actors i c.index-actors-to.result in
+    let reached = c.requires.reached in
+    let at_a = slice_get-get_or actors i c.index-actors-to.result (omega arith) in
+    let mine = instance-is reached.1.0 reached.0 reached.1.1 actors i a reached.1.2 at_a in
+    rw (get_or_from_slice_get actors i a c.index-actors-to-2.result at_a) (λ e. c.requires.two (c.place-to.ensures.value ∙ sym mine ∙ sym e))
+
+pub returns : goal.returns
+returns c n k r agrees =
+    let actors = c.args.actors.now in
+    let i = c.place-to.result in
+    let j = c.place-from.result in
+    let a = get_or actors i c.index-actors-to.result in
+    let lane = c.index-lanes-from.result in
+    let at_a = slice_get-get_or actors i c.index-actors-to.result (omega arith) in
+    let within = lane-within n k r actors j i a agrees (omega arith) at_a in
+    let at_lane = slice_get-read_in c.lanes.result.now a.lanes j lane c.lanes.ensures within c.index-lanes-from.is in
+    let took = c.in_ok-take.ensures in
+    let new = rw (get_or_from_slice_get actors i a c.index-actors-to-2.result at_a) at took in
+    receive-done n k r actors c.args.receiver c.args.sender i j a c.take.new.self lane agrees c.requires.two c.place-to.ensures.value c.place-from.ensures.value (omega arith) at_a at_lane (sym c.receive_word.ensures ∙ c.in_default.is)
+    (λ name rest e. new j lane name rest c.place-from.ensures.value at_lane e)

@@ -1,0 +1,56 @@
+//! What a replay gives.
+ghost use Rattle.std.specs.Prelude.{◌≡◌};
+
+use chart::{Chart, Names};
+use schedule::Note;
+use std::marker::Model;
+
+/// What a schedule comes to: its instances' names, the chart of what happened, and a note for each command that
+/// was refused or found nothing, in the order of the commands. A contract sees a record of these.
+#[derive(Debug, Drop)]
+pub struct Outcome<'a> {
+    names: &'a Names,
+    chart: Chart,
+    notes: Vec<Note>,
+}
+
+impl<'a> Model for Outcome<'a> {
+    ghost use Rattle.replayer.specs.Outcomes.{OutcomeView};
+
+    ghost Value = { OutcomeView };
+
+    ghost view = { λ o. record { names = o.names.now; chart = o.chart; notes = o.notes.items } };
+}
+
+impl<'a> Outcome<'a> {
+    /// The outcome of these parts.
+    pub(crate) fn new(names: &'a Names, chart: Chart, notes: Vec<Note>) -> Outcome<'a>
+        ensures { result ≡ record { names = names.now; chart = chart; notes = notes.items } }
+    {
+        Outcome {
+            names,
+            chart,
+            notes,
+        }
+    }
+
+    /// The names of the instances.
+    pub fn names(&self) -> &'a Names
+        ensures { result.now ≡ self.now.names }
+    {
+        self.names
+    }
+
+    pub fn chart(&self) -> &Chart
+        ensures { result.now ≡ self.now.chart }
+    {
+        &self.chart
+    }
+
+    /// The notes, in the order of the commands that left them.
+    pub fn notes(&self) -> &[Note]
+        ensures { result.now ≡ self.now.notes }
+    {
+        self.notes.as_slice()
+    }
+}
