@@ -7,6 +7,7 @@ mod lane;
 mod outcome;
 mod run;
 mod steps;
+mod text;
 
 pub use error::ReplayError;
 pub use outcome::Outcome;

@@ -1,12 +1,13 @@
 //! What a replay gives.
-ghost use Rattle.std.specs.Prelude.{◌≡◌};
+ghost use Rattle.std.specs.Prelude.{◌≡◌, length};
 
 use chart::{Chart, Names};
 use schedule::Note;
 use std::marker::Model;
 
 /// What a schedule comes to: its instances' names, the chart of what happened, and a note for each command that
-/// was refused or found nothing, in the order of the commands. A contract sees a record of these.
+/// was refused or found nothing, in the order of the commands. A contract sees a record of these. There are as
+/// many names as lines.
 #[derive(Debug, Drop)]
 pub struct Outcome<'a> {
     names: &'a Names,
@@ -15,16 +16,20 @@ pub struct Outcome<'a> {
 }
 
 impl<'a> Model for Outcome<'a> {
+    ghost use Rattle.std.specs.Prelude.{◌≡◌, length};
     ghost use Rattle.replayer.specs.Outcomes.{OutcomeView};
 
     ghost Value = { OutcomeView };
 
     ghost view = { λ o. record { names = o.names.now; chart = o.chart; notes = o.notes.items } };
+
+    ghost invariant = { λ o. length o.names.now ≡ length o.chart };
 }
 
 impl<'a> Outcome<'a> {
     /// The outcome of these parts.
     pub(crate) fn new(names: &'a Names, chart: Chart, notes: Vec<Note>) -> Outcome<'a>
+        requires { length names.now ≡ length chart }
         ensures { result ≡ record { names = names.now; chart = chart; notes = notes.items } }
     {
         Outcome {
@@ -42,7 +47,8 @@ impl<'a> Outcome<'a> {
     }
 
     pub fn chart(&self) -> &Chart
-        ensures { result.now ≡ self.now.chart }
+        ensures value { result.now ≡ self.now.chart }
+        ensures named { length self.now.names ≡ length self.now.chart }
     {
         &self.chart
     }

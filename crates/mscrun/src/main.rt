@@ -1,0 +1,81 @@
+//! mscrun: reads the command line and one file, and hands the file's bytes to the library.
+#![tactic(auto)]
+
+use clap::{Arg, ArgAction, Command, Error, ErrorKind};
+use msc_text::{Out, StreamOut};
+use std::alloc::{AllocError, Global};
+use std::process::ExitCode;
+use std::rt::{Env, Files};
+use std::{env, fs, io};
+use tasks::{ProgramError, Task, perform, refused};
+
+/// The command line that the program understands. Help, the version, no command and an unknown one are all mistakes.
+fn command_line(alloc: Global) -> Result<Command<'static>, AllocError> {
+    let file = Arg::new(alloc, "FILE")
+        .required(true)
+        .action(ArgAction::Set);
+    let replay = Command::new(alloc, "replay")
+        .disable_help_flag(true)
+        .arg(file)?;
+    Command::new(alloc, "mscrun")
+        .disable_help_flag(true)
+        .disable_help_subcommand(true)
+        .subcommand_required(true)
+        .subcommand(replay)
+}
+
+fn usage(error: &Error) -> ProgramError {
+    match error.kind() {
+        ErrorKind::OutOfMemory => ProgramError::Memory,
+        _ => ProgramError::Usage,
+    }
+}
+
+fn cause(error: &io::Error, other: ProgramError) -> ProgramError {
+    match error.kind() {
+        io::ErrorKind::OutOfMemory => ProgramError::Memory,
+        _ => other,
+    }
+}
+
+/// What is asked for, and the file.
+fn task_in<'a>(alloc: Global, words: &'a [String]) -> Result<(Task, &'a str), ProgramError> {
+    let command = command_line(alloc).map_err(|_| ProgramError::Memory)?;
+    let matches = command
+        .try_get_matches_from(words)
+        .map_err(|error| usage(&error))?;
+    let Some(("replay", replay)) = matches.subcommand() else {
+        return Err(ProgramError::Usage);
+    };
+    let file = replay.get_str("FILE").ok_or(ProgramError::Usage)?;
+    Ok((Task::Replay, file))
+}
+
+fn words_of<R: Env + AllocGlobal>(rt: &R) -> Result<Vec<String>, ProgramError> {
+    let words = env::args(rt).map_err(|error| cause(&error, ProgramError::Usage))?;
+    words
+        .collect(rt.alloc())
+        .map_err(|_| ProgramError::Memory)
+}
+
+fn bytes_of<R: Files + AllocGlobal>(rt: &R, file: &str) -> Result<Vec<u8>, ProgramError> {
+    fs::read(rt, file).map_err(|error| cause(&error, ProgramError::File))
+}
+
+fn run<R: Env + Files + AllocGlobal, W: Out, V: Out>(rt: &R, out: &mut W, err: &mut V) -> Result<u8, ProgramError> {
+    let words = words_of(rt)?;
+    let (task, file) = task_in(rt.alloc(), words.as_slice())?;
+    let bytes = bytes_of(rt, file)?;
+    Ok(perform(rt.alloc(), &task, bytes.as_slice(), out, err))
+}
+
+fn main(rt: HostRuntime) -> ExitCode {
+    let mut out = StreamOut::new(io::writer(&rt));
+    let stderr = rt.stderr();
+    let mut err = StreamOut::new(io::writer(&stderr));
+    let status = match run(&rt, &mut out, &mut err) {
+        Ok(status) => status,
+        Err(error) => refused(&error, &mut err),
+    };
+    ExitCode::from(status)
+}
