@@ -1,2 +1,3 @@
 pub use Rattle.msc_text.specs.Writing
 pub mod Refusals
+pub mod Tasks

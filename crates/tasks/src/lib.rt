@@ -3,6 +3,8 @@
 
 mod error;
 mod refusal;
+mod task;
 
 pub use error::ProgramError;
 pub use refusal::refused;
+pub use task::{Task, perform};
