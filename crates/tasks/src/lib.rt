@@ -8,3 +8,6 @@ mod task;
 pub use error::ProgramError;
 pub use refusal::refused;
 pub use task::{Task, perform};
+
+#[cfg(test)]
+mod tests;
