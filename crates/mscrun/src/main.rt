@@ -1,8 +1,9 @@
 //! mscrun: reads the command line and one file, and hands the file's bytes to the library.
 #![tactic(auto)]
 
-use clap::{Arg, ArgAction, Command, Error, ErrorKind};
-use msc_text::{Out, StreamOut};
+use clap::error::ErrorKind;
+use clap::{Arg, ArgAction, Command, Error};
+use msc_text::StreamOut;
 use std::alloc::{AllocError, Global};
 use std::process::ExitCode;
 use std::rt::{Env, Files};
@@ -10,7 +11,7 @@ use std::{env, fs, io};
 use tasks::{ProgramError, Task, perform, refused};
 
 /// The command line that the program understands. Help, the version, no command and an unknown one are all mistakes.
-fn command_line(alloc: Global) -> Result<Command<'static>, AllocError> {
+fn command_line<'a>(alloc: Global) -> Result<Command<'a>, AllocError> {
     let file = Arg::new(alloc, "FILE")
         .required(true)
         .action(ArgAction::Set);
@@ -53,28 +54,27 @@ fn task_in<'a>(alloc: Global, words: &'a [String]) -> Result<(Task, &'a str), Pr
 
 fn words_of<R: Env + AllocGlobal>(rt: &R) -> Result<Vec<String>, ProgramError> {
     let words = env::args(rt).map_err(|error| cause(&error, ProgramError::Usage))?;
-    words
-        .collect(rt.alloc())
-        .map_err(|_| ProgramError::Memory)
+    words.collect(rt.alloc()).map_err(|_| ProgramError::Memory)
 }
 
 fn bytes_of<R: Files + AllocGlobal>(rt: &R, file: &str) -> Result<Vec<u8>, ProgramError> {
     fs::read(rt, file).map_err(|error| cause(&error, ProgramError::File))
 }
 
-fn run<R: Env + Files + AllocGlobal, W: Out, V: Out>(rt: &R, out: &mut W, err: &mut V) -> Result<u8, ProgramError> {
+/// What is asked for, and the bytes of the file.
+fn request<R: Env + Files + AllocGlobal>(rt: &R) -> Result<(Task, Vec<u8>), ProgramError> {
     let words = words_of(rt)?;
     let (task, file) = task_in(rt.alloc(), words.as_slice())?;
     let bytes = bytes_of(rt, file)?;
-    Ok(perform(rt.alloc(), &task, bytes.as_slice(), out, err))
+    Ok((task, bytes))
 }
 
 fn main(rt: HostRuntime) -> ExitCode {
     let mut out = StreamOut::new(io::writer(&rt));
     let stderr = rt.stderr();
     let mut err = StreamOut::new(io::writer(&stderr));
-    let status = match run(&rt, &mut out, &mut err) {
-        Ok(status) => status,
+    let status = match request(&rt) {
+        Ok((task, bytes)) => perform(rt.alloc(), &task, bytes.as_slice(), &mut out, &mut err),
         Err(error) => refused(&error, &mut err),
     };
     ExitCode::from(status)
