@@ -19,6 +19,7 @@ use Rattle.schedule.proofs.Steps.{in_line_ok, then_ok, fails_in_line}
 
 -- ---- words
 
+-- a list with a first element is not empty
 cons_is_some : {X : Type 0} (xs : List X) → Cons xs → not (eqb (length xs) 0) ≡ true
 cons_is_some [] c = absurd (let is = c.is in cc)
 cons_is_some (x ∷ xs) c = ap not (ne_eqb _ 0 (omega arith))
@@ -44,6 +45,7 @@ lone_keyword line keyword are = ap instances_by are ∙ cond-false (is_instances
 
 -- ---- one name
 
+-- a name that is there is found
 is_given : (names : List (List ℕ)) (name : List ℕ) → Contains names name → list_any (bytes_eq name) names ≡ true
 is_given names name there = list_any-from_Contains nat_list_eq_equiv name names there
 
@@ -55,12 +57,15 @@ is_new names name absent = by (list_any (bytes_eq name) names) refl
     by true e = absurd (absent (Contains-found names name e))
     by false e = e
 
+-- what becomes of a name: it goes behind the others
 pub with_name-ok : (names : List (List ℕ)) (name : List ℕ) → (Contains names name → ⊥) → (length names ≡ MAX_INSTANCES → ⊥) → with_name names name ≡ Ok (names ++ name ∷ [])
 with_name-ok names name absent room = rw (is_new names name absent, ne_eqb (length names) MAX_INSTANCES room) refl
 
+-- it was given before
 pub with_name-given : (names : List (List ℕ)) (name : List ℕ) → Contains names name → with_name names name ≡ Err Duplicate
 with_name-given names name there = rw (is_given names name there) refl
 
+-- it is one too many
 pub with_name-full : (names : List (List ℕ)) (name : List ℕ) → (Contains names name → ⊥) → length names ≡ MAX_INSTANCES → with_name names name ≡ Err Instances
 with_name-full names name absent full = rw (is_new names name absent, eq-eqb (length names) MAX_INSTANCES full) refl
 
@@ -71,14 +76,17 @@ with_word-by names word name r e f = then_ok _ (with_name names) name (in_line_o
 
 -- ---- one word after the other
 
+-- the last word
 pub words_end : (names new : List (List ℕ)) (word : List ℕ) → in_line 1 (with_word names word) ≡ Ok new → with_words names (word ∷ []) ≡ Ok new
 unfolding with_words
 words_end names new word e = then_ok _ (λ more. with_words more []) new (in_line_ok 1 _ new e)
 
+-- a word, and those after it
 pub words_go_on : (names new : List (List ℕ)) (word : List ℕ) (words : List (List ℕ)) → in_line 1 (with_word names word) ≡ Ok new → with_words names (word ∷ words) ≡ with_words new words
 unfolding with_words
 words_go_on names new word words e = then_ok _ (λ more. with_words more words) new (in_line_ok 1 _ new e)
 
+-- a word that names no next instance decides
 pub words_stop : {X : Type 0} (f : X → List (List ℕ)) (error : TextError) (names : List (List ℕ)) (o : Option X) (words : List (List ℕ)) (word : List ℕ) (total : Result (List (List ℕ)) Cause)
     → MatchOption o (words ≡ word ∷ []) (λ more. words ≡ word ∷ f more) → with_words names words ≡ total → Fails error (in_line 1 (with_word names word)) → Fails error (in_line 1 total)
 unfolding with_words

@@ -15,14 +15,17 @@ use Rattle.schedule.proofs.Steps.{then_ok, fails_then}
 abbrev pub with_front : List Command → Result (List Command) Fault → Result (List Command) Fault
 with_front front read = read >>= λ commands. Ok (front ++ commands)
 
+-- what is read next joins what was read before
 regroup : (front : List Command) (command : Command) (read : Result (List Command) Fault) → with_front front (read >>= λ commands. Ok (command ∷ commands)) ≡ with_front (front ++ command ∷ []) read
 regroup front command (Ok commands) = ap Ok (sym (append_assoc front (command ∷ []) commands))
 regroup front command (Err fault) = refl
 
+-- the command of a line that is read
 command_is : (names : List (List ℕ)) (n : ℕ) (line : List ℕ) (deed : Deed) → in_line n (deed_of names line) ≡ Ok deed → command_at names n line ≡ Ok (record { line = n; actor = deed.0; action = deed.1 })
 unfolding command_at
 command_is names n line deed e = then_ok _ (λ d. Ok (record { line = n; actor = d.0; action = d.1 })) deed e
 
+-- a line that is read
 pub goes_on : (front : List Command) (names : List (List ℕ)) (n : ℕ) (line : List ℕ) (lines : List (List ℕ)) (deed : Deed) (total : Result (List Command) Fault) → in_line n (deed_of names line) ≡ Ok deed
     → with_front front (commands_from names n (line ∷ lines)) ≡ total → with_front (front ++ record { line = n; actor = deed.0; action = deed.1 } ∷ []) (commands_from names (n + 1) lines) ≡ total
 unfolding commands_from
@@ -31,6 +34,7 @@ goes_on front names n line lines deed total e so_far =
     let one = then_ok (command_at names n line) (λ command. commands_from names (n + 1) lines >>= λ commands. Ok (command ∷ commands)) command (command_is names n line deed e) in
     sym (regroup front command (commands_from names (n + 1) lines)) ∙ sym (ap (with_front front) one) ∙ so_far
 
+-- a line that is not read decides
 pub ends : (error : TextError) (front : List Command) (names : List (List ℕ)) (n : ℕ) (line : List ℕ) (lines : List (List ℕ)) (total : Result (List Command) Fault) → Fails error (in_line n (deed_of names line))
     → with_front front (commands_from names n (line ∷ lines)) ≡ total → Fails error total
 unfolding commands_from command_at
@@ -40,22 +44,22 @@ ends (errors.Fault fault) front names n line lines total h so_far =
     (fails_then (errors.Fault fault) _ (λ command. commands_from names (n + 1) lines >>= λ commands. Ok (command ∷ commands))
     (fails_then (errors.Fault fault) _ (λ deed. Ok (record { line = n; actor = deed.0; action = deed.1 })) h))
 
+-- no line is left
 pub is_done : (front : List Command) (names : List (List ℕ)) (n : ℕ) (total : Result (List Command) Fault) → with_front front (commands_from names n []) ≡ total → total ≡ Ok front
 unfolding commands_from
 is_done front names n total so_far = sym so_far ∙ ap Ok (append-nil front)
 
--- all lines are read, and the last has its line feed or not
-
+-- all lines are read, and the last has its line feed
 pub all_read : (front : List Command) (names : List (List ℕ)) (lines : List (List ℕ)) (rest : List ℕ) → commands_from names 3 lines ≡ Ok front → length rest ≡ 0 → commands_of names lines rest ≡ Ok front
 unfolding commands_of
 all_read front names lines rest e ended = then_ok _ (with_end rest) front e ∙ rw (eq-eqb (length rest) 0 ended) refl
 
+-- or it has none
 pub not_ended : (front : List Command) (names : List (List ℕ)) (lines : List (List ℕ)) (rest : List ℕ) → commands_from names 3 lines ≡ Ok front → (length rest ≡ 0 → ⊥) → commands_of names lines rest ≡ Err Unfinished
 unfolding commands_of
 not_ended front names lines rest e open_end = then_ok _ (with_end rest) front e ∙ rw (ne_eqb (length rest) 0 open_end) refl
 
--- a line that isn't read decides
-
+-- no end mends a line that is not read
 pub line_fails : (error : TextError) (names : List (List ℕ)) (lines : List (List ℕ)) (rest : List ℕ) → Fails error (commands_from names 3 lines) → Fails error (commands_of names lines rest)
 unfolding commands_of
 line_fails error names lines rest h = fails_then error (commands_from names 3 lines) (with_end rest) h

@@ -26,9 +26,11 @@ use Rattle.schedule.proofs.Steps.{bind_ok, unless_err, when_ok, chosen, ok_is, i
 
 -- ---- the names
 
+-- no names are names
 no_names : AreNames []
 no_names = record { limit = omega arith; distinct = λ i j w here there. absurd cc }
 
+-- names with a new one are names
 with_name-names : (names : List (List ℕ)) (name : List ℕ) (new : List (List ℕ)) → AreNames names → with_name names name ≡ Ok new → AreNames new
 with_name-names names name new old e =
     let a = unless_err (list_any (bytes_eq name) names) Duplicate (cond (eqb (length names) MAX_INSTANCES) (Err Instances) (Ok (names ++ name ∷ []))) new e in
@@ -38,12 +40,14 @@ with_name-names names name new old e =
     let room : length names < MAX_INSTANCES = omega arith in
     subst AreNames (ok_is (names ++ name ∷ []) new b.1) (AreNames-push names name old room (not_there names name a.0))
 
+-- the same by its word
 with_word-names : (names : List (List ℕ)) (word : List ℕ) (new : List (List ℕ)) → AreNames names → with_word names word ≡ Ok new → AreNames new
 unfolding with_word
 with_word-names names word new old e =
     let a = bind_ok (name_or_cause word) (with_name names) new e in
     with_name-names names a.0 new old a.2
 
+-- and by many
 with_words-names : (names words new : List (List ℕ)) → AreNames names → with_words names words ≡ Ok new → AreNames new
 unfolding with_words
 with_words-names names [] new old e = subst AreNames (ok_is names new e) old
@@ -51,6 +55,7 @@ with_words-names names (word ∷ words) new old e =
     let a = bind_ok (with_word names word) (λ more. with_words more words) new e in
     with_words-names a.0 words new (with_word-names names word a.0 old a.1) a.2
 
+-- the names of line 1 are several
 instances_of-names : (words names : List (List ℕ)) → instances_of words ≡ Ok names → (2 ≤ length names) × AreNames names
 instances_of-names words names e =
     let a = bind_ok (with_words [] words) several names e in
@@ -58,12 +63,14 @@ instances_of-names words names e =
     let P : List (List ℕ) → Type 0 = λ n. (2 ≤ length n) × AreNames n in
     subst P (ok_is a.0 names b.1) (ltb-false (length a.0) 2 b.0, with_words-names [] words a.0 no_names a.1)
 
+-- the same with the keyword
 instances_by-names : (words names : List (List ℕ)) → instances_by words ≡ Ok names → (2 ≤ length names) × AreNames names
 instances_by-names [] names e = absurd cc
 instances_by-names (keyword ∷ words) names e =
     let a = when_ok (is_instances keyword && are_words words) Syntax (instances_of words) names e in
     instances_of-names words names a.1
 
+-- the same by the line
 names_are : (line : List ℕ) (names : List (List ℕ)) → names_of line ≡ Ok names → (2 ≤ length names) × AreNames names
 unfolding names_of
 names_are line names e = instances_by-names (words_of line) names e
@@ -78,10 +85,12 @@ Acts n deed = (deed.0 ≤ n) × HasPartner n deed.0 deed.1
 abbrev IsPair : ℕ → (ℕ × ℕ) → Type 0
 IsPair n pair = (pair.0 ≤ n) × (pair.1 ≤ n) × (pair.0 ≢ pair.1)
 
+-- an instance that is known was found
 known-some : (o : Option ℕ) (p : ℕ) → known (option_map suc o) ≡ Ok p → (i : ℕ) × (o ≡ Some i) × (suc i ≡ p)
 known-some None p e = absurd cc
 known-some (Some i) p e = (i, refl, ok_is (suc i) p e)
 
+-- it is one of the instances
 known_of-within : (names : List (List ℕ)) (name : List ℕ) (p : ℕ) → known_of names name ≡ Ok p → p ≤ length names
 unfolding known_of
 known_of-within names name p e =
@@ -91,6 +100,7 @@ known_of-within names name p e =
     let is : suc a.0 ≡ p = a.2 in
     omega arith
 
+-- a pair is two of them
 pair_of-pair : (names : List (List ℕ)) (x y : List ℕ) (pair : ℕ × ℕ) → pair_of names x y ≡ Ok pair → IsPair (length names) pair
 unfolding pair_of
 pair_of-pair names x y pair e =
@@ -99,6 +109,7 @@ pair_of-pair names x y pair e =
     let g = unless_err (eqb a.0 b.0) ToItself (Ok (a.0, b.0)) pair b.2 in
     subst (IsPair (length names)) (ok_is (a.0, b.0) pair g.1) (known_of-within names x a.0 a.1, known_of-within names y b.0 b.1, eqb-false a.0 b.0 g.0)
 
+-- the same by their words
 partners_of-pair : (names : List (List ℕ)) (x y : List ℕ) (pair : ℕ × ℕ) → partners_of names x y ≡ Ok pair → IsPair (length names) pair
 unfolding partners_of
 partners_of-pair names x y pair e =
@@ -114,6 +125,7 @@ partner-acts n r action deed has are e =
     let two = are a.0 a.1 in
     subst (Acts n) (ok_is (a.0.0, action a.0.1) deed a.2) (two.0, has a.0.0 a.0.1 two.1 two.2)
 
+-- so each form of a command is of the instances
 send_of-acts : (names : List (List ℕ)) (x y m : List ℕ) (deed : Deed) → send_of names x y m ≡ Ok deed → Acts (length names) deed
 unfolding send_of
 send_of-acts names x y m deed e =
@@ -122,10 +134,12 @@ send_of-acts names x y m deed e =
     let c = bind_ok (name_or_cause m) (λ name. pair_of names a.0 b.0 >>= λ pair. Ok (pair.0, Send pair.1 name)) deed b.2 in
     partner-acts (length names) (pair_of names a.0 b.0) (λ q. Send q c.0) deed (λ p q within other. (within, other)) (pair_of-pair names a.0 b.0) c.2
 
+-- a receive
 receive_of-acts : (names : List (List ℕ)) (x y : List ℕ) (deed : Deed) → receive_of names x y ≡ Ok deed → Acts (length names) deed
 unfolding receive_of
 receive_of-acts names x y deed e = partner-acts (length names) (partners_of names x y) (λ q. Receive q) deed (λ p q within other. (within, other)) (partners_of-pair names x y) e
 
+-- a close
 close_of-acts : (names : List (List ℕ)) (x y : List ℕ) (deed : Deed) → close_of names x y ≡ Ok deed → Acts (length names) deed
 unfolding close_of
 close_of-acts names x y deed e = partner-acts (length names) (partners_of names x y) (λ q. Close q) deed (λ p q within other. (within, other)) (partners_of-pair names x y) e
@@ -138,6 +152,7 @@ alone_of-acts names x action deed alone e =
     let b = bind_ok (known_of names a.0) (λ by. Ok (by, action)) deed a.2 in
     subst (Acts (length names)) (ok_is (b.0, action) deed b.2) (known_of-within names a.0 b.0 b.1, alone b.0)
 
+-- a line of two words
 by_two-acts : (names : List (List ℕ)) (x k : List ℕ) (deed : Deed) → by_two names x k ≡ Ok deed → Acts (length names) deed
 unfolding by_two
 by_two-acts names x k deed e =
@@ -149,6 +164,7 @@ by_two-acts names x k deed e =
       ]
     ]
 
+-- of three
 by_three-acts : (names : List (List ℕ)) (x k y : List ℕ) (deed : Deed) → by_three names x k y ≡ Ok deed → Acts (length names) deed
 unfolding by_three
 by_three-acts names x k y deed e =
@@ -157,6 +173,7 @@ by_three-acts names x k y deed e =
       | inr b ↦ close_of-acts names x y deed (when_ok (is_close k) Syntax (close_of names x y) deed b.1).1
     ]
 
+-- of any number
 deed_by-acts : (names words : List (List ℕ)) (deed : Deed) → deed_by names words ≡ Ok deed → Acts (length names) deed
 deed_by-acts names [] deed e = absurd cc
 deed_by-acts names (x ∷ []) deed e = absurd cc
@@ -165,6 +182,7 @@ deed_by-acts names (x ∷ k ∷ y ∷ []) deed e = by_three-acts names x k y dee
 deed_by-acts names (x ∷ k ∷ y ∷ m ∷ []) deed e = send_of-acts names x y m deed (unless_err (eqb (length x) 0 || eqb (length y) 0 || eqb (length m) 0 || not (is_send k)) Syntax (send_of names x y m) deed e).1
 deed_by-acts names (x ∷ k ∷ y ∷ m ∷ z ∷ words) deed e = absurd cc
 
+-- with its number
 command_at-among : (names : List (List ℕ)) (n : ℕ) (line : List ℕ) (command : Command) → command_at names n line ≡ Ok command → IsAmong (length names) command
 unfolding command_at deed_of
 command_at-among names n line command e =
@@ -172,6 +190,7 @@ command_at-among names n line command e =
     let acts = deed_by-acts names (words_of line) a.0 (in_line_ok n (deed_of names line) a.0 a.1) in
     subst (IsAmong (length names)) (ok_is (record { line = n; actor = a.0.0; action = a.0.1 }) command a.2) acts
 
+-- line after line
 commands_from-among : (names : List (List ℕ)) (n : ℕ) (lines : List (List ℕ)) (commands : List Command) → commands_from names n lines ≡ Ok commands → AllByRecursion (IsAmong (length names)) commands
 unfolding commands_from
 commands_from-among names n [] commands e = subst (AllByRecursion (IsAmong (length names))) (ok_is [] commands e) tt
@@ -180,6 +199,7 @@ commands_from-among names n (line ∷ lines) commands e =
     let b = bind_ok (commands_from names (n + 1) lines) (λ others. Ok (a.0 ∷ others)) commands a.2 in
     subst (AllByRecursion (IsAmong (length names))) (ok_is (a.0 ∷ b.0) commands b.2) (command_at-among names n line a.0 a.1, commands_from-among names (n + 1) lines b.0 b.1)
 
+-- all commands are of the instances
 commands_are : (names lines : List (List ℕ)) (rest : List ℕ) (commands : List Command) → commands_of names lines rest ≡ Ok commands → All (IsAmong (length names)) commands
 unfolding commands_of
 commands_are names lines rest commands e =
@@ -189,12 +209,14 @@ commands_are names lines rest commands e =
 
 -- ---- the whole
 
+-- names and commands make a plan
 parts-plan : (names : List (List ℕ)) (capacity : ℕ) (r : Result (List Command) Fault) (plan : Plan) → (2 ≤ length names) × AreNames names → ((commands : List Command) → r ≡ Ok commands → All (IsAmong (length names)) commands)
     → (r >>= λ commands. Ok (record { names = names; capacity = capacity; commands = commands })) ≡ Ok plan → IsPlan plan
 parts-plan names capacity r plan named are e =
     let a = bind_ok r (λ commands. Ok (record { names = names; capacity = capacity; commands = commands })) plan e in
     subst IsPlan (ok_is (record { names = names; capacity = capacity; commands = a.0 }) plan a.2) (record { several = named.0; names = named.1; commands = are a.0 a.1 })
 
+-- what a text says is a plan
 pub is_plan : (bytes : List ℕ) (plan : Plan) → schedule_of bytes ≡ Ok plan → IsPlan plan
 unfolding schedule_of
 is_plan bytes plan e =

@@ -49,8 +49,10 @@ pub chosen : {A : Type 0} (b : Bool) (x y z : A) → cond b x y ≡ z → ((b �
 chosen true x y z e = inl (refl, e)
 chosen false x y z e = inr (refl, e)
 
+-- what is read, of a type that is known
 abbrev done : {A E : Type 0} → A → Result A E
 done x = Ok x
 
+-- what is read is one thing
 pub ok_is : {A E : Type 0} (x y : A) → done {E = E} x ≡ done y → x ≡ y
 ok_is x y e = cc

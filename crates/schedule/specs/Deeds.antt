@@ -13,6 +13,7 @@ use Rattle.schedule.specs.declared.command.Action.TheVariants.{Send, Receive, An
 abbrev pub Deed : Type 0
 Deed = ℕ × Action
 
+-- an instance that a look-up found
 abbrev pub known : Option ℕ → Result ℕ Cause
 known None = Err UnknownInstance
 known (Some p) = Ok p
