@@ -185,3 +185,21 @@ fn difference_of_eight(rt: HostRuntime) -> Result<(), Fail> {
     assert_ne!(rt; diff, zero.diff_from(alloc, &zero)?);
     Ok(())
 }
+
+/// Past eight instances a clock lies on the heap. Where its growth is refused, the same call gives the full answer.
+#[test]
+fn refused_growths(rt: HostRuntime) -> Result<(), Fail> {
+    let alloc = rt.alloc();
+    let zero = Clock::zero(alloc, 9).or_else(|_| Clock::zero(alloc, 9))?;
+    let ninth = InstanceNo::at_place(8);
+    let stamped = zero
+        .stamped(alloc, ninth, 7)
+        .or_else(|_| zero.stamped(alloc, ninth, 7))?;
+    let copied = stamped.copied(alloc).or_else(|_| stamped.copied(alloc))?;
+    holds(&rt, &zero, &[0; 9]);
+    holds(&rt, &copied, &[0, 0, 0, 0, 0, 0, 0, 0, 7]);
+    match Vec::<u8>::with_capacity(alloc, 1) {
+        Ok(_) => Ok(()),
+        Err(_) => Err(Fail::from("every growth was refused")),
+    }
+}
