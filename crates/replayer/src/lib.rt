@@ -7,6 +7,8 @@ mod lane;
 mod outcome;
 mod run;
 mod steps;
+#[cfg(test)]
+mod tests;
 
 pub use error::ReplayError;
 pub use outcome::Outcome;
