@@ -8,6 +8,8 @@ mod outcome;
 mod run;
 mod steps;
 mod text;
+#[cfg(test)]
+mod tests;
 
 pub use error::ReplayError;
 pub use outcome::Outcome;
