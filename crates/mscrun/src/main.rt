@@ -1,10 +1,14 @@
 //! mscrun: reads the command line and one file, and hands the file's bytes to the library.
 #![tactic(auto)]
 
+ghost use Rattle.std.specs.Prelude.{◌≡◌, ◌↔◌, ◌⊎◌};
+ghost use Rattle.clap.specs.Words.{kind_of};
+
 use clap::error::ErrorKind;
 use clap::{Arg, ArgAction, Command, Error};
 use msc_text::StreamOut;
 use std::alloc::{AllocError, Global};
+use std::convert::AsStr;
 use std::process::ExitCode;
 use std::rt::{Env, Files};
 use std::{env, fs, io};
@@ -25,13 +29,18 @@ fn command_line<'a>(alloc: Global) -> Result<Command<'a>, AllocError> {
         .subcommand(replay)
 }
 
-fn usage(error: &Error) -> ProgramError {
+/// A command line that doesn't parse is G1, or F6 where memory ran out.
+fn usage(error: &Error) -> ProgramError
+    ensures memory { (result ≡ ProgramError.Memory) ↔ (kind_of error.now ≡ ErrorKind.OutOfMemory) }
+    ensures usage { (result ≡ ProgramError.Usage) ⊎ (result ≡ ProgramError.Memory) }
+{
     match error.kind() {
         ErrorKind::OutOfMemory => ProgramError::Memory,
         _ => ProgramError::Usage,
     }
 }
 
+/// What the system refused is F6 where memory ran out, and else the other refusal.
 fn cause(error: &io::Error, other: ProgramError) -> ProgramError {
     match error.kind() {
         io::ErrorKind::OutOfMemory => ProgramError::Memory,
@@ -40,7 +49,7 @@ fn cause(error: &io::Error, other: ProgramError) -> ProgramError {
 }
 
 /// What is asked for, and the file.
-fn task_in<'a>(alloc: Global, words: &'a [String]) -> Result<(Task, &'a str), ProgramError> {
+fn task_in<'a, S: AsStr>(alloc: Global, words: &'a [S]) -> Result<(Task, &'a str), ProgramError> {
     let command = command_line(alloc).map_err(|_| ProgramError::Memory)?;
     let matches = command
         .try_get_matches_from(words)
@@ -78,4 +87,29 @@ fn main(rt: HostRuntime) -> ExitCode {
         Err(error) => refused(&error, &mut err),
     };
     ExitCode::from(status)
+}
+
+#[cfg(test)]
+mod tests {
+    use super::*;
+    use std::process::Abort;
+
+    fn misses(rt: &impl Abort, alloc: Global, words: &[&str]) {
+        assert!(rt; matches!(task_in(alloc, words), Err(ProgramError::Usage)));
+    }
+
+    #[test]
+    fn command_lines(rt: HostRuntime) {
+        let words = ["mscrun", "replay", "a file"];
+        assert!(rt; matches!(task_in(rt.alloc(), &words), Ok((Task::Replay, "a file"))));
+        misses(&rt, rt.alloc(), &["mscrun"]);
+        misses(&rt, rt.alloc(), &["mscrun", "replay"]);
+        misses(&rt, rt.alloc(), &["mscrun", "replay", "one", "two"]);
+        misses(&rt, rt.alloc(), &["mscrun", "replay", "--help"]);
+        misses(&rt, rt.alloc(), &["mscrun", "Replay", "one"]);
+        misses(&rt, rt.alloc(), &["mscrun", "one"]);
+        misses(&rt, rt.alloc(), &["mscrun", "help"]);
+        misses(&rt, rt.alloc(), &["mscrun", "--help"]);
+        misses(&rt, rt.alloc(), &["mscrun", "--version"]);
+    }
 }
