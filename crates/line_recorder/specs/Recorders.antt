@@ -40,3 +40,13 @@ pub record IsReportOf (r : RecorderView) (from region : ℕ) (clock : List ℕ) 
   pub receive : report.receive ≡ record { instance = r.line.instance; index = length r.line.events + 1 }
   pub races : IsRaces r.line.events (entry_of clock r.line.instance) from region (map (λ race. race.index) report.earlier)
   pub own : All (λ race. race.instance ≡ r.line.instance) report.earlier
+
+-- after a send of each name, one after another
+abbrev pub after_sends : RecorderView → ℕ → List (List ℕ) → RecorderView
+after_sends r to [] = r
+after_sends r to (name ∷ names) = after_sends (after_send r to name) to names
+
+-- the clocks of those sends
+abbrev pub send_clocks : RecorderView → ℕ → List (List ℕ) → List (List ℕ)
+send_clocks r to [] = []
+send_clocks r to (name ∷ names) = send_clock r ∷ send_clocks (after_send r to name) to names
