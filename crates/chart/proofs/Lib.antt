@@ -1,3 +1,4 @@
+pub mod AddedSends
 pub mod Begun
 pub mod Belongs
 pub mod Chains

@@ -1,6 +1,6 @@
 //! Lines: the events of one instance.
-ghost use Rattle.std.specs.Prelude.{◌≡◌, ◌≢◌, ◌≤◌, ◌<◌, ◌+◌, ◌++◌, ◌∷◌, [], ◌↔◌, ◌==◌, length, OnOk, OnErr, Ok, Err};
-ghost use Rattle.chart.specs.Marks.{partner_of, region_of, is_receive_from, is_in, MayHaveRegion};
+ghost use Rattle.std.specs.Prelude.{◌≡◌, ◌≢◌, ◌≤◌, ◌<◌, ◌+◌, ◌++◌, ◌∷◌, [], ◌↔◌, ◌==◌, length, map, OnOk, OnErr, Ok, Err};
+ghost use Rattle.chart.specs.Marks.{send_mark, partner_of, region_of, is_receive_from, is_in, MayHaveRegion};
 ghost use Rattle.chart.specs.Charts.{IsLine};
 ghost use Rattle.chart.specs.Runs.{IsBeforeRun, EndsWithRun};
 ghost use Rattle.chart.specs.LineLayout.{AreBefore, IsNext};
@@ -9,6 +9,7 @@ ghost use Rattle.chart.specs.declared.line.LineError.TheVariants.{Memory};
 
 use crate::event::Event;
 use crate::instance::InstanceNo;
+use crate::name::Name;
 use std::alloc::{AllocError, AllocFailed, Global};
 use std::marker::Model;
 use thiserror::Error;
@@ -161,6 +162,34 @@ impl Line {
         self.events.reserve(1)?;
         self.before.push(before)?;
         self.events.push_reserved(event);
+        Ok(())
+    }
+
+    /// Adds a send to this instance for each name, in their order, or none of them: a refusal, the first of F13, F7
+    /// and F6 that applies, leaves the line as it was.
+    pub fn push_sends(&mut self, to: InstanceNo, names: &[Name]) -> Result<(), LineError>
+        ensures ok { OnOk result (self.new ≡ record self.old { events = self.old.events ++ map (send_mark to) names.now }) }
+        ensures itself { (result ≡ Err LineError.ToItself) ↔ (to ≡ self.old.instance) }
+        ensures full { (result ≡ Err LineError.LineFull)
+            ↔ ((to ≢ self.old.instance) × (MAX_EVENTS < length self.old.events + length names.now)) }
+        ensures err { OnErr result (self.new ≡ self.old) }
+    {
+        if to == self.instance {
+            return Err(LineError::ToItself);
+        }
+        if names.len() > MAX_EVENTS - self.events.len() {
+            return Err(LineError::LineFull);
+        }
+        self.events.reserve(names.len())?;
+        self.before.reserve(names.len())?;
+        for name in names {
+            let all = self.events.len() as u32;
+            self.before.push_reserved(Before {
+                run: all,
+                region: all,
+            });
+            self.events.push_reserved(Event::Send { to, name: *name });
+        }
         Ok(())
     }
 }

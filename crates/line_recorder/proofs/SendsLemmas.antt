@@ -1,0 +1,56 @@
+-- Several sends at once are those sends one after another.
+use Rattle.std.proofs.Common.{◌≡◌, ℕ, zero, suc, ◌+◌, true, List, [], ◌∷◌, ◌++◌, length, map, refl, sym, ap, ◌∙◌, arith, append_assoc, append-nil}
+use Rattle.std.proofs.lemmas.List.{length-append, set-set}
+use Rattle.std.proofs.lemmas.Bool.{false≢true}
+use Rattle.std.specs.Prelude.{Result, Ok, Err, OnOk, is_ok}
+use Rattle.chart.specs.Charts.{LineView}
+use Rattle.chart.specs.Marks.{send_mark}
+use Rattle.clock.specs.Clocks.{with_entry}
+use Rattle.line_recorder.specs.Recorders.{RecorderView, send_clock, after_send, after_sends, send_clocks}
+use Rattle.line_recorder.specs.Sends.{clock_at, next_clocks, known_after}
+
+-- an entry that is set again is what it is set to last
+with_entry-with_entry : (clock : List ℕ) (p a b : ℕ) → with_entry (with_entry clock p a) p b ≡ with_entry clock p b
+with_entry-with_entry clock zero a b = refl
+with_entry-with_entry clock (suc k) a b = set-set clock k a b
+
+-- after a send the clocks of the later ones are what they were
+clock_at-after_send : (r : RecorderView) (to : ℕ) (name : List ℕ) (index : ℕ) → clock_at (after_send r to name) index ≡ clock_at r index
+clock_at-after_send r to name index = with_entry-with_entry r.knowledge r.line.instance (length r.line.events + 1) index
+
+-- the line is one longer
+length-after_send : (r : RecorderView) (to : ℕ) (name : List ℕ) (n : ℕ) → length (after_send r to name).line.events + n ≡ length r.line.events + suc n
+length-after_send r to name n = omega (arith, length-append r.line.events (send_mark to name ∷ []))
+
+-- the clock of a send, and those of the next ones
+next_clocks-suc : (r : RecorderView) (to : ℕ) (name : List ℕ) (n : ℕ) → send_clock r ∷ next_clocks (after_send r to name) n ≡ next_clocks r (suc n)
+next_clocks-suc r to name zero = refl
+next_clocks-suc r to name (suc n) =
+    let e : clock_at (after_send r to name) (length (after_send r to name).line.events + suc n) ≡ clock_at r (length r.line.events + suc (suc n)) = clock_at-after_send r to name (length (after_send r to name).line.events + suc n) ∙ ap (clock_at r) (length-after_send r to name (suc n)) in
+    rw e (ap (λ clocks. clocks ++ clock_at r (length r.line.events + suc (suc n)) ∷ []) (next_clocks-suc r to name n))
+
+-- the knowledge after a send and the next ones
+known_after-suc : (r : RecorderView) (to : ℕ) (name : List ℕ) (n : ℕ) → known_after (after_send r to name) n ≡ known_after r (suc n)
+known_after-suc r to name zero = refl
+known_after-suc r to name (suc n) = clock_at-after_send r to name (length (after_send r to name).line.events + suc n) ∙ ap (clock_at r) (length-after_send r to name (suc n))
+
+-- the clocks of several sends
+pub send_clocks_are : (r : RecorderView) (to : ℕ) (names : List (List ℕ)) → send_clocks r to names ≡ next_clocks r (length names)
+send_clocks_are r to [] = refl
+send_clocks_are r to (name ∷ names) = ap (λ clocks. send_clock r ∷ clocks) (send_clocks_are (after_send r to name) to names) ∙ next_clocks-suc r to name (length names)
+
+-- what several sends make of a recorder
+pub after_sends_is : (r : RecorderView) (to : ℕ) (names : List (List ℕ)) → after_sends r to names ≡ record { line = record { instance = r.line.instance; events = r.line.events ++ map (send_mark to) names }; knowledge = known_after r (length names); reports = r.reports }
+after_sends_is r to [] = ap (λ events. record { line = record { instance = r.line.instance; events = events }; knowledge = r.knowledge; reports = r.reports }) (sym (append-nil r.line.events))
+after_sends_is r to (name ∷ names) =
+    rw (after_sends_is (after_send r to name) to names, known_after-suc r to name (length names), append_assoc r.line.events (send_mark to name ∷ []) (map (send_mark to) names)) refl
+
+-- a recorder with that line and that knowledge is the one after the sends
+pub is_after_sends : (r : RecorderView) (to : ℕ) (names : List (List ℕ)) (line : LineView) (known : List ℕ) → line ≡ record { instance = r.line.instance; events = r.line.events ++ map (send_mark to) names } → known ≡ known_after r (length names)
+    → ◌≡◌ {A = RecorderView} (record { line = line; knowledge = known; reports = r.reports }) (after_sends r to names)
+is_after_sends r to names line known is_line is_known = rw (after_sends_is r to names, is_line, is_known) refl
+
+-- what holds at a success holds where there is one
+pub at_ok : {T E P : Type 0} (r : Result T E) → true ≡ is_ok r → OnOk r P → P
+at_ok (Ok x) same h = h
+at_ok (Err e) same h = absurd (false≢true (sym same))

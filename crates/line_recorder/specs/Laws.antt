@@ -1,0 +1,52 @@
+-- The laws of recorders: statements that the functions of `laws` prove. Each is of any chart that has the recorder's line,
+-- at least as the first events of that instance.
+use Rattle.std.specs.Prelude.{◌≡◌, ℕ, ◌+◌, ◌≤◌, ◌⊎◌, List, ◌++◌, length, map}
+use Rattle.chart.specs.declared.event.Event.{Event as Mark}
+use Rattle.chart.specs.Charts.{Chart, Place, at, LineView, BelongsTo}
+use Rattle.chart.specs.Order.{IsCyclic, IsReport}
+use Rattle.chart.specs.Knowing.{IsKnown, IsGreatestHeard}
+use Rattle.chart.specs.Reports.{ReportView}
+use Rattle.clock.specs.Clocks.{entry_of}
+use Rattle.line_recorder.specs.Recorders.{RecorderView, new_recorder, send_clock, after_send, after_receive, IsReportOf}
+
+-- the chart has these events as the first of the instance's line
+abbrev pub HasLine : Chart → LineView → Type 0
+HasLine c l = (more : List Mark) × (c l.instance ≡ l.events ++ more)
+
+-- the place of the recorder's next event
+abbrev pub next_place : RecorderView → Place
+next_place r = at r.line.instance (length r.line.events + 1)
+
+-- the recorder is one of its instances
+abbrev pub IsOneOfItsOwn : RecorderView → Type 0
+IsOneOfItsOwn r = (1 ≤ r.line.instance) × (r.line.instance ≤ length r.knowledge)
+
+-- its knowledge has for each other instance the greatest heard of it on the line
+abbrev pub KnowsWhatItHeard : Chart → RecorderView → Type 0
+KnowsWhatItHeard c r = (q : ℕ) → 1 ≤ q → q ≤ length r.knowledge → (q ≡ r.line.instance → ⊥) → IsGreatestHeard c r.line.instance (length r.line.events) q (entry_of r.knowledge q)
+
+-- the clock has for each instance what the send knows of it
+abbrev pub IsClockOf : Chart → Place → List ℕ → Type 0
+IsClockOf c s clock = (q : ℕ) → 1 ≤ q → q ≤ length clock → IsKnown c s q (entry_of clock q)
+
+-- before the first event nothing is heard
+abbrev pub NewRecorderLaw : Type 0
+NewRecorderLaw = (c : Chart) (p n : ℕ) → KnowsWhatItHeard c (new_recorder p n)
+
+-- the clock of a send has what it knows: of its own line too, where the send is the last of it or the chart has no cycle
+abbrev pub SendClockLaw : Type 0
+SendClockLaw = (c : Chart) (r : RecorderView) (to : ℕ) (name : List ℕ) → IsOneOfItsOwn r → HasLine c (after_send r to name).line → (length (c r.line.instance) ≡ length r.line.events + 1) ⊎ (IsCyclic c → ⊥) → KnowsWhatItHeard c r → IsClockOf c (next_place r) (send_clock r)
+
+-- after a send the knowledge has still what was heard
+abbrev pub SendKnowledgeLaw : Type 0
+SendKnowledgeLaw = (c : Chart) (r : RecorderView) (to : ℕ) (name : List ℕ) → HasLine c (after_send r to name).line → KnowsWhatItHeard c r → KnowsWhatItHeard c (after_send r to name)
+
+-- after a receive it has what was heard, with what the message's send knows
+abbrev pub ReceiveKnowledgeLaw : Type 0
+ReceiveKnowledgeLaw = (c : Chart) (s : Place) (r : RecorderView) (from : ℕ) (name : List ℕ) (region : ℕ) (clock : List ℕ) (report : ReportView) → length clock ≡ length r.knowledge → BelongsTo c s (next_place r) → IsClockOf c s clock → KnowsWhatItHeard c r
+    → KnowsWhatItHeard c (after_receive r from name region clock report)
+
+-- the report of a receive is that of the chart, where the clock's own entry is what the message's send knows of the line
+abbrev pub ReceiveReportLaw : Type 0
+ReceiveReportLaw = (c : Chart) (s : Place) (r : RecorderView) (from : ℕ) (name : List ℕ) (region : ℕ) (clock : List ℕ) (report : ReportView) → HasLine c (after_receive r from name region clock report).line → BelongsTo c s (next_place r) → IsKnown c s r.line.instance (entry_of clock r.line.instance)
+    → IsReportOf r from region clock report → IsReport c (next_place r) (map (λ race. race.index) report.earlier)

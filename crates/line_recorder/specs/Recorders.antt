@@ -1,0 +1,52 @@
+-- What a recorder is to a contract, and what it is after each event (vector time as Fidge 1988 and Mattern 1989 have it;
+-- races as this project's profile has them).
+use Rattle.std.specs.Prelude.{◌≡◌, ℕ, ◌+◌, List, [], ◌∷◌, ◌++◌, length, map, replicate, All}
+use Rattle.chart.specs.declared.event.Event.{Event as Mark}
+use Rattle.chart.specs.Marks.{send_mark, receive_mark}
+use Rattle.chart.specs.Charts.{LineView}
+use Rattle.chart.specs.Order.{IsRaces}
+use Rattle.chart.specs.Reports.{ReportView}
+use Rattle.clock.specs.Clocks.{entry_of, with_entry, merged}
+
+-- an instance's line, how many events it knows of each instance, and the reports of its receives
+pub record RecorderView : Type 0 where
+  pub line : LineView
+  pub knowledge : List ℕ
+  pub reports : List ReportView
+
+-- instance p of n, before its first event
+abbrev pub new_recorder : ℕ → ℕ → RecorderView
+new_recorder p n = record { line = record { instance = p; events = [] }; knowledge = replicate n 0; reports = [] }
+
+-- the line with one more event
+abbrev pub with_event : LineView → Mark → LineView
+with_event l m = record { instance = l.instance; events = l.events ++ m ∷ [] }
+
+-- the clock of the next event, if it is a send: what is known, with the event itself
+abbrev pub send_clock : RecorderView → List ℕ
+send_clock r = with_entry r.knowledge r.line.instance (length r.line.events + 1)
+
+-- after a send, which is known from then on
+abbrev pub after_send : RecorderView → ℕ → List ℕ → RecorderView
+after_send r to name = record { line = with_event r.line (send_mark to name); knowledge = send_clock r; reports = r.reports }
+
+-- after a receive of a message with this clock, of which there is this report
+abbrev pub after_receive : RecorderView → ℕ → List ℕ → ℕ → List ℕ → ReportView → RecorderView
+after_receive r from name region clock report = record { line = with_event r.line (receive_mark from name region); knowledge = merged r.knowledge clock; reports = r.reports ++ report ∷ [] }
+
+-- the report of the next event, if it is a receive of a message with this clock: the races above the clock's own entry for
+-- this line
+pub record IsReportOf (r : RecorderView) (from region : ℕ) (clock : List ℕ) (report : ReportView) : Type 0 where
+  pub receive : report.receive ≡ record { instance = r.line.instance; index = length r.line.events + 1 }
+  pub races : IsRaces r.line.events (entry_of clock r.line.instance) from region (map (λ race. race.index) report.earlier)
+  pub own : All (λ race. race.instance ≡ r.line.instance) report.earlier
+
+-- after a send of each name, one after another
+abbrev pub after_sends : RecorderView → ℕ → List (List ℕ) → RecorderView
+after_sends r to [] = r
+after_sends r to (name ∷ names) = after_sends (after_send r to name) to names
+
+-- the clocks of those sends
+abbrev pub send_clocks : RecorderView → ℕ → List (List ℕ) → List (List ℕ)
+send_clocks r to [] = []
+send_clocks r to (name ∷ names) = send_clock r ∷ send_clocks (after_send r to name) to names

@@ -1,0 +1,217 @@
+//! The recorder of one instance.
+ghost use Rattle.std.specs.Prelude.{◌≡◌, ◌≢◌, ◌≤◌, ◌<◌, ◌+◌, ◌↔◌, length, Err, OnOk, OnErr, IfOk, IsOk};
+ghost use Rattle.chart.specs.Marks.{MayHaveRegion};
+ghost use Rattle.clock.specs.declared.clock.TheConstants.{INLINE_ENTRIES};
+ghost use Rattle.line_recorder.specs.Sends.{next_clocks, known_after};
+ghost use Rattle.line_recorder.specs.Recorders.{new_recorder, send_clock, after_send, after_sends, send_clocks, after_receive, IsReportOf};
+
+use crate::error::RecordError;
+use chart::{Event, EventNo, InstanceNo, Line, MAX_EVENTS, MAX_INSTANCES, Name, Report};
+use clock::{Clock, INLINE_ENTRIES};
+use online_races::races;
+use std::alloc::{AllocError, Global};
+use std::marker::Model;
+
+/// One of several instances, as it records itself: its line, its knowledge and its reports. A contract sees a record of
+/// the three.
+///
+/// Its knowledge has, for itself, the number of its last send or what came back to it of that, and for each other
+/// instance the most that any message said that it received.
+#[derive(Drop)]
+pub struct Recorder {
+    alloc: Global,
+    line: Line,
+    knowledge: Clock,
+    reports: Vec<Report>,
+}
+
+impl Model for Recorder {
+    ghost use Rattle.std.specs.Prelude.{◌≤◌, length};
+    ghost use Rattle.line_recorder.specs.Recorders.{RecorderView};
+
+    ghost Value = { RecorderView };
+
+    ghost view = { λ r. record { line = r.line; knowledge = r.knowledge; reports = r.reports.items } };
+
+    ghost invariant = { λ r. r.line.instance ≤ length r.knowledge };
+}
+
+impl Recorder {
+    /// The recorder of instance `p` of `n`, which did nothing yet.
+    ///
+    /// F6: it fails only where there is no memory, and up to [`INLINE_ENTRIES`] instances it takes none.
+    pub fn new(alloc: Global, p: InstanceNo, n: usize) -> Result<Recorder, AllocError>
+        requires at_least_two { 2 ≤ n }
+        requires at_most { n ≤ MAX_INSTANCES }
+        requires one { p ≤ n }
+        ensures value { IfOk result (λ recorder. recorder ≡ new_recorder p n) }
+        ensures succeeds { n ≤ INLINE_ENTRIES → IsOk result }
+    {
+        Ok(Recorder {
+            alloc,
+            line: Line::new(alloc, p),
+            knowledge: Clock::zero(alloc, n)?,
+            reports: Vec::new(alloc),
+        })
+    }
+
+    /// The instance's line so far.
+    pub fn line(&self) -> &Line
+        ensures { result.now ≡ self.now.line }
+    {
+        &self.line
+    }
+
+    /// How many events it knows of each instance, as its next send will, but for that send itself.
+    pub fn knowledge(&self) -> &Clock
+        ensures value { result.now ≡ self.now.knowledge }
+        ensures own { self.now.line.instance ≤ length self.now.knowledge }
+    {
+        &self.knowledge
+    }
+
+    /// The report of each receive of the line, in their order.
+    pub fn reports(&self) -> &[Report]
+        ensures { result.now ≡ self.now.reports }
+    {
+        self.reports.as_slice()
+    }
+
+    /// Records a send to this instance, and answers its clock: what is known, and the send itself.
+    ///
+    /// A refusal, the first of F7 and F6 that applies, changes nothing. With room on the line it takes no memory up to
+    /// [`INLINE_ENTRIES`] instances.
+    pub fn send(&mut self, to: InstanceNo, name: Name) -> Result<Clock, RecordError>
+        requires one { to ≤ length self.old.knowledge }
+        requires other { to ≢ self.old.line.instance }
+        ensures ok { OnOk result (self.new ≡ after_send self.old to name) }
+        ensures clock { IfOk result (λ clock. clock ≡ send_clock self.old) }
+        ensures full { (result ≡ Err RecordError.LineFull) ↔ (length self.old.line.events ≡ MAX_EVENTS) }
+        ensures err { OnErr result (self.new ≡ self.old) }
+    {
+        if self.line.len() >= MAX_EVENTS {
+            return Err(RecordError::LineFull);
+        }
+        let index = self.line.len() as u32 + 1;
+        let clock = self
+            .knowledge
+            .stamped(self.alloc, self.line.instance(), index)?;
+        let known = clock.copied(self.alloc)?;
+        self.line
+            .push(Event::Send { to, name })
+            .map_err(|_| RecordError::Memory)?;
+        self.knowledge = known;
+        Ok(clock)
+    }
+
+    /// Records a send to this instance for each name, in their order, and answers their clocks, as if each were made by
+    /// [`Recorder::send`].
+    ///
+    /// All are recorded or none: a refusal, the first of F7 and F6 that applies, changes nothing. F7: the line has not
+    /// as much room. All memory is there before anything changes.
+    pub fn send_many(
+        &mut self,
+        to: InstanceNo,
+        names: &[Name],
+    ) -> Result<Vec<Clock>, RecordError>
+        requires one { to ≤ length self.old.knowledge }
+        requires other { to ≢ self.old.line.instance }
+        ensures ok { OnOk result (self.new ≡ after_sends self.old to names.now) }
+        ensures clocks { IfOk result (λ clocks. clocks.items ≡ send_clocks self.old to names.now) }
+        ensures full { (result ≡ Err RecordError.LineFull)
+            ↔ (MAX_EVENTS < length self.old.line.events + length names.now) }
+        ensures err { OnErr result (self.new ≡ self.old) }
+    {
+        if names.len() > MAX_EVENTS - self.line.len() {
+            return Err(RecordError::LineFull);
+        }
+        let clocks = self.next_clocks(names.len())?;
+        let known = self.known_after(names.len())?;
+        self.line
+            .push_sends(to, names)
+            .map_err(|_| RecordError::Memory)?;
+        self.knowledge = known;
+        Ok(clocks)
+    }
+
+    /// The clocks of the next events, if so many are sends.
+    fn next_clocks(&self, sends: usize) -> Result<Vec<Clock>, AllocError>
+        requires { length self.now.line.events + sends ≤ MAX_EVENTS }
+        ensures { IfOk result (λ clocks. clocks.items ≡ next_clocks self.now sends) }
+    {
+        let mut clocks = Vec::with_capacity(self.alloc, sends)?;
+        for place in 0..sends {
+            let index = (self.line.len() + place + 1) as u32;
+            let clock = self
+                .knowledge
+                .stamped(self.alloc, self.line.instance(), index)?;
+            clocks.push_reserved(clock);
+        }
+        Ok(clocks)
+    }
+
+    /// The knowledge after the next events, if so many are sends.
+    fn known_after(&self, sends: usize) -> Result<Clock, AllocError>
+        requires { length self.now.line.events + sends ≤ MAX_EVENTS }
+        ensures { IfOk result (λ known. known ≡ known_after self.now sends) }
+    {
+        if sends == 0 {
+            return self.knowledge.copied(self.alloc);
+        }
+        let index = (self.line.len() + sends) as u32;
+        self.knowledge
+            .stamped(self.alloc, self.line.instance(), index)
+    }
+
+    /// Records a receive from this instance of a message of this name, whose send had this clock, in this coregion (0
+    /// outside of one). It keeps the report of the receive, and answers a copy: the races above what the send knows of
+    /// this line, and it is the message's own clock that says this, not all that is known here.
+    ///
+    /// A refusal, the first of F7 and F6 that applies, changes nothing. Without races, and with room on the line and
+    /// for the report, it takes no memory.
+    ///
+    /// The caller sees to it that the coregion may come next, as for [`Line::push`].
+    pub fn receive(
+        &mut self,
+        from: InstanceNo,
+        name: Name,
+        clock: &Clock,
+        region: u32,
+    ) -> Result<Report, RecordError>
+        requires one { from ≤ length self.old.knowledge }
+        requires other { from ≢ self.old.line.instance }
+        requires entries { length clock.now ≡ length self.old.knowledge }
+        requires coregion { MayHaveRegion self.old.line.events region }
+        ensures ok { IfOk result (λ report. self.new ≡ after_receive self.old from name region clock.now report) }
+        ensures report { IfOk result (IsReportOf self.old from region clock.now) }
+        ensures full { (result ≡ Err RecordError.LineFull) ↔ (length self.old.line.events ≡ MAX_EVENTS) }
+        ensures err { OnErr result (self.new ≡ self.old) }
+    {
+        if self.line.len() >= MAX_EVENTS {
+            return Err(RecordError::LineFull);
+        }
+        let own = self.line.instance();
+        let receive = EventNo {
+            instance: own,
+            index: self.line.len() as u32 + 1,
+        };
+        let earlier = races(self.alloc, &self.line, clock.entry(own), from, region)?;
+        let report = Report::new(receive, earlier);
+        let copy = copy_of(self.alloc, &report)?;
+        self.reports.reserve(1)?;
+        self.line
+            .push(Event::Receive { from, name, region })
+            .map_err(|_| RecordError::Memory)?;
+        self.knowledge.merge(clock);
+        self.reports.push_reserved(report);
+        Ok(copy)
+    }
+}
+
+/// A copy of a report. It fails only where there is no memory, and for a report of no races it takes none.
+fn copy_of(alloc: Global, report: &Report) -> Result<Report, AllocError>
+    ensures { IfOk result (λ copy. copy ≡ report.now) }
+{
+    let earlier = Vec::from_slice(alloc, report.earlier())?;
+    Ok(Report::new(report.receive(), earlier))
+}

@@ -1,0 +1,13 @@
+-- How the events of a line are passed, from its end on back.
+use Rattle.std.specs.Prelude.{◌≡◌, ℕ, ◌<◌, ◌≤◌, ◌⊎◌, true, false, List, Some}
+use Rattle.chart.specs.declared.event.Event.{Event as Mark}
+use Rattle.chart.specs.Marks.{ith, is_receive_from, is_in}
+
+-- the event at j is neither a receive from q nor in the region
+abbrev pub IsRace : List Mark → ℕ → ℕ → ℕ → Type 0
+IsRace line q region j = (m : Mark) × (ith line j ≡ Some m) × (is_receive_from q m ≡ false) × (is_in region m ≡ false)
+
+-- each event after the first `before` ones, up to the last, is a receive from q or in the region
+pub record ArePassed (line : List Mark) (before last q region : ℕ) : Type 0 where
+  pub less : before < last
+  pub each : (j : ℕ) (m : Mark) → before < j → j ≤ last → ith line j ≡ Some m → (is_receive_from q m ≡ true) ⊎ (is_in region m ≡ true)
