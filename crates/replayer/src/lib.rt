@@ -7,9 +7,9 @@ mod lane;
 mod outcome;
 mod run;
 mod steps;
-mod text;
 #[cfg(test)]
 mod tests;
+mod text;
 
 pub use error::ReplayError;
 pub use outcome::Outcome;
