@@ -1,5 +1,5 @@
 -- A line that grows by an event, with what it keeps.
-use Rattle.std.proofs.Common.{◌≡◌, ◌≢◌, ℕ, suc, ◌+◌, ◌<◌, ◌≤◌, List, [], ◌∷◌, ◌++◌, length, take, Option, Some, None, sym, refl, ap, ◌∙◌, subst, arith}
+use Rattle.std.proofs.Common.{◌≡◌, ◌≢◌, ℕ, ◌+◌, ◌<◌, List, [], ◌∷◌, ◌++◌, length, take, Some, sym, subst, arith}
 use Rattle.std.specs.Prelude.{slice_get}
 use Rattle.std.proofs.lemmas.Option.{slice_get_within}
 use Rattle.std.proofs.lemmas.List.{length-append, take-append-le}
@@ -8,8 +8,8 @@ use Rattle.chart.specs.declared.event.Event.{Event as Mark}
 use Rattle.chart.specs.declared.line.Before.{Before}
 use Rattle.chart.specs.declared.line.TheConstants.{MAX_EVENTS}
 use Rattle.chart.specs.Marks.{partner_of, region_of, MayHaveRegion, HasRegionsInOrder}
-use Rattle.chart.specs.Charts.{LineView, IsLine}
-use Rattle.chart.specs.LineLayout.{IsBefore, AreBefore, IsLaidOut}
+use Rattle.chart.specs.Charts.{IsLine}
+use Rattle.chart.specs.LineLayout.{IsBefore, IsLaidOut}
 use Rattle.chart.proofs.Places.{each-push}
 use Rattle.chart.proofs.Runs.{AreBefore-push}
 

@@ -1,5 +1,5 @@
 -- What a send knows of each line: the entries of its vector time (Fidge 1988, Mattern 1989).
-use Rattle.std.specs.Prelude.{◌≡◌, ℕ, suc, ◌<◌, ◌≤◌, ◌⊎◌, List, length}
+use Rattle.std.specs.Prelude.{◌≡◌, ℕ, suc, ◌≤◌, ◌⊎◌, length}
 use Rattle.chart.specs.Charts.{Chart, Place, at, BelongsTo}
 use Rattle.chart.specs.Order.{Before}
 

@@ -1,5 +1,5 @@
 -- What a list of the instances' names keeps.
-use Rattle.std.specs.Prelude.{◌≡◌, ℕ, ◌<◌, ◌≤◌, List, length, slice_get, Some}
+use Rattle.std.specs.Prelude.{◌≡◌, ℕ, ◌≤◌, List, length, slice_get, Some}
 use Rattle.chart.specs.declared.instance.TheConstants.{MAX_INSTANCES}
 
 -- at most as many names as there may be instances, none twice

@@ -1,6 +1,6 @@
 -- The enforced order, and the races that a receive reports (after Alur, Holzmann and Peled 1996; which pairs are enforced
 -- is this project's profile).
-use Rattle.std.specs.Prelude.{◌≡◌, ℕ, ◌<◌, ◌≤◌, ◌↔◌, Bool, true, false, List, Option, None, Some, AllPairs, Contains}
+use Rattle.std.specs.Prelude.{◌≡◌, ℕ, ◌<◌, ◌≤◌, ◌↔◌, false, List, Option, None, Some, AllPairs, Contains}
 use Rattle.chart.specs.declared.event.Event.{Event as Mark}
 use Rattle.chart.specs.Marks.{is_receive_from, is_in, region_of, ith}
 use Rattle.chart.specs.Charts.{Chart, Place, at, mark_at, IsSendTo, IsReceiveFrom, BelongsTo}

@@ -1,6 +1,6 @@
 -- Bytes held in a place of a fixed size, with zeros behind them.
 use Rattle.std.specs.Prelude.{◌≡◌, ℕ, ◌-◌, ◌≤◌, List, ◌++◌, length, take, drop, replicate}
-use Rattle.std.proofs.Common.{arith, ap, sym, ◌∙◌, refl, take-append-drop, length-take-le}
+use Rattle.std.proofs.Common.{arith, take-append-drop, length-take-le}
 
 -- the bytes and the zeros behind them are what is held
 pub unpadded : (size len : ℕ) (held : List ℕ) → len ≤ size → drop len held ≡ replicate (size - len) 0 → length held ≡ size → take len held ++ replicate (size - length (take len held)) 0 ≡ held

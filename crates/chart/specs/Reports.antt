@@ -1,5 +1,5 @@
 -- What a report is to a contract.
-use Rattle.std.specs.Prelude.{ℕ, List}
+use Rattle.std.specs.Prelude.{List}
 use Rattle.chart.specs.declared.instance.EventNo.{EventNo}
 
 -- a receive, and earlier events of its line

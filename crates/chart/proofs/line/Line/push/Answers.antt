@@ -1,9 +1,9 @@
-use Rattle.std.proofs.Common.{◌≡◌, ◌≢◌, ℕ, ◌+◌, ◌<◌, List, [], ◌∷◌, ◌++◌, length, arith, subst, sym, ap, ◌∙◌, Bool, true, false}
+use Rattle.std.proofs.Common.{◌≢◌, ◌+◌, ◌<◌, [], ◌∷◌, ◌++◌, length, arith, subst, sym, ◌∙◌}
 use Rattle.std.proofs.lemmas.Bool.{eq-eqb, false≢true}
 use Rattle.chart.specs.declared.line.TheConstants.{MAX_EVENTS}
 use Rattle.chart.specs.Marks.{partner_of, region_of, MayHaveRegion}
 use Rattle.chart.specs.Charts.{LineView}
-use Rattle.chart.specs.LineLayout.{IsLaidOut, IsBefore}
+use Rattle.chart.specs.LineLayout.{IsBefore}
 use Rattle.chart.proofs.Layouts.{IsLaidOut-push}
 use Rattle.chart.proofs.line.Line.push.Goals as goal
 

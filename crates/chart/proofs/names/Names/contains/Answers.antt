@@ -1,4 +1,3 @@
-use Rattle.std.proofs.Common.{◌≡◌, sym, subst, IsTrue, ◌↔◌, Contains, List, ℕ}
 use Rattle.chart.proofs.NameLists.{is_found}
 use Rattle.chart.proofs.names.Names.contains.Goals as goal
 
