@@ -4,7 +4,6 @@ use Rattle.chart.specs.declared.name.NameError.{NameError}
 use Rattle.chart.specs.declared.name.NameError.TheVariants.{Empty, TooLong, BadByte, Reserved}
 use Rattle.msc_text.specs.declared.fault.Cause.{Cause}
 use Rattle.msc_text.specs.declared.fault.Cause.TheVariants.{Name, LineFull, Instances, Capacity, ToItself, Syntax, Duplicate, UnknownInstance}
-use Rattle.msc_text.specs.declared.fault.Fault.{Fault}
 use Rattle.msc_text.specs.declared.fault.Fault.TheVariants.{Line, Unfinished}
 use Rattle.msc_text.specs.Writing.{Puts, Breaks}
 use Rattle.tasks.specs.declared.error.ProgramError.{ProgramError}

@@ -1,5 +1,5 @@
 -- What the program does with the bytes of a file.
-use Rattle.std.specs.Prelude.{◌≡◌, ℕ, ◌⊎◌, List, [], Option, Result, Ok, Err}
+use Rattle.std.specs.Prelude.{◌≡◌, ℕ, ◌⊎◌, List, Option, Result, Ok, Err}
 use Rattle.msc_text.specs.declared.fault.Fault.{Fault}
 use Rattle.msc_text.specs.Writing.{Puts, Breaks}
 use Rattle.schedule.specs.Plans.{Plan}

@@ -1,7 +1,4 @@
-use Rattle.std.proofs.Common.{◌≡◌, ◌+◌, drop, sym, subst, arith}
-use Rattle.msc_text.proofs.EventLoops.{HasCome, come_at, come_all, come_more, come_stops, come_ends}
-use Rattle.msc_text.specs.ChartText.{events_text}
-use Rattle.msc_text.specs.Writing.{Adds}
+use Rattle.msc_text.proofs.EventLoops.{come_at, come_all, come_more, come_stops, come_ends}
 use Rattle.msc_text.proofs.chart_text.add_events.Goals as goal
 
 pub returns-in_err-add_marked : goal.returns-in_err-add_marked

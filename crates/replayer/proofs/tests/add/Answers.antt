@@ -1,7 +1,6 @@
-use Rattle.std.proofs.Common.{◌≡◌, ℕ, ◌+◌, ◌<◌, ◌++◌, ◌∷◌, [], List, length, Contains, Ok, Err, arith, sym, ap, ◌∙◌, subst}
+use Rattle.std.proofs.Common.{Contains, arith}
 use Rattle.std.proofs.lemmas.List.{length_push}
 use Rattle.chart.proofs.NameLists.{AreNames-push}
-use Rattle.chart.specs.NameSets.{AreNames}
 use Rattle.replayer.proofs.tests.add.Goals as goal
 
 pub returns : goal.returns
