@@ -109,11 +109,7 @@ impl Recorder {
     ///
     /// All are recorded or none: a refusal, the first of F7 and F6 that applies, changes nothing. F7: the line has not
     /// as much room. All memory is there before anything changes.
-    pub fn send_many(
-        &mut self,
-        to: InstanceNo,
-        names: &[Name],
-    ) -> Result<Vec<Clock>, RecordError>
+    pub fn send_many(&mut self, to: InstanceNo, names: &[Name]) -> Result<Vec<Clock>, RecordError>
         requires one { to ≤ length self.old.knowledge }
         requires other { to ≢ self.old.line.instance }
         ensures ok { OnOk result (self.new ≡ after_sends self.old to names.now) }
