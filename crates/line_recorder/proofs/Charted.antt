@@ -1,11 +1,11 @@
 -- A recorder in a chart that has its line.
-use Rattle.std.proofs.Common.{◌≡◌, ℕ, suc, ◌+◌, ◌≤◌, ◌⊎◌, inl, inr, true, max, List, [], ◌∷◌, ◌++◌, length, take, map, Some, refl, sym, ap, ◌∙◌, subst, arith, append_assoc}
+use Rattle.std.proofs.Common.{◌≡◌, ℕ, ◌+◌, ◌≤◌, ◌⊎◌, inl, inr, true, max, List, [], ◌∷◌, ◌++◌, length, take, map, Some, refl, sym, ap, ◌∙◌, subst, arith, append_assoc}
 use Rattle.std.proofs.lemmas.Bool.{cases_eq, eqb-true, eq-eqb}
 use Rattle.std.proofs.lemmas.Option.{same_Some}
 use Rattle.std.proofs.lemmas.List.{length-append}
 use Rattle.std.proofs.Math.Seq.{take-append_seam}
 use Rattle.chart.specs.declared.event.Event.{Event as Mark}
-use Rattle.chart.specs.Marks.{ith, send_mark, receive_mark, is_receive_from, region_of}
+use Rattle.chart.specs.Marks.{ith, send_mark, receive_mark, is_receive_from}
 use Rattle.chart.specs.Charts.{Chart, Place, at, mark_at, IsSendTo, BelongsTo}
 use Rattle.chart.specs.Order.{IsCyclic, IsReport, IsRaces, region_of_event}
 use Rattle.chart.specs.Knowing.{IsKnown, IsGreatestHeard}
@@ -13,7 +13,7 @@ use Rattle.chart.specs.Reports.{ReportView}
 use Rattle.chart.proofs.Tally.{ith-append, ith_push}
 use Rattle.chart.proofs.Knowledge.{known_own, known_other, heard_at_first, heard_from_send, heard_at_send}
 use Rattle.chart.proofs.Reports.{report_from_races}
-use Rattle.clock.specs.Clocks.{entry_of, merged}
+use Rattle.clock.specs.Clocks.{entry_of}
 use Rattle.clock.proofs.ClockLemmas.{length-merged}
 use Rattle.line_recorder.specs.Recorders.{RecorderView, new_recorder, with_event, send_clock, after_send, after_receive, IsReportOf}
 use Rattle.line_recorder.specs.Laws.{HasLine, next_place, IsOneOfItsOwn, KnowsWhatItHeard, IsClockOf}

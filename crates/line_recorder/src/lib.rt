@@ -9,3 +9,6 @@ mod recorder;
 
 pub use error::RecordError;
 pub use recorder::Recorder;
+
+#[cfg(test)]
+mod tests;

@@ -15,8 +15,8 @@ use std::marker::Model;
 /// One of several instances, as it records itself: its line, its knowledge and its reports. A contract sees a record of
 /// the three.
 ///
-/// Its knowledge has, for itself, the number of its last send or what came back to it of that, and for each other
-/// instance the most that any message said that it received.
+/// Its knowledge has for the instance itself the number of its last send, and for each other one the most that the
+/// clock of a received message had of it.
 #[derive(Drop)]
 pub struct Recorder {
     alloc: Global,

@@ -1,8 +1,5 @@
-use Rattle.std.proofs.Common.{◌≡◌, ◌∙◌, ◌++◌, length, map, sym, ap, true}
-use Rattle.std.specs.Prelude.{OnOk}
-use Rattle.chart.specs.Charts.{LineView}
+use Rattle.std.proofs.Common.{◌≡◌, ◌∙◌, ◌++◌, length, map, sym}
 use Rattle.chart.specs.Marks.{send_mark}
-use Rattle.line_recorder.specs.Recorders.{RecorderView}
 use Rattle.line_recorder.specs.Sends.{known_after}
 use Rattle.line_recorder.proofs.SendsLemmas.{send_clocks_are, is_after_sends, at_ok}
 use Rattle.line_recorder.proofs.recorder.Recorder.send_many.Goals as goal
