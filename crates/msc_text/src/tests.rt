@@ -148,3 +148,23 @@ fn reads_names(rt: HostRuntime) -> Result<(), Fail> {
     assert_eq!(rt; TextError::from(AllocError), TextError::Memory);
     Ok(())
 }
+
+#[test]
+fn refused_growths(rt: HostRuntime) -> Result<(), Fail> {
+    let mut out = MemoryOut::new(rt.alloc());
+    if let Err(fault) = out.put(b"abc") {
+        assert_eq!(rt; fault, OutFault::Memory);
+        assert!(rt; out.as_bytes().is_empty());
+        out.put(b"abc")?;
+    }
+    assert_eq!(rt; out.as_bytes(), b"abc".as_slice());
+    every_growth_was_refused(rt.alloc())
+}
+
+/// A last growth, whose refusal tells that each one before it was refused in an earlier run of the test.
+fn every_growth_was_refused(alloc: Global) -> Result<(), Fail> {
+    match Vec::<u8>::with_capacity(alloc, 1) {
+        Ok(_) => Ok(()),
+        Err(_) => Err(Fail::from("every growth was refused")),
+    }
+}

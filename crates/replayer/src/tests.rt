@@ -3,7 +3,7 @@ ghost use Rattle.std.specs.Prelude.{◌≡◌, ◌≢◌, ◌≤◌, ◌<◌, �
 ghost use Rattle.chart.specs.NameSets.{AreNames};
 ghost use Rattle.schedule.specs.Plans.{IsAmong};
 
-use crate::{Outcome, replay};
+use crate::{Outcome, ReplayError, replay};
 use chart::{Event, InstanceNo, MAX_EVENTS, Name, Names};
 use schedule::{Action, Capacity, Command, Note, Schedule, Word};
 use std::alloc::Global;
@@ -248,4 +248,36 @@ fn full_lines(rt: HostRuntime) -> Result<(), Fail> {
     let outcome = outcome(rt.alloc(), &schedule)?;
     assert!(rt; are_notes(outcome.notes(), FULL.as_slice()));
     Ok(())
+}
+
+static NOTHING: [(u64, Word); 1] = [(5, Word::Nothing)];
+
+/// Whether the schedule comes to one message and one note.
+fn comes_to(alloc: Global, schedule: &Schedule) -> Result<bool, ReplayError> {
+    let outcome = replay(alloc, schedule)?;
+    let lines = outcome.chart().lines();
+    Ok(lines.iter().all(|line| line.len() == 1) && are_notes(outcome.notes(), NOTHING.as_slice()))
+}
+
+#[test]
+fn refused_growths(rt: HostRuntime) -> Result<(), Fail> {
+    let text = b"instances a b\ncapacity 1\na send b x\nb any\nb any\n";
+    let schedule = match Schedule::read(rt.alloc(), text) {
+        Ok(schedule) => schedule,
+        Err(_) => Schedule::read(rt.alloc(), text)?,
+    };
+    let holds = match comes_to(rt.alloc(), &schedule) {
+        Ok(holds) => holds,
+        Err(_) => comes_to(rt.alloc(), &schedule)?,
+    };
+    assert!(rt; holds);
+    every_growth_was_refused(rt.alloc())
+}
+
+/// A last growth, whose refusal tells that each one before it was refused in an earlier run of the test.
+fn every_growth_was_refused(alloc: Global) -> Result<(), Fail> {
+    match Vec::<u8>::with_capacity(alloc, 1) {
+        Ok(_) => Ok(()),
+        Err(_) => Err(Fail::from("every growth was refused")),
+    }
 }
