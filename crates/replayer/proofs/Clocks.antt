@@ -4,7 +4,7 @@ use Rattle.std.proofs.lemmas.List.{drop-append-le, drop-drop}
 use Rattle.chart.specs.declared.history.Event.{Event}
 use Rattle.chart.specs.declared.history.Event.TheVariants.{Send, Receive}
 use Rattle.chart.specs.Messages.{Content}
-use Rattle.chart.specs.Histories.{is_lane, sent, received, chart_of, IsLegal}
+use Rattle.chart.specs.Histories.{is_lane, received, chart_of, IsLegal}
 use Rattle.clock.specs.Clocks.{with_entry}
 use Rattle.line_recorder.specs.Carried.{knowledge_of, clocks_of, waiting_clocks}
 use Rattle.line_recorder.proofs.Carrying.{clocks_many}

@@ -1,8 +1,7 @@
 -- What a plan comes to is one.
-use Rattle.std.proofs.Common.{◌≡◌, ℕ, List, map, sym, ap, ◌∙◌, subst}
-use Rattle.std.specs.List.{flat_map}
+use Rattle.std.proofs.Common.{◌≡◌, ℕ, List, sym, ap, ◌∙◌, subst}
 use Rattle.chart.specs.Charts.{LineView, chart_lines}
-use Rattle.chart.specs.Reports.{ReportView, AreReports, receives_of}
+use Rattle.chart.specs.Reports.{ReportView, AreReports}
 use Rattle.chart.proofs.ReportLists.{same_reports}
 use Rattle.schedule.specs.declared.command.Note.{Note}
 use Rattle.schedule.specs.Plans.{Plan}

@@ -1,21 +1,18 @@
 -- What an instance's recorder holds, when the history grows.
-use Rattle.std.proofs.Common.{◌≡◌, ◌≢◌, ℕ, suc, ◌+◌, ◌<◌, ◌≤◌, ◌==◌, false, List, [], ◌∷◌, ◌++◌, length, map, get_or, refl, sym, ap, ap₂, ◌∙◌, subst, arith}
+use Rattle.std.proofs.Common.{◌≡◌, ◌≢◌, ℕ, ◌+◌, ◌<◌, ◌≤◌, List, [], ◌∷◌, ◌++◌, length, map, refl, sym, ap, ap₂, ◌∙◌, subst, arith}
 use Rattle.std.specs.Prelude.{All}
 use Rattle.std.proofs.lemmas.Bool.{eq-eqb, ne_eqb}
-use Rattle.std.proofs.lemmas.List.{length-map, map-append, get_or-map}
-use Rattle.std.proofs.lemmas.List.Elements.{All-nil, All-cons, All-push, All-weaker}
+use Rattle.std.proofs.lemmas.List.{map-append}
+use Rattle.std.proofs.lemmas.List.Elements.{All-push}
 use Rattle.chart.specs.declared.history.Event.{Event}
 use Rattle.chart.specs.declared.history.Event.TheVariants.{Send, Receive, Close}
-use Rattle.chart.specs.declared.event.Event.{Event as Mark}
-use Rattle.chart.specs.declared.event.Event.TheVariants as marks
 use Rattle.chart.specs.declared.instance.EventNo.{EventNo}
 use Rattle.chart.specs.Charts.{at, LineView}
 use Rattle.chart.specs.Histories.{by, waiting, chart_of, IsLegal, Begins}
 use Rattle.chart.specs.Order.{IsReport}
 use Rattle.chart.specs.Marks.{send_mark, receive_mark}
 use Rattle.chart.specs.Messages.{Content}
-use Rattle.chart.specs.Places.{IsEvent}
-use Rattle.chart.specs.Reports.{ReportView, IsReportIn, receives_from, receives_of}
+use Rattle.chart.specs.Reports.{ReportView, IsReportIn, receives_of}
 use Rattle.chart.proofs.ReportLists.{receives-send, receives-receive, reports_begun}
 use Rattle.clock.specs.Clocks.{with_entry, merged}
 use Rattle.line_recorder.specs.Carried.{first_clock, knowledge_of, waiting_clocks}

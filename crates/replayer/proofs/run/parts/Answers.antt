@@ -2,7 +2,6 @@ use Rattle.std.proofs.Common.{◌≡◌, ◌∷◌, [], ◌++◌, List, map, len
 use Rattle.std.specs.List.{flat_map}
 use Rattle.std.specs.Vec.Iter.{into_iter_items}
 use Rattle.std.proofs.lemmas.List.{map-append, flat_map_more}
-use Rattle.chart.specs.Charts.{LineView}
 use Rattle.replayer.specs.Views.{ActorView}
 use Rattle.replayer.proofs.run.parts.Goals as goal
 
@@ -10,6 +9,10 @@ use Rattle.replayer.proofs.run.parts.Goals as goal
 nothing_left : {X : Type 0} (xs : List X) → length xs ≡ 0 → xs ≡ []
 nothing_left [] e = refl
 nothing_left (x ∷ xs) e = absurd (omega arith)
+
+-- one more element, which was mapped
+map_push : {X Y : Type 0} (f : X → Y) (xs : List X) (x : X) (old new : List Y) (y : Y) → old ≡ map f xs → y ≡ f x → new ≡ old ++ y ∷ [] → new ≡ map f (xs ++ x ∷ [])
+map_push f xs x old new y before last grown = grown ∙ ap₂ (λ ys z. ys ++ z ∷ []) before last ∙ sym (map-append f xs (x ∷ []))
 
 pub loop-actor-preserved : goal.loop-actor-preserved
 loop-actor-preserved c =
@@ -23,7 +26,7 @@ loop-actor-preserved c =
           let gone = c.in-Some.ensures.steps.1 in
           let short = ap length steps in
           omega arith;
-      lines = c.in_ok-push.ensures.items ∙ ap₂ (λ (ls : List LineView) (l : LineView). ls ++ l ∷ []) at.invariant.lines c.into_parts-line.ensures.line ∙ sym (map-append (λ (a : ActorView). a.recorder.line) at.yielded (actor ∷ []));
+      lines = map_push (λ (a : ActorView). a.recorder.line) at.yielded actor at.lines.items c.push.new.self.items c.into_parts-line.result.0 at.invariant.lines c.into_parts-line.ensures.line c.in_ok-push.ensures.items;
       reports = c.in_ok-append.ensures.items ∙ ap₂ (λ xs ys. xs ++ ys) at.invariant.reports c.into_parts-line.ensures.reports ∙ flat_map_more (λ (a : ActorView). a.recorder.reports) [] at.yielded actor;
     }
 

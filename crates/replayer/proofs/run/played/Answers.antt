@@ -1,9 +1,7 @@
-use Rattle.std.proofs.Common.{◌≡◌, ℕ, length, drop, sym, ap, ◌∙◌, subst, arith}
+use Rattle.std.proofs.Common.{◌≡◌, length, drop, sym, ap, ◌∙◌, subst, arith}
 use Rattle.std.specs.Prelude.{All}
 use Rattle.std.proofs.lemmas.List.{take_at}
 use Rattle.schedule.specs.Plans.{IsAmong}
-use Rattle.schedule.specs.Meaning.{after}
-use Rattle.replayer.specs.Agreement.{Agrees}
 use Rattle.replayer.proofs.run.played.Goals as goal
 
 pub fresh_actors-requires-clause-several : goal.fresh_actors-requires-clause-several

@@ -1,5 +1,4 @@
-use Rattle.std.proofs.Common.{◌≡◌, length, sym, ap, ◌∙◌, subst, arith}
-use Rattle.std.specs.List.{flat_map}
+use Rattle.std.proofs.Common.{length, sym, ap, ◌∙◌, subst}
 use Rattle.chart.specs.Reports.{AreReports}
 use Rattle.schedule.specs.Meaning.{meaning}
 use Rattle.replayer.specs.Outcomes.{IsOutcome}

@@ -1,8 +1,8 @@
-use Rattle.std.proofs.Common.{◌≡◌, ℕ, List, ◌∷◌, length, Some, sym, ap, ◌∙◌, subst, arith}
+use Rattle.std.proofs.Common.{◌≡◌, length, sym, ap, ◌∙◌, subst, arith}
 use Rattle.std.specs.Prelude.{slice_get, All}
 use Rattle.std.proofs.lemmas.List.Elements.{All-head}
-use Rattle.std.proofs.lemmas.Option.{none-some, same_Some}
-use Rattle.replayer.specs.Views.{LaneView, ActorView, popped}
+use Rattle.std.proofs.lemmas.Option.{same_Some}
+use Rattle.replayer.specs.Views.{LaneView, ActorView}
 use Rattle.replayer.proofs.Lanes.{lane-read, front-of_popped, none-in_front}
 use Rattle.replayer.proofs.actor.Actor.take.Goals as goal
 
