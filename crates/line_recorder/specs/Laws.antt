@@ -1,5 +1,6 @@
 -- The laws of recorders: statements that the functions of `laws` prove. Each is of any chart that has the recorder's line,
--- at least as the first events of that instance.
+-- at least as the first events of that instance. That a clock is what its event knows is from Fidge 1988 and Mattern 1989,
+-- that a report can be read off one entry of it is this project's profile.
 use Rattle.std.specs.Prelude.{◌≡◌, ℕ, ◌+◌, ◌≤◌, ◌⊎◌, List, ◌++◌, length, map}
 use Rattle.chart.specs.declared.event.Event.{Event as Mark}
 use Rattle.chart.specs.Charts.{Chart, Place, at, LineView, BelongsTo}
