@@ -36,7 +36,13 @@ fn repetition<R: Clock + AllocGlobal>(
     let mut nanoseconds = 0u64;
     for _ in 0..FRESH {
         let (mut first, mut second) = partners(rt.alloc())?;
-        let before = exchange(&mut first, &mut second, pattern, events.saturating_add(1), name)?;
+        let before = exchange(
+            &mut first,
+            &mut second,
+            pattern,
+            events.saturating_add(1),
+            name,
+        )?;
         let start = Instant::now(rt)?;
         let after = exchange(&mut first, &mut second, pattern, TIMED, name)?;
         let took = start.elapsed(rt)?;
@@ -68,7 +74,9 @@ fn tell_times<R: Clock + AllocGlobal + Print>(rt: &R, pattern: Pattern) -> anyho
     let short = median(on_short)?;
     let long = median(on_long)?;
     let percent = long.saturating_mul(100) / short.max(1);
-    println!(rt; "{pattern}: {short} ns a message on a line of {SHORT} events, {long} ns on one of {LONG}: {percent} %")?;
+    println!(rt;
+        "{pattern}: {short} ns a message on a line of {SHORT} events, {long} ns on one of {LONG}: {percent} %"
+    )?;
     Ok(())
 }
 
@@ -77,7 +85,9 @@ fn tell_messages<R: Clock + AllocGlobal + Print>(rt: &R, pattern: Pattern) -> an
     let _short = repetition(rt, pattern, SHORT)?;
     let _long = repetition(rt, pattern, LONG)?;
     let messages = FRESH * TIMED;
-    println!(rt; "{pattern}: {messages} messages each on lines of {SHORT} and of {LONG} events, without races")?;
+    println!(rt;
+        "{pattern}: {messages} messages each on lines of {SHORT} and of {LONG} events, without races"
+    )?;
     Ok(())
 }
 
