@@ -1,4 +1,5 @@
--- The laws of charts: statements that the functions of `laws` prove.
+-- The laws of charts: statements that the functions of `laws` prove. Those of knowledge and of what is heard are vector
+-- time's (Fidge 1988, Mattern 1989); the others are this project's profile, over the definitions that they cite.
 use Rattle.std.specs.Prelude.{◌≡◌, ℕ, ◌+◌, ◌<◌, ◌≤◌, ◌↔◌, ◌⊎◌, max, List, [], ◌∷◌, ◌++◌, take, length, slice_get, Some}
 use Rattle.chart.specs.declared.history.Event.{Event}
 use Rattle.chart.specs.declared.history.Event.TheVariants.{Send, Receive, Close}

@@ -1,4 +1,4 @@
--- What a line keeps beside its events: for each, how many events stand before its runs.
+-- What a line keeps beside its events: for each, how many events stand before its runs (this project's profile).
 use Rattle.std.specs.Prelude.{◌≡◌, ℕ, suc, ◌+◌, List, [], ◌∷◌, ◌++◌, length, slice_get, Some}
 use Rattle.chart.specs.declared.event.Event.{Event as Mark}
 use Rattle.chart.specs.declared.line.Before.{Before}

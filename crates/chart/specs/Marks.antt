@@ -1,4 +1,4 @@
--- The events of a line, and the coregions along it.
+-- The events of a line (ITU-T Z.120), and the coregions along it (this project's profile, after ITU-T Z.120).
 use Rattle.std.specs.Prelude.{◌≡◌, ℕ, zero, suc, ◌+◌, ◌<◌, max, Bool, false, not, ◌&&◌, ◌==◌, List, [], ◌∷◌, take, slice_get, Option, None, Some, count_by, ◌⊎◌}
 use Rattle.chart.specs.declared.event.Event.{Event as Mark}
 use Rattle.chart.specs.declared.event.Event.TheVariants.{Send, Receive}

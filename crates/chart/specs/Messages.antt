@@ -1,4 +1,4 @@
--- What a message carries.
+-- What a message carries: its name is that of ITU-T Z.120, its body this project's profile.
 use Rattle.std.specs.Prelude.{ℕ, List}
 
 -- a name and a body, as bytes

@@ -1,4 +1,5 @@
--- What a name is, and the first fault of bytes that are none.
+-- What a name is, and the first fault of bytes that are none: this project's profile of the names of ITU-T Z.120, whose
+-- words are reserved.
 use Rattle.std.specs.Prelude.{◌≡◌, ℕ, suc, ◌+◌, Bool, not, ◌||◌, ◌&&◌, List, [], ◌∷◌, length, Option, None, Some, Result, Ok, Err, position, option_map, codes, bytes_eq, nat_lt, nat_le, ◌==◌, if◌then◌else◌}
 use Rattle.chart.specs.declared.name.NameError.{NameError}
 use Rattle.chart.specs.declared.name.NameError.TheVariants.{Empty, TooLong, BadByte, Reserved}

@@ -1,4 +1,4 @@
--- Bytes held in a place of a fixed size, with zeros behind them.
+-- Bytes held in a place of a fixed size, with zeros behind them (this project's profile).
 use Rattle.std.specs.Prelude.{◌≡◌, ℕ, ◌-◌, ◌≤◌, List, ◌++◌, length, take, drop, replicate}
 use Rattle.std.proofs.Common.{arith, take-append-drop, length-take-le}
 

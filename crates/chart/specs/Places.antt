@@ -1,4 +1,5 @@
--- Places of charts: where there is an event, and where the sends of a lane are.
+-- Places of charts: where there is an event (ITU-T Z.120), and where the sends of a lane are (lanes are first in, first
+-- out, as Alur, Holzmann and Peled 1996 have them).
 use Rattle.std.specs.Prelude.{◌≡◌, ℕ, ◌+◌, ◌≤◌, true, List, length, Some}
 use Rattle.chart.specs.declared.event.Event.{Event as Mark}
 use Rattle.chart.specs.Marks.{ith, tally, is_send_to}

@@ -1,4 +1,4 @@
--- Runs of neighbouring events of a line that pass one test.
+-- Runs of neighbouring events of a line that pass one test (this project's profile).
 use Rattle.std.specs.Prelude.{◌≡◌, ℕ, ◌<◌, ◌≤◌, Bool, true, false, List, length, Some}
 use Rattle.chart.specs.declared.event.Event.{Event as Mark}
 use Rattle.chart.specs.Marks.{ith}

@@ -121,7 +121,7 @@ impl Line {
     }
 
     /// How many events stand before the run of neighbouring receives from one sender that ends with the event of
-    /// this index. Before a send these are the events up to it.
+    /// this index. For a send, which is in no such run, it is some number below the index.
     pub fn before_run(&self, index: usize) -> usize
         requires begun { 1 ≤ index }
         requires within { index ≤ length self.now.events }
@@ -131,7 +131,7 @@ impl Line {
     }
 
     /// How many events stand before the part of its coregion that ends with the event of this index. Outside of a
-    /// coregion these are the events up to it.
+    /// coregion it is some number below the index.
     pub fn before_region(&self, index: usize) -> usize
         requires begun { 1 ≤ index }
         requires within { index ≤ length self.now.events }

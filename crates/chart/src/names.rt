@@ -1,6 +1,7 @@
 //! The names of a chart's instances.
 ghost use Rattle.std.specs.Prelude.{ℕ, ◌≡◌, ◌≤◌, ◌<◌, ◌+◌, ◌++◌, ◌∷◌, [], ◌↔◌, suc, length, IfOk, OnErr, Ok, Err, Some, IsTrue, ◌==◌, Contains, slice_get};
 ghost use Rattle.chart.specs.Names.{instance_of};
+ghost use Rattle.chart.specs.NameSets.{AreNames};
 ghost use Rattle.chart.specs.declared.instance.TheConstants.{MAX_INSTANCES};
 ghost use Rattle.chart.specs.declared.names.NamesError.TheVariants.{Memory};
 
@@ -73,6 +74,7 @@ impl Names {
     pub fn len(&self) -> usize
         ensures value { result ≡ length self.now }
         ensures limit { result ≤ MAX_INSTANCES }
+        ensures names { AreNames self.now }
     {
         self.names.len()
     }

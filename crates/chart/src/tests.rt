@@ -6,7 +6,6 @@ use crate::{
     Event, InstanceNo, Line, LineError, MAX_BODY, MAX_EVENTS, MAX_NAME, Message, Name, NameError,
     Names, NamesError,
 };
-use std::alloc::Global;
 use std::test::Fail;
 
 fn name(bytes: &[u8]) -> Result<Name, Fail> {
@@ -145,13 +144,7 @@ fn refused_growths(rt: HostRuntime) -> Result<(), Fail> {
         names.add(name(b"a")?)?;
     }
     assert_eq!(rt; names.instance(name(b"a")?), InstanceNo::new(1));
-    every_growth_was_refused(rt.alloc())
-}
-
-/// A last growth, whose refusal tells that each one before it was refused in an earlier run of the test.
-fn every_growth_was_refused(alloc: Global) -> Result<(), Fail> {
-    match Vec::<u8>::with_capacity(alloc, 1) {
-        Ok(_) => Ok(()),
-        Err(_) => Err(Fail::from("every growth was refused")),
-    }
+    // A last growth, whose refusal tells that each one before it was refused in an earlier run of the test.
+    Vec::<u8>::with_capacity(rt.alloc(), 1).map_err(|_| "every growth was refused")?;
+    Ok(())
 }

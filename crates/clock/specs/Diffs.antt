@@ -1,5 +1,5 @@
 -- The differences between clocks, with which a clock is sent as what changed since the last one (Singhal and
--- Kshemkalyani 1992).
+-- Kshemkalyani 1992); that they rise by instance is this project's profile.
 use Rattle.std.specs.Prelude.{◌≡◌, ◌≢◌, ◌≤◌, ◌↔◌, ℕ, List, [], ◌∷◌, map, length, Contains}
 use Rattle.std.specs.List.Sorted.{IsStrictlyIncreasing}
 use Rattle.clock.specs.Clocks.{entry_of, with_entry}

@@ -1,4 +1,5 @@
--- The laws of recorders: statements that the functions of `laws` prove.
+-- The laws of recorders: statements that the functions of `laws` prove. That a clock is what its event knows is from Fidge
+-- 1988 and Mattern 1989, that a report can be read off one entry of it is this project's profile.
 use Rattle.std.specs.Prelude.{◌≡◌, ℕ, ◌+◌, ◌<◌, ◌≤◌, ◌⊎◌, List, ◌∷◌, ◌++◌, length, map, slice_get, Some}
 use Rattle.chart.specs.declared.history.Event.{Event}
 use Rattle.chart.specs.declared.history.Event.TheVariants.{Receive}

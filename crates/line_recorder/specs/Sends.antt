@@ -1,4 +1,5 @@
--- What several sends at once make of a recorder.
+-- What several sends at once make of a recorder: clocks as Fidge 1988 and Mattern 1989 have them, and several sends in
+-- one call as this project's profile has them.
 use Rattle.std.specs.Prelude.{ℕ, zero, suc, ◌+◌, List, [], ◌∷◌, ◌++◌, length}
 use Rattle.clock.specs.Clocks.{with_entry}
 use Rattle.line_recorder.specs.Recorders.{RecorderView}

@@ -214,13 +214,7 @@ fn refused_growths(rt: HostRuntime) -> Result<(), Fail> {
     receive(&rt, &mut b, C, b"y", &clocks[0], &[1]);
     receive(&rt, &mut b, C, b"z", &clocks[1], &[1]);
     holds(&rt, b.knowledge(), &[1, 0, 2, 0, 0, 0, 0, 0, 0]);
-    every_growth_was_refused(alloc)
-}
-
-/// A last growth, whose refusal tells that each one before it was refused in an earlier run of the test.
-fn every_growth_was_refused(alloc: Global) -> Result<(), Fail> {
-    match Vec::<u8>::with_capacity(alloc, 1) {
-        Ok(_) => Ok(()),
-        Err(_) => Err(Fail::from("every growth was refused")),
-    }
+    // A last growth, whose refusal tells that each one before it was refused in an earlier run of the test.
+    Vec::<u8>::with_capacity(alloc, 1).map_err(|_| "every growth was refused")?;
+    Ok(())
 }

@@ -1,4 +1,5 @@
--- How the events of a line are passed, from its end on back.
+-- How the events of a line are passed, from its end on back, in search of races (Alur, Holzmann and Peled 1996; which
+-- events are no races is this project's profile).
 use Rattle.std.specs.Prelude.{◌≡◌, ℕ, ◌<◌, ◌≤◌, ◌⊎◌, true, false, List, Some}
 use Rattle.chart.specs.declared.event.Event.{Event as Mark}
 use Rattle.chart.specs.Marks.{ith, is_receive_from, is_in}

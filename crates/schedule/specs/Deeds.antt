@@ -1,4 +1,4 @@
--- The commands of a schedule's text: who acts, and what it does.
+-- The commands of a schedule's text: who acts, and what it does (this project's profile).
 use Rattle.std.specs.Prelude.{ℕ, not, ◌||◌, ◌==◌, List, [], ◌∷◌, length, Option, None, Some, Result, Ok, Err, if◌then◌else◌}
 use Rattle.chart.specs.Names.{instance_of}
 use Rattle.msc_text.specs.Faults.{◌>>=◌}

@@ -1,4 +1,4 @@
--- The first two lines of a schedule's text: the instances' names, and the capacity.
+-- The first two lines of a schedule's text: the instances' names, and the capacity (this project's profile).
 use Rattle.std.specs.Prelude.{ℕ, ◌+◌, ◌-◌, ◌*◌, Bool, false, not, ◌&&◌, ◌||◌, ◌==◌, List, [], ◌∷◌, ◌++◌, length, Result, Ok, Err, nat_lt, nat_le, bytes_eq, if◌then◌else◌}
 use Rattle.std.specs.List.{list_all, list_any}
 use Rattle.chart.specs.declared.instance.TheConstants.{MAX_INSTANCES}

@@ -1,4 +1,5 @@
--- The words that a schedule's text begins its lines with, or has behind an actor's name.
+-- The words that a schedule's text begins its lines with, or has behind an actor's name (this project's profile; those of
+-- coregions are ITU-T Z.120's).
 use Rattle.std.specs.Prelude.{ℕ, Bool, List, codes, bytes_eq}
 
 -- begins line 1

@@ -1,0 +1,110 @@
+//! What a send and a receive with its report cost on short and on long lines. With the word `time` it tells the times,
+//! and else only which messages it would time.
+#![tactic(auto)]
+
+mod exchange;
+
+use anyhow::bail;
+use chart::Name;
+use exchange::{Pattern, exchange, partners};
+use std::convert::AsStr;
+use std::env;
+use std::rt::Env;
+use std::time::{Clock, Instant};
+
+/// How many events the short lines have, and the long ones.
+const SHORT: usize = 64;
+
+const LONG: usize = 4000;
+
+/// Messages that are timed on each pair of lines. One more goes before them: it makes a line of 64 events grow.
+const TIMED: usize = 63;
+
+/// Fresh pairs of lines in a repetition.
+const FRESH: usize = 64;
+
+/// Repetitions, whose median is told.
+const REPETITIONS: usize = 15;
+
+/// The nanoseconds that the timed messages of fresh lines took in all, with so many events on each line before them.
+fn repetition<R: Clock + AllocGlobal>(
+    rt: &R,
+    pattern: Pattern,
+    events: usize,
+) -> anyhow::Result<u64> {
+    let name = Name::new(b"ping")?;
+    let mut nanoseconds = 0u64;
+    for _ in 0..FRESH {
+        let (mut first, mut second) = partners(rt.alloc())?;
+        let before = exchange(
+            &mut first,
+            &mut second,
+            pattern,
+            events.saturating_add(1),
+            name,
+        )?;
+        let start = Instant::now(rt)?;
+        let after = exchange(&mut first, &mut second, pattern, TIMED, name)?;
+        let took = start.elapsed(rt)?;
+        if before > 0 || after > 0 {
+            bail!("a report has races");
+        }
+        nanoseconds = nanoseconds.saturating_add(u64::try_from(took.as_nanos())?);
+    }
+    Ok(nanoseconds)
+}
+
+/// The median of what the repetitions took, for each message.
+fn median(mut took: Vec<u64>) -> anyhow::Result<u64> {
+    took.sort()?;
+    let Some(middle) = took.get(took.len() / 2) else {
+        bail!("nothing was timed");
+    };
+    Ok(*middle / (FRESH * TIMED) as u64)
+}
+
+/// Tells what a message costs on short lines and on long ones, which are timed in turn.
+fn tell_times<R: Clock + AllocGlobal + Print>(rt: &R, pattern: Pattern) -> anyhow::Result<()> {
+    let mut on_short = Vec::new(rt.alloc());
+    let mut on_long = Vec::new(rt.alloc());
+    for _ in 0..REPETITIONS {
+        on_short.push(repetition(rt, pattern, SHORT)?)?;
+        on_long.push(repetition(rt, pattern, LONG)?)?;
+    }
+    let short = median(on_short)?;
+    let long = median(on_long)?;
+    let percent = long.saturating_mul(100) / short.max(1);
+    println!(rt;
+        "{pattern}: {short} ns a message on a line of {SHORT} events, {long} ns on one of {LONG}: {percent} %"
+    )?;
+    Ok(())
+}
+
+/// Passes the messages once, and tells how many would be timed.
+fn tell_messages<R: Clock + AllocGlobal + Print>(rt: &R, pattern: Pattern) -> anyhow::Result<()> {
+    let _short = repetition(rt, pattern, SHORT)?;
+    let _long = repetition(rt, pattern, LONG)?;
+    let messages = FRESH * TIMED;
+    println!(rt;
+        "{pattern}: {messages} messages each on lines of {SHORT} and of {LONG} events, without races"
+    )?;
+    Ok(())
+}
+
+/// Whether the one word after the program's name is `time`.
+fn asks_for_times<R: Env + AllocGlobal>(rt: &R) -> anyhow::Result<bool> {
+    let words: Vec<String> = env::args(rt)?.collect(rt.alloc())?;
+    Ok(matches!(words.as_slice(), [_, word] if word.as_str() == "time"))
+}
+
+fn main(rt: HostRuntime) -> anyhow::Result<()> {
+    let timed = asks_for_times(&rt)?;
+    for pattern in [Pattern::OneWay, Pattern::Replies] {
+        if timed {
+            tell_times(&rt, pattern)?;
+        } else {
+            tell_messages(&rt, pattern)?;
+        }
+    }
+    Ok(())
+}
