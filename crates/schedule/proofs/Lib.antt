@@ -2,6 +2,7 @@ pub mod Adding
 pub mod CommandLines
 pub mod Commands
 pub mod CommandsAgain
+pub mod InstanceLine
 pub mod Numbers
 pub mod Read
 pub mod Spacing
