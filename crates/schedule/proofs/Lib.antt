@@ -3,6 +3,7 @@ pub mod CapacityLine
 pub mod CommandLines
 pub mod Commands
 pub mod CommandsAgain
+pub mod FirstFault
 pub mod InstanceLine
 pub mod Numbers
 pub mod Read

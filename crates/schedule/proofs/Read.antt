@@ -23,6 +23,16 @@ use Rattle.schedule.proofs.Steps.{when_ok, ok_is}
 
 -- ---- the lines that a plan is read from
 
+-- what is left to read: from line 2's capacity on, from line 2 on, and from line 1 on
+abbrev pub after_second : List (List ℕ) → List ℕ → List (List ℕ) → List ℕ → Result Plan Fault
+after_second names second lines rest = in_line 2 (capacity_of second) >>= λ capacity. commands_of names lines rest >>= λ commands. Ok (record { names = names; capacity = capacity; commands = commands })
+
+abbrev pub after_first : List (List ℕ) → List (List ℕ) → List ℕ → Result Plan Fault
+after_first names lines rest = next_of lines >>= λ second. after_second names second.0 second.1 rest
+
+abbrev pub read_lines : List (List ℕ) → List ℕ → Result Plan Fault
+read_lines lines rest = next_of lines >>= λ first. in_line 1 (names_of first.0) >>= λ names. after_first names first.1 rest
+
 record IsReadFrom (bytes : List ℕ) (plan : Plan) : Type 0 where
   pub first : List ℕ
   pub second : List ℕ
@@ -52,9 +62,9 @@ read_from : (bytes : List ℕ) (plan : Plan) → schedule_of bytes ≡ Ok plan �
 unfolding schedule_of
 read_from bytes plan e =
     let rest = end_of bytes in
-    let a = bind_ok (next_of (lines_of bytes)) (λ first. in_line 1 (names_of first.0) >>= λ names. next_of first.1 >>= λ second. in_line 2 (capacity_of second.0) >>= λ capacity. commands_of names second.1 rest >>= λ commands. Ok (record { names = names; capacity = capacity; commands = commands })) plan e in
-    let b = bind_ok (in_line 1 (names_of a.0.0)) (λ names. next_of a.0.1 >>= λ second. in_line 2 (capacity_of second.0) >>= λ capacity. commands_of names second.1 rest >>= λ commands. Ok (record { names = names; capacity = capacity; commands = commands })) plan a.2 in
-    let c = bind_ok (next_of a.0.1) (λ second. in_line 2 (capacity_of second.0) >>= λ capacity. commands_of b.0 second.1 rest >>= λ commands. Ok (record { names = b.0; capacity = capacity; commands = commands })) plan b.2 in
+    let a = bind_ok (next_of (lines_of bytes)) (λ first. in_line 1 (names_of first.0) >>= λ names. after_first names first.1 rest) plan e in
+    let b = bind_ok (in_line 1 (names_of a.0.0)) (λ names. after_first names a.0.1 rest) plan a.2 in
+    let c = bind_ok (next_of a.0.1) (λ second. after_second b.0 second.0 second.1 rest) plan b.2 in
     let d = bind_ok (in_line 2 (capacity_of c.0.0)) (λ capacity. commands_of b.0 c.0.1 rest >>= λ commands. Ok (record { names = b.0; capacity = capacity; commands = commands })) plan c.2 in
     let f = bind_ok (commands_of b.0 c.0.1 rest) (λ commands. Ok (record { names = b.0; capacity = d.0; commands = commands })) plan d.2 in
     let same : record { names = b.0; capacity = d.0; commands = f.0 } ≡ plan = ok_is (record { names = b.0; capacity = d.0; commands = f.0 }) plan f.2 in
