@@ -101,7 +101,7 @@ send_of-says names x y m deed e =
     let c = bind_ok (name_or_cause m) (λ name. pair_of names a.0 b.0 >>= λ pair. Ok (pair.0, Send pair.1 name)) deed b.2 in
     let message = name_is m c.0 c.1 in
     partner-says names x (codes "send") y (m ∷ []) (pair_of names a.0 b.0) (λ q. Send q c.0) deed
-    (λ q. send_words names q message.0)
+    (λ q. send_words {v = c.0} {m = m} names q message.0)
     (λ p q within other. (within, other))
     (λ q first. (first, subst IsName (sym message.0) message.1))
     (λ pair. partners-read names x y a.0 b.0 pair a.1 b.1) c.2

@@ -1,15 +1,16 @@
 -- A whole text: what is read is spelled so, what is spelled so is read, and the first faulty line decides. Laws about lists alone.
-use Rattle.std.proofs.Common.{◌≡◌, ℕ, ◌+◌, eqb, List, [], ◌∷◌, ◌++◌, length, map, Result, Ok, Err, refl, sym, ap, ◌∙◌, arith, inl, inr, append-nil, eq-eqb}
+use Rattle.std.proofs.Common.{◌≡◌, ℕ, ◌+◌, eqb, List, [], ◌∷◌, ◌++◌, length, map, Result, Ok, Err, refl, sym, ap, subst, ◌∙◌, arith, inl, inr, append-nil, eq-eqb}
 use Rattle.std.specs.List.{AllByRecursion, flat_map}
 use Rattle.std.proofs.lemmas.Bool.{eqb-true, cond-true}
 use Rattle.std.proofs.lemmas.List.Elements.{All-from_recursion, recursion_from_All}
 use Rattle.msc_text.proofs.Parts.{lines_joined, lines_again, end_again, lines_onto}
 use Rattle.msc_text.proofs.Results.{bind_ok, bind_err, bind_at, in_line_ok}
-use Rattle.msc_text.specs.Faults.{◌>>=◌, in_line}
+use Rattle.msc_text.specs.Faults.{◌>>=◌, in_line, Fails}
 use Rattle.msc_text.specs.Lines.{Lacks, lines_of, end_of, ended}
 use Rattle.msc_text.specs.declared.fault.Cause.{Cause}
 use Rattle.msc_text.specs.declared.fault.Fault.{Fault}
 use Rattle.msc_text.specs.declared.fault.Fault.TheVariants.{Line, Unfinished}
+use Rattle.msc_text.specs.declared.fault.TextError.{TextError}
 use Rattle.schedule.specs.FirstLines.{names_of, capacity_of}
 use Rattle.schedule.specs.Plans.{Plan, IsPlan, IsAmong}
 use Rattle.schedule.specs.Reading.{next_of, command_at, commands_from, commands_of, with_end, schedule_of}
@@ -134,3 +135,7 @@ spelled_read plan text =
 -- so no two plans have one text
 pub one_text : (p q : Plan) → HasText p → HasText q → schedule_text p ≡ schedule_text q → p ≡ q
 one_text p q has has' same = ok_is p q (sym (spelled_read p has) ∙ ap schedule_of same ∙ spelled_read q has')
+
+-- a text that is spelled so has no fault
+pub no_fault : (error : TextError) (bytes : List ℕ) (plan : Plan) → HasText plan → bytes ≡ schedule_text plan → Fails error (schedule_of bytes) → Fails error (Ok plan)
+no_fault error bytes plan text is h = subst (Fails error) (ap schedule_of is ∙ spelled_read plan text) h

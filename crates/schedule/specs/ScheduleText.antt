@@ -68,3 +68,7 @@ pub record HasText (plan : Plan) : Type 0 where
   pub places : (1 ≤ plan.capacity) × (plan.capacity ≤ MAX_CAPACITY)
   pub spelled : All CanBeSpelled plan.commands
   pub numbered : AreNumbered 3 plan.commands
+
+-- no two plans have one text
+abbrev pub OneTextLaw : Type 0
+OneTextLaw = (p q : Plan) → HasText p → HasText q → schedule_text p ≡ schedule_text q → p ≡ q
