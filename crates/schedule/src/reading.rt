@@ -70,6 +70,9 @@ impl Schedule {
     /// The schedule that the text says, or the first fault of its first faulty line. It takes time in proportion to
     /// the text.
     ///
+    /// What is read is the text of the schedule to the byte, with its first command on line 3, and each such text is
+    /// read: `specs/ScheduleText.antt` spells it.
+    ///
     /// Each line ends with a line feed: `instances NAME NAME ..`, then `capacity N`, then a command a line, as
     /// `NAME send NAME MESSAGE`, `NAME receive NAME`, `NAME any`, `NAME close NAME`, `NAME concurrent` or
     /// `NAME endconcurrent`. One space stands between words.
