@@ -1,4 +1,6 @@
 pub mod EventLoops
+pub mod Lookups
 pub mod Parts
 pub mod Results
+pub mod Spacing
 pub mod Writes

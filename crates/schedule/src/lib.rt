@@ -1,13 +1,14 @@
 //! Schedules: who does what, in which order, and what that means.
 //!
 //! `specs/Meaning.antt` says what a schedule's commands do: a history, and a note for each command that is refused.
-//! `specs/Reading.antt` says what a schedule's text is read as.
+//! `specs/ScheduleText.antt` says what a schedule's text is, and `specs/Reading.antt` what any text is read as.
 #![tactic(auto)]
 
 mod command;
 mod deed;
 mod first_lines;
 mod keyword;
+pub mod laws;
 mod reading;
 mod schedule;
 
