@@ -1,4 +1,5 @@
 pub mod EventLoops
+pub mod Lookups
 pub mod Parts
 pub mod Results
 pub mod Writes

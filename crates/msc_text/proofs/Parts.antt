@@ -1,6 +1,6 @@
 -- Lines and words: what the parts round a byte are.
-use Rattle.std.proofs.Common.{◌≡◌, ℕ, ◌+◌, ◌<◌, ◌≤◌, Bool, true, false, cond, eqb, List, [], ◌∷◌, ◌++◌, Some, None, refl, sym, ap, ◌∙◌, arith, length, take, drop, append_assoc, append-nil}
-use Rattle.std.specs.List.{slice_split, onto_first, position, position_or_len, flat_map, join_with_byte, AllByRecursion}
+use Rattle.std.proofs.Common.{◌≡◌, ℕ, ◌+◌, ◌<◌, ◌≤◌, Bool, true, false, ◌||◌, cond, eqb, List, [], ◌∷◌, ◌++◌, Some, None, refl, sym, ap, ◌∙◌, arith, length, take, drop, append_assoc, append-nil}
+use Rattle.std.specs.List.{slice_split, onto_first, position, position_or_len, flat_map, join_with_byte, list_any, AllByRecursion}
 use Rattle.std.proofs.lemmas.Bool.{ltb-false, eq-eqb}
 use Rattle.std.proofs.lemmas.List.Splits.{slice_split_none, slice_split_first, slice_split_at, join_with_byte-slice_split}
 use Rattle.std.proofs.lemmas.List.Quantifiers.{position-Some}
@@ -95,6 +95,29 @@ pub parts_again : (byte : ℕ) (word : List ℕ) (words : List (List ℕ)) → A
 parts_again byte word [] h = slice_split_none (λ b. eqb b byte) word (All-from_recursion _ word h.0)
 parts_again byte word (next ∷ words) h =
     slice_split_at (λ b. eqb b byte) word byte (join_with_byte byte (next ∷ words)) (All-from_recursion _ word h.0) (eq-eqb byte byte refl) ∙ ap (λ l. word ∷ l) (parts_again byte next words h.1)
+
+-- ---- bytes that are not there
+
+neither : (x y : Bool) → (x || y) ≡ false → (x ≡ false) × (y ≡ false)
+neither true y e = cc
+neither false y e = (refl, e)
+
+-- by a test of each byte: `lacks_if 32 (codes "send") refl`
+pub lacks_if : (byte : ℕ) (bytes : List ℕ) → list_any (λ b. eqb b byte) bytes ≡ false → Lacks byte bytes
+lacks_if byte [] e = tt
+lacks_if byte (b ∷ bs) e =
+    let two = neither (eqb b byte) (list_any (λ x. eqb x byte) bs) e in
+    (two.0, lacks_if byte bs two.1)
+
+pub lacks_append : (byte : ℕ) (xs ys : List ℕ) → Lacks byte xs → Lacks byte ys → Lacks byte (xs ++ ys)
+lacks_append byte [] ys h g = g
+lacks_append byte (x ∷ xs) ys h g = (h.0, lacks_append byte xs ys h.1 g)
+
+-- words without the byte, joined by another
+pub joined_lacks : (byte other : ℕ) (words : List (List ℕ)) → eqb other byte ≡ false → AllByRecursion (Lacks byte) words → Lacks byte (join_with_byte other words)
+joined_lacks byte other [] e h = tt
+joined_lacks byte other (word ∷ []) e h = h.0
+joined_lacks byte other (word ∷ next ∷ words) e h = lacks_append byte word _ h.0 (e, joined_lacks byte other (next ∷ words) e h.1)
 
 -- ---- words
 

@@ -1,5 +1,5 @@
 -- What a chain of checks that succeeded had on its way, and what a name's bytes are.
-use Rattle.std.proofs.Common.{◌≡◌, ℕ, ◌≤◌, Bool, true, false, not, ◌||◌, cond, List, [], ◌∷◌, Option, Some, None, Result, Ok, Err, refl, sym, ap, ◌∙◌, arith, length}
+use Rattle.std.proofs.Common.{◌≡◌, ℕ, ◌≤◌, Bool, true, false, not, ◌||◌, cond, eqb, List, [], ◌∷◌, Option, Some, None, Result, Ok, Err, ◌⊎◌, inl, inr, refl, sym, ap, ◌∙◌, arith, length}
 use Rattle.std.specs.Prelude.{option_map}
 use Rattle.std.specs.List.{position, position_or_len, AllByRecursion}
 use Rattle.std.proofs.lemmas.Bool.{ltb-false, not-false, ne_eqb, false≢true}
@@ -20,6 +20,11 @@ bind_ok (Err d) f y e = cc
 pub guard_ok : {A E : Type 0} (b : Bool) (d : E) (r : Result A E) (y : A) → cond b (Err d) r ≡ Ok y → (b ≡ false) × (r ≡ Ok y)
 guard_ok true d r y e = cc
 guard_ok false d r y e = (refl, e)
+
+-- the fault came from the first step, or from what followed it
+pub bind_err : {A B E : Type 0} (r : Result A E) (f : A → Result B E) (d : E) → (r >>= f) ≡ Err d → (r ≡ Err d) ⊎ ((x : A) × (r ≡ Ok x) × (f x ≡ Err d))
+bind_err (Ok x) f d e = inr (x, refl, e)
+bind_err (Err c) f d e = inl cc
 
 -- what follows a value is only what it is followed by
 pub bind_at : {A B E : Type 0} (r : Result A E) (f : A → Result B E) (x : A) → r ≡ Ok x → (r >>= f) ≡ f x
@@ -42,6 +47,11 @@ pub name_is : (w v : List ℕ) → name_or_cause w ≡ Ok v → (v ≡ w) × IsN
 name_is w v e =
     let same = name_of_same w v (named_ok (name_of w) v e) in
     (same, named_ok (name_of w) v e ∙ ap Ok same)
+
+-- it has a byte
+pub name_some : (w : List ℕ) → IsName w → eqb (length w) 0 ≡ false
+unfolding name_of
+name_some w e = grind arith
 
 pub name_again : (w : List ℕ) → IsName w → name_or_cause w ≡ Ok w
 name_again w e = ap named e
