@@ -11,7 +11,7 @@ use Rattle.schedule.specs.Meaning.{Run}
 use Rattle.replayer.specs.Views.{LaneView, ActorView}
 use Rattle.replayer.specs.Agreement.{names_of, IsLane, AreLanes, IsOwn}
 use Rattle.replayer.proofs.Places.{each-set}
-use Rattle.replayer.proofs.Regions.{greatest_region-push, may_be-small, may-again}
+use Rattle.chart.proofs.Regions.{greatest_region-push, may_be-small, may-again}
 
 -- p did nothing between two runs
 pub record IsIdle (r s : Run) (p : ℕ) : Type 0 where

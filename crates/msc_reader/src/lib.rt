@@ -1,0 +1,8 @@
+//! Reads charts' texts.
+#![tactic(auto)]
+
+mod drawing;
+mod keyword;
+mod place;
+mod reading;
+mod step;
