@@ -2,4 +2,5 @@ pub mod EventLoops
 pub mod Lookups
 pub mod Parts
 pub mod Results
+pub mod Spacing
 pub mod Writes

@@ -1,4 +1,4 @@
--- What a chain of checks that succeeded had on its way, and what a name's bytes are.
+-- What a chain of checks had on its way, where it succeeded and where it failed, and what a name's bytes are.
 use Rattle.std.proofs.Common.{◌≡◌, ℕ, ◌≤◌, Bool, true, false, not, ◌||◌, cond, eqb, List, [], ◌∷◌, Option, Some, None, Result, Ok, Err, ◌⊎◌, inl, inr, refl, sym, ap, ◌∙◌, arith, length}
 use Rattle.std.specs.Prelude.{option_map}
 use Rattle.std.specs.List.{position, position_or_len, AllByRecursion}
@@ -8,7 +8,10 @@ use Rattle.std.proofs.lemmas.List.Elements.{recursion_from_All}
 use Rattle.chart.specs.Names.{IsName, name_of, bad_place, is_letter, is_name_byte}
 use Rattle.chart.specs.declared.name.NameError.{NameError}
 use Rattle.msc_text.specs.declared.fault.Cause.{Cause}
-use Rattle.msc_text.specs.Faults.{◌>>=◌, in_line}
+use Rattle.msc_text.specs.declared.fault.Fault.{Fault}
+use Rattle.msc_text.specs.declared.fault.TextError.{TextError}
+use Rattle.msc_text.specs.declared.fault.TextError.TheVariants as errors
+use Rattle.msc_text.specs.Faults.{◌>>=◌, in_line, Fails}
 use Rattle.msc_text.specs.Lines.{Lacks, named, name_or_cause}
 
 -- both steps succeeded
@@ -21,6 +24,24 @@ pub guard_ok : {A E : Type 0} (b : Bool) (d : E) (r : Result A E) (y : A) → co
 guard_ok true d r y e = cc
 guard_ok false d r y e = (refl, e)
 
+-- a test whose failure is a fault succeeded
+pub when_ok : {A E : Type 0} (b : Bool) (d : E) (r : Result A E) (y : A) → cond b r (Err d) ≡ Ok y → (b ≡ true) × (r ≡ Ok y)
+when_ok true d r y e = (refl, e)
+when_ok false d r y e = cc
+
+-- one of two
+pub chosen : {A : Type 0} (b : Bool) (x y z : A) → cond b x y ≡ z → ((b ≡ true) × (x ≡ z)) ⊎ ((b ≡ false) × (y ≡ z))
+chosen true x y z e = inl (refl, e)
+chosen false x y z e = inr (refl, e)
+
+-- what is read, of a type that is known
+abbrev done : {A E : Type 0} → A → Result A E
+done x = Ok x
+
+-- what is read is one thing
+pub ok_is : {A E : Type 0} (x y : A) → done {E = E} x ≡ done y → x ≡ y
+ok_is x y e = cc
+
 -- the fault came from the first step, or from what followed it
 pub bind_err : {A B E : Type 0} (r : Result A E) (f : A → Result B E) (d : E) → (r >>= f) ≡ Err d → (r ≡ Err d) ⊎ ((x : A) × (r ≡ Ok x) × (f x ≡ Err d))
 bind_err (Ok x) f d e = inr (x, refl, e)
@@ -30,6 +51,23 @@ bind_err (Err c) f d e = inl cc
 pub bind_at : {A B E : Type 0} (r : Result A E) (f : A → Result B E) (x : A) → r ≡ Ok x → (r >>= f) ≡ f x
 bind_at r f x e = ap (λ s. s >>= f) e
 
+-- what failed is not followed
+pub stops : {A B E : Type 0} (r : Result A E) (f : A → Result B E) (d : E) → r ≡ Err d → (r >>= f) ≡ Err d
+stops r f d e = ap (λ s. s >>= f) e
+
+-- a step that failed decides
+pub fails_then : {A B : Type 0} (error : TextError) (r : Result A Fault) (f : A → Result B Fault) → Fails error r → Fails error (r >>= f)
+fails_then errors.Memory r f h = tt
+fails_then (errors.Fault fault) (Ok x) f h = cc
+fails_then (errors.Fault fault) (Err d) f h = cc
+
+-- the same within a line
+pub fails_in_line : {A B : Type 0} (n : ℕ) (error : TextError) (r : Result A Cause) (f : A → Result B Cause) → Fails error (in_line n r) → Fails error (in_line n (r >>= f))
+fails_in_line n errors.Memory r f h = tt
+fails_in_line n (errors.Fault fault) (Ok x) f h = cc
+fails_in_line n (errors.Fault fault) (Err d) f h = cc
+
+-- a line that is read is read, whatever its number
 pub in_line_ok : {A : Type 0} (n : ℕ) (r : Result A Cause) (x : A) → in_line n r ≡ Ok x → r ≡ Ok x
 in_line_ok n (Ok y) x e = cc
 in_line_ok n (Err d) x e = cc

@@ -1,5 +1,11 @@
 pub mod Adding
+pub mod CapacityLine
+pub mod CommandLines
 pub mod Commands
+pub mod CommandsAgain
+pub mod FirstFault
+pub mod InstanceLine
 pub mod Numbers
 pub mod Read
+pub mod Spacing
 pub mod Steps

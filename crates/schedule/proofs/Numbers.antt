@@ -12,7 +12,7 @@ number_grows n [] = omega arith
 number_grows n (b ∷ bs) = let rest = number_grows (10 * n + (b - 48)) bs in omega (arith, rest)
 
 -- a number of two digits or more doesn't begin with 0
-above_zero : (a l : ℕ) (digit others : Bool) → (digit && others && (eqb l 0 || not (eqb a 48))) ≡ true → digit ≡ leb 48 a && leb a 57 → 1 ≤ l → 49 ≤ a
+pub above_zero : (a l : ℕ) (digit others : Bool) → (digit && others && (eqb l 0 || not (eqb a 48))) ≡ true → digit ≡ leb 48 a && leb a 57 → 1 ≤ l → 49 ≤ a
 above_zero a l digit others e is long =
     let parts = and_parts (digit && others) (eqb l 0 || not (eqb a 48)) e in
     let front = and_parts digit others parts.0 in

@@ -12,3 +12,4 @@ pub mod Keywords
 pub mod Meaning
 pub mod Plans
 pub mod Reading
+pub mod ScheduleText

@@ -1,9 +1,10 @@
 -- A schedule's text, line by line from the top: the plan that it says, or the first fault.
-use Rattle.std.specs.Prelude.{ℕ, ◌+◌, ◌==◌, List, [], ◌∷◌, length, Result, Ok, Err, if◌then◌else◌}
+use Rattle.std.specs.Prelude.{◌≡◌, ℕ, ◌+◌, ◌==◌, List, [], ◌∷◌, ◌++◌, length, Result, Ok, Err, if◌then◌else◌}
 use Rattle.msc_text.specs.Faults.{◌>>=◌, in_line}
 use Rattle.msc_text.specs.Lines.{lines_of, end_of}
+use Rattle.msc_text.specs.declared.fault.Cause.{Cause}
 use Rattle.msc_text.specs.declared.fault.Fault.{Fault}
-use Rattle.msc_text.specs.declared.fault.Fault.TheVariants.{Unfinished}
+use Rattle.msc_text.specs.declared.fault.Fault.TheVariants.{Line, Unfinished}
 use Rattle.schedule.specs.Deeds.{deed_of}
 use Rattle.schedule.specs.FirstLines.{names_of, capacity_of}
 use Rattle.schedule.specs.Plans.{Plan}
@@ -47,3 +48,7 @@ schedule_of bytes = do
   capacity ← in_line 2 (capacity_of second.0)
   commands ← commands_of names second.1 (end_of bytes)
   Ok (record { names = names; capacity = capacity; commands = commands })
+
+-- the first faulty line decides, whatever follows the text
+abbrev pub FirstFaultLaw : Type 0
+FirstFaultLaw = (a b : List ℕ) (n : ℕ) (c : Cause) → schedule_of a ≡ Err (Line n c) → schedule_of (a ++ b) ≡ Err (Line n c)

@@ -8,6 +8,7 @@ mod command;
 mod deed;
 mod first_lines;
 mod keyword;
+pub mod laws;
 mod reading;
 mod schedule;
 

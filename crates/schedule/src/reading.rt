@@ -1,8 +1,10 @@
 //! Reads a schedule's text.
-ghost use Rattle.std.specs.Prelude.{◌≡◌, ◌<◌, length, IfOk};
+ghost use Rattle.std.specs.Prelude.{◌≡◌, ◌<◌, length, IfOk, Ok};
 ghost use Rattle.msc_text.specs.Faults.{Gives};
 ghost use Rattle.msc_text.specs.Lines.{lines_of, end_of};
+ghost use Rattle.schedule.specs.Plans.{Plan};
 ghost use Rattle.schedule.specs.Reading.{next_of, commands_of, schedule_of};
+ghost use Rattle.schedule.specs.ScheduleText.{schedule_text, HasText};
 
 use crate::command::Command;
 use crate::deed::deed_in;
@@ -77,6 +79,8 @@ impl Schedule {
     /// that is no instance's, and F13 an instance as its own partner. Where no line has a fault, F21 refuses a text
     /// whose first two lines are not whole, or with bytes behind the last line feed. F6 may come at any point.
     pub fn read(alloc: Global, bytes: &[u8]) -> Result<Schedule, TextError>
+        ensures found { IfOk result (λ s. HasText s × (bytes.now ≡ schedule_text s)) }
+        ensures only { (p : Plan) → HasText p → bytes.now ≡ schedule_text p → Gives (λ s. s) result (Ok p) }
         ensures exact { Gives (λ s. s) result (schedule_of bytes.now) }
     {
         let (names, capacity, commands) = parts_in(alloc, bytes)?;

@@ -1,0 +1,220 @@
+-- A command's line: what is read is spelled so, and what is spelled so is read. Laws about lists alone.
+use Rattle.std.proofs.Common.{◌≡◌, ◌≢◌, ℕ, suc, ◌+◌, ◌≤◌, Bool, true, false, cond, eqb, List, [], ◌∷◌, length, map, Option, Some, None, Result, Ok, Err, All, refl, sym, ap, ◌∙◌, subst, inl, inr, not, ◌||◌}
+use Rattle.std.specs.Prelude.{codes, bytes_eq}
+use Rattle.std.specs.List.{AllByRecursion}
+use Rattle.std.proofs.lemmas.Bool.{eqb-false, ne_eqb, cond-false}
+use Rattle.chart.specs.Names.{IsName, instance_of}
+use Rattle.chart.specs.NameSets.{AreNames}
+use Rattle.msc_text.specs.ChartText.{name_at}
+use Rattle.msc_text.specs.Faults.{◌>>=◌, in_line}
+use Rattle.msc_text.specs.Lines.{words_of, name_or_cause, Lacks}
+use Rattle.msc_text.specs.declared.fault.Cause.{Cause}
+use Rattle.msc_text.specs.declared.fault.Cause.TheVariants.{Syntax, ToItself}
+use Rattle.msc_text.proofs.Lookups.{IsNamed, instance_is, instance_again, name_at_all, same_bytes}
+use Rattle.msc_text.proofs.Parts.{lacks_if}
+use Rattle.msc_text.proofs.Results.{bind_ok, bind_at, guard_ok, in_line_ok, name_is, name_again, name_some}
+use Rattle.schedule.specs.Deeds.{Deed, known, known_of, pair_of, partners_of, send_of, receive_of, close_of, alone_of, by_two, by_three, deed_by, deed_of}
+use Rattle.schedule.specs.Keywords.{is_send, is_receive, is_any, is_close, is_concurrent, is_endconcurrent}
+use Rattle.schedule.specs.Plans.{IsAmong, HasPartner}
+use Rattle.schedule.specs.Reading.{command_at, commands_from}
+use Rattle.schedule.specs.ScheduleText.{action_words, command_line, spaced, AreNumbered, CanBeNamed, CanBeSpelled}
+use Rattle.schedule.specs.declared.command.Action.{Action}
+use Rattle.schedule.specs.declared.command.Action.TheVariants.{Send, Receive, Any, Close, Open, Shut}
+use Rattle.schedule.specs.declared.command.Command.{Command}
+use Rattle.schedule.proofs.Spacing.{IsPlain, ArePlain, plain_name, spaced_again, spaced_lacks, is_spaced}
+use Rattle.schedule.proofs.Steps.{when_ok, chosen, ok_is}
+
+-- ---- what is read is spelled so
+
+-- the words say the deed, which is one of the instances' and can be spelled
+record Says (names words : List (List ℕ)) (deed : Deed) : Type 0 where
+  pub among : (deed.0 ≤ length names) × HasPartner (length names) deed.0 deed.1
+  pub spelled : (1 ≤ deed.0) × CanBeNamed deed.1
+  pub are : words ≡ name_at names deed.0 ∷ action_words names deed.1
+
+-- two instances of these names, which are not the same
+record ArePartners (names : List (List ℕ)) (x y : List ℕ) (pair : ℕ × ℕ) : Type 0 where
+  pub actor : IsNamed names x pair.0
+  pub partner : IsNamed names y pair.1
+  pub other : pair.0 ≢ pair.1
+
+known-some : (o : Option ℕ) (p : ℕ) → known o ≡ Ok p → o ≡ Some p
+known-some None p e = absurd cc
+known-some (Some i) p e = ap Some (ok_is i p e)
+
+-- an instance that is known has the name
+known_of-named : (names : List (List ℕ)) (name : List ℕ) (p : ℕ) → known_of names name ≡ Ok p → IsNamed names name p
+unfolding known_of
+known_of-named names name p e = instance_is names name p (known-some (instance_of names name) p e)
+
+pair_of-partners : (names : List (List ℕ)) (x y : List ℕ) (pair : ℕ × ℕ) → pair_of names x y ≡ Ok pair → ArePartners names x y pair
+unfolding pair_of
+pair_of-partners names x y pair e =
+    let a = bind_ok (known_of names x) (λ by. known_of names y >>= λ to. cond (eqb by to) (Err ToItself) (Ok (by, to))) pair e in
+    let b = bind_ok (known_of names y) (λ to. cond (eqb a.0 to) (Err ToItself) (Ok (a.0, to))) pair a.2 in
+    let g = guard_ok (eqb a.0 b.0) ToItself (Ok (a.0, b.0)) pair b.2 in
+    subst (ArePartners names x y) (ok_is (a.0, b.0) pair g.1)
+    (record { actor = known_of-named names x a.0 a.1; partner = known_of-named names y b.0 b.1; other = eqb-false a.0 b.0 g.0 })
+
+-- the same where the names are read from words
+partners-read : (names : List (List ℕ)) (x y a b : List ℕ) (pair : ℕ × ℕ) → name_or_cause x ≡ Ok a → name_or_cause y ≡ Ok b → pair_of names a b ≡ Ok pair → ArePartners names x y pair
+partners-read names x y a b pair p q e =
+    subst (λ v. ArePartners names v y pair) (name_is x a p).0 (subst (λ v. ArePartners names a v pair) (name_is y b q).0 (pair_of-partners names a b pair e))
+
+partners_of-partners : (names : List (List ℕ)) (x y : List ℕ) (pair : ℕ × ℕ) → partners_of names x y ≡ Ok pair → ArePartners names x y pair
+unfolding partners_of
+partners_of-partners names x y pair e =
+    let a = bind_ok (name_or_cause x) (λ actor. name_or_cause y >>= λ partner. pair_of names actor partner) pair e in
+    let b = bind_ok (name_or_cause y) (λ partner. pair_of names a.0 partner) pair a.2 in
+    partners-read names x y a.0 b.0 pair a.1 b.1 b.2
+
+same_two : {x x' k : List ℕ} {words : List (List ℕ)} → x' ≡ x → words ≡ k ∷ [] → x ∷ k ∷ [] ≡ x' ∷ words
+same_two p q = cc
+
+same_three : {x x' k y y' : List ℕ} {words others : List (List ℕ)} → x' ≡ x → y' ≡ y → words ≡ k ∷ y' ∷ others → x ∷ k ∷ y ∷ others ≡ x' ∷ words
+same_three p q r = cc
+
+-- an action with a partner
+partner-says : (names : List (List ℕ)) (x k y : List ℕ) (others : List (List ℕ)) (r : Result (ℕ × ℕ) Cause) (action : ℕ → Action) (deed : Deed)
+    → ((q : ℕ) → action_words names (action q) ≡ k ∷ name_at names q ∷ others)
+    → ((p q : ℕ) → q ≤ length names → p ≢ q → HasPartner (length names) p (action q))
+    → ((q : ℕ) → 1 ≤ q → CanBeNamed (action q))
+    → ((pair : ℕ × ℕ) → r ≡ Ok pair → ArePartners names x y pair)
+    → (r >>= λ pair. Ok (pair.0, action pair.1)) ≡ Ok deed → Says names (x ∷ k ∷ y ∷ others) deed
+partner-says names x k y others r action deed words has can are e =
+    let a = bind_ok r (λ pair. Ok (pair.0, action pair.1)) deed e in
+    let two = are a.0 a.1 in
+    subst (Says names (x ∷ k ∷ y ∷ others)) (ok_is (a.0.0, action a.0.1) deed a.2) (record {
+      among = (two.actor.last, has a.0.0 a.0.1 two.partner.last two.other);
+      spelled = (two.actor.first, can a.0.1 two.partner.first);
+      are = same_three two.actor.has two.partner.has (words a.0.1);
+    })
+
+send_words : {v m : List ℕ} (names : List (List ℕ)) (q : ℕ) → v ≡ m → action_words names (Send q v) ≡ codes "send" ∷ name_at names q ∷ m ∷ []
+send_words names q e = ap (λ v. action_words names (Send q v)) e
+
+send_of-says : (names : List (List ℕ)) (x y m : List ℕ) (deed : Deed) → send_of names x y m ≡ Ok deed → Says names (x ∷ codes "send" ∷ y ∷ m ∷ []) deed
+unfolding send_of
+send_of-says names x y m deed e =
+    let a = bind_ok (name_or_cause x) (λ actor. name_or_cause y >>= λ partner. name_or_cause m >>= λ name. pair_of names actor partner >>= λ pair. Ok (pair.0, Send pair.1 name)) deed e in
+    let b = bind_ok (name_or_cause y) (λ partner. name_or_cause m >>= λ name. pair_of names a.0 partner >>= λ pair. Ok (pair.0, Send pair.1 name)) deed a.2 in
+    let c = bind_ok (name_or_cause m) (λ name. pair_of names a.0 b.0 >>= λ pair. Ok (pair.0, Send pair.1 name)) deed b.2 in
+    let message = name_is m c.0 c.1 in
+    partner-says names x (codes "send") y (m ∷ []) (pair_of names a.0 b.0) (λ q. Send q c.0) deed
+    (λ q. send_words {v = c.0} {m = m} names q message.0)
+    (λ p q within other. (within, other))
+    (λ q first. (first, subst IsName (sym message.0) message.1))
+    (λ pair. partners-read names x y a.0 b.0 pair a.1 b.1) c.2
+
+receive_of-says : (names : List (List ℕ)) (x y : List ℕ) (deed : Deed) → receive_of names x y ≡ Ok deed → Says names (x ∷ codes "receive" ∷ y ∷ []) deed
+unfolding receive_of
+receive_of-says names x y deed e =
+    partner-says names x (codes "receive") y [] (partners_of names x y) (λ q. Receive q) deed (λ q. refl) (λ p q within other. (within, other)) (λ q first. first) (partners_of-partners names x y) e
+
+close_of-says : (names : List (List ℕ)) (x y : List ℕ) (deed : Deed) → close_of names x y ≡ Ok deed → Says names (x ∷ codes "close" ∷ y ∷ []) deed
+unfolding close_of
+close_of-says names x y deed e =
+    partner-says names x (codes "close") y [] (partners_of names x y) (λ q. Close q) deed (λ q. refl) (λ p q within other. (within, other)) (λ q first. first) (partners_of-partners names x y) e
+
+-- an action with no partner
+alone_of-says : (names : List (List ℕ)) (x k : List ℕ) (action : Action) (deed : Deed) → action_words names action ≡ k ∷ [] → ((p : ℕ) → HasPartner (length names) p action) → CanBeNamed action → alone_of names x action ≡ Ok deed
+    → Says names (x ∷ k ∷ []) deed
+unfolding alone_of
+alone_of-says names x k action deed words has can e =
+    let a = bind_ok (name_or_cause x) (λ actor. known_of names actor >>= λ by. Ok (by, action)) deed e in
+    let b = bind_ok (known_of names a.0) (λ by. Ok (by, action)) deed a.2 in
+    let by = known_of-named names a.0 b.0 b.1 in
+    subst (Says names (x ∷ k ∷ [])) (ok_is (b.0, action) deed b.2)
+    (record { among = (by.last, has b.0); spelled = (by.first, can); are = same_two (by.has ∙ (name_is x a.0 a.1).0) words })
+
+-- a line of two words
+by_two-says : (names : List (List ℕ)) (x k : List ℕ) (deed : Deed) → by_two names x k ≡ Ok deed → Says names (x ∷ k ∷ []) deed
+unfolding by_two is_any is_concurrent is_endconcurrent
+by_two-says names x k deed e =
+    elim (chosen (is_any k) (alone_of names x Any) (cond (is_concurrent k) (alone_of names x Open) (cond (is_endconcurrent k) (alone_of names x Shut) (Err Syntax))) (Ok deed) e) [
+      | inl any ↦ keyword (codes "any") any.0 (alone_of-says names x (codes "any") Any deed refl (λ p. tt) tt any.1)
+      | inr a ↦ elim (chosen (is_concurrent k) (alone_of names x Open) (cond (is_endconcurrent k) (alone_of names x Shut) (Err Syntax)) (Ok deed) a.1) [
+        | inl open_it ↦ keyword (codes "concurrent") open_it.0 (alone_of-says names x (codes "concurrent") Open deed refl (λ p. tt) tt open_it.1)
+        | inr b ↦ let shut = when_ok (is_endconcurrent k) Syntax (alone_of names x Shut) deed b.1 in keyword (codes "endconcurrent") shut.0 (alone_of-says names x (codes "endconcurrent") Shut deed refl (λ p. tt) tt shut.1)
+      ]
+    ]
+  where
+    keyword : (word : List ℕ) → bytes_eq k word ≡ true → Says names (x ∷ word ∷ []) deed → Says names (x ∷ k ∷ []) deed
+    keyword word same says = subst (λ w. Says names (x ∷ w ∷ []) deed) (sym (same_bytes k word same)) says
+
+-- of three
+by_three-says : (names : List (List ℕ)) (x k y : List ℕ) (deed : Deed) → by_three names x k y ≡ Ok deed → Says names (x ∷ k ∷ y ∷ []) deed
+unfolding by_three is_receive is_close
+by_three-says names x k y deed e =
+    elim (chosen (is_receive k) (receive_of names x y) (cond (is_close k) (close_of names x y) (Err Syntax)) (Ok deed) e) [
+      | inl a ↦ keyword (codes "receive") a.0 (receive_of-says names x y deed a.1)
+      | inr b ↦ let close = when_ok (is_close k) Syntax (close_of names x y) deed b.1 in keyword (codes "close") close.0 (close_of-says names x y deed close.1)
+    ]
+  where
+    keyword : (word : List ℕ) → bytes_eq k word ≡ true → Says names (x ∷ word ∷ y ∷ []) deed → Says names (x ∷ k ∷ y ∷ []) deed
+    keyword word same says = subst (λ w. Says names (x ∷ w ∷ y ∷ []) deed) (sym (same_bytes k word same)) says
+
+last_test : (x y z w : Bool) → (x || y || z || not w) ≡ false → w ≡ true
+last_test true y z w e = cc
+last_test false true z w e = cc
+last_test false false true w e = cc
+last_test false false false true e = refl
+last_test false false false false e = cc
+
+-- of four
+by_four-says : (names : List (List ℕ)) (x k y m : List ℕ) (deed : Deed) → deed_by names (x ∷ k ∷ y ∷ m ∷ []) ≡ Ok deed → Says names (x ∷ k ∷ y ∷ m ∷ []) deed
+unfolding is_send
+by_four-says names x k y m deed e =
+    let g = guard_ok (eqb (length x) 0 || eqb (length y) 0 || eqb (length m) 0 || not (is_send k)) Syntax (send_of names x y m) deed e in
+    let same = same_bytes k (codes "send") (last_test (eqb (length x) 0) (eqb (length y) 0) (eqb (length m) 0) (is_send k) g.0) in
+    subst (λ w. Says names (x ∷ w ∷ y ∷ m ∷ []) deed) (sym same) (send_of-says names x y m deed g.1)
+
+-- of any number
+deed_by-says : (names words : List (List ℕ)) (deed : Deed) → deed_by names words ≡ Ok deed → Says names words deed
+deed_by-says names [] deed e = absurd cc
+deed_by-says names (x ∷ []) deed e = absurd cc
+deed_by-says names (x ∷ k ∷ []) deed e = by_two-says names x k deed (guard_ok (eqb (length x) 0) Syntax (by_two names x k) deed e).1
+deed_by-says names (x ∷ k ∷ y ∷ []) deed e = by_three-says names x k y deed (guard_ok (eqb (length x) 0 || eqb (length y) 0) Syntax (by_three names x k y) deed e).1
+deed_by-says names (x ∷ k ∷ y ∷ m ∷ []) deed e = by_four-says names x k y m deed e
+deed_by-says names (x ∷ k ∷ y ∷ m ∷ z ∷ words) deed e = absurd cc
+
+-- the commands are of the instances, can be spelled, and are numbered from n, and the lines say them
+pub record AreSaid (names : List (List ℕ)) (n : ℕ) (lines : List (List ℕ)) (commands : List Command) : Type 0 where
+  pub among : AllByRecursion (IsAmong (length names)) commands
+  pub spelled : AllByRecursion CanBeSpelled commands
+  pub numbered : AreNumbered n commands
+  pub are : lines ≡ map (command_line names) commands
+
+-- one command
+record IsSaid (names : List (List ℕ)) (n : ℕ) (line : List ℕ) (command : Command) : Type 0 where
+  pub among : IsAmong (length names) command
+  pub spelled : CanBeSpelled command
+  pub numbered : command.line ≡ n
+  pub is : line ≡ command_line names command
+
+command_at-said : (names : List (List ℕ)) (n : ℕ) (line : List ℕ) (command : Command) → command_at names n line ≡ Ok command → IsSaid names n line command
+unfolding command_at deed_of
+command_at-said names n line command e =
+    let a = bind_ok (in_line n (deed_of names line)) (λ deed. Ok (record { line = n; actor = deed.0; action = deed.1 })) command e in
+    let says = deed_by-says names (words_of line) a.0 (in_line_ok n (deed_of names line) a.0 a.1) in
+    subst (IsSaid names n line) (ok_is (record { line = n; actor = a.0.0; action = a.0.1 }) command a.2)
+    (record { among = says.among; spelled = says.spelled; numbered = refl; is = is_spaced line ∙ ap spaced says.are })
+
+-- line after line
+pub commands_from-said : (names : List (List ℕ)) (n : ℕ) (lines : List (List ℕ)) (commands : List Command) → commands_from names n lines ≡ Ok commands → AreSaid names n lines commands
+unfolding commands_from
+commands_from-said names n [] commands e = subst (AreSaid names n []) (ok_is [] commands e) (record { among = tt; spelled = tt; numbered = tt; are = refl })
+commands_from-said names n (line ∷ lines) commands e =
+    let a = bind_ok (command_at names n line) (λ command. commands_from names (n + 1) lines >>= λ others. Ok (command ∷ others)) commands e in
+    let b = bind_ok (commands_from names (n + 1) lines) (λ others. Ok (a.0 ∷ others)) commands a.2 in
+    let one = command_at-said names n line a.0 a.1 in
+    let more = commands_from-said names (n + 1) lines b.0 b.1 in
+    subst (AreSaid names n (line ∷ lines)) (ok_is (a.0 ∷ b.0) commands b.2) (record {
+      among = (one.among, more.among);
+      spelled = (one.spelled, more.spelled);
+      numbered = (one.numbered, more.numbered);
+      are = same_lines one.is more.are;
+    })
+  where
+    same_lines : {x y : List ℕ} {xs ys : List (List ℕ)} → x ≡ y → xs ≡ ys → x ∷ xs ≡ y ∷ ys
+    same_lines p q = cc
