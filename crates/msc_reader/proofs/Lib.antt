@@ -1,3 +1,7 @@
 pub mod Drawings
 pub mod Looks
+pub mod Moves
 pub mod NewNames
+pub mod Sayings
+pub mod SayingsAgain
+pub mod Semicolons
