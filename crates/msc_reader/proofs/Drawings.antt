@@ -30,7 +30,7 @@ pushed_ok line more m e =
 greater-suc : (c g : ℕ) → greater (suc c) g ≡ suc c
 greater-suc c g = rw (ne_eqb (suc c) 0 (omega arith)) refl
 
-greater-most : (region : ℕ) (line : List Mark) → MayHaveRegion line region → greater region (greatest_region line) ≡ max (greatest_region line) region
+pub greater-most : (region : ℕ) (line : List Mark) → MayHaveRegion line region → greater region (greatest_region line) ≡ max (greatest_region line) region
 greater-most zero line may = omega arith
 greater-most (suc c) line (inl none) = absurd (omega arith)
 greater-most (suc c) line (inr (inl next)) = greater-suc c (greatest_region line) ∙ omega arith

@@ -1,7 +1,12 @@
+pub mod Coregions
 pub mod Drawings
+pub mod Found
 pub mod Looks
 pub mod Moves
 pub mod NewNames
+pub mod Onward
 pub mod Sayings
 pub mod SayingsAgain
 pub mod Semicolons
+pub mod Standing
+pub mod TextSayings

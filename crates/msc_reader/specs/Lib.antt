@@ -6,6 +6,7 @@ pub use Rattle.msc_text.specs.ChartText
 pub use Rattle.msc_text.specs.Faults
 pub use Rattle.msc_text.specs.Lines
 pub mod Drawings
+pub mod HasText
 pub mod Keywords
 pub mod Reading
 pub mod Steps
