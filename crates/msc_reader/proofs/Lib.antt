@@ -1,3 +1,5 @@
+pub mod ChartPaths
+pub mod EventPaths
 pub mod Coregions
 pub mod Drawings
 pub mod Found
@@ -5,6 +7,7 @@ pub mod Looks
 pub mod Moves
 pub mod NewNames
 pub mod Onward
+pub mod Paths
 pub mod Sayings
 pub mod SayingsAgain
 pub mod Semicolons

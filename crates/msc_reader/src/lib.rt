@@ -6,3 +6,5 @@ mod keyword;
 mod place;
 mod reading;
 mod step;
+
+pub use reading::read;

@@ -1,8 +1,10 @@
 //! Charts' texts, read whole: two looks at their lines.
 ghost use Rattle.std.specs.Prelude.{◌≡◌, [], IfOk};
 ghost use Rattle.chart.specs.Charts.{IsNumbered};
+ghost use Rattle.msc_text.specs.ChartText.{chart_text};
 ghost use Rattle.msc_text.specs.Faults.{Gives, in_line};
 ghost use Rattle.msc_text.specs.Lines.{lines_of, end_of};
+ghost use Rattle.msc_reader.specs.HasText.{HasText};
 ghost use Rattle.msc_reader.specs.Reading.{with_name, names_after, finished, names_in, lines_in, chart_of};
 
 use crate::drawing::{Drawing, at, at_line};
@@ -91,13 +93,7 @@ fn lines_in(alloc: Global, names: &Names, bytes: &[u8]) -> Result<Vec<Line>, Tex
     }
 }
 
-/// The names and the chart that the text says, or its first fault.
-///
-/// The lines are looked at from the top. A line is refused by F20 where it has no form that its place allows. Then the
-/// first of F1 to F4 that applies refuses a word that is no name; F22 an instance's name that was given before and F8 the
-/// 33rd; F13 an event whose partner is its own instance and F7 the 4,097th of a line; F8 the end of a chart of fewer
-/// than two instances; and F20 whatever follows the end. Where no line has a fault and the chart didn't end, the answer
-/// is F21. Last, F23 refuses the first event whose partner is no instance. F6 may come at any point.
+/// Both looks.
 #[tactic(auto, unfolding(crate::specs::Reading::chart_of))]
 fn parts_in(alloc: Global, bytes: &[u8]) -> Result<(Names, Vec<Line>), TextError>
     ensures parts { Gives (λ parts. (parts.0, parts.1.items)) result (chart_of bytes.now) }
@@ -106,4 +102,23 @@ fn parts_in(alloc: Global, bytes: &[u8]) -> Result<(Names, Vec<Line>), TextError
     let names = names_in(alloc, bytes)?;
     let lines = lines_in(alloc, &names, bytes)?;
     Ok((names, lines))
+}
+
+/// The names and the chart that the text says, or its first fault. It takes time in proportion to the text.
+///
+/// The lines are looked at from the top. F20 refuses a line that has no form that its place allows. Then the first of F1
+/// to F4 that applies refuses a word that is no name, F22 an instance's name that was given before, F8 the 33rd instance,
+/// F13 an event whose partner is its own instance, F7 the 4,097th event of an instance, F8 the end of a chart of fewer
+/// than two instances, and F20 whatever follows the end. Where no line has a fault and the chart didn't end, the answer
+/// is F21. Last, at a second look from the top, F23 refuses the first event whose partner is no instance. F6 may come at
+/// any point.
+pub fn read(alloc: Global, bytes: &[u8]) -> Result<(Names, Chart), TextError>
+    ensures found { IfOk result (λ read. HasText read.0 read.1 × (bytes.now ≡ chart_text read.0 read.1)) }
+    ensures exact { Gives (λ read. (read.0, read.1)) result (chart_of bytes.now) }
+{
+    let (names, lines) = parts_in(alloc, bytes)?;
+    match Chart::new(lines) {
+        Ok(chart) => Ok((names, chart)),
+        Err(_) => unreachable!(),
+    }
 }
