@@ -1,11 +1,11 @@
 -- The lines of a chart's text, as both looks pass them: what is spelled is read.
 use Rattle.std.proofs.Common.{◌≡◌, ◌≢◌, ℕ, zero, suc, ◌+◌, ◌<◌, ◌≤◌, Bool, true, false, cond, nat_lt, List, [], ◌∷◌, ◌++◌, length, map, take, get_or, All, Contains, Option, Some, None, Result, Ok, Err, refl, sym, ap, ◌∙◌, subst, arith, append_assoc, append-nil, length-append}
-use Rattle.std.specs.Prelude.{slice_get}
+use Rattle.std.specs.Prelude.{slice_get, unwrap_or}
 use Rattle.std.specs.List.{flat_map, AllByRecursion}
 use Rattle.std.proofs.Math.Seq.{take-append_seam}
-use Rattle.std.proofs.lemmas.Bool.{lt-leb}
+use Rattle.std.proofs.lemmas.Bool.{lt-leb, le-ltb}
 use Rattle.std.proofs.lemmas.List.Elements.{recursion_from_All}
-use Rattle.std.proofs.lemmas.Option.{slice_get-get_or}
+use Rattle.std.proofs.lemmas.Option.{slice_get-get_or, slice_get_within, get_or_from_slice_get}
 use Rattle.chart.proofs.Places.{slice_get-append}
 use Rattle.chart.specs.Charts.{LineView, IsLine, IsChart, HasPartners, IsNumbered}
 use Rattle.chart.specs.Marks.{partner_of, name_of, region_of, greatest_region, MayHaveRegion, HasRegionsInOrder}
@@ -124,3 +124,105 @@ spot_start = record { begun = []; place = places.Start; drawing = blank }
 
 abbrev spot_done : List (List ℕ) → List LineView → Spot
 spot_done names lines = record { begun = names; place = places.Done; drawing = record { lines = lines; line = None; open_region = 0; greatest = 0 } }
+
+-- ---- what has a text has such parts
+
+each-index : {X : Type 0} (P : X → Type 0) (xs : List X) → ((i : ℕ) (x : X) → slice_get xs i ≡ Some x → P x) → AllByRecursion P xs
+each-index P [] f = tt
+each-index P (x ∷ xs) f = (f zero x refl, each-index P xs (λ i y e. f (suc i) y e))
+
+all-at : {X : Type 0} (P : X → Type 0) (xs : List X) (i : ℕ) (x : X) → All P xs → slice_get xs i ≡ Some x → P x
+all-at P xs i x h e = subst P (get_or_from_slice_get xs i x x e) (h i x (slice_get_within xs i x e))
+
+may-follow : (all front rest : List Mark) → front ++ rest ≡ all → HasRegionsInOrder all → MayFollow front rest
+may-follow all front [] is h = tt
+may-follow all front (m ∷ rest) is h =
+    let here : slice_get all (length front) ≡ Some m = ap (λ l. slice_get l (length front)) (sym is) ∙ slice_get-seam front m rest in
+    let before : take (length front) all ≡ front = ap (take (length front)) (sym is) ∙ take-append_seam front (m ∷ rest) in
+    (subst (λ l. MayHaveRegion l (region_of m)) before (h (length front) m here), may-follow all (front ++ m ∷ []) rest (append_assoc front (m ∷ []) rest ∙ is) h)
+
+some_is : (x y : ℕ) → Some x ≡ Some y → x ≡ y
+some_is x y e = cc
+
+-- an event of the line of the instance p
+spelled-mark : (names : List (List ℕ)) (own : List ℕ) (p : ℕ) (m : Mark) → AreNames names → All IsName names → 1 ≤ p → p ≤ length names → name_at names p ≡ own → CanBeSpelled m → partner_of m ≤ length names → partner_of m ≢ p → IsSpelled names own p m
+spelled-mark names own p m are each first last owner can within other =
+    let found = instance_again names (partner_of m) are can.0 within in
+    let own_found : instance_of names own ≡ Some p = ap (instance_of names) (sym owner) ∙ instance_again names p are first last in
+    record {
+      partner_name = name_at_all IsName names (partner_of m) each can.0 within;
+      message_name = can.1;
+      other_name = λ same. other (some_is (partner_of m) p (sym found ∙ ap (instance_of names) same ∙ own_found));
+      found = found;
+      other = other;
+    }
+
+is_part : (names : List (List ℕ)) (lines : List LineView) (i : ℕ) (own : List ℕ) (line : LineView) → HasText names lines → slice_get names i ≡ Some own → slice_get lines i ≡ Some line → IsPart names own i line
+is_part names lines i own line h here there =
+    let next : line.instance ≡ suc i = h.chart.numbered i line there in
+    let below : i < length names = slice_get_within names i own here in
+    let owner : name_at names line.instance ≡ own = ap (name_at names) next ∙ ap (λ o. unwrap_or o []) here in
+    let line_is = all-at IsLine lines i line h.chart.each there in
+    let within = all-at (λ l. All (λ m. partner_of m ≤ length lines) l.events) lines i line h.chart.partners there in
+    let can = all-at (λ l. All CanBeSpelled l.events) lines i line h.events there in
+    let same : length names ≡ length lines = h.same in
+    let mark : (k : ℕ) (m : Mark) → slice_get line.events k ≡ Some m → IsSpelled names own line.instance m = λ k m e.
+      (let limit : partner_of m ≤ length lines = all-at (λ x. partner_of x ≤ length lines) line.events k m within e in
+      spelled-mark names own line.instance m h.names_are h.each (omega arith) (omega arith) owner (all-at CanBeSpelled line.events k m can e) (omega arith) (line_is.partners k m e)) in
+    record {
+      next = next;
+      owner = owner;
+      name = all-at IsName names i own h.each here;
+      spelled = each-index (IsSpelled names own line.instance) line.events mark;
+      follow = may-follow line.events [] line.events refl line_is.regions;
+      short = line_is.short;
+    }
+
+are_parts : (names : List (List ℕ)) (lines : List LineView) (front back : List (List ℕ)) (done rest : List LineView) → HasText names lines → front ++ back ≡ names → done ++ rest ≡ lines → length front ≡ length done → AreParts names (length done) back rest
+are_parts names lines front [] done [] h is there many = tt
+are_parts names lines front [] done (line ∷ rest) h is there many =
+    let same : length names ≡ length lines = h.same in
+    absurd (omega (arith, ap length is, ap length there, length-append front [], length-append done (line ∷ rest)))
+are_parts names lines front (own ∷ back) done [] h is there many =
+    let same : length names ≡ length lines = h.same in
+    absurd (omega (arith, ap length is, ap length there, length-append front (own ∷ back), length-append done []))
+are_parts names lines front (own ∷ back) done (line ∷ rest) h is there many =
+    let here : slice_get names (length done) ≡ Some own = ap (slice_get names) (sym many) ∙ ap (λ l. slice_get l (length front)) (sym is) ∙ slice_get-seam front own back in
+    let at : slice_get lines (length done) ≡ Some line = ap (λ l. slice_get l (length done)) (sym there) ∙ slice_get-seam done line rest in
+    let count : length (done ++ line ∷ []) ≡ suc (length done) = omega (arith, length-append done (line ∷ [])) in
+    let others = are_parts names lines (front ++ own ∷ []) back (done ++ line ∷ []) rest h (append_assoc front (own ∷ []) back ∙ is) (append_assoc done (line ∷ []) rest ∙ there) (omega (arith, length-append front (own ∷ []), length-append done (line ∷ []))) in
+    (is_part names lines (length done) own line h here at, subst (λ k. AreParts names k back rest) count others)
+
+-- both looks pass the whole text
+chart_path : (names : List (List ℕ)) (lines : List LineView) → HasText names lines → Path names spot_start (chart_sayings names lines) (spot_done names lines)
+chart_path names lines h =
+    let start : Passes names spot_start sayings.Begin (spot_outside [] []) = record { moves = begins; adds = refl; draws = refl } in
+    let parts = parts_path names [] [] names lines h.names_are refl refl (are_parts names lines [] names [] lines h refl refl refl) in
+    let several = h.chart.several in
+    let same = h.same in
+    let end : Passes names (spot_outside names lines) sayings.End (spot_done names lines) = record { moves = ends; adds = ap (λ b. cond b (Err Instances) (Ok names)) (le-ltb (length names) 2 (omega arith)); draws = refl } in
+    pass start (path_then parts (one_pass end))
+
+lines_of-text : (names : List (List ℕ)) (lines : List LineView) → HasText names lines → lines_of (chart_text names lines) ≡ map saying_line (chart_sayings names lines)
+lines_of-text names lines h = ap lines_of (chart_text-is names lines) ∙ lines_again (map saying_line (chart_sayings names lines)) (path_lacks (chart_path names lines h))
+
+end_of-text : (names : List (List ℕ)) (lines : List LineView) → HasText names lines → end_of (chart_text names lines) ≡ []
+end_of-text names lines h = ap end_of (chart_text-is names lines) ∙ end_again (map saying_line (chart_sayings names lines)) (path_lacks (chart_path names lines h))
+
+names-again : (names : List (List ℕ)) (lines : List LineView) → HasText names lines → names_in (chart_text names lines) ≡ Ok names
+unfolding names_in
+names-again names lines h =
+    ap (λ l. look_from [] places.Start 1 l (end_of (chart_text names lines))) (lines_of-text names lines h)
+    ∙ ap (look_from [] places.Start 1 (map saying_line (chart_sayings names lines))) (end_of-text names lines h)
+    ∙ look_path 1 [] (chart_path names lines h)
+
+drawn-again : (names : List (List ℕ)) (lines : List LineView) → HasText names lines → lines_in names (chart_text names lines) ≡ Ok lines
+unfolding lines_in
+drawn-again names lines h = ap (draw_from names places.Start blank 1) (lines_of-text names lines h) ∙ draw_path 1 (chart_path names lines h)
+
+-- what is spelled is read
+pub chart-again : (names : List (List ℕ)) (lines : List LineView) → HasText names lines → chart_of (chart_text names lines) ≡ Ok (names, lines)
+unfolding chart_of
+chart-again names lines h =
+    let bytes = chart_text names lines in
+    bind_at (names_in bytes) (λ ns. lines_in ns bytes >>= λ ls. Ok (ns, ls)) names (names-again names lines h) ∙ bind_at (lines_in names bytes) (λ ls. Ok (names, ls)) lines (drawn-again names lines h)

@@ -64,9 +64,13 @@ names_in bytes = look_from [] Start 1 (lines_of bytes) (end_of bytes)
 unfoldable pub lines_in : List (List ℕ) → List ℕ → Result (List LineView) Fault
 lines_in names bytes = draw_from names Start blank 1 (lines_of bytes)
 
+-- both are what is read
+abbrev pub are_read : List (List ℕ) → List LineView → Result (List (List ℕ) × List LineView) Fault
+are_read names lines = Ok (names, lines)
+
 -- names and chart that the text says
 unfoldable pub chart_of : List ℕ → Result (List (List ℕ) × List LineView) Fault
 chart_of bytes = do
   names ← names_in bytes
   lines ← lines_in names bytes
-  Ok (names, lines)
+  are_read names lines

@@ -3,6 +3,7 @@
 
 mod drawing;
 mod keyword;
+pub mod laws;
 mod place;
 mod reading;
 mod step;

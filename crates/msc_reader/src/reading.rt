@@ -1,11 +1,11 @@
 //! Charts' texts, read whole: two looks at their lines.
-ghost use Rattle.std.specs.Prelude.{◌≡◌, [], IfOk};
-ghost use Rattle.chart.specs.Charts.{IsNumbered};
+ghost use Rattle.std.specs.Prelude.{◌≡◌, ℕ, List, [], IfOk};
+ghost use Rattle.chart.specs.Charts.{LineView, IsNumbered};
 ghost use Rattle.msc_text.specs.ChartText.{chart_text};
 ghost use Rattle.msc_text.specs.Faults.{Gives, in_line};
 ghost use Rattle.msc_text.specs.Lines.{lines_of, end_of};
 ghost use Rattle.msc_reader.specs.HasText.{HasText};
-ghost use Rattle.msc_reader.specs.Reading.{with_name, names_after, finished, names_in, lines_in, chart_of};
+ghost use Rattle.msc_reader.specs.Reading.{with_name, names_after, finished, names_in, lines_in, are_read, chart_of};
 
 use crate::drawing::{Drawing, at, at_line};
 use crate::place::{Place, Saying};
@@ -114,6 +114,8 @@ fn parts_in(alloc: Global, bytes: &[u8]) -> Result<(Names, Vec<Line>), TextError
 /// any point.
 pub fn read(alloc: Global, bytes: &[u8]) -> Result<(Names, Chart), TextError>
     ensures found { IfOk result (λ read. HasText read.0 read.1 × (bytes.now ≡ chart_text read.0 read.1)) }
+    ensures only { (names : List (List ℕ)) (lines : List LineView) → HasText names lines → bytes.now ≡ chart_text names lines
+        → Gives (λ read. (read.0, read.1)) result (are_read names lines) }
     ensures exact { Gives (λ read. (read.0, read.1)) result (chart_of bytes.now) }
 {
     let (names, lines) = parts_in(alloc, bytes)?;
