@@ -167,8 +167,8 @@ is_part names lines i own line h here there =
     let can = all-at (λ l. All CanBeSpelled l.events) lines i line h.events there in
     let same : length names ≡ length lines = h.same in
     let mark : (k : ℕ) (m : Mark) → slice_get line.events k ≡ Some m → IsSpelled names own line.instance m = λ k m e.
-      (let limit : partner_of m ≤ length lines = all-at (λ x. partner_of x ≤ length lines) line.events k m within e in
-      spelled-mark names own line.instance m h.names_are h.each (omega arith) (omega arith) owner (all-at CanBeSpelled line.events k m can e) (omega arith) (line_is.partners k m e)) in
+    (let limit : partner_of m ≤ length lines = all-at (λ x. partner_of x ≤ length lines) line.events k m within e in
+    spelled-mark names own line.instance m h.names_are h.each (omega arith) (omega arith) owner (all-at CanBeSpelled line.events k m can e) (omega arith) (line_is.partners k m e)) in
     record {
       next = next;
       owner = owner;

@@ -131,7 +131,7 @@ mark_path names begun own events lines line m h room many r last c is may = by r
         let within = last-within line.events in
         let other : suc r ≢ suc c = omega arith in
         let words : sayings.Shut ∷ sayings.Open ∷ said names m ∷ [] ≡ closing (suc r) (suc c) ++ (opening (suc r) (suc c) ++ said names m ∷ []) =
-          rw (closing-other (suc r) (suc c) other, closing-open (suc r) (omega arith), opening-new (suc r) (suc c) other (omega arith)) refl in
+        rw (closing-other (suc r) (suc c) other, closing-open (suc r) (omega arith), opening-new (suc r) (suc c) other (omega arith)) refl in
         shape _ _ words (pass (shut (suc r)) (pass (opened (suc c) next 0) (one_pass (event regions.Empty (suc c) is (receive_takes regions.Empty m c is)))))
     by (suc r) last (suc c) is (inr (inr same)) =
         let one : suc c ≡ suc r = same.2 ∙ sym last in

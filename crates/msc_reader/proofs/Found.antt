@@ -137,7 +137,7 @@ both_look names begun place d n (line ∷ lines) rest s e =
     let said = line-is place line l.step (in_line_ok n (step_of place line) l.step l.reads) in
     let outcome = onward p.later s said.0 l.adds p.is in
     let first : draw_from names place d n (line ∷ lines) ≡ (in_line n (drawn names d l.step.0) >>= λ more. draw_from names l.step.1 more (n + 1) lines) =
-      bind_at (in_line n (step_of place line)) (λ step. in_line n (drawn names d step.0) >>= λ more. draw_from names step.1 more (n + 1) lines) l.step l.reads in
+    bind_at (in_line n (step_of place line)) (λ step. in_line n (drawn names d step.0) >>= λ more. draw_from names step.1 more (n + 1) lines) l.step l.reads in
     subst (Drawn names place d (line ∷ lines) rest) (sym first) (by l said.1 (λ d2 t. both_look names l.more l.step.1 d2 (n + 1) lines rest t l.others) outcome)
   where
     by : (l : Looks begun place n line lines rest names) → (line ≡ saying_line l.step.0) → ((d2 : DrawingView) → State names l.more l.step.1 d2 → Drawn names l.step.1 d2 lines rest (draw_from names l.step.1 d2 (n + 1) lines)) → Outcome names l.more place l.step.1 d l.step.0

@@ -68,11 +68,14 @@ begin-on names begun more d s same =
     let none : length d.lines ≡ 0 = ap (λ x. length x.lines) blank_is in
     let no_names : length begun ≡ 0 = ap length s.stands.0 in
     let state : State names begun places.Outside d = record { are = s.are; each = s.each; numbered = s.numbered; among = s.among; stands = (ap (λ x. x.line) blank_is, no_names ∙ sym none) } in
-    inr (d, record {
-      is_drawn = refl;
-      state = subst (λ b. State names b places.Outside d) same state;
-      says = ap (λ x. sayings.Begin ∷ flat_map (part names) x.lines) blank_is;
-    })
+    inr (
+      d,
+      record {
+        is_drawn = refl;
+        state = subst (λ b. State names b places.Outside d) same state;
+        says = ap (λ x. sayings.Begin ∷ flat_map (part names) x.lines) blank_is;
+      },
+    )
 
 empty_line : (n p : ℕ) → IsLineAmong n (record { instance = p; events = [] })
 empty_line n p = record { line_is = record { short = omega arith; partners = λ i m e. absurd (cc); regions = λ i m e. absurd (cc) }; marks_are = tt }
@@ -96,11 +99,14 @@ head-on names begun more later own d name s e prefix =
       among = s.among;
       stands = (omega (arith, length-append begun (own ∷ [])), (line, inside));
     } in
-    inr (e, record {
-      is_drawn = ap (λ b. cond b (Err Instances) (Ok e)) (lt-leb MAX_INSTANCES (length d.lines) (omega arith));
-      state = subst (λ b. State names b (places.Inside own 0 regions.Closed) e) add.is state;
-      says = refl;
-    })
+    inr (
+      e,
+      record {
+        is_drawn = ap (λ b. cond b (Err Instances) (Ok e)) (lt-leb MAX_INSTANCES (length d.lines) (omega arith));
+        state = subst (λ b. State names b (places.Inside own 0 regions.Closed) e) add.is state;
+        says = refl;
+      },
+    )
 
 end-on : (names begun more : List (List ℕ)) (d : DrawingView) → State names begun places.Outside d → names_after begun sayings.End ≡ Ok more → Outcome names more places.Outside places.Done d sayings.End
 end-on names begun more d s e =
@@ -128,11 +134,14 @@ mark-on : {names begun : List (List ℕ)} {own : List ℕ} {events : ℕ} {regio
     → State names begun (places.Inside own events region) d → Pushes names own events region d line m → drawn names d saying ≡ with_mark d d.line m → said names m ≡ saying
     → Outcome names begun (places.Inside own events region) (places.Inside own (events + 1) (held region)) d saying
 mark-on {names} {begun} {own} {events} {region} {d} {line} {m} saying s p by is =
-    inr (more_drawn d line m, record {
-      is_drawn = by ∙ mark-drawn p;
-      state = record { are = s.are; each = s.each; numbered = s.numbered; among = s.among; stands = (s.stands.0, (more_line line m, mark-inside p)) };
-      says = mark-said p ∙ ap (λ x. so_far names (places.Inside own events region) d ++ x ∷ []) is;
-    })
+    inr (
+      more_drawn d line m,
+      record {
+        is_drawn = by ∙ mark-drawn p;
+        state = record { are = s.are; each = s.each; numbered = s.numbered; among = s.among; stands = (s.stands.0, (more_line line m, mark-inside p)) };
+        says = mark-said p ∙ ap (λ x. so_far names (places.Inside own events region) d ++ x ∷ []) is;
+      },
+    )
 
 send-on : (names begun : List (List ℕ)) (own to name : List ℕ) (events : ℕ) (d : DrawingView) (o : Option ℕ) → instance_of names to ≡ o → IsEvent own events to name → State names begun (places.Inside own events regions.Closed) d
     → Outcome names begun (places.Inside own events regions.Closed) (places.Inside own (events + 1) regions.Closed) d (sayings.Send to name)
@@ -186,11 +195,14 @@ open-on names begun own events d s =
     let inside = s.stands.1 in
     let line = inside.0 in
     let i = inside.1 in
-    inr (record d { open_region = d.greatest + 1 }, record {
-      is_drawn = refl;
-      state = region-state (d.greatest + 1) line s i (ap (λ g. g + 1) i.most);
-      says = said-on names own regions.Closed regions.Empty d line sayings.Open i.there refl;
-    })
+    inr (
+      record d { open_region = d.greatest + 1 },
+      record {
+        is_drawn = refl;
+        state = region-state (d.greatest + 1) line s i (ap (λ g. g + 1) i.most);
+        says = said-on names own regions.Closed regions.Empty d line sayings.Open i.there refl;
+      },
+    )
 
 shut-on : (names begun : List (List ℕ)) (own : List ℕ) (events : ℕ) (d : DrawingView) → State names begun (places.Inside own events regions.Held) d
     → Outcome names begun (places.Inside own events regions.Held) (places.Inside own events regions.Closed) d sayings.Shut
@@ -201,11 +213,14 @@ shut-on names begun own events d s =
     let opened = i.open_is in
     let last : last_from 0 line.events ≡ d.open_region = last_from-is line.events ∙ sym opened.2 in
     let begun_one : 0 < last_from 0 line.events = omega (arith, opened.0) in
-    inr (record d { open_region = 0 }, record {
-      is_drawn = refl;
-      state = region-state 0 line s i refl;
-      says = said-on names own regions.Held regions.Closed d line sayings.Shut i.there (closing-open (last_from 0 line.events) begun_one);
-    })
+    inr (
+      record d { open_region = 0 },
+      record {
+        is_drawn = refl;
+        state = region-state 0 line s i refl;
+        says = said-on names own regions.Held regions.Closed d line sayings.Shut i.there (closing-open (last_from 0 line.events) begun_one);
+      },
+    )
 
 foot-on : (names begun : List (List ℕ)) (own : List ℕ) (events : ℕ) (d : DrawingView) → State names begun (places.Inside own events regions.Closed) d
     → Outcome names begun (places.Inside own events regions.Closed) places.Outside d sayings.Foot
@@ -218,19 +233,22 @@ foot-on names begun own events d s =
     let b = body names 0 line.events in
     let e : DrawingView = record { lines = d.lines ++ line ∷ []; line = None; open_region = 0; greatest = 0 } in
     let here : part names line ≡ (sayings.Head own ∷ (b ++ closing r 0)) ++ sayings.Foot ∷ [] = ap (λ w. sayings.Head w ∷ (b ++ (closing r 0 ++ sayings.Foot ∷ []))) i.owner ∙ ap (λ l. sayings.Head own ∷ l) (sym (append_assoc b (closing r 0) (sayings.Foot ∷ []))) in
-    inr (e, record {
-      is_drawn = ap (with_foot d) i.there;
-      state = record {
-        are = s.are;
-        each = s.each;
-        numbered = each-push (λ k l. l.instance ≡ suc k) d.lines line s.numbered i.next;
-        among = all-push (IsLineAmong (length names)) d.lines line s.among i.among;
-        stands = (refl, s.stands.0 ∙ sym (add-one-length d.lines line));
-      };
-      says =
-        ap (λ l. sayings.Begin ∷ l) (sym (flat_map_more (part names) [] d.lines line) ∙ ap (λ l. front ++ l) here ∙ sym (append_assoc front (sayings.Head own ∷ (b ++ closing r 0)) (sayings.Foot ∷ [])))
-        ∙ ap (λ o. (sayings.Begin ∷ (front ++ inside_said names own regions.Closed o)) ++ sayings.Foot ∷ []) (sym i.there);
-    })
+    inr (
+      e,
+      record {
+        is_drawn = ap (with_foot d) i.there;
+        state = record {
+          are = s.are;
+          each = s.each;
+          numbered = each-push (λ k l. l.instance ≡ suc k) d.lines line s.numbered i.next;
+          among = all-push (IsLineAmong (length names)) d.lines line s.among i.among;
+          stands = (refl, s.stands.0 ∙ sym (add-one-length d.lines line));
+        };
+        says =
+            ap (λ l. sayings.Begin ∷ l) (sym (flat_map_more (part names) [] d.lines line) ∙ ap (λ l. front ++ l) here ∙ sym (append_assoc front (sayings.Head own ∷ (b ++ closing r 0)) (sayings.Foot ∷ [])))
+            ∙ ap (λ o. (sayings.Begin ∷ (front ++ inside_said names own regions.Closed o)) ++ sayings.Foot ∷ []) (sym i.there);
+      },
+    )
 
 -- one more line
 pub onward : {names begun more : List (List ℕ)} {place next : Place} {saying : Saying} {d : DrawingView} (later : List (List ℕ)) → State names begun place d → Moves place saying next → names_after begun saying ≡ Ok more → names ≡ more ++ later

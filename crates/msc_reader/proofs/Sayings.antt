@@ -150,7 +150,7 @@ alone-says own events regions.Closed k step e =
     elim (chosen (is_endinstance k) (Ok (sayings.Foot, places.Outside)) (cond (is_concurrent k) (Ok (sayings.Open, places.Inside own events regions.Empty)) (Err Syntax)) (Ok step) e) [
       | inl a ↦ subst (Says (places.Inside own events regions.Closed) (k ∷ [])) (ok_is (sayings.Foot, places.Outside) step a.1) (record { moves = leaves; are = ap (λ x. x ∷ []) (same_bytes k (codes "endinstance;") a.0) })
       | inr b ↦ (let g = when_ok (is_concurrent k) Syntax (Ok (sayings.Open, places.Inside own events regions.Empty)) step b.1 in
-        subst (Says (places.Inside own events regions.Closed) (k ∷ [])) (ok_is (sayings.Open, places.Inside own events regions.Empty) step g.1) (record { moves = opens; are = ap (λ x. x ∷ []) (same_bytes k (codes "concurrent;") g.0) }))
+          subst (Says (places.Inside own events regions.Closed) (k ∷ [])) (ok_is (sayings.Open, places.Inside own events regions.Empty) step g.1) (record { moves = opens; are = ap (λ x. x ∷ []) (same_bytes k (codes "concurrent;") g.0) }))
     ]
 alone-says own events regions.Empty k step e = cc
 alone-says own events regions.Held k step e =

@@ -149,11 +149,11 @@ mark-said {names} {own} {events} {region} {d} {line} {m} p =
     let front = flat_map (part names) d.lines in
     let b = body names 0 line.events in
     let grown : body names 0 (line.events ++ m ∷ []) ++ tail_of (held region) (last_from 0 (line.events ++ m ∷ [])) ≡ (b ++ tail_of region r) ++ said names m ∷ [] =
-      ap (λ l. l ++ tail_of (held region) (last_from 0 (line.events ++ m ∷ []))) (body-push names 0 line.events m)
-      ∙ ap (λ c. (b ++ marked names r m) ++ tail_of (held region) c) (last_from-push 0 line.events m)
-      ∙ append_assoc b (marked names r m) (tail_of (held region) (region_of m))
-      ∙ ap (λ l. b ++ l) (tail-more names region line.events m p.open_is)
-      ∙ sym (append_assoc b (tail_of region r) (said names m ∷ [])) in
+    ap (λ l. l ++ tail_of (held region) (last_from 0 (line.events ++ m ∷ []))) (body-push names 0 line.events m)
+    ∙ ap (λ c. (b ++ marked names r m) ++ tail_of (held region) c) (last_from-push 0 line.events m)
+    ∙ append_assoc b (marked names r m) (tail_of (held region) (region_of m))
+    ∙ ap (λ l. b ++ l) (tail-more names region line.events m p.open_is)
+    ∙ sym (append_assoc b (tail_of region r) (said names m ∷ [])) in
     ap (λ l. sayings.Begin ∷ (front ++ (sayings.Head own ∷ l))) grown
     ∙ ap (λ l. sayings.Begin ∷ l) (sym (append_assoc front (sayings.Head own ∷ (b ++ tail_of region r)) (said names m ∷ [])))
     ∙ ap (λ o. (sayings.Begin ∷ (front ++ inside_said names own region o)) ++ said names m ∷ []) (sym p.inside.there)

@@ -116,8 +116,8 @@ spell-part names line =
     let r = last_from 0 line.events in
     let rest : spell (closing r 0 ++ Foot ∷ []) ≡ ending r 0 ++ foot_text = spell-append (closing r 0) (Foot ∷ []) ∙ ap (λ l. l ++ spell (Foot ∷ [])) (spell-closing r 0) ∙ ap (λ l. ending r 0 ++ l) spell-foot in
     let events : spell (body names 0 line.events ++ (closing r 0 ++ Foot ∷ [])) ≡ events_text names 0 line.events ++ foot_text =
-      spell-append (body names 0 line.events) (closing r 0 ++ Foot ∷ []) ∙ ap (λ l. spell (body names 0 line.events) ++ l) rest
-      ∙ sym (append_assoc (spell (body names 0 line.events)) (ending r 0) foot_text) ∙ ap (λ l. l ++ foot_text) (spell-body names 0 line.events) in
+    spell-append (body names 0 line.events) (closing r 0 ++ Foot ∷ []) ∙ ap (λ l. spell (body names 0 line.events) ++ l) rest
+    ∙ sym (append_assoc (spell (body names 0 line.events)) (ending r 0) foot_text) ∙ ap (λ l. l ++ foot_text) (spell-body names 0 line.events) in
     ap (λ l. l ++ spell (body names 0 line.events ++ (closing r 0 ++ Foot ∷ []))) (spell-head names line.instance) ∙ ap (λ l. head_text names line.instance ++ l) events
 
 spell-parts : (names : List (List ℕ)) (lines : List LineView) → spell (flat_map (part names) lines) ≡ flat_map (line_text names) lines

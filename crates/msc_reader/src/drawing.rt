@@ -126,7 +126,9 @@ impl Drawing {
         ensures { Gives (λ d. d) result (in_line number (with_foot self self.line)) }
     {
         let Drawing {
-            mut lines, line, ..
+            mut lines,
+            line,
+            ..
         } = self;
         let Some(line) = line else {
             return Err(at(number, Cause::Syntax));

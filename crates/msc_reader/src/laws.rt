@@ -11,12 +11,10 @@ ghost use Rattle.msc_reader.specs.Reading.{names_in, lines_in};
 pub fn text_law()
     ensures { (names others : List (List ℕ)) (lines more : List LineView) → HasText names lines → HasText others more
         → chart_text names lines ≡ chart_text others more → (names ≡ others) × (lines ≡ more) }
-{
-}
+{}
 
 /// Where the first look finds no fault, the only one that the second can find is that of an unknown instance (F23).
 pub fn second_look_law()
     ensures { (bytes : List ℕ) (names : List (List ℕ)) (fault : Fault) → names_in bytes ≡ Ok names
         → lines_in names bytes ≡ Err fault → (line : ℕ) × (fault ≡ Fault.Line line UnknownInstance) }
-{
-}
+{}

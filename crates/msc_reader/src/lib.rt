@@ -9,3 +9,6 @@ mod reading;
 mod step;
 
 pub use reading::read;
+
+#[cfg(test)]
+mod tests;

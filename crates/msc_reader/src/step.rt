@@ -100,12 +100,7 @@ fn outside_in(line: &[u8]) -> Result<(Saying, Place), Cause>
 /// Message and partner of an event of the instance `own`, which has so many events before it: the first of F1 to F4 that
 /// applies to the message's name, and then to the partner's, F13 and F7 refuse them.
 #[tactic(auto, unfolding(crate::specs::Steps::pair_of))]
-fn pair_in(
-    own: Name,
-    events: usize,
-    message: &[u8],
-    partner: &[u8],
-) -> Result<(Name, Name), Cause>
+fn pair_in(own: Name, events: usize, message: &[u8], partner: &[u8]) -> Result<(Name, Name), Cause>
     ensures pair { result ≡ pair_of own events message.now partner.now }
     ensures room { IsOk result → events < MAX_EVENTS }
 {
@@ -153,12 +148,7 @@ fn is_closed(region: Region) -> bool
 
 /// `out MESSAGE to NAME;`.
 #[tactic(auto, unfolding(crate::specs::Steps::send_of))]
-fn send_in(
-    own: Name,
-    events: usize,
-    message: &[u8],
-    word: &[u8],
-) -> Result<(Saying, Place), Cause>
+fn send_in(own: Name, events: usize, message: &[u8], word: &[u8]) -> Result<(Saying, Place), Cause>
     ensures { result ≡ send_of own events message.now word.now }
 {
     let (name, to) = names_in(own, events, message, word)?;
@@ -195,12 +185,7 @@ fn inside(own: Name, events: usize, region: Region) -> Place
 
 /// A line of one word inside an instance.
 #[tactic(auto, unfolding(crate::specs::Steps::alone_of))]
-fn alone_in(
-    own: Name,
-    events: usize,
-    region: Region,
-    word: &[u8],
-) -> Result<(Saying, Place), Cause>
+fn alone_in(own: Name, events: usize, region: Region, word: &[u8]) -> Result<(Saying, Place), Cause>
     ensures { result ≡ alone_of own events region word.now }
 {
     match region {
@@ -231,8 +216,7 @@ fn inside_in(
             receive_in(own, events, region, message, word)
         }
         Words::Four(way, message, before, word)
-            if is_out(way) && is_to(before) && is_closed(region) =>
-        {
+            if is_out(way) && is_to(before) && is_closed(region) => {
             send_in(own, events, message, word)
         }
         _ => Err(Cause::Syntax),
