@@ -15,7 +15,7 @@ use Rattle.msc_text.specs.declared.fault.Cause.TheVariants.{Instances, Syntax, D
 use Rattle.msc_text.specs.declared.fault.TextError.{TextError}
 use Rattle.schedule.specs.FirstLines.{is_word, are_words, with_name, with_word, with_words, instances_of, instances_by, names_of}
 use Rattle.schedule.specs.Keywords.{is_instances}
-use Rattle.schedule.proofs.Steps.{in_line_ok, then_ok, fails_in_line}
+use Rattle.msc_text.proofs.Results.{in_line_ok, bind_at, fails_in_line}
 
 -- ---- words
 
@@ -72,19 +72,19 @@ with_name-full names name absent full = rw (is_new names name absent, eq-eqb (le
 -- the name of a word, and what becomes of it
 pub with_word-by : (names : List (List ℕ)) (word name : List ℕ) (r : Result (List (List ℕ)) Cause) → in_line 1 (name_or_cause word) ≡ Ok name → with_name names name ≡ r → with_word names word ≡ r
 unfolding with_word
-with_word-by names word name r e f = then_ok _ (with_name names) name (in_line_ok 1 _ name e) ∙ f
+with_word-by names word name r e f = bind_at _ (with_name names) name (in_line_ok 1 _ name e) ∙ f
 
 -- ---- one word after the other
 
 -- the last word
 pub words_end : (names new : List (List ℕ)) (word : List ℕ) → in_line 1 (with_word names word) ≡ Ok new → with_words names (word ∷ []) ≡ Ok new
 unfolding with_words
-words_end names new word e = then_ok _ (λ more. with_words more []) new (in_line_ok 1 _ new e)
+words_end names new word e = bind_at _ (λ more. with_words more []) new (in_line_ok 1 _ new e)
 
 -- a word, and those after it
 pub words_go_on : (names new : List (List ℕ)) (word : List ℕ) (words : List (List ℕ)) → in_line 1 (with_word names word) ≡ Ok new → with_words names (word ∷ words) ≡ with_words new words
 unfolding with_words
-words_go_on names new word words e = then_ok _ (λ more. with_words more words) new (in_line_ok 1 _ new e)
+words_go_on names new word words e = bind_at _ (λ more. with_words more words) new (in_line_ok 1 _ new e)
 
 -- a word that names no next instance decides
 pub words_stop : {X : Type 0} (f : X → List (List ℕ)) (error : TextError) (names : List (List ℕ)) (o : Option X) (words : List (List ℕ)) (word : List ℕ) (total : Result (List (List ℕ)) Cause)

@@ -1,21 +1,19 @@
 -- Line 2, the capacity: what is read is spelled so, and what is spelled so is read. Laws about lists alone.
-use Rattle.std.proofs.Common.{◌≡◌, ℕ, ◌+◌, ◌-◌, ◌*◌, ◌/◌, ◌%◌, ◌≤◌, ◌<◌, Bool, true, false, not, ◌&&◌, ◌||◌, leb, eqb, List, [], ◌∷◌, ◌++◌, length, Result, Ok, Err, refl, sym, ap, ◌∙◌, subst, arith, inl, inr}
+use Rattle.std.proofs.Common.{◌≡◌, ℕ, ◌+◌, ◌-◌, ◌*◌, ◌/◌, ◌%◌, ◌≤◌, ◌<◌, true, false, not, ◌&&◌, ◌||◌, leb, eqb, List, [], ◌∷◌, ◌++◌, Ok, Err, refl, sym, ap, ◌∙◌, subst, arith, inl, inr}
 use Rattle.std.specs.Prelude.{codes, decimal}
-use Rattle.std.specs.List.{AllByRecursion, list_all}
 use Rattle.std.proofs.lemmas.Bool.{and_parts, and_from, le-leb, leb-true, ne_eqb, cond-true, cases_lt}
 use Rattle.std.proofs.lemmas.Fmt.{decimal_digit, decimal_step}
 use Rattle.msc_text.proofs.Lookups.{same_bytes}
 use Rattle.msc_text.proofs.Parts.{lacks_if}
 use Rattle.msc_text.specs.Lines.{words_of, Lacks}
-use Rattle.msc_text.specs.declared.fault.Cause.{Cause}
 use Rattle.msc_text.specs.declared.fault.Cause.TheVariants.{Capacity, Syntax}
-use Rattle.schedule.specs.FirstLines.{is_digit, is_number, number_from, places, places_of, capacity_by, capacity_of}
+use Rattle.schedule.specs.FirstLines.{is_digit, is_number, places, places_of, capacity_by, capacity_of}
 use Rattle.schedule.specs.Keywords.{is_capacity}
 use Rattle.schedule.specs.ScheduleText.{capacity_line, spaced}
 use Rattle.schedule.specs.declared.schedule.TheConstants.{MAX_CAPACITY}
 use Rattle.schedule.proofs.Numbers.{above_zero, long_number}
-use Rattle.schedule.proofs.Spacing.{IsPlain, ArePlain, spaced_again, spaced_lacks, is_spaced}
-use Rattle.schedule.proofs.Steps.{when_ok, ok_is}
+use Rattle.msc_text.proofs.Spacing.{IsPlain, ArePlain, spaced_again, spaced_lacks, is_spaced}
+use Rattle.msc_text.proofs.Results.{when_ok, ok_is}
 
 -- ---- decimal digits
 
@@ -124,9 +122,9 @@ two_again k first last =
 
 digits_again : (k : ℕ) → 1 ≤ k → k ≤ MAX_CAPACITY → AreDigits (decimal k) k
 digits_again k first last = elim (cases_lt k 10) [
-    | inl few ↦ subst (λ digits. AreDigits digits k) (sym (decimal_digit k few)) (one_again k first few)
-    | inr many ↦ subst (λ digits. AreDigits digits k) (sym (two_digits k many (omega arith))) (two_again k many last)
-  ]
+  | inl few ↦ subst (λ digits. AreDigits digits k) (sym (decimal_digit k few)) (one_again k first few)
+  | inr many ↦ subst (λ digits. AreDigits digits k) (sym (two_digits k many (omega arith))) (two_again k many last)
+]
 
 -- ---- the line
 

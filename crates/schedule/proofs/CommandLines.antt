@@ -1,18 +1,16 @@
 -- A command's line: what is read is spelled so, and what is spelled so is read. Laws about lists alone.
-use Rattle.std.proofs.Common.{◌≡◌, ◌≢◌, ℕ, suc, ◌+◌, ◌≤◌, Bool, true, false, cond, eqb, List, [], ◌∷◌, length, map, Option, Some, None, Result, Ok, Err, All, refl, sym, ap, ◌∙◌, subst, inl, inr, not, ◌||◌}
+use Rattle.std.proofs.Common.{◌≡◌, ◌≢◌, ℕ, ◌+◌, ◌≤◌, Bool, true, false, cond, eqb, List, [], ◌∷◌, length, map, Option, Some, None, Result, Ok, Err, refl, sym, ap, ◌∙◌, subst, inl, inr, not, ◌||◌}
 use Rattle.std.specs.Prelude.{codes, bytes_eq}
 use Rattle.std.specs.List.{AllByRecursion}
-use Rattle.std.proofs.lemmas.Bool.{eqb-false, ne_eqb, cond-false}
+use Rattle.std.proofs.lemmas.Bool.{eqb-false}
 use Rattle.chart.specs.Names.{IsName, instance_of}
-use Rattle.chart.specs.NameSets.{AreNames}
 use Rattle.msc_text.specs.ChartText.{name_at}
 use Rattle.msc_text.specs.Faults.{◌>>=◌, in_line}
-use Rattle.msc_text.specs.Lines.{words_of, name_or_cause, Lacks}
+use Rattle.msc_text.specs.Lines.{words_of, name_or_cause}
 use Rattle.msc_text.specs.declared.fault.Cause.{Cause}
 use Rattle.msc_text.specs.declared.fault.Cause.TheVariants.{Syntax, ToItself}
-use Rattle.msc_text.proofs.Lookups.{IsNamed, instance_is, instance_again, name_at_all, same_bytes}
-use Rattle.msc_text.proofs.Parts.{lacks_if}
-use Rattle.msc_text.proofs.Results.{bind_ok, bind_at, guard_ok, in_line_ok, name_is, name_again, name_some}
+use Rattle.msc_text.proofs.Lookups.{IsNamed, instance_is, same_bytes}
+use Rattle.msc_text.proofs.Results.{bind_ok, guard_ok, in_line_ok, name_is, when_ok, chosen, ok_is}
 use Rattle.schedule.specs.Deeds.{Deed, known, known_of, pair_of, partners_of, send_of, receive_of, close_of, alone_of, by_two, by_three, deed_by, deed_of}
 use Rattle.schedule.specs.Keywords.{is_send, is_receive, is_any, is_close, is_concurrent, is_endconcurrent}
 use Rattle.schedule.specs.Plans.{IsAmong, HasPartner}
@@ -21,8 +19,7 @@ use Rattle.schedule.specs.ScheduleText.{action_words, command_line, spaced, AreN
 use Rattle.schedule.specs.declared.command.Action.{Action}
 use Rattle.schedule.specs.declared.command.Action.TheVariants.{Send, Receive, Any, Close, Open, Shut}
 use Rattle.schedule.specs.declared.command.Command.{Command}
-use Rattle.schedule.proofs.Spacing.{IsPlain, ArePlain, plain_name, spaced_again, spaced_lacks, is_spaced}
-use Rattle.schedule.proofs.Steps.{when_ok, chosen, ok_is}
+use Rattle.msc_text.proofs.Spacing.{is_spaced}
 
 -- ---- what is read is spelled so
 
@@ -93,18 +90,22 @@ partner-says names x k y others r action deed words has can are e =
 send_words : {v m : List ℕ} (names : List (List ℕ)) (q : ℕ) → v ≡ m → action_words names (Send q v) ≡ codes "send" ∷ name_at names q ∷ m ∷ []
 send_words names q e = ap (λ v. action_words names (Send q v)) e
 
+send-says : (names : List (List ℕ)) (x y m a b c : List ℕ) (deed : Deed) → name_or_cause x ≡ Ok a → name_or_cause y ≡ Ok b → (c ≡ m) × IsName m → (pair_of names a b >>= λ pair. Ok (pair.0, Send pair.1 c)) ≡ Ok deed
+    → Says names (x ∷ codes "send" ∷ y ∷ m ∷ []) deed
+send-says names x y m a b c deed p q message e =
+    partner-says names x (codes "send") y (m ∷ []) (pair_of names a b) (λ r. Send r c) deed
+    (λ r. send_words names r message.0)
+    (λ p r within other. (within, other))
+    (λ r first. (first, subst IsName (sym message.0) message.1))
+    (λ pair. partners-read names x y a b pair p q) e
+
 send_of-says : (names : List (List ℕ)) (x y m : List ℕ) (deed : Deed) → send_of names x y m ≡ Ok deed → Says names (x ∷ codes "send" ∷ y ∷ m ∷ []) deed
 unfolding send_of
 send_of-says names x y m deed e =
     let a = bind_ok (name_or_cause x) (λ actor. name_or_cause y >>= λ partner. name_or_cause m >>= λ name. pair_of names actor partner >>= λ pair. Ok (pair.0, Send pair.1 name)) deed e in
     let b = bind_ok (name_or_cause y) (λ partner. name_or_cause m >>= λ name. pair_of names a.0 partner >>= λ pair. Ok (pair.0, Send pair.1 name)) deed a.2 in
     let c = bind_ok (name_or_cause m) (λ name. pair_of names a.0 b.0 >>= λ pair. Ok (pair.0, Send pair.1 name)) deed b.2 in
-    let message = name_is m c.0 c.1 in
-    partner-says names x (codes "send") y (m ∷ []) (pair_of names a.0 b.0) (λ q. Send q c.0) deed
-    (λ q. send_words {v = c.0} {m = m} names q message.0)
-    (λ p q within other. (within, other))
-    (λ q first. (first, subst IsName (sym message.0) message.1))
-    (λ pair. partners-read names x y a.0 b.0 pair a.1 b.1) c.2
+    send-says names x y m a.0 b.0 c.0 deed a.1 b.1 (name_is m c.0 c.1) c.2
 
 receive_of-says : (names : List (List ℕ)) (x y : List ℕ) (deed : Deed) → receive_of names x y ≡ Ok deed → Says names (x ∷ codes "receive" ∷ y ∷ []) deed
 unfolding receive_of

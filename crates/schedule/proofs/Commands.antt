@@ -9,7 +9,7 @@ use Rattle.msc_text.specs.declared.fault.TextError.TheVariants as errors
 use Rattle.schedule.specs.Deeds.{Deed, deed_of}
 use Rattle.schedule.specs.Reading.{command_at, commands_from, commands_of, with_end}
 use Rattle.schedule.specs.declared.command.Command.{Command}
-use Rattle.schedule.proofs.Steps.{then_ok, fails_then}
+use Rattle.msc_text.proofs.Results.{bind_at, fails_then}
 
 -- what was read before, and what is still read
 abbrev pub with_front : List Command → Result (List Command) Fault → Result (List Command) Fault
@@ -23,7 +23,7 @@ regroup front command (Err fault) = refl
 -- the command of a line that is read
 command_is : (names : List (List ℕ)) (n : ℕ) (line : List ℕ) (deed : Deed) → in_line n (deed_of names line) ≡ Ok deed → command_at names n line ≡ Ok (record { line = n; actor = deed.0; action = deed.1 })
 unfolding command_at
-command_is names n line deed e = then_ok _ (λ d. Ok (record { line = n; actor = d.0; action = d.1 })) deed e
+command_is names n line deed e = bind_at _ (λ d. Ok (record { line = n; actor = d.0; action = d.1 })) deed e
 
 -- a line that is read
 pub goes_on : (front : List Command) (names : List (List ℕ)) (n : ℕ) (line : List ℕ) (lines : List (List ℕ)) (deed : Deed) (total : Result (List Command) Fault) → in_line n (deed_of names line) ≡ Ok deed
@@ -31,7 +31,7 @@ pub goes_on : (front : List Command) (names : List (List ℕ)) (n : ℕ) (line :
 unfolding commands_from
 goes_on front names n line lines deed total e so_far =
     let command : Command = record { line = n; actor = deed.0; action = deed.1 } in
-    let one = then_ok (command_at names n line) (λ command. commands_from names (n + 1) lines >>= λ commands. Ok (command ∷ commands)) command (command_is names n line deed e) in
+    let one = bind_at (command_at names n line) (λ command. commands_from names (n + 1) lines >>= λ commands. Ok (command ∷ commands)) command (command_is names n line deed e) in
     sym (regroup front command (commands_from names (n + 1) lines)) ∙ sym (ap (with_front front) one) ∙ so_far
 
 -- a line that is not read decides
@@ -52,12 +52,12 @@ is_done front names n total so_far = sym so_far ∙ ap Ok (append-nil front)
 -- all lines are read, and the last has its line feed
 pub all_read : (front : List Command) (names : List (List ℕ)) (lines : List (List ℕ)) (rest : List ℕ) → commands_from names 3 lines ≡ Ok front → length rest ≡ 0 → commands_of names lines rest ≡ Ok front
 unfolding commands_of
-all_read front names lines rest e ended = then_ok _ (with_end rest) front e ∙ rw (eq-eqb (length rest) 0 ended) refl
+all_read front names lines rest e ended = bind_at _ (with_end rest) front e ∙ rw (eq-eqb (length rest) 0 ended) refl
 
 -- or it has none
 pub not_ended : (front : List Command) (names : List (List ℕ)) (lines : List (List ℕ)) (rest : List ℕ) → commands_from names 3 lines ≡ Ok front → (length rest ≡ 0 → ⊥) → commands_of names lines rest ≡ Err Unfinished
 unfolding commands_of
-not_ended front names lines rest e open_end = then_ok _ (with_end rest) front e ∙ rw (ne_eqb (length rest) 0 open_end) refl
+not_ended front names lines rest e open_end = bind_at _ (with_end rest) front e ∙ rw (ne_eqb (length rest) 0 open_end) refl
 
 -- no end mends a line that is not read
 pub line_fails : (error : TextError) (names : List (List ℕ)) (lines : List (List ℕ)) (rest : List ℕ) → Fails error (commands_from names 3 lines) → Fails error (commands_of names lines rest)

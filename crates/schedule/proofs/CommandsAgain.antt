@@ -1,5 +1,5 @@
 -- Commands whose lines are spelled are read again: laws about lists alone.
-use Rattle.std.proofs.Common.{◌≡◌, ◌≢◌, ℕ, ◌+◌, ◌≤◌, Bool, true, false, cond, eqb, List, [], ◌∷◌, length, map, Result, Ok, Err, All, refl, sym, ap, ◌∙◌, not, ◌||◌}
+use Rattle.std.proofs.Common.{◌≡◌, ◌≢◌, ℕ, ◌+◌, ◌≤◌, Bool, true, false, cond, eqb, List, [], ◌∷◌, length, map, Ok, Err, All, refl, sym, ap, ◌∙◌, not, ◌||◌}
 use Rattle.std.specs.Prelude.{codes}
 use Rattle.std.specs.List.{AllByRecursion}
 use Rattle.std.proofs.lemmas.Bool.{ne_eqb, cond-false}
@@ -7,20 +7,20 @@ use Rattle.chart.specs.Names.{IsName}
 use Rattle.chart.specs.NameSets.{AreNames}
 use Rattle.msc_text.specs.ChartText.{name_at}
 use Rattle.msc_text.specs.Faults.{◌>>=◌, in_line}
-use Rattle.msc_text.specs.Lines.{words_of, name_or_cause, Lacks}
+use Rattle.msc_text.specs.Lines.{name_or_cause, Lacks}
 use Rattle.msc_text.specs.declared.fault.Cause.TheVariants.{Syntax, ToItself}
 use Rattle.msc_text.proofs.Lookups.{instance_again, name_at_all}
 use Rattle.msc_text.proofs.Parts.{lacks_if}
 use Rattle.msc_text.proofs.Results.{bind_at, name_again, name_some}
-use Rattle.schedule.specs.Deeds.{Deed, known, known_of, pair_of, partners_of, send_of, receive_of, close_of, alone_of, by_two, by_three, deed_by, deed_of}
+use Rattle.schedule.specs.Deeds.{known, known_of, pair_of, partners_of, send_of, receive_of, close_of, alone_of, by_two, by_three, deed_by, deed_of}
 use Rattle.schedule.specs.Keywords.{is_send, is_receive, is_any, is_close, is_concurrent, is_endconcurrent}
 use Rattle.schedule.specs.Plans.{IsAmong, HasPartner}
 use Rattle.schedule.specs.Reading.{command_at, commands_from}
-use Rattle.schedule.specs.ScheduleText.{action_words, command_line, spaced, AreNumbered, CanBeNamed, CanBeSpelled}
+use Rattle.schedule.specs.ScheduleText.{action_words, command_line, AreNumbered, CanBeNamed, CanBeSpelled}
 use Rattle.schedule.specs.declared.command.Action.{Action}
 use Rattle.schedule.specs.declared.command.Action.TheVariants.{Send, Receive, Any, Close, Open, Shut}
 use Rattle.schedule.specs.declared.command.Command.{Command}
-use Rattle.schedule.proofs.Spacing.{IsPlain, ArePlain, plain_name, spaced_again, spaced_lacks}
+use Rattle.msc_text.proofs.Spacing.{IsPlain, ArePlain, plain_name, spaced_again, spaced_lacks}
 
 -- ---- tests of words
 

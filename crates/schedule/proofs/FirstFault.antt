@@ -1,21 +1,14 @@
 -- The first faulty line decides: what follows it changes nothing. A law about lists alone.
-use Rattle.std.proofs.Common.{◌≡◌, ℕ, ◌+◌, Bool, true, false, cond, eqb, List, [], ◌∷◌, ◌++◌, length, Result, Ok, Err, refl, sym, ap, ◌∙◌, inl, inr}
+use Rattle.std.proofs.Common.{◌≡◌, ℕ, ◌+◌, Bool, true, false, cond, eqb, List, [], ◌∷◌, ◌++◌, length, Ok, Err, ap, ◌∙◌, inl, inr}
 use Rattle.msc_text.proofs.Parts.{lines_onto}
-use Rattle.msc_text.proofs.Results.{bind_err, bind_at}
+use Rattle.msc_text.proofs.Results.{bind_err, bind_at, stops}
 use Rattle.msc_text.specs.Faults.{◌>>=◌, in_line}
 use Rattle.msc_text.specs.Lines.{lines_of, end_of}
 use Rattle.msc_text.specs.declared.fault.Cause.{Cause}
-use Rattle.msc_text.specs.declared.fault.Fault.{Fault}
 use Rattle.msc_text.specs.declared.fault.Fault.TheVariants.{Line, Unfinished}
 use Rattle.schedule.specs.FirstLines.{names_of, capacity_of}
-use Rattle.schedule.specs.Plans.{Plan}
-use Rattle.schedule.specs.Reading.{next_of, command_at, commands_from, commands_of, with_end, schedule_of}
-use Rattle.schedule.specs.declared.command.Command.{Command}
+use Rattle.schedule.specs.Reading.{command_at, commands_from, commands_of, with_end, schedule_of}
 use Rattle.schedule.proofs.Read.{after_second, after_first, read_lines}
-
--- what failed is not followed
-stops : {A B E : Type 0} (r : Result A E) (f : A → Result B E) (d : E) → r ≡ Err d → (r >>= f) ≡ Err d
-stops r f d e = ap (λ s. s >>= f) e
 
 commands_stop : (names : List (List ℕ)) (m : ℕ) (lines more : List (List ℕ)) (n : ℕ) (c : Cause) → commands_from names m lines ≡ Err (Line n c) → commands_from names m (lines ++ more) ≡ Err (Line n c)
 unfolding commands_from
@@ -24,10 +17,10 @@ commands_stop names m (line ∷ lines) more n c e =
     elim (bind_err (command_at names m line) (λ command. commands_from names (m + 1) lines >>= λ commands. Ok (command ∷ commands)) (Line n c) e) [
       | inl one ↦ stops (command_at names m line) (λ command. commands_from names (m + 1) (lines ++ more) >>= λ commands. Ok (command ∷ commands)) (Line n c) one
       | inr later ↦ bind_at (command_at names m line) (λ command. commands_from names (m + 1) (lines ++ more) >>= λ commands. Ok (command ∷ commands)) later.0 later.1
-        ∙ elim (bind_err (commands_from names (m + 1) lines) (λ commands. Ok (later.0 ∷ commands)) (Line n c) later.2) [
-          | inl others ↦ stops (commands_from names (m + 1) (lines ++ more)) (λ commands. Ok (later.0 ∷ commands)) (Line n c) (commands_stop names (m + 1) lines more n c others)
-          | inr read ↦ absurd (let good = read.2 in cc)
-        ]
+          ∙ elim (bind_err (commands_from names (m + 1) lines) (λ commands. Ok (later.0 ∷ commands)) (Line n c) later.2) [
+            | inl others ↦ stops (commands_from names (m + 1) (lines ++ more)) (λ commands. Ok (later.0 ∷ commands)) (Line n c) (commands_stop names (m + 1) lines more n c others)
+            | inr read ↦ absurd (let good = read.2 in cc)
+          ]
     ]
 
 -- the end of a text is no line
@@ -49,10 +42,10 @@ after_second-stop names second lines more rest rest' n c e =
     elim (bind_err (in_line 2 (capacity_of second)) (λ capacity. commands_of names lines rest >>= λ commands. Ok (record { names = names; capacity = capacity; commands = commands })) (Line n c) e) [
       | inl faulty ↦ stops (in_line 2 (capacity_of second)) (λ capacity. commands_of names (lines ++ more) rest' >>= λ commands. Ok (record { names = names; capacity = capacity; commands = commands })) (Line n c) faulty
       | inr later ↦ bind_at (in_line 2 (capacity_of second)) (λ capacity. commands_of names (lines ++ more) rest' >>= λ commands. Ok (record { names = names; capacity = capacity; commands = commands })) later.0 later.1
-        ∙ elim (bind_err (commands_of names lines rest) (λ commands. Ok (record { names = names; capacity = later.0; commands = commands })) (Line n c) later.2) [
-          | inl others ↦ stops (commands_of names (lines ++ more) rest') (λ commands. Ok (record { names = names; capacity = later.0; commands = commands })) (Line n c) (commands_of-stop names lines more rest rest' n c others)
-          | inr read ↦ absurd (let good = read.2 in cc)
-        ]
+          ∙ elim (bind_err (commands_of names lines rest) (λ commands. Ok (record { names = names; capacity = later.0; commands = commands })) (Line n c) later.2) [
+            | inl others ↦ stops (commands_of names (lines ++ more) rest') (λ commands. Ok (record { names = names; capacity = later.0; commands = commands })) (Line n c) (commands_of-stop names lines more rest rest' n c others)
+            | inr read ↦ absurd (let good = read.2 in cc)
+          ]
     ]
 
 after_first-stop : (names lines more : List (List ℕ)) (rest rest' : List ℕ) (n : ℕ) (c : Cause) → after_first names lines rest ≡ Err (Line n c) → after_first names (lines ++ more) rest' ≡ Err (Line n c)

@@ -1,5 +1,5 @@
 -- Line 1, the instances' names: what is read is spelled so, and what is spelled so is read. Laws about lists alone.
-use Rattle.std.proofs.Common.{◌≡◌, ℕ, ◌+◌, ◌≤◌, ◌<◌, Bool, true, false, not, ◌&&◌, cond, eqb, ltb, List, [], ◌∷◌, ◌++◌, length, get_or, Some, Result, Ok, Err, All, Contains, refl, sym, ap, ◌∙◌, subst, arith, append_assoc, append-nil}
+use Rattle.std.proofs.Common.{◌≡◌, ℕ, ◌≤◌, ◌<◌, true, not, ◌&&◌, cond, eqb, ltb, List, [], ◌∷◌, ◌++◌, length, Some, Ok, Err, All, Contains, refl, sym, ap, ◌∙◌, subst, arith, append_assoc, append-nil}
 use Rattle.std.specs.Prelude.{bytes_eq, codes, slice_get}
 use Rattle.std.specs.List.{AllByRecursion, list_any, list_all}
 use Rattle.std.proofs.lemmas.Bool.{eqb-false, ne_eqb, ltb-false, le-ltb, and_parts, and_from, cond-true, cond-false}
@@ -14,16 +14,14 @@ use Rattle.chart.specs.NameSets.{AreNames}
 use Rattle.chart.specs.declared.instance.TheConstants.{MAX_INSTANCES}
 use Rattle.msc_text.proofs.Lookups.{same_bytes}
 use Rattle.msc_text.proofs.Parts.{lacks_if}
-use Rattle.msc_text.proofs.Results.{bind_ok, bind_at, guard_ok, name_is, name_again, name_some}
-use Rattle.msc_text.specs.Faults.{◌>>=◌}
+use Rattle.msc_text.proofs.Results.{bind_ok, bind_at, guard_ok, name_is, name_again, name_some, when_ok, ok_is}
 use Rattle.msc_text.specs.Lines.{words_of, name_or_cause, Lacks}
 use Rattle.msc_text.specs.declared.fault.Cause.TheVariants.{Instances, Syntax, Duplicate}
 use Rattle.schedule.specs.FirstLines.{is_word, are_words, with_name, with_word, with_words, several, instances_of, instances_by, names_of}
 use Rattle.schedule.specs.Keywords.{is_instances}
 use Rattle.schedule.specs.ScheduleText.{instances_line, spaced}
 use Rattle.schedule.proofs.Adding.{with_name-ok}
-use Rattle.schedule.proofs.Spacing.{IsPlain, ArePlain, plain_names, spaced_again, spaced_lacks, is_spaced}
-use Rattle.schedule.proofs.Steps.{when_ok, ok_is}
+use Rattle.msc_text.proofs.Spacing.{ArePlain, plain_names, spaced_again, spaced_lacks, is_spaced}
 
 -- ---- what is read is spelled so
 

@@ -7,5 +7,3 @@ pub mod FirstFault
 pub mod InstanceLine
 pub mod Numbers
 pub mod Read
-pub mod Spacing
-pub mod Steps

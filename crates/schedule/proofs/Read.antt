@@ -1,26 +1,24 @@
 -- A whole text: what is read is spelled so, what is spelled so is read, and the first faulty line decides. Laws about lists alone.
-use Rattle.std.proofs.Common.{◌≡◌, ℕ, ◌+◌, eqb, List, [], ◌∷◌, ◌++◌, length, map, Result, Ok, Err, refl, sym, ap, subst, ◌∙◌, arith, inl, inr, append-nil, eq-eqb}
+use Rattle.std.proofs.Common.{◌≡◌, ℕ, eqb, List, [], ◌∷◌, ◌++◌, length, Result, Ok, refl, sym, ap, subst, ◌∙◌, arith, append-nil}
 use Rattle.std.specs.List.{AllByRecursion, flat_map}
-use Rattle.std.proofs.lemmas.Bool.{eqb-true, cond-true}
+use Rattle.std.proofs.lemmas.Bool.{eqb-true}
 use Rattle.std.proofs.lemmas.List.Elements.{All-from_recursion, recursion_from_All}
-use Rattle.msc_text.proofs.Parts.{lines_joined, lines_again, end_again, lines_onto}
-use Rattle.msc_text.proofs.Results.{bind_ok, bind_err, bind_at, in_line_ok}
+use Rattle.msc_text.proofs.Parts.{lines_joined, lines_again, end_again}
+use Rattle.msc_text.proofs.Results.{bind_ok, in_line_ok, when_ok, ok_is}
 use Rattle.msc_text.specs.Faults.{◌>>=◌, in_line, Fails}
 use Rattle.msc_text.specs.Lines.{Lacks, lines_of, end_of, ended}
-use Rattle.msc_text.specs.declared.fault.Cause.{Cause}
 use Rattle.msc_text.specs.declared.fault.Fault.{Fault}
-use Rattle.msc_text.specs.declared.fault.Fault.TheVariants.{Line, Unfinished}
+use Rattle.msc_text.specs.declared.fault.Fault.TheVariants.{Unfinished}
 use Rattle.msc_text.specs.declared.fault.TextError.{TextError}
 use Rattle.schedule.specs.FirstLines.{names_of, capacity_of}
-use Rattle.schedule.specs.Plans.{Plan, IsPlan, IsAmong}
-use Rattle.schedule.specs.Reading.{next_of, command_at, commands_from, commands_of, with_end, schedule_of}
-use Rattle.schedule.specs.ScheduleText.{plan_lines, schedule_text, command_line, capacity_line, CanBeSpelled, HasText}
+use Rattle.schedule.specs.Plans.{Plan, IsAmong}
+use Rattle.schedule.specs.Reading.{next_of, commands_from, commands_of, with_end, schedule_of}
+use Rattle.schedule.specs.ScheduleText.{plan_lines, schedule_text, CanBeSpelled, HasText}
 use Rattle.schedule.specs.declared.command.Command.{Command}
 use Rattle.schedule.proofs.CapacityLine.{capacity_said, capacity_again, capacity_lacks}
 use Rattle.schedule.proofs.CommandLines.{commands_from-said}
 use Rattle.schedule.proofs.CommandsAgain.{commands_again, commands_lack}
 use Rattle.schedule.proofs.InstanceLine.{names_said, names_again, instances_lack}
-use Rattle.schedule.proofs.Steps.{when_ok, ok_is}
 
 -- ---- the lines that a plan is read from
 
@@ -59,6 +57,21 @@ commands-end names lines rest commands e =
     let b = when_ok (eqb (length rest) 0) Unfinished (Ok a.0) commands a.2 in
     (a.1 ∙ b.1, no_bytes rest (eqb-true (length rest) 0 b.0))
 
+from_steps : (bytes : List ℕ) (plan : Plan) (a c : List ℕ × List (List ℕ)) (names : List (List ℕ)) (capacity : ℕ) (commands : List Command) → next_of (lines_of bytes) ≡ Ok a → in_line 1 (names_of a.0) ≡ Ok names
+    → next_of a.1 ≡ Ok c → in_line 2 (capacity_of c.0) ≡ Ok capacity → commands_of names c.1 (end_of bytes) ≡ Ok commands → record { names = names; capacity = capacity; commands = commands } ≡ plan → IsReadFrom bytes plan
+from_steps bytes plan a c names capacity commands one named two placed many same =
+    let ends = commands-end names c.1 (end_of bytes) commands many in
+    subst (IsReadFrom bytes) same (record {
+      first = a.0;
+      second = c.0;
+      others = c.1;
+      lines = next-line (lines_of bytes) a one ∙ ap (λ l. a.0 ∷ l) (next-line a.1 c two);
+      whole = ends.1;
+      names = in_line_ok 1 (names_of a.0) names named;
+      capacity = in_line_ok 2 (capacity_of c.0) capacity placed;
+      commands = ends.0;
+    })
+
 read_from : (bytes : List ℕ) (plan : Plan) → schedule_of bytes ≡ Ok plan → IsReadFrom bytes plan
 unfolding schedule_of
 read_from bytes plan e =
@@ -68,18 +81,7 @@ read_from bytes plan e =
     let c = bind_ok (next_of a.0.1) (λ second. after_second b.0 second.0 second.1 rest) plan b.2 in
     let d = bind_ok (in_line 2 (capacity_of c.0.0)) (λ capacity. commands_of b.0 c.0.1 rest >>= λ commands. Ok (record { names = b.0; capacity = capacity; commands = commands })) plan c.2 in
     let f = bind_ok (commands_of b.0 c.0.1 rest) (λ commands. Ok (record { names = b.0; capacity = d.0; commands = commands })) plan d.2 in
-    let same : record { names = b.0; capacity = d.0; commands = f.0 } ≡ plan = ok_is (record { names = b.0; capacity = d.0; commands = f.0 }) plan f.2 in
-    let ends = commands-end b.0 c.0.1 rest f.0 f.1 in
-    record {
-      first = a.0.0;
-      second = c.0.0;
-      others = c.0.1;
-      lines = next-line (lines_of bytes) a.0 a.1 ∙ ap (λ l. a.0.0 ∷ l) (next-line a.0.1 c.0 c.1);
-      whole = ends.1;
-      names = in_line_ok 1 (names_of a.0.0) b.0 b.1 ∙ ap (λ p. Ok p.names) same;
-      capacity = in_line_ok 2 (capacity_of c.0.0) d.0 d.1 ∙ ap (λ p. Ok p.capacity) same;
-      commands = ap (λ p. commands_from p.names 3 c.0.1) (sym same) ∙ ends.0 ∙ ap (λ p. Ok p.commands) same;
-    }
+    from_steps bytes plan a.0 c.0 b.0 d.0 f.0 a.1 b.1 c.1 d.1 f.1 (ok_is (record { names = b.0; capacity = d.0; commands = f.0 }) plan f.2)
 
 read_so : (bytes : List ℕ) (plan : Plan) → IsReadFrom bytes plan → schedule_of bytes ≡ Ok plan
 unfolding schedule_of commands_of
@@ -95,14 +97,16 @@ read_spelled bytes plan e =
     let names = names_said from.first plan.names from.names in
     let capacity = capacity_said from.second plan.capacity from.capacity in
     let commands = commands_from-said plan.names 3 from.others plan.commands from.commands in
-    let lines : lines_of bytes ≡ plan_lines plan = from.lines ∙ same_three names.is capacity.is commands.are in
-    (record {
-      keeps = record { several = names.several; names = names.are; commands = All-from_recursion (IsAmong (length plan.names)) plan.commands commands.among };
-      named = names.named;
-      places = (capacity.first, capacity.last);
-      spelled = All-from_recursion CanBeSpelled plan.commands commands.spelled;
-      numbered = commands.numbered;
-    }, sym (lines_joined bytes) ∙ ap (λ rest. flat_map ended (lines_of bytes) ++ rest) from.whole ∙ append-nil (flat_map ended (lines_of bytes)) ∙ ap (flat_map ended) lines)
+    let lines : lines_of bytes ≡ plan_lines plan = from.lines ∙ same_three names.is capacity.is commands.are in (
+      record {
+        keeps = record { several = names.several; names = names.are; commands = All-from_recursion (IsAmong (length plan.names)) plan.commands commands.among };
+        named = names.named;
+        places = (capacity.first, capacity.last);
+        spelled = All-from_recursion CanBeSpelled plan.commands commands.spelled;
+        numbered = commands.numbered;
+      },
+      sym (lines_joined bytes) ∙ ap (λ rest. flat_map ended (lines_of bytes) ++ rest) from.whole ∙ append-nil (flat_map ended (lines_of bytes)) ∙ ap (flat_map ended) lines,
+    )
   where
     same_three : {a b c d : List ℕ} {others others' : List (List ℕ)} → a ≡ b → c ≡ d → others ≡ others' → a ∷ c ∷ others ≡ b ∷ d ∷ others'
     same_three p q r = cc
