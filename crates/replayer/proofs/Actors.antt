@@ -11,8 +11,8 @@ use Rattle.schedule.specs.Meaning.{Run}
 use Rattle.replayer.specs.Views.{LaneView, ActorView}
 use Rattle.replayer.specs.Agreement.{names_of, IsLane, AreLanes, IsRecorder, IsOwn}
 use Rattle.replayer.proofs.Places.{each-set}
+use Rattle.chart.proofs.Regions.{greatest_region-push, may_be-small, may-again}
 use Rattle.replayer.proofs.Recorders.{IsRecorder-idle}
-use Rattle.replayer.proofs.Regions.{greatest_region-push, may_be-small, may-again}
 
 -- of n instances, p did nothing between two runs
 pub record IsIdle (n : ℕ) (r s : Run) (p : ℕ) : Type 0 where

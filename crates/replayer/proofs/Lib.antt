@@ -9,7 +9,6 @@ pub mod Outcomes
 pub mod Performed
 pub mod Places
 pub mod Recorders
-pub mod Regions
 pub mod Scans
 pub mod Starts
 pub mod Words

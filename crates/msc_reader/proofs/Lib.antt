@@ -1,0 +1,15 @@
+pub mod ChartPaths
+pub mod EventPaths
+pub mod Coregions
+pub mod Drawings
+pub mod Found
+pub mod Looks
+pub mod Moves
+pub mod NewNames
+pub mod Onward
+pub mod Paths
+pub mod Sayings
+pub mod SayingsAgain
+pub mod Semicolons
+pub mod Standing
+pub mod TextSayings

@@ -1,0 +1,45 @@
+-- What may be said in each place of a chart's text, and in which words.
+use Rattle.std.proofs.Common.{◌≡◌, ◌≢◌, ℕ, ◌+◌, ◌<◌, List, [], ◌∷◌, ◌++◌}
+use Rattle.std.specs.Prelude.{codes}
+use Rattle.chart.specs.Names.{IsName}
+use Rattle.chart.specs.declared.line.TheConstants.{MAX_EVENTS}
+use Rattle.msc_reader.specs.Steps.{held}
+use Rattle.msc_reader.specs.declared.place.Place.{Place}
+use Rattle.msc_reader.specs.declared.place.Place.TheVariants as places
+use Rattle.msc_reader.specs.declared.place.Region.{Region}
+use Rattle.msc_reader.specs.declared.place.Region.TheVariants as regions
+use Rattle.msc_reader.specs.declared.place.Saying.{Saying}
+use Rattle.msc_reader.specs.declared.place.Saying.TheVariants as sayings
+
+-- an event of the instance own that has so many before it
+pub record IsEvent (own : List ℕ) (events : ℕ) (partner message : List ℕ) : Type 0 where
+  pub partner_name : IsName partner
+  pub message_name : IsName message
+  pub other : partner ≢ own
+  pub room : events < MAX_EVENTS
+
+-- what may be said in a place, and the next place
+pub data Moves : Place → Saying → Place → Type 0 where
+  begins : Moves places.Start sayings.Begin places.Outside
+  heads : {own : List ℕ} → IsName own → Moves places.Outside (sayings.Head own) (places.Inside own 0 regions.Closed)
+  ends : Moves places.Outside sayings.End places.Done
+  sends : {own to name : List ℕ} {events : ℕ} → IsEvent own events to name → Moves (places.Inside own events regions.Closed) (sayings.Send to name) (places.Inside own (events + 1) regions.Closed)
+  receives : {own from name : List ℕ} {events : ℕ} {region : Region} → IsEvent own events from name → Moves (places.Inside own events region) (sayings.Receive from name) (places.Inside own (events + 1) (held region))
+  opens : {own : List ℕ} {events : ℕ} → Moves (places.Inside own events regions.Closed) sayings.Open (places.Inside own events regions.Empty)
+  shuts : {own : List ℕ} {events : ℕ} → Moves (places.Inside own events regions.Held) sayings.Shut (places.Inside own events regions.Closed)
+  leaves : {own : List ℕ} {events : ℕ} → Moves (places.Inside own events regions.Closed) sayings.Foot places.Outside
+
+-- a word with a semicolon behind it
+abbrev pub semi : List ℕ → List ℕ
+semi word = word ++ 59 ∷ []
+
+-- the words that say it
+abbrev pub saying_words : Saying → List (List ℕ)
+saying_words sayings.Begin = codes "msc" ∷ codes "run;" ∷ []
+saying_words (sayings.Head own) = codes "instance" ∷ semi own ∷ []
+saying_words (sayings.Send to name) = codes "out" ∷ name ∷ codes "to" ∷ semi to ∷ []
+saying_words (sayings.Receive from name) = codes "in" ∷ name ∷ codes "from" ∷ semi from ∷ []
+saying_words sayings.Open = codes "concurrent;" ∷ []
+saying_words sayings.Shut = codes "endconcurrent;" ∷ []
+saying_words sayings.Foot = codes "endinstance;" ∷ []
+saying_words sayings.End = codes "endmsc;" ∷ []

@@ -1,0 +1,268 @@
+-- What one more line makes of both looks: it is drawn, or its partner is no instance.
+use Rattle.std.proofs.Common.{◌≡◌, ◌≢◌, ℕ, zero, suc, ◌+◌, ◌<◌, ◌≤◌, Bool, true, false, cond, eqb, leb, nat_lt, List, [], ◌∷◌, ◌++◌, length, Option, Some, None, Result, Ok, Err, ◌⊎◌, inl, inr, refl, sym, ap, ◌∙◌, subst, arith, append_assoc, length-append}
+use Rattle.std.specs.Prelude.{bytes_eq, nat_le}
+use Rattle.std.specs.List.{flat_map, list_any, AllByRecursion}
+use Rattle.std.proofs.lemmas.Bool.{eqb-false, ltb-false, lt-leb}
+use Rattle.std.proofs.lemmas.List.{flat_map_more}
+use Rattle.chart.proofs.NameLists.{AreNames-push, not_there}
+use Rattle.chart.proofs.Places.{each-push}
+use Rattle.chart.specs.Charts.{LineView, IsLine, IsNumbered}
+use Rattle.chart.specs.Marks.{partner_of, name_of, region_of}
+use Rattle.chart.specs.Names.{IsName, instance_of}
+use Rattle.chart.specs.NameSets.{AreNames}
+use Rattle.chart.specs.declared.event.Event.{Event as Mark}
+use Rattle.chart.specs.declared.event.Event.TheVariants as marks
+use Rattle.chart.specs.declared.instance.TheConstants.{MAX_INSTANCES}
+use Rattle.msc_text.specs.ChartText.{name_at}
+use Rattle.msc_text.specs.Faults.{◌>>=◌}
+use Rattle.msc_text.specs.declared.fault.Cause.{Cause}
+use Rattle.msc_text.specs.declared.fault.Cause.TheVariants.{Instances, Duplicate, UnknownInstance}
+use Rattle.msc_text.proofs.Lookups.{IsNamed, instance_is}
+use Rattle.msc_text.proofs.Results.{bind_at, guard_ok, ok_is}
+use Rattle.msc_reader.specs.Drawings.{DrawingView, blank, known, known_of, with_mark, with_head, with_foot, with_send, with_receive, drawn}
+use Rattle.msc_reader.specs.Reading.{with_name, names_after}
+use Rattle.msc_reader.specs.Steps.{held}
+use Rattle.msc_reader.specs.declared.place.Place.{Place}
+use Rattle.msc_reader.specs.declared.place.Place.TheVariants as places
+use Rattle.msc_reader.specs.declared.place.Region.{Region}
+use Rattle.msc_reader.specs.declared.place.Region.TheVariants as regions
+use Rattle.msc_reader.specs.declared.place.Saying.{Saying}
+use Rattle.msc_reader.specs.declared.place.Saying.TheVariants as sayings
+use Rattle.msc_reader.proofs.Coregions.{HasOpen, tail_of, last_from-is, closing-open}
+use Rattle.msc_reader.proofs.Moves.{IsEvent, Moves}
+use Rattle.msc_reader.proofs.Moves.Moves.{begins, heads, ends, sends, receives, opens, shuts, leaves}
+use Rattle.msc_reader.proofs.Standing.{IsMark, IsLineAmong, IsInside, Stands, State, inside_said, so_far, all-push, name_at-there, Pushes, more_line, more_drawn, mark-drawn, mark-inside, mark-said}
+use Rattle.msc_reader.proofs.TextSayings.{said, marked, body, last_from, closing, part}
+
+-- one more line is drawn
+pub record Draws (names more : List (List ℕ)) (place next : Place) (d : DrawingView) (saying : Saying) (e : DrawingView) : Type 0 where
+  pub is_drawn : drawn names d saying ≡ Ok e
+  pub state : State names more next e
+  pub says : so_far names next e ≡ so_far names place d ++ saying ∷ []
+
+-- or not
+abbrev pub Outcome : List (List ℕ) → List (List ℕ) → Place → Place → DrawingView → Saying → Type 0
+Outcome names more place next d saying = (drawn names d saying ≡ Err UnknownInstance) ⊎ ((e : DrawingView) × Draws names more place next d saying e)
+
+-- ---- names
+
+pub record IsAdded (begun : List (List ℕ)) (own : List ℕ) (more : List (List ℕ)) : Type 0 where
+  pub is : begun ++ own ∷ [] ≡ more
+  pub room : length begun ≢ MAX_INSTANCES
+  pub new : list_any (bytes_eq own) begun ≡ false
+
+pub is_added : (begun : List (List ℕ)) (own : List ℕ) (more : List (List ℕ)) → with_name begun own ≡ Ok more → IsAdded begun own more
+is_added begun own more e =
+    let a = guard_ok (list_any (bytes_eq own) begun) Duplicate (cond (eqb (length begun) MAX_INSTANCES) (Err Instances) (Ok (begun ++ own ∷ []))) more e in
+    let b = guard_ok (eqb (length begun) MAX_INSTANCES) Instances (Ok (begun ++ own ∷ [])) more a.1 in
+    record { is = ok_is (begun ++ own ∷ []) more b.1; room = eqb-false (length begun) MAX_INSTANCES b.0; new = a.0 }
+
+add-one-length : (lines : List LineView) (line : LineView) → length (lines ++ line ∷ []) ≡ suc (length lines)
+add-one-length lines line = omega (arith, length-append lines (line ∷ []))
+
+-- ---- line by line
+
+begin-on : (names begun more : List (List ℕ)) (d : DrawingView) → State names begun places.Start d → begun ≡ more → Outcome names more places.Start places.Outside d sayings.Begin
+begin-on names begun more d s same =
+    let blank_is = s.stands.1 in
+    let none : length d.lines ≡ 0 = ap (λ x. length x.lines) blank_is in
+    let no_names : length begun ≡ 0 = ap length s.stands.0 in
+    let state : State names begun places.Outside d = record { are = s.are; each = s.each; numbered = s.numbered; among = s.among; stands = (ap (λ x. x.line) blank_is, no_names ∙ sym none) } in
+    inr (
+      d,
+      record {
+        is_drawn = refl;
+        state = subst (λ b. State names b places.Outside d) same state;
+        says = ap (λ x. sayings.Begin ∷ flat_map (part names) x.lines) blank_is;
+      },
+    )
+
+empty_line : (n p : ℕ) → IsLineAmong n (record { instance = p; events = [] })
+empty_line n p = record { line_is = record { short = omega arith; partners = λ i m e. absurd (cc); regions = λ i m e. absurd (cc) }; marks_are = tt }
+
+head-on : (names begun more later : List (List ℕ)) (own : List ℕ) (d : DrawingView) → IsName own → State names begun places.Outside d → with_name begun own ≡ Ok more → names ≡ more ++ later
+    → Outcome names more places.Outside (places.Inside own 0 regions.Closed) d (sayings.Head own)
+head-on names begun more later own d name s e prefix =
+    let add = is_added begun own more e in
+    let many : length begun ≡ length d.lines = s.stands.1 in
+    let limit = s.are.limit in
+    let room : length begun < MAX_INSTANCES = omega (arith, add.room) in
+    let whole : names ≡ (begun ++ own ∷ []) ++ later = prefix ∙ ap (λ l. l ++ later) (sym add.is) in
+    let owner : name_at names (suc (length d.lines)) ≡ own = ap (λ k. name_at names (suc k)) (sym many) ∙ ap (λ l. name_at l (suc (length begun))) whole ∙ name_at-there begun own later in
+    let line : LineView = record { instance = suc (length d.lines); events = [] } in
+    let e : DrawingView = record { lines = d.lines; line = Some line; open_region = 0; greatest = 0 } in
+    let inside : IsInside names own 0 regions.Closed e line = record { there = refl; next = refl; owner = owner; many = refl; most = refl; open_is = refl; among = empty_line (length names) (suc (length d.lines)) } in
+    let state : State names (begun ++ own ∷ []) (places.Inside own 0 regions.Closed) e = record {
+      are = AreNames-push begun own s.are room (not_there begun own add.new);
+      each = all-push IsName begun own s.each name;
+      numbered = s.numbered;
+      among = s.among;
+      stands = (omega (arith, length-append begun (own ∷ [])), (line, inside));
+    } in
+    inr (
+      e,
+      record {
+        is_drawn = ap (λ b. cond b (Err Instances) (Ok e)) (lt-leb MAX_INSTANCES (length d.lines) (omega arith));
+        state = subst (λ b. State names b (places.Inside own 0 regions.Closed) e) add.is state;
+        says = refl;
+      },
+    )
+
+end-on : (names begun more : List (List ℕ)) (d : DrawingView) → State names begun places.Outside d → names_after begun sayings.End ≡ Ok more → Outcome names more places.Outside places.Done d sayings.End
+end-on names begun more d s e =
+    let g = guard_ok (nat_lt (length begun) 2) Instances (Ok begun) more e in
+    let state : State names begun places.Done d = record { are = s.are; each = s.each; numbered = s.numbered; among = s.among; stands = (s.stands.1, ltb-false (length begun) 2 g.0) } in
+    inr (d, record { is_drawn = refl; state = subst (λ b. State names b places.Done d) (ok_is begun more g.1) state; says = refl })
+
+-- an event whose partner is found
+pushes-of : {names : List (List ℕ)} {own partner name : List ℕ} {events : ℕ} {region : Region} {d : DrawingView} {line : LineView} {q : ℕ} (m : Mark)
+    → IsInside names own events region d line → IsEvent own events partner name → IsNamed names partner q → partner_of m ≡ q → name_of m ≡ name → HasOpen region (region_of m) line.events → Pushes names own events region d line m
+pushes-of {names} {own} {partner} {name} {events} {region} {d} {line} {q} m i event found is named opened =
+    record {
+      inside = i;
+      open_is = opened;
+      other = λ same. event.other (sym found.has ∙ ap (name_at names) (sym is ∙ same) ∙ i.owner);
+      room = event.room;
+      mark = record {
+        first = subst (λ x. 1 ≤ x) (sym is) found.first;
+        last = subst (λ x. x ≤ length names) (sym is) found.last;
+        named = subst IsName (sym named) event.message_name;
+      };
+    }
+
+mark-on : {names begun : List (List ℕ)} {own : List ℕ} {events : ℕ} {region : Region} {d : DrawingView} {line : LineView} {m : Mark} (saying : Saying)
+    → State names begun (places.Inside own events region) d → Pushes names own events region d line m → drawn names d saying ≡ with_mark d d.line m → said names m ≡ saying
+    → Outcome names begun (places.Inside own events region) (places.Inside own (events + 1) (held region)) d saying
+mark-on {names} {begun} {own} {events} {region} {d} {line} {m} saying s p by is =
+    inr (
+      more_drawn d line m,
+      record {
+        is_drawn = by ∙ mark-drawn p;
+        state = record { are = s.are; each = s.each; numbered = s.numbered; among = s.among; stands = (s.stands.0, (more_line line m, mark-inside p)) };
+        says = mark-said p ∙ ap (λ x. so_far names (places.Inside own events region) d ++ x ∷ []) is;
+      },
+    )
+
+send-on : (names begun : List (List ℕ)) (own to name : List ℕ) (events : ℕ) (d : DrawingView) (o : Option ℕ) → instance_of names to ≡ o → IsEvent own events to name → State names begun (places.Inside own events regions.Closed) d
+    → Outcome names begun (places.Inside own events regions.Closed) (places.Inside own (events + 1) regions.Closed) d (sayings.Send to name)
+unfolding with_send known_of
+send-on names begun own to name events d None is event s = inl (ap (λ o. known o >>= λ partner. with_mark d d.line (marks.Send partner name)) is)
+send-on names begun own to name events d (Some q) is event s =
+    let inside = s.stands.1 in
+    let found = instance_is names to q is in
+    let p = pushes-of (marks.Send q name) inside.1 event found refl refl refl in
+    mark-on (sayings.Send to name) s p (ap (λ o. known o >>= λ partner. with_mark d d.line (marks.Send partner name)) is) (ap (λ w. sayings.Send w name) found.has)
+
+receive-on : (names begun : List (List ℕ)) (own from name : List ℕ) (events : ℕ) (region : Region) (d : DrawingView) (o : Option ℕ) → instance_of names from ≡ o → IsEvent own events from name → State names begun (places.Inside own events region) d
+    → Outcome names begun (places.Inside own events region) (places.Inside own (events + 1) (held region)) d (sayings.Receive from name)
+unfolding with_receive known_of
+receive-on names begun own from name events region d None is event s = inl (ap (λ o. known o >>= λ partner. with_mark d d.line (marks.Receive partner name d.open_region)) is)
+receive-on names begun own from name events region d (Some q) is event s =
+    let inside = s.stands.1 in
+    let found = instance_is names from q is in
+    let i = inside.1 in
+    let p = pushes-of (marks.Receive q name d.open_region) i event found refl refl i.open_is in
+    mark-on (sayings.Receive from name) s p (ap (λ o. known o >>= λ partner. with_mark d d.line (marks.Receive partner name d.open_region)) is) (ap (λ w. sayings.Receive w name) found.has)
+
+-- the state with another open coregion
+region-state : {names begun : List (List ℕ)} {own : List ℕ} {events : ℕ} {region other : Region} {d : DrawingView} (c : ℕ) (line : LineView) → State names begun (places.Inside own events region) d → IsInside names own events region d line → HasOpen other c line.events
+    → State names begun (places.Inside own events other) (record d { open_region = c })
+region-state c line s i opened = record {
+  are = s.are;
+  each = s.each;
+  numbered = s.numbered;
+  among = s.among;
+  stands = (s.stands.0, (line, record { there = i.there; next = i.next; owner = i.owner; many = i.many; most = i.most; open_is = opened; among = i.among }));
+}
+
+-- what is said there
+said-on : (names : List (List ℕ)) (own : List ℕ) (region other : Region) (d : DrawingView) (line : LineView) (saying : Saying) → d.line ≡ Some line
+    → tail_of other (last_from 0 line.events) ≡ tail_of region (last_from 0 line.events) ++ saying ∷ []
+    → sayings.Begin ∷ (flat_map (part names) d.lines ++ inside_said names own other d.line) ≡ (sayings.Begin ∷ (flat_map (part names) d.lines ++ inside_said names own region d.line)) ++ saying ∷ []
+said-on names own region other d line saying there e =
+    let front = flat_map (part names) d.lines in
+    let b = body names 0 line.events in
+    let r = last_from 0 line.events in
+    ap (λ o. sayings.Begin ∷ (front ++ inside_said names own other o)) there
+    ∙ ap (λ l. sayings.Begin ∷ (front ++ (sayings.Head own ∷ (b ++ l)))) e
+    ∙ ap (λ l. sayings.Begin ∷ (front ++ (sayings.Head own ∷ l))) (sym (append_assoc b (tail_of region r) (saying ∷ [])))
+    ∙ ap (λ l. sayings.Begin ∷ l) (sym (append_assoc front (sayings.Head own ∷ (b ++ tail_of region r)) (saying ∷ [])))
+    ∙ ap (λ o. (sayings.Begin ∷ (front ++ inside_said names own region o)) ++ saying ∷ []) (sym there)
+
+open-on : (names begun : List (List ℕ)) (own : List ℕ) (events : ℕ) (d : DrawingView) → State names begun (places.Inside own events regions.Closed) d
+    → Outcome names begun (places.Inside own events regions.Closed) (places.Inside own events regions.Empty) d sayings.Open
+open-on names begun own events d s =
+    let inside = s.stands.1 in
+    let line = inside.0 in
+    let i = inside.1 in
+    inr (
+      record d { open_region = d.greatest + 1 },
+      record {
+        is_drawn = refl;
+        state = region-state (d.greatest + 1) line s i (ap (λ g. g + 1) i.most);
+        says = said-on names own regions.Closed regions.Empty d line sayings.Open i.there refl;
+      },
+    )
+
+shut-on : (names begun : List (List ℕ)) (own : List ℕ) (events : ℕ) (d : DrawingView) → State names begun (places.Inside own events regions.Held) d
+    → Outcome names begun (places.Inside own events regions.Held) (places.Inside own events regions.Closed) d sayings.Shut
+shut-on names begun own events d s =
+    let inside = s.stands.1 in
+    let line = inside.0 in
+    let i = inside.1 in
+    let opened = i.open_is in
+    let last : last_from 0 line.events ≡ d.open_region = last_from-is line.events ∙ sym opened.2 in
+    let begun_one : 0 < last_from 0 line.events = omega (arith, opened.0) in
+    inr (
+      record d { open_region = 0 },
+      record {
+        is_drawn = refl;
+        state = region-state 0 line s i refl;
+        says = said-on names own regions.Held regions.Closed d line sayings.Shut i.there (closing-open (last_from 0 line.events) begun_one);
+      },
+    )
+
+foot-on : (names begun : List (List ℕ)) (own : List ℕ) (events : ℕ) (d : DrawingView) → State names begun (places.Inside own events regions.Closed) d
+    → Outcome names begun (places.Inside own events regions.Closed) places.Outside d sayings.Foot
+foot-on names begun own events d s =
+    let inside = s.stands.1 in
+    let line = inside.0 in
+    let i = inside.1 in
+    let front = flat_map (part names) d.lines in
+    let r = last_from 0 line.events in
+    let b = body names 0 line.events in
+    let e : DrawingView = record { lines = d.lines ++ line ∷ []; line = None; open_region = 0; greatest = 0 } in
+    let here : part names line ≡ (sayings.Head own ∷ (b ++ closing r 0)) ++ sayings.Foot ∷ [] = ap (λ w. sayings.Head w ∷ (b ++ (closing r 0 ++ sayings.Foot ∷ []))) i.owner ∙ ap (λ l. sayings.Head own ∷ l) (sym (append_assoc b (closing r 0) (sayings.Foot ∷ []))) in
+    inr (
+      e,
+      record {
+        is_drawn = ap (with_foot d) i.there;
+        state = record {
+          are = s.are;
+          each = s.each;
+          numbered = each-push (λ k l. l.instance ≡ suc k) d.lines line s.numbered i.next;
+          among = all-push (IsLineAmong (length names)) d.lines line s.among i.among;
+          stands = (refl, s.stands.0 ∙ sym (add-one-length d.lines line));
+        };
+        says =
+            ap (λ l. sayings.Begin ∷ l) (sym (flat_map_more (part names) [] d.lines line) ∙ ap (λ l. front ++ l) here ∙ sym (append_assoc front (sayings.Head own ∷ (b ++ closing r 0)) (sayings.Foot ∷ [])))
+            ∙ ap (λ o. (sayings.Begin ∷ (front ++ inside_said names own regions.Closed o)) ++ sayings.Foot ∷ []) (sym i.there);
+      },
+    )
+
+-- one more line
+pub onward : {names begun more : List (List ℕ)} {place next : Place} {saying : Saying} {d : DrawingView} (later : List (List ℕ)) → State names begun place d → Moves place saying next → names_after begun saying ≡ Ok more → names ≡ more ++ later
+    → Outcome names more place next d saying
+onward {names} {begun} {more} {d = d} later s begins e p = begin-on names begun more d s (ok_is begun more e)
+onward {names} {begun} {more} {d = d} later s (heads {own} h) e p = head-on names begun more later own d h s e p
+onward {names} {begun} {more} {d = d} later s ends e p = end-on names begun more d s e
+onward {names} {begun} {more} {d = d} later s (sends {own} {to} {name} {events} h) e p =
+    subst (λ b. Outcome names b (places.Inside own events regions.Closed) (places.Inside own (events + 1) regions.Closed) d (sayings.Send to name)) (ok_is begun more e) (send-on names begun own to name events d (instance_of names to) refl h s)
+onward {names} {begun} {more} {d = d} later s (receives {own} {from} {name} {events} {region} h) e p =
+    subst (λ b. Outcome names b (places.Inside own events region) (places.Inside own (events + 1) (held region)) d (sayings.Receive from name)) (ok_is begun more e) (receive-on names begun own from name events region d (instance_of names from) refl h s)
+onward {names} {begun} {more} {d = d} later s (opens {own} {events}) e p =
+    subst (λ b. Outcome names b (places.Inside own events regions.Closed) (places.Inside own events regions.Empty) d sayings.Open) (ok_is begun more e) (open-on names begun own events d s)
+onward {names} {begun} {more} {d = d} later s (shuts {own} {events}) e p =
+    subst (λ b. Outcome names b (places.Inside own events regions.Held) (places.Inside own events regions.Closed) d sayings.Shut) (ok_is begun more e) (shut-on names begun own events d s)
+onward {names} {begun} {more} {d = d} later s (leaves {own} {events}) e p =
+    subst (λ b. Outcome names b (places.Inside own events regions.Closed) places.Outside d sayings.Foot) (ok_is begun more e) (foot-on names begun own events d s)

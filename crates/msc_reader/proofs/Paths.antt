@@ -1,0 +1,83 @@
+-- Lines that both looks pass, one after the other: laws about lists alone.
+use Rattle.std.proofs.Common.{◌≡◌, ◌≢◌, ℕ, zero, suc, ◌+◌, ◌<◌, ◌≤◌, Bool, true, false, cond, eqb, nat_lt, max, List, [], ◌∷◌, ◌++◌, length, map, take, All, Contains, Option, Some, None, Result, Ok, Err, ◌⊎◌, inl, inr, refl, sym, ap, ◌∙◌, subst, arith, append_assoc, append-nil, length-append, add-zero}
+use Rattle.std.specs.Prelude.{slice_get}
+use Rattle.std.specs.List.{flat_map, AllByRecursion}
+use Rattle.std.proofs.lemmas.Bool.{eqb-true, lt-leb}
+use Rattle.chart.specs.Charts.{LineView, IsLine, IsChart, HasPartners, IsNumbered}
+use Rattle.chart.specs.Marks.{partner_of, name_of, region_of, greatest_region, last_region, MayHaveRegion, HasRegionsInOrder}
+use Rattle.chart.specs.Names.{IsName, instance_of}
+use Rattle.chart.specs.NameSets.{AreNames}
+use Rattle.chart.specs.declared.event.Event.{Event as Mark}
+use Rattle.chart.specs.declared.event.Event.TheVariants as marks
+use Rattle.chart.specs.declared.instance.TheConstants.{MAX_INSTANCES}
+use Rattle.chart.specs.declared.line.TheConstants.{MAX_EVENTS}
+use Rattle.msc_text.specs.ChartText.{chart_text, name_at}
+use Rattle.msc_text.specs.Faults.{◌>>=◌, in_line}
+use Rattle.msc_text.specs.Lines.{Lacks}
+use Rattle.msc_text.specs.declared.fault.Cause.{Cause}
+use Rattle.msc_text.specs.declared.fault.Fault.{Fault}
+use Rattle.msc_text.proofs.Lookups.{instance_again}
+use Rattle.msc_text.proofs.Results.{bind_at}
+use Rattle.msc_reader.specs.Drawings.{DrawingView, blank, known, known_of, greater, with_mark, with_head, with_foot, with_send, with_receive, drawn}
+use Rattle.msc_reader.specs.Reading.{names_after, with_name, finished, look_from, draw_from}
+use Rattle.msc_reader.specs.Steps.{Step, held, step_of}
+use Rattle.msc_reader.specs.declared.place.Place.{Place}
+use Rattle.msc_reader.specs.declared.place.Place.TheVariants as places
+use Rattle.msc_reader.specs.declared.place.Region.{Region}
+use Rattle.msc_reader.specs.declared.place.Region.TheVariants as regions
+use Rattle.msc_reader.specs.declared.place.Saying.{Saying}
+use Rattle.msc_reader.specs.declared.place.Saying.TheVariants as sayings
+use Rattle.msc_reader.proofs.Moves.{IsEvent, Moves}
+use Rattle.msc_reader.proofs.Moves.Moves.{begins, heads, ends, sends, receives, opens, shuts, leaves}
+use Rattle.msc_reader.proofs.SayingsAgain.{saying_line, line-again, line-lacks}
+use Rattle.msc_reader.proofs.TextSayings.{said, marked, body, last_from, closing, opening, part, chart_sayings}
+
+-- where both looks are: the names that have begun, the place and what is drawn
+pub record Spot : Type 0 where
+  pub begun : List (List ℕ)
+  pub place : Place
+  pub drawing : DrawingView
+
+-- one line takes both looks from one spot to the next
+pub record Passes (names : List (List ℕ)) (a : Spot) (saying : Saying) (b : Spot) : Type 0 where
+  pub moves : Moves a.place saying b.place
+  pub adds : names_after a.begun saying ≡ Ok b.begun
+  pub draws : drawn names a.drawing saying ≡ Ok b.drawing
+
+-- several lines do
+pub data Path (names : List (List ℕ)) : Spot → List Saying → Spot → Type 0 where
+  stay : {a : Spot} → Path names a [] a
+  pass : {a b c : Spot} {saying : Saying} {others : List Saying} → Passes names a saying b → Path names b others c → Path names a (saying ∷ others) c
+
+pub one_pass : {names : List (List ℕ)} {a b : Spot} {saying : Saying} → Passes names a saying b → Path names a (saying ∷ []) b
+one_pass p = pass p stay
+
+pub path_then : {names : List (List ℕ)} {a b c : Spot} {xs ys : List Saying} → Path names a xs b → Path names b ys c → Path names a (xs ++ ys) c
+path_then stay q = q
+path_then (pass p others) q = pass p (path_then others q)
+
+-- ---- a path is looked along
+
+pub look_path : {names : List (List ℕ)} {a b : Spot} {xs : List Saying} (n : ℕ) (rest : List ℕ) → Path names a xs b → look_from a.begun a.place n (map saying_line xs) rest ≡ finished b.begun b.place (n + length xs) rest
+unfolding look_from
+look_path {a = a} n rest stay = ap (λ k. finished a.begun a.place k rest) (sym (add-zero n))
+look_path {names} {a} {b = c} n rest (pass {b = b} {saying = saying} {others = others} p q) =
+    let reads : in_line n (step_of a.place (saying_line saying)) ≡ Ok (saying, b.place) = ap (in_line n) (line-again p.moves) in
+    bind_at (in_line n (step_of a.place (saying_line saying))) (λ step. in_line n (names_after a.begun step.0) >>= λ more. look_from more step.1 (n + 1) (map saying_line others) rest) (saying, b.place) reads
+    ∙ bind_at (in_line n (names_after a.begun saying)) (λ more. look_from more b.place (n + 1) (map saying_line others) rest) b.begun (ap (in_line n) p.adds)
+    ∙ look_path (n + 1) rest q
+    ∙ ap (λ k. finished c.begun c.place k rest) (omega arith)
+
+pub draw_path : {names : List (List ℕ)} {a b : Spot} {xs : List Saying} (n : ℕ) → Path names a xs b → draw_from names a.place a.drawing n (map saying_line xs) ≡ Ok b.drawing.lines
+unfolding draw_from
+draw_path n stay = refl
+draw_path {names} {a} n (pass {b = b} {saying = saying} {others = others} p q) =
+    let reads : in_line n (step_of a.place (saying_line saying)) ≡ Ok (saying, b.place) = ap (in_line n) (line-again p.moves) in
+    bind_at (in_line n (step_of a.place (saying_line saying))) (λ step. in_line n (drawn names a.drawing step.0) >>= λ more. draw_from names step.1 more (n + 1) (map saying_line others)) (saying, b.place) reads
+    ∙ bind_at (in_line n (drawn names a.drawing saying)) (λ more. draw_from names b.place more (n + 1) (map saying_line others)) b.drawing (ap (in_line n) p.draws)
+    ∙ draw_path (n + 1) q
+
+-- its lines have no line feed
+pub path_lacks : {names : List (List ℕ)} {a b : Spot} {xs : List Saying} → Path names a xs b → AllByRecursion (Lacks 10) (map saying_line xs)
+path_lacks stay = tt
+path_lacks (pass p q) = (line-lacks p.moves, path_lacks q)

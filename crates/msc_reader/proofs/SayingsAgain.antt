@@ -1,0 +1,140 @@
+-- What may be said, read again from its words: laws about lists alone.
+use Rattle.std.proofs.Common.{◌≡◌, ◌≢◌, ℕ, ◌+◌, ◌<◌, Bool, true, false, cond, ◌&&◌, List, [], ◌∷◌, ◌++◌, Option, Some, None, Result, Ok, Err, refl, sym, ap, ◌∙◌, arith}
+use Rattle.std.specs.Prelude.{codes, bytes_eq, nat_le}
+use Rattle.std.specs.List.{join_with_byte, AllByRecursion}
+use Rattle.std.proofs.lemmas.Bool.{lt-leb}
+use Rattle.chart.specs.Names.{IsName}
+use Rattle.chart.specs.declared.line.TheConstants.{MAX_EVENTS}
+use Rattle.msc_text.specs.Faults.{◌>>=◌}
+use Rattle.msc_text.specs.Lines.{words_of, name_or_cause, Lacks}
+use Rattle.msc_text.specs.declared.fault.Cause.{Cause}
+use Rattle.msc_text.specs.declared.fault.Cause.TheVariants.{Syntax, ToItself, LineFull}
+use Rattle.msc_text.proofs.Lookups.{same_bytes}
+use Rattle.msc_text.proofs.Parts.{lacks_if, lacks_append}
+use Rattle.msc_text.proofs.Results.{bind_at, name_again}
+use Rattle.msc_text.proofs.Spacing.{IsPlain, ArePlain, plain_name, spaced_again, spaced_lacks, is_spaced}
+use Rattle.msc_reader.specs.Keywords.{is_msc, is_run, is_instance, is_endinstance, is_out, is_to, is_in, is_from, is_concurrent, is_endconcurrent, is_endmsc}
+use Rattle.msc_reader.specs.Steps.{Step, before_semicolon, is_plain, head_of, pair_of, names_of, held, send_of, receive_of, event_of, alone_of, step_by, step_of}
+use Rattle.msc_reader.specs.declared.place.Place.{Place}
+use Rattle.msc_reader.specs.declared.place.Place.TheVariants as places
+use Rattle.msc_reader.specs.declared.place.Region.{Region}
+use Rattle.msc_reader.specs.declared.place.Region.TheVariants as regions
+use Rattle.msc_reader.specs.declared.place.Saying.{Saying}
+use Rattle.msc_reader.specs.declared.place.Saying.TheVariants as sayings
+use Rattle.msc_reader.proofs.Moves.{IsEvent, Moves, semi, saying_words}
+use Rattle.msc_reader.proofs.Moves.Moves.{begins, heads, ends, sends, receives, opens, shuts, leaves}
+use Rattle.msc_reader.proofs.Sayings.{Says, step-says}
+use Rattle.msc_reader.proofs.Semicolons.{before_again, plain_again}
+
+-- ---- by the words
+
+start-again : step_by places.Start (saying_words sayings.Begin) ≡ Ok (sayings.Begin, places.Outside)
+unfolding is_msc is_run
+start-again = refl
+
+end-again : step_by places.Outside (saying_words sayings.End) ≡ Ok (sayings.End, places.Done)
+unfolding is_endmsc
+end-again = refl
+
+head-again : (own : List ℕ) → IsName own → step_by places.Outside (saying_words (sayings.Head own)) ≡ Ok (sayings.Head own, places.Inside own 0 regions.Closed)
+unfolding is_instance head_of
+head-again own h = ap head_of (before_again own h) ∙ bind_at (name_or_cause own) (λ o. Ok (sayings.Head o, places.Inside o 0 regions.Closed)) own (name_again own h)
+
+not_same : (a b : List ℕ) → a ≢ b → bytes_eq a b ≡ false
+not_same a b other = by (bytes_eq a b) refl
+  where
+    by : (x : Bool) → bytes_eq a b ≡ x → bytes_eq a b ≡ false
+    by true e = absurd (other (same_bytes a b e))
+    by false e = e
+
+pair-again : (own : List ℕ) (events : ℕ) (partner message : List ℕ) → IsEvent own events partner message → pair_of own events message partner ≡ Ok (message, partner)
+unfolding pair_of
+pair-again own events partner message h =
+    bind_at (name_or_cause message) (λ name. name_or_cause partner >>= λ other. cond (bytes_eq other own) (Err ToItself) (cond (nat_le MAX_EVENTS events) (Err LineFull) (Ok (name, other)))) message (name_again message h.message_name)
+    ∙ bind_at (name_or_cause partner) (λ other. cond (bytes_eq other own) (Err ToItself) (cond (nat_le MAX_EVENTS events) (Err LineFull) (Ok (message, other)))) partner (name_again partner h.partner_name)
+    ∙ ap (λ b. cond b (Err ToItself) (cond (nat_le MAX_EVENTS events) (Err LineFull) (Ok (message, partner)))) (not_same partner own h.other)
+    ∙ ap (λ b. cond b (Err LineFull) (Ok (message, partner))) (lt-leb MAX_EVENTS events h.room)
+
+names-again : (own : List ℕ) (events : ℕ) (partner message : List ℕ) → IsEvent own events partner message → names_of own events message (before_semicolon (semi partner)) ≡ Ok (message, partner)
+unfolding names_of
+names-again own events partner message h =
+    ap (names_of own events message) (before_again partner h.partner_name) ∙ ap (λ b. cond b (pair_of own events message partner) (Err Syntax)) (plain_again message h.message_name) ∙ pair-again own events partner message h
+
+send-again : (own to name : List ℕ) (events : ℕ) → IsEvent own events to name
+    → step_by (places.Inside own events regions.Closed) (saying_words (sayings.Send to name)) ≡ Ok (sayings.Send to name, places.Inside own (events + 1) regions.Closed)
+unfolding event_of send_of is_out is_to is_in is_from
+send-again own to name events h = bind_at (names_of own events name (before_semicolon (semi to))) (λ pair. Ok (sayings.Send pair.1 pair.0, places.Inside own (events + 1) regions.Closed)) (name, to) (names-again own events to name h)
+
+receive-again : (own from name : List ℕ) (events : ℕ) (region : Region) → IsEvent own events from name
+    → step_by (places.Inside own events region) (saying_words (sayings.Receive from name)) ≡ Ok (sayings.Receive from name, places.Inside own (events + 1) (held region))
+unfolding event_of receive_of is_in is_from
+receive-again own from name events region h = bind_at (names_of own events name (before_semicolon (semi from))) (λ pair. Ok (sayings.Receive pair.1 pair.0, places.Inside own (events + 1) (held region))) (name, from) (names-again own events from name h)
+
+open-again : (own : List ℕ) (events : ℕ) → step_by (places.Inside own events regions.Closed) (saying_words sayings.Open) ≡ Ok (sayings.Open, places.Inside own events regions.Empty)
+unfolding alone_of is_endinstance is_concurrent
+open-again own events = refl
+
+shut-again : (own : List ℕ) (events : ℕ) → step_by (places.Inside own events regions.Held) (saying_words sayings.Shut) ≡ Ok (sayings.Shut, places.Inside own events regions.Closed)
+unfolding alone_of is_endconcurrent
+shut-again own events = refl
+
+foot-again : (own : List ℕ) (events : ℕ) → step_by (places.Inside own events regions.Closed) (saying_words sayings.Foot) ≡ Ok (sayings.Foot, places.Outside)
+unfolding alone_of is_endinstance
+foot-again own events = refl
+
+words-again : {place next : Place} {saying : Saying} → Moves place saying next → step_by place (saying_words saying) ≡ Ok (saying, next)
+words-again begins = start-again
+words-again (heads {own} h) = head-again own h
+words-again ends = end-again
+words-again (sends {own} {to} {name} {events} h) = send-again own to name events h
+words-again (receives {own} {from} {name} {events} {region} h) = receive-again own from name events region h
+words-again (opens {own} {events}) = open-again own events
+words-again (shuts {own} {events}) = shut-again own events
+words-again (leaves {own} {events}) = foot-again own events
+
+-- ---- by the line
+
+-- the line that says it
+abbrev pub saying_line : Saying → List ℕ
+saying_line saying = join_with_byte 32 (saying_words saying)
+
+plain_semi : (name : List ℕ) → IsName name → IsPlain (semi name)
+plain_semi name h =
+    let two = plain_name name h in
+    (lacks_append 32 name (59 ∷ []) two.0 (lacks_if 32 (59 ∷ []) refl), lacks_append 10 name (59 ∷ []) two.1 (lacks_if 10 (59 ∷ []) refl))
+
+plain-words : {place next : Place} {saying : Saying} → Moves place saying next → ArePlain (saying_words saying)
+plain-words begins = ((lacks_if 32 (codes "msc") refl, lacks_if 10 (codes "msc") refl), ((lacks_if 32 (codes "run;") refl, lacks_if 10 (codes "run;") refl), tt))
+plain-words (heads {own} h) = ((lacks_if 32 (codes "instance") refl, lacks_if 10 (codes "instance") refl), (plain_semi own h, tt))
+plain-words ends = ((lacks_if 32 (codes "endmsc;") refl, lacks_if 10 (codes "endmsc;") refl), tt)
+plain-words (sends {own} {to} {name} h) = ((lacks_if 32 (codes "out") refl, lacks_if 10 (codes "out") refl), (plain_name name h.message_name, ((lacks_if 32 (codes "to") refl, lacks_if 10 (codes "to") refl), (plain_semi to h.partner_name, tt))))
+plain-words (receives {own} {from} {name} h) = ((lacks_if 32 (codes "in") refl, lacks_if 10 (codes "in") refl), (plain_name name h.message_name, ((lacks_if 32 (codes "from") refl, lacks_if 10 (codes "from") refl), (plain_semi from h.partner_name, tt))))
+plain-words opens = ((lacks_if 32 (codes "concurrent;") refl, lacks_if 10 (codes "concurrent;") refl), tt)
+plain-words shuts = ((lacks_if 32 (codes "endconcurrent;") refl, lacks_if 10 (codes "endconcurrent;") refl), tt)
+plain-words leaves = ((lacks_if 32 (codes "endinstance;") refl, lacks_if 10 (codes "endinstance;") refl), tt)
+
+said-again : (saying : Saying) → ArePlain (saying_words saying) → words_of (saying_line saying) ≡ saying_words saying
+said-again sayings.Begin h = spaced_again _ _ h
+said-again (sayings.Head own) h = spaced_again _ _ h
+said-again (sayings.Send to name) h = spaced_again _ _ h
+said-again (sayings.Receive from name) h = spaced_again _ _ h
+said-again sayings.Open h = spaced_again _ _ h
+said-again sayings.Shut h = spaced_again _ _ h
+said-again sayings.Foot h = spaced_again _ _ h
+said-again sayings.End h = spaced_again _ _ h
+
+-- a line is read as what it says
+pub line-again : {place next : Place} {saying : Saying} → Moves place saying next → step_of place (saying_line saying) ≡ Ok (saying, next)
+unfolding step_of
+line-again {place} {next} {saying} move = ap (step_by place) (said-again saying (plain-words move)) ∙ words-again move
+
+-- it has no line feed
+pub line-lacks : {place next : Place} {saying : Saying} → Moves place saying next → Lacks 10 (saying_line saying)
+line-lacks {saying = saying} move = spaced_lacks (saying_words saying) (plain-words move)
+
+-- and is no other
+pub line-is : (place : Place) (line : List ℕ) (step : Step) → step_of place line ≡ Ok step → Moves place step.0 step.1 × (line ≡ saying_line step.0)
+unfolding step_of
+line-is place line step e =
+    let says = step-says place (words_of line) step e in
+    (says.moves, is_spaced line ∙ ap (join_with_byte 32) says.are)

@@ -1,0 +1,159 @@
+-- Where the second look at a text stands: what was said so far, and what is drawn of it.
+use Rattle.std.proofs.Common.{◌≡◌, ◌≢◌, ℕ, zero, suc, ◌+◌, ◌<◌, ◌≤◌, Bool, true, false, cond, eqb, nat_lt, List, [], ◌∷◌, ◌++◌, length, Option, Some, None, Result, Ok, Err, ◌⊎◌, inl, inr, refl, sym, ap, ◌∙◌, subst, arith, append_assoc, length-append}
+use Rattle.std.specs.Prelude.{bytes_eq}
+use Rattle.std.specs.List.{flat_map, list_any, AllByRecursion}
+use Rattle.std.proofs.lemmas.Bool.{eqb-false, ne_eqb, ltb-false}
+use Rattle.std.proofs.lemmas.List.{flat_map_more}
+use Rattle.chart.proofs.Layouts.{IsLine-push}
+use Rattle.chart.proofs.NameLists.{AreNames-push, not_there}
+use Rattle.chart.proofs.Places.{each-push}
+use Rattle.chart.specs.Charts.{LineView, IsLine, IsNumbered}
+use Rattle.chart.specs.Marks.{partner_of, name_of, region_of, greatest_region, HasRegionsInOrder}
+use Rattle.chart.specs.Names.{IsName, instance_of}
+use Rattle.chart.specs.NameSets.{AreNames}
+use Rattle.chart.specs.declared.event.Event.{Event as Mark}
+use Rattle.chart.specs.declared.event.Event.TheVariants as marks
+use Rattle.chart.specs.declared.instance.TheConstants.{MAX_INSTANCES}
+use Rattle.chart.specs.declared.line.TheConstants.{MAX_EVENTS}
+use Rattle.chart.proofs.Regions.{greatest_region-push}
+use Rattle.msc_text.specs.ChartText.{name_at}
+use Rattle.msc_text.specs.Faults.{◌>>=◌}
+use Rattle.msc_text.specs.declared.fault.Cause.{Cause}
+use Rattle.msc_text.specs.declared.fault.Cause.TheVariants.{Instances, Duplicate, ToItself, LineFull, UnknownInstance}
+use Rattle.msc_text.proofs.Lookups.{IsNamed, instance_is}
+use Rattle.msc_text.proofs.Results.{bind_at, guard_ok, ok_is}
+use Rattle.msc_reader.specs.Drawings.{DrawingView, blank, known, known_of, pushed, greater, with_mark, with_head, with_foot, with_send, with_receive, drawn}
+use Rattle.msc_reader.specs.Reading.{with_name, names_after}
+use Rattle.msc_reader.specs.Steps.{held}
+use Rattle.msc_reader.specs.declared.place.Place.{Place}
+use Rattle.msc_reader.specs.declared.place.Place.TheVariants as places
+use Rattle.msc_reader.specs.declared.place.Region.{Region}
+use Rattle.msc_reader.specs.declared.place.Region.TheVariants as regions
+use Rattle.msc_reader.specs.declared.place.Saying.{Saying}
+use Rattle.msc_reader.specs.declared.place.Saying.TheVariants as sayings
+use Rattle.msc_reader.proofs.Coregions.{HasOpen, open-may, open-more, tail_of, last_from-push, body-push, closing-open, tail-more, last_from-is}
+use Rattle.msc_reader.proofs.Drawings.{greater-most}
+use Rattle.msc_reader.proofs.Moves.{IsEvent, Moves}
+use Rattle.msc_reader.proofs.Moves.Moves.{begins, heads, ends, sends, receives, opens, shuts, leaves}
+use Rattle.msc_reader.proofs.TextSayings.{said, marked, body, last_from, closing, part}
+
+-- ---- what is drawn
+
+-- an event among n instances
+pub record IsMark (n : ℕ) (m : Mark) : Type 0 where
+  pub first : 1 ≤ partner_of m
+  pub last : partner_of m ≤ n
+  pub named : IsName (name_of m)
+
+-- a line among n instances
+pub record IsLineAmong (n : ℕ) (line : LineView) : Type 0 where
+  pub line_is : IsLine line
+  pub marks_are : AllByRecursion (IsMark n) line.events
+
+-- the line that is being drawn is of the instance own, with so many events
+pub record IsInside (names : List (List ℕ)) (own : List ℕ) (events : ℕ) (region : Region) (d : DrawingView) (line : LineView) : Type 0 where
+  pub there : d.line ≡ Some line
+  pub next : line.instance ≡ suc (length d.lines)
+  pub owner : name_at names line.instance ≡ own
+  pub many : length line.events ≡ events
+  pub most : d.greatest ≡ greatest_region line.events
+  pub open_is : HasOpen region d.open_region line.events
+  pub among : IsLineAmong (length names) line
+
+-- what is drawn, by the place
+abbrev pub Stands : List (List ℕ) → List (List ℕ) → Place → DrawingView → Type 0
+Stands names begun places.Start d = (begun ≡ []) × (d ≡ blank)
+Stands names begun places.Outside d = (d.line ≡ None) × (length begun ≡ length d.lines)
+Stands names begun (places.Inside own events region) d = (length begun ≡ suc (length d.lines)) × ((line : LineView) × IsInside names own events region d line)
+Stands names begun places.Done d = (length begun ≡ length d.lines) × (2 ≤ length begun)
+
+-- what both looks have made of the lines so far: the names of the instances that have begun, of all in names, and what is drawn
+pub record State (names begun : List (List ℕ)) (place : Place) (d : DrawingView) : Type 0 where
+  pub are : AreNames begun
+  pub each : AllByRecursion IsName begun
+  pub numbered : IsNumbered d.lines
+  pub among : AllByRecursion (IsLineAmong (length names)) d.lines
+  pub stands : Stands names begun place d
+
+-- ---- what was said
+
+abbrev pub inside_said : List (List ℕ) → List ℕ → Region → Option LineView → List Saying
+inside_said names own region None = []
+inside_said names own region (Some line) = sayings.Head own ∷ (body names 0 line.events ++ tail_of region (last_from 0 line.events))
+
+abbrev pub so_far : List (List ℕ) → Place → DrawingView → List Saying
+so_far names places.Start d = []
+so_far names places.Outside d = sayings.Begin ∷ flat_map (part names) d.lines
+so_far names (places.Inside own events region) d = sayings.Begin ∷ (flat_map (part names) d.lines ++ inside_said names own region d.line)
+so_far names places.Done d = sayings.Begin ∷ (flat_map (part names) d.lines ++ sayings.End ∷ [])
+
+-- ---- lists that grow
+
+pub all-push : {X : Type 0} (P : X → Type 0) (xs : List X) (x : X) → AllByRecursion P xs → P x → AllByRecursion P (xs ++ x ∷ [])
+all-push P [] x h p = (p, tt)
+all-push P (y ∷ xs) x h p = (h.0, all-push P xs x h.1 p)
+
+pub name_at-there : (xs : List (List ℕ)) (x : List ℕ) (ys : List (List ℕ)) → name_at ((xs ++ x ∷ []) ++ ys) (suc (length xs)) ≡ x
+name_at-there [] x ys = refl
+name_at-there (y ∷ xs) x ys = name_at-there xs x ys
+
+-- ---- one more event
+
+pub record Pushes (names : List (List ℕ)) (own : List ℕ) (events : ℕ) (region : Region) (d : DrawingView) (line : LineView) (m : Mark) : Type 0 where
+  pub inside : IsInside names own events region d line
+  pub open_is : HasOpen region (region_of m) line.events
+  pub other : partner_of m ≢ line.instance
+  pub room : events < MAX_EVENTS
+  pub mark : IsMark (length names) m
+
+abbrev pub more_line : LineView → Mark → LineView
+more_line line m = record line { events = line.events ++ m ∷ [] }
+
+abbrev pub more_drawn : DrawingView → LineView → Mark → DrawingView
+more_drawn d line m = record { lines = d.lines; line = Some (more_line line m); open_region = region_of m; greatest = greater (region_of m) d.greatest }
+
+pub pushed-more : (line : LineView) (m : Mark) → partner_of m ≢ line.instance → length line.events ≢ MAX_EVENTS → pushed line m ≡ Ok (more_line line m)
+unfolding pushed
+pushed-more line m other room = rw (ne_eqb (partner_of m) line.instance other, ne_eqb (length line.events) MAX_EVENTS room) refl
+
+pub mark-drawn : {names : List (List ℕ)} {own : List ℕ} {events : ℕ} {region : Region} {d : DrawingView} {line : LineView} {m : Mark} → Pushes names own events region d line m → with_mark d d.line m ≡ Ok (more_drawn d line m)
+mark-drawn {d = d} {line = line} {m = m} p =
+    let many = p.inside.many in
+    let room = p.room in
+    ap (λ o. with_mark d o m) p.inside.there ∙ bind_at (pushed line m) (λ more. Ok (record { lines = d.lines; line = Some more; open_region = region_of m; greatest = greater (region_of m) d.greatest })) (more_line line m) (pushed-more line m p.other (omega arith))
+
+pub mark-inside : {names : List (List ℕ)} {own : List ℕ} {events : ℕ} {region : Region} {d : DrawingView} {line : LineView} {m : Mark} → Pushes names own events region d line m
+    → IsInside names own (events + 1) (held region) (more_drawn d line m) (more_line line m)
+mark-inside {names} {own} {events} {region} {d} {line} {m} p =
+    let i = p.inside in
+    let many = i.many in
+    let room : length line.events < MAX_EVENTS = omega (arith, p.room) in
+    let may = open-may region (region_of m) line.events p.open_is in
+    record {
+      there = refl;
+      next = i.next;
+      owner = i.owner;
+      many = omega (arith, length-append line.events (m ∷ []));
+      most = ap (greater (region_of m)) i.most ∙ greater-most (region_of m) line.events may ∙ sym (greatest_region-push line.events m);
+      open_is = open-more region line.events m p.open_is;
+      among = record {
+        line_is = IsLine-push line.instance line.events m i.among.line_is p.other room may;
+        marks_are = all-push (IsMark (length names)) line.events m i.among.marks_are p.mark;
+      };
+    }
+
+pub mark-said : {names : List (List ℕ)} {own : List ℕ} {events : ℕ} {region : Region} {d : DrawingView} {line : LineView} {m : Mark} → Pushes names own events region d line m
+    → so_far names (places.Inside own (events + 1) (held region)) (more_drawn d line m) ≡ so_far names (places.Inside own events region) d ++ said names m ∷ []
+mark-said {names} {own} {events} {region} {d} {line} {m} p =
+    let r = last_from 0 line.events in
+    let front = flat_map (part names) d.lines in
+    let b = body names 0 line.events in
+    let grown : body names 0 (line.events ++ m ∷ []) ++ tail_of (held region) (last_from 0 (line.events ++ m ∷ [])) ≡ (b ++ tail_of region r) ++ said names m ∷ [] =
+    ap (λ l. l ++ tail_of (held region) (last_from 0 (line.events ++ m ∷ []))) (body-push names 0 line.events m)
+    ∙ ap (λ c. (b ++ marked names r m) ++ tail_of (held region) c) (last_from-push 0 line.events m)
+    ∙ append_assoc b (marked names r m) (tail_of (held region) (region_of m))
+    ∙ ap (λ l. b ++ l) (tail-more names region line.events m p.open_is)
+    ∙ sym (append_assoc b (tail_of region r) (said names m ∷ [])) in
+    ap (λ l. sayings.Begin ∷ (front ++ (sayings.Head own ∷ l))) grown
+    ∙ ap (λ l. sayings.Begin ∷ l) (sym (append_assoc front (sayings.Head own ∷ (b ++ tail_of region r)) (said names m ∷ [])))
+    ∙ ap (λ o. (sayings.Begin ∷ (front ++ inside_said names own region o)) ++ said names m ∷ []) (sym p.inside.there)

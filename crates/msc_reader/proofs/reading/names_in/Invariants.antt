@@ -1,0 +1,13 @@
+use Rattle.std.proofs.Common.{◌≡◌, ◌+◌, ◌≤◌, [], length}
+use Rattle.msc_text.specs.Lines.{lines_of, end_of}
+use Rattle.msc_reader.specs.Reading.{look_from, names_in}
+use Rattle.msc_reader.proofs.reading.names_in.Given as goal
+
+abbrev pub invariant-lines : goal.invariant-lines
+invariant-lines l = record {
+  so_far : look_from l.names l.place l.number (lines_of l.rest) (end_of l.rest) ≡ names_in l.bytes;
+  number : l.number + length l.rest ≤ 1 + length l.bytes;
+}
+
+abbrev pub decreases-lines : goal.decreases-lines
+decreases-lines l = length l.rest

@@ -1,0 +1,12 @@
+pub use Rattle.chart.specs.Charts
+pub use Rattle.chart.specs.Marks
+pub use Rattle.chart.specs.Names
+pub use Rattle.chart.specs.NameSets
+pub use Rattle.msc_text.specs.ChartText
+pub use Rattle.msc_text.specs.Faults
+pub use Rattle.msc_text.specs.Lines
+pub mod Drawings
+pub mod HasText
+pub mod Keywords
+pub mod Reading
+pub mod Steps

@@ -1,0 +1,124 @@
+-- A line of a chart's text, by where it stands: what it says, or its first fault (this project's profile of ITU-T Z.120).
+use Rattle.std.specs.Prelude.{ℕ, ◌+◌, Bool, true, false, not, ◌&&◌, ◌||◌, ◌==◌, List, [], ◌∷◌, length, take, position, Option, None, Some, Result, Ok, Err, nat_le, bytes_eq, if◌then◌else◌}
+use Rattle.std.specs.List.{list_all}
+use Rattle.chart.specs.declared.line.TheConstants.{MAX_EVENTS}
+use Rattle.msc_text.specs.Faults.{◌>>=◌}
+use Rattle.msc_text.specs.Lines.{words_of, name_or_cause}
+use Rattle.msc_text.specs.declared.fault.Cause.{Cause}
+use Rattle.msc_text.specs.declared.fault.Cause.TheVariants.{Syntax, ToItself, LineFull}
+use Rattle.msc_reader.specs.Keywords.{is_msc, is_run, is_instance, is_endinstance, is_out, is_to, is_in, is_from, is_concurrent, is_endconcurrent, is_endmsc}
+use Rattle.msc_reader.specs.declared.place.Place.{Place}
+use Rattle.msc_reader.specs.declared.place.Place.TheVariants as places
+use Rattle.msc_reader.specs.declared.place.Region.{Region}
+use Rattle.msc_reader.specs.declared.place.Region.TheVariants as regions
+use Rattle.msc_reader.specs.declared.place.Saying.{Saying}
+use Rattle.msc_reader.specs.declared.place.Saying.TheVariants as sayings
+
+-- what a line says, and what stands before the next one
+abbrev pub Step : Type 0
+Step = Saying × Place
+
+abbrev pub is_semicolon : ℕ → Bool
+is_semicolon b = b == 59
+
+-- another byte
+abbrev pub is_other : ℕ → Bool
+is_other b = not (is_semicolon b)
+
+-- what stands before the word's last byte, where that is its only semicolon, and something does
+abbrev pub before_at : List ℕ → Option ℕ → Option (List ℕ)
+before_at word None = None
+before_at word (Some place) = if place == 0 || not (place + 1 == length word) then None else Some (take place word)
+
+-- what stands before the semicolon of NAME;
+unfoldable pub before_semicolon : List ℕ → Option (List ℕ)
+before_semicolon word = before_at word (position is_semicolon word)
+
+-- the word has a byte at least, and no semicolon
+unfoldable pub is_plain : List ℕ → Bool
+is_plain word = not (length word == 0) && list_all is_other word
+
+-- the text's first line, by its words
+abbrev pub start_by : List (List ℕ) → Result Step Cause
+start_by (m ∷ r ∷ []) = if is_msc m && is_run r then Ok (sayings.Begin, places.Outside) else Err Syntax
+start_by _ = Err Syntax
+
+-- an instance begins
+unfoldable pub head_of : Option (List ℕ) → Result Step Cause
+head_of None = Err Syntax
+head_of (Some word) = do
+  own ← name_or_cause word
+  Ok (sayings.Head own, places.Inside own 0 regions.Closed)
+
+-- a line outside of an instance, by its words
+abbrev pub outside_by : List (List ℕ) → Result Step Cause
+outside_by (k ∷ []) = if is_endmsc k then Ok (sayings.End, places.Done) else Err Syntax
+outside_by (k ∷ w ∷ []) = if is_instance k then head_of (before_semicolon w) else Err Syntax
+outside_by _ = Err Syntax
+
+-- an event's message and partner, of the instance own with so many events
+unfoldable pub pair_of : List ℕ → ℕ → List ℕ → List ℕ → Result (List ℕ × List ℕ) Cause
+pair_of own events message partner = do
+  name ← name_or_cause message
+  other ← name_or_cause partner
+  if bytes_eq other own then Err ToItself else (if nat_le MAX_EVENTS events then Err LineFull else Ok (name, other))
+
+-- the same where the partner's word may have no form
+unfoldable pub names_of : List ℕ → ℕ → List ℕ → Option (List ℕ) → Result (List ℕ × List ℕ) Cause
+names_of own events message None = Err Syntax
+names_of own events message (Some partner) = if is_plain message then pair_of own events message partner else Err Syntax
+
+-- a coregion with one more receive
+abbrev pub held : Region → Region
+held regions.Closed = regions.Closed
+held regions.Empty = regions.Held
+held regions.Held = regions.Held
+
+-- out MESSAGE to NAME;
+unfoldable pub send_of : List ℕ → ℕ → List ℕ → List ℕ → Result Step Cause
+send_of own events m w = do
+  pair ← names_of own events m (before_semicolon w)
+  Ok (sayings.Send pair.1 pair.0, places.Inside own (events + 1) regions.Closed)
+
+-- in MESSAGE from NAME;
+unfoldable pub receive_of : List ℕ → ℕ → Region → List ℕ → List ℕ → Result Step Cause
+receive_of own events region m w = do
+  pair ← names_of own events m (before_semicolon w)
+  Ok (sayings.Receive pair.1 pair.0, places.Inside own (events + 1) (held region))
+
+-- sends stand outside of coregions
+abbrev pub is_closed : Region → Bool
+is_closed regions.Closed = true
+is_closed regions.Empty = false
+is_closed regions.Held = false
+
+-- a line of four words inside an instance
+unfoldable pub event_of : List ℕ → ℕ → Region → List ℕ → List ℕ → List ℕ → List ℕ → Result Step Cause
+event_of own events region k m t w =
+    if is_in k && is_from t then receive_of own events region m w else (
+    if is_out k && is_to t && is_closed region then send_of own events m w else Err Syntax)
+
+-- a line of one word inside an instance
+unfoldable pub alone_of : List ℕ → ℕ → Region → List ℕ → Result Step Cause
+alone_of own events regions.Closed k =
+    if is_endinstance k then Ok (sayings.Foot, places.Outside) else (
+    if is_concurrent k then Ok (sayings.Open, places.Inside own events regions.Empty) else Err Syntax)
+alone_of own events regions.Empty k = Err Syntax
+alone_of own events regions.Held k = if is_endconcurrent k then Ok (sayings.Shut, places.Inside own events regions.Closed) else Err Syntax
+
+-- a line inside an instance, by its words
+abbrev pub inside_by : List ℕ → ℕ → Region → List (List ℕ) → Result Step Cause
+inside_by own events region (k ∷ []) = alone_of own events region k
+inside_by own events region (k ∷ m ∷ t ∷ w ∷ []) = event_of own events region k m t w
+inside_by own events region _ = Err Syntax
+
+-- a line by its words
+abbrev pub step_by : Place → List (List ℕ) → Result Step Cause
+step_by places.Start words = start_by words
+step_by places.Outside words = outside_by words
+step_by (places.Inside own events region) words = inside_by own events region words
+step_by places.Done words = Err Syntax
+
+-- what the line says, and where the next one stands
+unfoldable pub step_of : Place → List ℕ → Result Step Cause
+step_of place line = step_by place (words_of line)

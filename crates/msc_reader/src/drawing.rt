@@ -1,0 +1,236 @@
+//! What the lines of a chart's text draw, once all names are known.
+ghost use Rattle.std.specs.Prelude.{◌≡◌, ◌+◌, ◌⊎◌, ◌≤◌, if◌then◌else◌};
+ghost use Rattle.chart.specs.Charts.{IsNumbered};
+ghost use Rattle.chart.specs.Marks.{region_of, MayHaveRegion};
+ghost use Rattle.msc_text.specs.Faults.{Gives, in_line};
+ghost use Rattle.msc_reader.specs.Drawings.{blank, known_of, pushed, greater, with_mark, with_head, with_foot, with_send, with_receive, drawn};
+
+use crate::place::Saying;
+use chart::{Event, InstanceNo, Line, LineError, MAX_INSTANCES, Name, Names};
+use msc_text::{Cause, Fault, TextError};
+use std::alloc::Global;
+use std::marker::Model;
+
+/// What a line is read as, with its number on its fault.
+pub(crate) fn at_line<T>(number: u64, read: Result<T, Cause>) -> Result<T, TextError>
+    ensures { Gives (λ x. x) result (in_line number read) }
+{
+    match read {
+        Ok(value) => Ok(value),
+        Err(cause) => Err(at(number, cause)),
+    }
+}
+
+/// A fault of the line.
+pub(crate) fn at(number: u64, cause: Cause) -> TextError
+    ensures { result ≡ TextError.Fault (Fault.Line number cause) }
+{
+    TextError::Fault(Fault::Line(number, cause))
+}
+
+/// The lines that are drawn so far, and that which is being drawn. A contract sees a record of its fields.
+#[derive(Debug, Drop)]
+pub(crate) struct Drawing {
+    lines: Vec<Line>,
+    /// The line that is being drawn, inside an instance.
+    line: Option<Line>,
+    /// Its coregion that is open, or 0.
+    open_region: u32,
+    /// Its greatest coregion, or 0.
+    greatest: u32,
+}
+
+impl Model for Drawing {
+    ghost use Rattle.msc_reader.specs.Drawings.{DrawingView, IsDrawing};
+
+    ghost Value = { DrawingView };
+
+    ghost view = { λ d. record { lines = d.lines.items; line = d.line; open_region = d.open_region; greatest = d.greatest } };
+
+    ghost invariant = { λ d. IsDrawing (record { lines = d.lines.items; line = d.line; open_region = d.open_region; greatest = d.greatest }) };
+}
+
+/// The instance of the name, or F23.
+#[tactic(auto, unfolding(crate::specs::Drawings::known_of))]
+fn known_in(names: &Names, name: Name) -> Result<InstanceNo, Cause>
+    ensures { result ≡ known_of names.now name }
+{
+    match names.instance(name) {
+        None => Err(Cause::UnknownInstance),
+        Some(instance) => Ok(instance),
+    }
+}
+
+/// Adds an event to the line, which may have its coregion.
+#[tactic(auto, unfolding(crate::specs::Drawings::pushed))]
+fn push(number: u64, line: &mut Line, event: Event) -> Result<(), TextError>
+    requires { MayHaveRegion line.old.events (region_of event) }
+    ensures { Gives (λ _. line.new) result (in_line number (pushed line.old event)) }
+{
+    match line.push(event) {
+        Ok(()) => Ok(()),
+        Err(LineError::ToItself) => Err(at(number, Cause::ToItself)),
+        Err(LineError::LineFull) => Err(at(number, Cause::LineFull)),
+        Err(LineError::Memory) => Err(TextError::Memory),
+    }
+}
+
+/// The greatest coregion with one more event.
+fn greater(region: u32, greatest: u32) -> u32
+    ensures { result ≡ greater region greatest }
+{
+    if region == 0 { greatest } else { region }
+}
+
+impl Drawing {
+    /// Nothing is drawn yet. It takes no memory.
+    pub(crate) fn new(alloc: Global) -> Drawing
+        ensures { result ≡ blank }
+    {
+        Drawing {
+            lines: Vec::new(alloc),
+            line: None,
+            open_region: 0,
+            greatest: 0,
+        }
+    }
+
+    /// The lines that are whole.
+    pub(crate) fn into_lines(self) -> Vec<Line>
+        ensures lines { result.items ≡ self.lines }
+        ensures numbered { IsNumbered result.items }
+    {
+        let Drawing { lines, .. } = self;
+        lines
+    }
+
+    /// The next instance's line begins.
+    fn with_head(self, alloc: Global, number: u64) -> Result<Drawing, TextError>
+        ensures { Gives (λ d. d) result (in_line number (with_head self)) }
+    {
+        let Drawing { lines, .. } = self;
+        if lines.len() >= MAX_INSTANCES {
+            return Err(at(number, Cause::Instances));
+        }
+        let instance = InstanceNo::at_place(lines.len());
+        Ok(Drawing {
+            lines,
+            line: Some(Line::new(alloc, instance)),
+            open_region: 0,
+            greatest: 0,
+        })
+    }
+
+    /// The line that is being drawn is whole.
+    fn with_foot(self, number: u64) -> Result<Drawing, TextError>
+        ensures { Gives (λ d. d) result (in_line number (with_foot self self.line)) }
+    {
+        let Drawing {
+            mut lines,
+            line,
+            ..
+        } = self;
+        let Some(line) = line else {
+            return Err(at(number, Cause::Syntax));
+        };
+        lines.push(line)?;
+        Ok(Drawing {
+            lines,
+            line: None,
+            open_region: 0,
+            greatest: 0,
+        })
+    }
+
+    /// The line that is being drawn gets an event, in the open coregion or in none.
+    fn with_mark(self, number: u64, event: Event) -> Result<Drawing, TextError>
+        requires { (region_of event ≡ 0) ⊎ (region_of event ≡ self.open_region) }
+        ensures { Gives (λ d. d) result (in_line number (with_mark self self.line event)) }
+    {
+        let Drawing {
+            lines,
+            line,
+            greatest,
+            ..
+        } = self;
+        let Some(mut line) = line else {
+            return Err(at(number, Cause::Syntax));
+        };
+        push(number, &mut line, event)?;
+        let region = event.region();
+        Ok(Drawing {
+            lines,
+            line: Some(line),
+            open_region: region,
+            greatest: greater(region, greatest),
+        })
+    }
+
+    /// A coregion begins, the next of its line.
+    fn opened(mut self) -> Drawing
+        ensures { result ≡ record self { open_region = self.greatest + 1 } }
+    {
+        self.open_region = self.greatest + 1;
+        self
+    }
+
+    /// No coregion is open.
+    fn shut(mut self) -> Drawing
+        ensures { result ≡ record self { open_region = 0 } }
+    {
+        self.open_region = 0;
+        self
+    }
+
+    /// A send.
+    #[tactic(auto, unfolding(crate::specs::Drawings::with_send))]
+    fn with_send(
+        self,
+        names: &Names,
+        number: u64,
+        to: Name,
+        name: Name,
+    ) -> Result<Drawing, TextError>
+        ensures { Gives (λ d. d) result (in_line number (with_send names.now self to name)) }
+    {
+        let to = at_line(number, known_in(names, to))?;
+        self.with_mark(number, Event::Send { to, name })
+    }
+
+    /// A receive, which is in the open coregion.
+    #[tactic(auto, unfolding(crate::specs::Drawings::with_receive))]
+    fn with_receive(
+        self,
+        names: &Names,
+        number: u64,
+        from: Name,
+        name: Name,
+    ) -> Result<Drawing, TextError>
+        ensures { Gives (λ d. d) result (in_line number (with_receive names.now self from name)) }
+    {
+        let from = at_line(number, known_in(names, from))?;
+        let region = self.open_region;
+        self.with_mark(number, Event::Receive { from, name, region })
+    }
+
+    /// What is drawn with what one more line says.
+    pub(crate) fn with(
+        self,
+        alloc: Global,
+        names: &Names,
+        number: u64,
+        saying: Saying,
+    ) -> Result<Drawing, TextError>
+        ensures { Gives (λ d. d) result (in_line number (drawn names.now self saying)) }
+    {
+        match saying {
+            Saying::Begin | Saying::End => Ok(self),
+            Saying::Head(_) => self.with_head(alloc, number),
+            Saying::Send { to, name } => self.with_send(names, number, to, name),
+            Saying::Receive { from, name } => self.with_receive(names, number, from, name),
+            Saying::Open => Ok(self.opened()),
+            Saying::Shut => Ok(self.shut()),
+            Saying::Foot => self.with_foot(number),
+        }
+    }
+}

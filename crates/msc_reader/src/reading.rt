@@ -1,0 +1,126 @@
+//! Charts' texts, read whole: two looks at their lines.
+ghost use Rattle.std.specs.Prelude.{◌≡◌, ℕ, List, [], IfOk};
+ghost use Rattle.chart.specs.Charts.{LineView, IsNumbered};
+ghost use Rattle.msc_text.specs.ChartText.{chart_text};
+ghost use Rattle.msc_text.specs.Faults.{Gives, in_line};
+ghost use Rattle.msc_text.specs.Lines.{lines_of, end_of};
+ghost use Rattle.msc_reader.specs.HasText.{HasText};
+ghost use Rattle.msc_reader.specs.Reading.{with_name, names_after, finished, names_in, lines_in, are_read, chart_of};
+
+use crate::drawing::{Drawing, at, at_line};
+use crate::place::{Place, Saying};
+use crate::step::step_in;
+use chart::{Chart, Line, Name, Names, NamesError};
+use msc_text::{Cause, Fault, TextError, next_line};
+use std::alloc::Global;
+
+/// The name is the next instance's. F22 and F8 refuse it.
+fn add_name(number: u64, names: &mut Names, name: Name) -> Result<(), TextError>
+    ensures { Gives (λ _. names.new) result (in_line number (with_name names.old name)) }
+{
+    match names.add(name) {
+        Ok(_) => Ok(()),
+        Err(NamesError::Duplicate) => Err(at(number, Cause::Duplicate)),
+        Err(NamesError::Instances) => Err(at(number, Cause::Instances)),
+        Err(NamesError::Memory) => Err(TextError::Memory),
+    }
+}
+
+/// The names with what one more line says. F22 and F8 refuse an instance, and F8 an end.
+fn add_names(number: u64, names: &mut Names, saying: Saying) -> Result<(), TextError>
+    ensures { Gives (λ _. names.new) result (in_line number (names_after names.old saying)) }
+{
+    match saying {
+        Saying::Head(own) => add_name(number, names, own),
+        Saying::End if names.len() < 2 => Err(at(number, Cause::Instances)),
+        _ => Ok(()),
+    }
+}
+
+/// Whether the chart has ended before line `number`, and nothing follows.
+fn finish(number: u64, names: Names, place: Place, rest: &[u8]) -> Result<Names, TextError>
+    ensures { Gives (λ n. n) result (finished names place number rest.now) }
+{
+    match place {
+        Place::Done if rest.is_empty() => Ok(names),
+        Place::Done => Err(at(number, Cause::Syntax)),
+        _ => Err(TextError::Fault(Fault::Unfinished)),
+    }
+}
+
+/// The first look: the names of the instances, or the first fault of a line by itself and those before it.
+fn names_in(alloc: Global, bytes: &[u8]) -> Result<Names, TextError>
+    ensures { Gives (λ n. n) result (names_in bytes.now) }
+{
+    let mut names = Names::new(alloc);
+    let mut place = Place::Start;
+    let mut rest = bytes;
+    let mut number = 1;
+    'lines: loop {
+        match next_line(rest) {
+            None => return finish(number, names, place, rest),
+            Some((line, after)) => {
+                let (saying, next) = at_line(number, step_in(place, line))?;
+                add_names(number, &mut names, saying)?;
+                place = next;
+                rest = after;
+                number += 1;
+            }
+        }
+    }
+}
+
+/// The second look: the lines of the instances, or the first line whose partner is no instance.
+fn lines_in(alloc: Global, names: &Names, bytes: &[u8]) -> Result<Vec<Line>, TextError>
+    ensures lines { Gives (λ l. l.items) result (lines_in names.now bytes.now) }
+    ensures numbered { IfOk result (λ l. IsNumbered l.items) }
+{
+    let mut drawing = Drawing::new(alloc);
+    let mut place = Place::Start;
+    let mut rest = bytes;
+    let mut number = 1;
+    'lines: loop {
+        match next_line(rest) {
+            None => return Ok(drawing.into_lines()),
+            Some((line, after)) => {
+                let (saying, next) = at_line(number, step_in(place, line))?;
+                drawing = drawing.with(alloc, names, number, saying)?;
+                place = next;
+                rest = after;
+                number += 1;
+            }
+        }
+    }
+}
+
+/// Both looks.
+#[tactic(auto, unfolding(crate::specs::Reading::chart_of))]
+fn parts_in(alloc: Global, bytes: &[u8]) -> Result<(Names, Vec<Line>), TextError>
+    ensures parts { Gives (λ parts. (parts.0, parts.1.items)) result (chart_of bytes.now) }
+    ensures numbered { IfOk result (λ parts. IsNumbered parts.1.items) }
+{
+    let names = names_in(alloc, bytes)?;
+    let lines = lines_in(alloc, &names, bytes)?;
+    Ok((names, lines))
+}
+
+/// The names and the chart that the text says, or its first fault. It takes time in proportion to the text.
+///
+/// The lines are looked at from the top. F20 refuses a line that has no form that its place allows. Then the first of F1
+/// to F4 that applies refuses a word that is no name, F22 an instance's name that was given before, F8 the 33rd instance,
+/// F13 an event whose partner is its own instance, F7 the 4,097th event of an instance, F8 the end of a chart of fewer
+/// than two instances, and F20 whatever follows the end. Where no line has a fault and the chart didn't end, the answer
+/// is F21. Last, at a second look from the top, F23 refuses the first event whose partner is no instance. F6 may come at
+/// any point.
+pub fn read(alloc: Global, bytes: &[u8]) -> Result<(Names, Chart), TextError>
+    ensures found { IfOk result (λ read. HasText read.0 read.1 × (bytes.now ≡ chart_text read.0 read.1)) }
+    ensures only { (names : List (List ℕ)) (lines : List LineView) → HasText names lines → bytes.now ≡ chart_text names lines
+        → Gives (λ read. (read.0, read.1)) result (are_read names lines) }
+    ensures exact { Gives (λ read. (read.0, read.1)) result (chart_of bytes.now) }
+{
+    let (names, lines) = parts_in(alloc, bytes)?;
+    match Chart::new(lines) {
+        Ok(chart) => Ok((names, chart)),
+        Err(_) => unreachable!(),
+    }
+}
