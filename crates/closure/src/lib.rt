@@ -1,0 +1,11 @@
+//! The offline checker: whether a chart is possible, what the enforced order puts before what, and the races of each
+//! receive. It searches backwards over what is enforced directly (the order of Alur, Holzmann, Peled 1996, in this
+//! project's profile) and reads no clock, so it checks what was found with clocks.
+#![tactic(auto)]
+
+mod error;
+mod linking;
+mod numbers;
+mod reading;
+
+pub use error::{AuditError, ChartError};
