@@ -204,3 +204,9 @@ AreRows-push IsRight c n rows row old new = record {
 
     row_before : (p : ℕ) → p < length rows → get_or (rows ++ row ∷ []) p [] ≡ get_or rows p []
     row_before p h = get_or_from_slice_get (rows ++ row ∷ []) p (get_or rows p []) [] (slice_get-append rows (row ∷ []) p h ∙ slice_get-get_or rows p [] h)
+
+-- where all receives have links, none is faulty
+pub none_faulty : (lines : List LineView) (rows : List (List ℕ)) → AreRows (IsLink (chart_lines lines)) (chart_lines lines) (length lines) rows → (r : Place) → IsFaulty (chart_lines lines) r → ⊥
+none_faulty lines rows are r faulty =
+    let w = instance_within lines r (faulty_event (chart_lines lines) r faulty) in
+    lines_not_faulty lines (length lines) rows are r (omega (arith, w.1, w.2)) faulty

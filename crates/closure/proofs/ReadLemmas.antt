@@ -5,6 +5,7 @@ use Rattle.std.proofs.lemmas.Bool.{cases_lt}
 use Rattle.std.proofs.lemmas.Option.{slice_get_read, slice_get-get_or, get_or_from_slice_get}
 use Rattle.std.proofs.lemmas.List.{get_or_past}
 use Rattle.chart.specs.declared.event.Event.{Event as Mark}
+use Rattle.chart.specs.declared.line.TheConstants.{MAX_EVENTS}
 use Rattle.chart.specs.Marks.{ith, partner_of}
 use Rattle.chart.specs.Charts.{Place, at, mark_at, LineView, IsLine, IsChart, chart_lines}
 use Rattle.chart.specs.Places.{IsEvent}
@@ -18,7 +19,7 @@ ith_read xs (suc i) x low high is =
     slice_get_read xs (length xs) i x refl (omega arith) (subst (λ k. x ≡ get_or xs k x) e is)
 
 -- a number that is no instance's has an empty line
-empty_line : (lines : List LineView) (p : ℕ) → length lines ≤ p → chart_lines lines (suc p) ≡ []
+pub empty_line : (lines : List LineView) (p : ℕ) → length lines ≤ p → chart_lines lines (suc p) ≡ []
 empty_line lines p past = ap (λ (l : LineView). l.events) (get_or_past lines p (record { instance = suc p; events = [] }) past)
 
 -- an event is on a line
@@ -50,3 +51,7 @@ partner_other lines p k m chart within at_k same =
     let d : LineView = record { instance = suc p; events = [] } in
     let line : IsLine (get_or lines p d) = chart.each p d within in
     line.partners k m at_k (same ∙ sym (chart.numbered p (get_or lines p d) (slice_get-get_or lines p d within)))
+
+-- a line is short
+pub line_short : (lines : List LineView) (p : ℕ) → IsChart lines → p < length lines → length (chart_lines lines (suc p)) ≤ MAX_EVENTS
+line_short lines p chart within = (chart.each p (record { instance = suc p; events = [] }) within).short

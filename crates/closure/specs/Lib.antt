@@ -1,3 +1,5 @@
+pub mod Closures
 pub mod Faults
 pub mod Links
 pub mod Rows
+pub mod Runs

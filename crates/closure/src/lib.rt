@@ -3,9 +3,13 @@
 //! project's profile) and reads no clock, so it checks what was found with clocks.
 #![tactic(auto)]
 
+mod closure;
 mod error;
 mod linking;
 mod numbers;
+mod partner;
 mod reading;
+mod running;
 
+pub use closure::Closure;
 pub use error::{AuditError, ChartError};

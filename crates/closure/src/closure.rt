@@ -1,0 +1,62 @@
+//! The closure of a chart.
+ghost use Rattle.std.specs.Prelude.{◌≡◌, ◌⊎◌, length, IfOk, OnOk, IfErr};
+ghost use Rattle.chart.specs.Charts.{chart_lines, IsPossible};
+ghost use Rattle.closure.specs.Faults.{Refuses};
+
+use crate::error::ChartError;
+use crate::linking::links_of;
+use crate::numbers::Numbers;
+use crate::running::runs;
+use chart::{Chart, Line};
+use std::alloc::Global;
+use std::marker::Model;
+
+/// A possible chart, with the send of each receive: it answers what the enforced order puts before what. A contract
+/// sees the chart's lines.
+#[derive(Drop)]
+pub struct Closure<'a> {
+    alloc: Global,
+    lines: &'a [Line],
+    links: Vec<Numbers>,
+}
+
+impl<'a> Model for Closure<'a> {
+    ghost use Rattle.std.specs.Prelude.{List};
+    ghost use Rattle.chart.specs.Charts.{LineView};
+    ghost use Rattle.closure.specs.Closures.{IsClosure};
+
+    ghost Value = { List LineView };
+
+    ghost view = { λ c. c.lines.now };
+
+    ghost invariant = { λ c. IsClosure c.lines.now c.links.items };
+}
+
+impl<'a> Closure<'a> {
+    /// The closure of a possible chart, and of no other: one that is the chart of a history which is legal with no bound
+    /// on waiting messages. Any other is refused, by the first of F16, F17 and F18 that applies. The receives are
+    /// looked at by instance and index, and of F16 and F17 the first one's counts.
+    ///
+    /// F6 may come at any point.
+    pub fn of(alloc: Global, chart: &'a Chart) -> Result<Closure<'a>, ChartError>
+        ensures ok { IfOk result (λ closure. closure ≡ chart.now) }
+        ensures possible { OnOk result (IsPossible (length chart.now) (chart_lines chart.now)) }
+        ensures refused { IfErr result (Refuses (chart_lines chart.now)) }
+        ensures impossible { IfErr result
+            (λ e. (e ≡ ChartError.Memory) ⊎ (IsPossible (length chart.now) (chart_lines chart.now) → ⊥)) }
+    {
+        let lines = chart.lines();
+        let links = match links_of(alloc, lines) {
+            Ok(links) => links,
+            Err(error) => return Err(error),
+        };
+        if !runs(alloc, lines, links.as_slice())? {
+            return Err(ChartError::Cyclic);
+        }
+        Ok(Closure {
+            alloc,
+            lines,
+            links,
+        })
+    }
+}
