@@ -1,5 +1,7 @@
+pub mod BeforeLemmas
 pub mod Circles
-pub mod LinkLemmas
 pub mod Impossible
+pub mod LinkLemmas
 pub mod ReadLemmas
 pub mod RunLemmas
+pub mod SearchLemmas

@@ -74,7 +74,7 @@ tally_front : (test : Mark → Bool) (m : ℕ) (xs : List Mark) (i : ℕ) → i 
 tally_front test m xs i h = sym (tally-append test (take m xs) (drop m xs) i h) ∙ ap (λ ys. tally test ys i) (take-append-drop m xs)
 
 -- the numbers that lines have after one of them was raised
-entry-raised : (made : List ℕ) (p m r : ℕ) → r ≢ suc p → entry (set made p m) r ≡ entry made r
+pub entry-raised : (made : List ℕ) (p m r : ℕ) → r ≢ suc p → entry (set made p m) r ≡ entry made r
 entry-raised made p m zero differs = refl
 entry-raised made p m (suc r) differs = get_or-set_other made p r m 0 (λ e. differs (ap suc e))
 

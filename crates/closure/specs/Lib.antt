@@ -3,3 +3,4 @@ pub mod Faults
 pub mod Links
 pub mod Rows
 pub mod Runs
+pub mod Searches

@@ -1,14 +1,16 @@
 //! The closure of a chart.
-ghost use Rattle.std.specs.Prelude.{◌≡◌, ◌⊎◌, length, IfOk, OnOk, IfErr};
+ghost use Rattle.std.specs.Prelude.{◌≡◌, ◌⊎◌, length, ◌↔◌, IsTrue, IfOk, OnOk, IfErr};
 ghost use Rattle.chart.specs.Charts.{chart_lines, IsPossible};
-ghost use Rattle.closure.specs.Faults.{Refuses};
+ghost use Rattle.chart.specs.Order.{Before};
+ghost use Rattle.closure.specs.Faults.{place_of, Refuses};
 
 use crate::error::ChartError;
 use crate::linking::links_of;
 use crate::numbers::Numbers;
+use crate::order::is_before;
 use crate::running::runs;
-use chart::{Chart, Line};
-use std::alloc::Global;
+use chart::{Chart, EventNo, Line};
+use std::alloc::{AllocError, Global};
 use std::marker::Model;
 
 /// A possible chart, with the send of each receive: it answers what the enforced order puts before what. A contract
@@ -58,5 +60,22 @@ impl<'a> Closure<'a> {
             lines,
             links,
         })
+    }
+
+    /// Whether the enforced order puts the one event before the other. It doesn't where either is no event of the chart.
+    ///
+    /// F6: it fails only where there is no memory.
+    pub fn before(&self, earlier: EventNo, later: EventNo) -> Result<bool, AllocError>
+        ensures { IfOk result (λ before. IsTrue before
+            ↔ Before (chart_lines self.now) (place_of earlier) (place_of later)) }
+    {
+        is_before(
+            self.alloc,
+            self.lines,
+            self.links.as_slice(),
+            &earlier,
+            later.instance.place(),
+            later.index as usize,
+        )
     }
 }

@@ -7,9 +7,11 @@ mod closure;
 mod error;
 mod linking;
 mod numbers;
+mod order;
 mod partner;
 mod reading;
 mod running;
+mod search;
 
 pub use closure::Closure;
 pub use error::{AuditError, ChartError};

@@ -37,6 +37,12 @@ impl Numbers {
         })
     }
 
+    pub fn len(&self) -> usize
+        ensures { result ≡ length self.now }
+    {
+        self.numbers.len()
+    }
+
     /// The number at a place.
     pub fn at(&self, place: usize) -> usize
         requires { place < length self.now }

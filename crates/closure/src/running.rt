@@ -1,5 +1,5 @@
 //! Whether a chart can be run: each send is made as it comes, and each receive once its send was made.
-ghost use Rattle.std.specs.Prelude.{◌≡◌, ◌<◌, ◌≤◌, ℕ, suc, true, false, length, slice_index, MatchBool, MatchOption, IfOk};
+ghost use Rattle.std.specs.Prelude.{◌≡◌, ◌<◌, ◌≤◌, ℕ, suc, true, false, length, slice_index, MatchBool, MatchOption, IfSome, IfOk};
 ghost use Rattle.chart.specs.Charts.{chart_lines, IsPossible};
 ghost use Rattle.chart.specs.Order.{IsCyclic};
 ghost use Rattle.closure.specs.Closures.{AreLinked};
@@ -34,7 +34,7 @@ fn ready_line(lines: &[Line], links: &[Numbers], made: &Numbers, hint: usize) ->
     requires linked { AreLinked lines.now links.now }
     requires made { length made.now ≡ length lines.now }
     requires hint { hint < length lines.now }
-    ensures within { MatchOption result (AreStopped (chart_lines lines.now) (length lines.now) made.now) (λ line. line < length lines.now) }
+    ensures within { IfSome result (λ line. line < length lines.now) }
     ensures ready { MatchOption result (AreStopped (chart_lines lines.now) (length lines.now) made.now)
         (IsReady (chart_lines lines.now) (length lines.now) made.now) }
 {
