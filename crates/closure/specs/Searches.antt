@@ -2,7 +2,7 @@
 use Rattle.std.specs.Prelude.{◌≡◌, ℕ, suc, ◌<◌, ◌≤◌, ◌↔◌, ◌⊎◌, List, length, slice_index}
 use Rattle.chart.specs.Charts.{Chart, Place, at, IsSendTo, IsReceiveFrom, BelongsTo}
 use Rattle.chart.specs.Order.{IsEarlier}
-use Rattle.chart.specs.Knowing.{IsUpTo}
+use Rattle.chart.specs.Knowing.{IsUpTo, IsKnown}
 use Rattle.closure.specs.Rows.{entry}
 
 -- there is a send
@@ -33,3 +33,11 @@ HaveGrown fronts after = (p : ℕ) → entry fronts p ≤ entry after p
 -- e is an earlier receive of r's line, from this sender
 abbrev pub IsReceiveAbove : Chart → ℕ → Place → Place → Type 0
 IsReceiveAbove c q e r = IsEarlier e r × IsReceiveFrom c q e
+
+-- for each send of the line at p, after its first k events, the search goes on
+abbrev pub IsSearchAfter : Chart → ℕ → ℕ → ℕ → List ℕ → List ℕ → Type 0
+IsSearchAfter c n p k fronts seen = (i : ℕ) → k ≤ i → IsSend c (at (suc p) (suc i)) → IsSearch c n (at (suc p) (suc i)) fronts seen
+
+-- where s is a send, it knows so many events of its receiver's line
+abbrev pub IsKnowledge : Chart → Place → ℕ → Type 0
+IsKnowledge c s k = (q : ℕ) → IsSendTo c q s → IsKnown c s q k

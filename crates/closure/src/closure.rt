@@ -3,13 +3,15 @@ ghost use Rattle.std.specs.Prelude.{◌≡◌, ◌⊎◌, length, ◌↔◌, IsT
 ghost use Rattle.chart.specs.Charts.{chart_lines, IsPossible};
 ghost use Rattle.chart.specs.Order.{Before};
 ghost use Rattle.closure.specs.Faults.{place_of, Refuses};
+ghost use Rattle.closure.specs.Reported.{AreReports};
 
 use crate::error::ChartError;
 use crate::linking::links_of;
 use crate::numbers::Numbers;
 use crate::order::is_before;
+use crate::reporting::reports_of;
 use crate::running::runs;
-use chart::{Chart, EventNo, Line};
+use chart::{Chart, EventNo, Line, Report};
 use std::alloc::{AllocError, Global};
 use std::marker::Model;
 
@@ -77,5 +79,15 @@ impl<'a> Closure<'a> {
             later.instance.place(),
             later.index as usize,
         )
+    }
+
+    /// The report of each receive, by instance and index.
+    ///
+    /// One search a line serves all its sends, and a report costs its length. F6: it fails only where there is no
+    /// memory.
+    pub fn races(&self) -> Result<Vec<Report>, AllocError>
+        ensures { IfOk result (λ reports. AreReports self.now reports.items) }
+    {
+        reports_of(self.alloc, self.lines, self.links.as_slice())
     }
 }

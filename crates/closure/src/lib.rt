@@ -3,15 +3,19 @@
 //! project's profile) and reads no clock, so it checks what was found with clocks.
 #![tactic(auto)]
 
+mod checking;
 mod closure;
 mod error;
+mod knowing;
 mod linking;
 mod numbers;
 mod order;
 mod partner;
 mod reading;
+mod reporting;
 mod running;
 mod search;
 
+pub use checking::audit;
 pub use closure::Closure;
 pub use error::{AuditError, ChartError};
