@@ -1,4 +1,3 @@
-pub mod AuditLemmas
 pub mod BeforeLemmas
 pub mod Circles
 pub mod Impossible
