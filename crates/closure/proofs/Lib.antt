@@ -3,6 +3,7 @@ pub mod Circles
 pub mod Impossible
 pub mod KnowLemmas
 pub mod LinkLemmas
+pub mod OneList
 pub mod ReadLemmas
 pub mod ReportLemmas
 pub mod RunLemmas

@@ -1,5 +1,5 @@
 //! Audits of reports.
-ghost use Rattle.std.specs.Prelude.{◌≡◌, ◌↔◌, length, IsTrue, MatchOption, OnOk, IfErr};
+ghost use Rattle.std.specs.Prelude.{◌≡◌, ◌↔◌, ◌⊎◌, length, IsTrue, MatchOption, OnOk, IfErr};
 ghost use Rattle.chart.specs.Charts.{chart_lines, IsPossible};
 ghost use Rattle.closure.specs.Reported.{AreReports};
 ghost use Rattle.closure.specs.Audits.{IsFirstWrong, RefusesReports};
@@ -54,6 +54,8 @@ pub fn audit(alloc: Global, chart: &Chart, reports: &[Report]) -> Result<(), Aud
     ensures possible { OnOk result (IsPossible (length chart.now) (chart_lines chart.now)) }
     ensures right { OnOk result (AreReports chart.now reports.now) }
     ensures refused { IfErr result (RefusesReports chart.now reports.now) }
+    ensures rightly { IfErr result (λ e. (e ≡ AuditError.Chart ChartError.Memory)
+        ⊎ (IsPossible (length chart.now) (chart_lines chart.now) → AreReports chart.now reports.now → ⊥)) }
 {
     let closure = match Closure::of(alloc, chart) {
         Ok(closure) => closure,

@@ -19,3 +19,6 @@ mod search;
 pub use checking::audit;
 pub use closure::Closure;
 pub use error::{AuditError, ChartError};
+
+#[cfg(test)]
+mod tests;
