@@ -1,0 +1,40 @@
+-- What is before an event, by what kind of event it is.
+use Rattle.std.proofs.Common.{◌≡◌, ℕ, suc, ◌<◌, ◌≤◌, ◌↔◌, ◌⊎◌, inl, inr, List, length, sym, subst, arith}
+use Rattle.chart.specs.Charts.{Chart, Place, LineView, IsSendTo, BelongsTo, IsPossible, chart_lines}
+use Rattle.chart.specs.Places.{IsEvent}
+use Rattle.chart.specs.Order.{Before, IsCyclic}
+use Rattle.chart.specs.Order.Direct.{same_sender}
+use Rattle.chart.specs.Order.Before.{direct}
+use Rattle.chart.specs.Knowing.{IsUpTo}
+use Rattle.chart.proofs.Chains.{chain_of, before_events, before_receive, before_its_receive}
+use Rattle.closure.specs.Searches.{IsReceiveAbove}
+use Rattle.closure.proofs.ReadLemmas.{instance_within}
+
+-- nothing is before what is on no line
+pub none_before : (lines : List LineView) (e f : Place) (p : ℕ) → f.instance ≡ suc p → length lines ≤ p → Before (chart_lines lines) e f → ⊥
+none_before lines e f p is past before = let w = instance_within lines f (before_events before).1 in omega (arith, w.1, w.2)
+
+-- nor before what is no event of a line
+pub none_before_index : (c : Chart) (e f : Place) → (f.index ≡ 0) ⊎ (length (c f.instance) < f.index) → Before c e f → ⊥
+none_before_index c e f (inl zero) before = let w = (before_events before).1 in omega arith
+none_before_index c e f (inr past) before = let w = (before_events before).1 in omega arith
+
+-- before a send is what is up to it, but for itself
+pub before_send : (c : Chart) (e s : Place) → (e ≡ s → ⊥) → IsUpTo c s e ↔ Before c e s
+before_send c e s differs = (λ up. elim up [ inl same ↦ absurd (differs same) | inr before ↦ before ], λ before. inr before)
+
+-- before a receive is an earlier receive from its sender, and what is up to its send
+pub before_received : (c : Chart) (e s r : Place) → BelongsTo c s r → Before c e r ↔ (IsReceiveAbove c s.instance e r ⊎ IsUpTo c s e)
+before_received c e s r belongs = (
+  λ before. before_receive (chain_of before) s belongs,
+  λ h. elim h [
+    | inl above ↦ direct (same_sender s.instance above.0 above.1 belongs.received)
+    | inr up ↦ before_its_receive c e s r up belongs
+  ],
+)
+
+-- so, where it is none of these receives
+pub before_received_up : (c : Chart) (e s r : Place) → BelongsTo c s r → (IsReceiveAbove c s.instance e r → ⊥) → IsUpTo c s e ↔ Before c e r
+before_received_up c e s r belongs other =
+    let both = before_received c e s r belongs in
+    (λ up. both.1 (inr up), λ before. elim (both.0 before) [ inl above ↦ absurd (other above) | inr up ↦ up ])

@@ -1,0 +1,10 @@
+pub mod BeforeLemmas
+pub mod Circles
+pub mod Impossible
+pub mod KnowLemmas
+pub mod LinkLemmas
+pub mod OneList
+pub mod ReadLemmas
+pub mod ReportLemmas
+pub mod RunLemmas
+pub mod SearchLemmas

@@ -1,0 +1,15 @@
+use Rattle.std.proofs.Common.{List, subst}
+use Rattle.chart.specs.Charts.{LineView}
+use Rattle.chart.specs.Reports.{ReportView}
+use Rattle.closure.specs.declared.error.AuditError.TheVariants.{WrongReport}
+use Rattle.closure.specs.Reported.{AreReports}
+use Rattle.closure.specs.Audits.{IsFirstWrong}
+use Rattle.closure.proofs.OneList.{refused_rightly}
+use Rattle.closure.proofs.checking.audit.Goals as goal
+
+pub returns-clause-rightly : goal.returns-clause-rightly
+returns-clause-rightly c =
+    let right = c.in-Ok-races.right.items in
+    let are = subst (λ (x : List LineView). AreReports x right) c.in-Ok.ensures.ok c.in-Ok-races.ensures in
+    let wrong = subst (λ (xs : List ReportView). IsFirstWrong xs c.args.reports.now c.in-Some.receive) c.as_slice.ensures.value c.in-Some.ensures in
+    refused_rightly c.args.chart.now c.args.reports.now (WrongReport c.in-Some.receive) (c.in-Ok.ensures.possible, (right, are, wrong))

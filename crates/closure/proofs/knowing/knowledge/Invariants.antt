@@ -1,0 +1,7 @@
+use Rattle.chart.specs.Charts.{chart_lines}
+use Rattle.closure.specs.Rows.{AreRows}
+use Rattle.closure.specs.Searches.{IsKnowledge}
+use Rattle.closure.proofs.knowing.knowledge.Given as goal
+
+abbrev pub invariant-loop-line : goal.invariant-loop-line
+invariant-loop-line l = AreRows (IsKnowledge (chart_lines l.lines)) (chart_lines l.lines) l.line l.known.items

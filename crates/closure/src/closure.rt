@@ -1,0 +1,93 @@
+//! The closure of a chart.
+ghost use Rattle.std.specs.Prelude.{◌≡◌, ◌⊎◌, length, ◌↔◌, IsTrue, IfOk, OnOk, IfErr};
+ghost use Rattle.chart.specs.Charts.{chart_lines, IsPossible};
+ghost use Rattle.chart.specs.Order.{Before};
+ghost use Rattle.closure.specs.Faults.{place_of, Refuses};
+ghost use Rattle.closure.specs.Reported.{AreReports};
+
+use crate::error::ChartError;
+use crate::linking::links_of;
+use crate::numbers::Numbers;
+use crate::order::is_before;
+use crate::reporting::reports_of;
+use crate::running::runs;
+use chart::{Chart, EventNo, Line, Report};
+use std::alloc::{AllocError, Global};
+use std::marker::Model;
+
+/// A possible chart, with the send of each receive: it answers what the enforced order puts before what. A contract
+/// sees the chart's lines.
+#[derive(Drop)]
+pub struct Closure<'a> {
+    alloc: Global,
+    lines: &'a [Line],
+    links: Vec<Numbers>,
+}
+
+impl<'a> Model for Closure<'a> {
+    ghost use Rattle.std.specs.Prelude.{List};
+    ghost use Rattle.chart.specs.Charts.{LineView};
+    ghost use Rattle.closure.specs.Closures.{IsClosure};
+
+    ghost Value = { List LineView };
+
+    ghost view = { λ c. c.lines.now };
+
+    ghost invariant = { λ c. IsClosure c.lines.now c.links.items };
+}
+
+impl<'a> Closure<'a> {
+    /// The closure of a possible chart, and of no other: one that is the chart of a history which is legal with no bound
+    /// on waiting messages. Any other is refused, by the first of F16, F17 and F18 that applies. The receives are
+    /// looked at by instance and index, and of F16 and F17 the first one's counts.
+    ///
+    /// F6 may come at any point.
+    pub fn of(alloc: Global, chart: &'a Chart) -> Result<Closure<'a>, ChartError>
+        ensures ok { IfOk result (λ closure. closure ≡ chart.now) }
+        ensures possible { OnOk result (IsPossible (length chart.now) (chart_lines chart.now)) }
+        ensures refused { IfErr result (Refuses (chart_lines chart.now)) }
+        ensures impossible { IfErr result
+            (λ e. (e ≡ ChartError.Memory) ⊎ (IsPossible (length chart.now) (chart_lines chart.now) → ⊥)) }
+    {
+        let lines = chart.lines();
+        let links = match links_of(alloc, lines) {
+            Ok(links) => links,
+            Err(error) => return Err(error),
+        };
+        if !runs(alloc, lines, links.as_slice())? {
+            return Err(ChartError::Cyclic);
+        }
+        Ok(Closure {
+            alloc,
+            lines,
+            links,
+        })
+    }
+
+    /// Whether the enforced order puts the one event before the other. It doesn't where either is no event of the chart.
+    ///
+    /// F6: it fails only where there is no memory.
+    pub fn before(&self, earlier: EventNo, later: EventNo) -> Result<bool, AllocError>
+        ensures { IfOk result (λ before. IsTrue before
+            ↔ Before (chart_lines self.now) (place_of earlier) (place_of later)) }
+    {
+        is_before(
+            self.alloc,
+            self.lines,
+            self.links.as_slice(),
+            &earlier,
+            later.instance.place(),
+            later.index as usize,
+        )
+    }
+
+    /// The report of each receive, by instance and index.
+    ///
+    /// One search a line serves all its sends, and a report costs its length. F6: it fails only where there is no
+    /// memory.
+    pub fn races(&self) -> Result<Vec<Report>, AllocError>
+        ensures { IfOk result (λ reports. AreReports self.now reports.items) }
+    {
+        reports_of(self.alloc, self.lines, self.links.as_slice())
+    }
+}

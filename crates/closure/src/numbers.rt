@@ -1,0 +1,69 @@
+//! Lists of numbers.
+ghost use Rattle.std.specs.Prelude.{◌≡◌, ◌<◌, ◌++◌, ◌∷◌, [], length, replicate, slice_index, slice_set, IfOk, OnOk};
+
+use std::alloc::{AllocError, Global};
+use std::marker::Model;
+
+/// A list of numbers, one for each line or for each event of a line. A contract sees the list.
+#[derive(Drop)]
+pub struct Numbers {
+    numbers: Vec<usize>,
+}
+
+impl Model for Numbers {
+    ghost use Rattle.std.specs.Prelude.{ℕ, List};
+
+    ghost Value = { List ℕ };
+
+    ghost view = { λ n. n.numbers.items };
+}
+
+impl Numbers {
+    /// No numbers. It takes no memory.
+    pub fn new(alloc: Global) -> Numbers
+        ensures { result ≡ [] }
+    {
+        Numbers {
+            numbers: Vec::new(alloc),
+        }
+    }
+
+    /// So many zeros.
+    pub fn zeros(alloc: Global, count: usize) -> Result<Numbers, AllocError>
+        ensures { IfOk result (λ zeros. zeros ≡ replicate count 0) }
+    {
+        Ok(Numbers {
+            numbers: vec![in alloc; 0; count]?,
+        })
+    }
+
+    pub fn len(&self) -> usize
+        ensures { result ≡ length self.now }
+    {
+        self.numbers.len()
+    }
+
+    /// The number at a place.
+    pub fn at(&self, place: usize) -> usize
+        requires { place < length self.now }
+        ensures { result ≡ slice_index self.now place }
+    {
+        self.numbers[place]
+    }
+
+    /// Puts the number at a place in place of the one there.
+    pub fn set(&mut self, place: usize, number: usize)
+        requires { place < length self.old }
+        ensures { self.new ≡ slice_set self.old place number }
+    {
+        self.numbers[place] = number;
+    }
+
+    /// Adds a number at the end.
+    pub fn push(&mut self, number: usize) -> Result<(), AllocError>
+        ensures { OnOk result (self.new ≡ self.old ++ number ∷ []) }
+    {
+        self.numbers.push(number)?;
+        Ok(())
+    }
+}

@@ -1,0 +1,145 @@
+//! Searching backwards over the pairs that are enforced directly.
+//!
+//! What is a send or before it is, of each line, the events up to some send, its front: all that stands above a send is
+//! before it. So the pairs to be followed are those from a receive to its send, and each event is seen once. Of a later
+//! send of the same line the fronts are no smaller, and the search goes on from where it is.
+ghost use Rattle.std.specs.Prelude.{ℕ, ◌≡◌, ◌<◌, ◌≤◌, ◌+◌, ◌↔◌, suc, max, length, replicate, slice_index, slice_set, nat_lt, IsTrue, IfOk, IfSome, MatchOption};
+ghost use Rattle.chart.specs.Charts.{Place, at, chart_lines};
+ghost use Rattle.chart.specs.Knowing.{IsUpTo};
+ghost use Rattle.closure.specs.Faults.{place_of};
+ghost use Rattle.closure.specs.Closures.{AreLinked};
+ghost use Rattle.closure.specs.Searches.{IsSend, IsReached, IsSearch, AreSeen, HaveGrown};
+
+use crate::numbers::Numbers;
+use crate::partner::{Partner, partner_of};
+use chart::{EventNo, Line};
+use std::alloc::{AllocError, Global};
+
+/// How far a search has come.
+#[derive(Drop)]
+pub struct Search {
+    /// For each line, the greatest send that was reached, or 0.
+    pub fronts: Numbers,
+    /// For each line, how many of its events were followed to their sends.
+    pub seen: Numbers,
+}
+
+impl Search {
+    /// A search that reached nothing yet.
+    pub fn new(alloc: Global, lines: usize) -> Result<Search, AllocError>
+        ensures { IfOk result (λ search. search ≡ record { fronts = replicate lines 0; seen = replicate lines 0 }) }
+    {
+        Ok(Search {
+            fronts: Numbers::zeros(alloc, lines)?,
+            seen: Numbers::zeros(alloc, lines)?,
+        })
+    }
+
+    /// Whether events of the line were reached and not followed yet.
+    fn is_pending(&self, line: usize) -> bool
+        requires fronts { line < length self.now.fronts }
+        requires seen { line < length self.now.seen }
+        ensures { result ≡ nat_lt (slice_index self.now.seen line) (slice_index self.now.fronts line) }
+    {
+        self.seen.at(line) < self.fronts.at(line)
+    }
+
+    /// A line whose events were reached and not followed yet: the hint, or else the first.
+    fn pending(&self, hint: usize) -> Option<usize>
+        requires seen { length self.now.seen ≡ length self.now.fronts }
+        requires hint { hint < length self.now.fronts }
+        ensures within { IfSome result (λ line. line < length self.now.fronts) }
+        ensures pending { MatchOption result (AreSeen self.now.fronts self.now.seen)
+            (λ line. slice_index self.now.seen line < slice_index self.now.fronts line) }
+    {
+        if self.is_pending(hint) {
+            return Some(hint);
+        }
+        for line in 0..self.fronts.len() {
+            if self.is_pending(line) {
+                return Some(line);
+            }
+        }
+        None
+    }
+
+    /// Reaches the send of this index of a line.
+    fn raise(&mut self, line: usize, index: usize)
+        requires { line < length self.old.fronts }
+        ensures { self.new ≡ record self.old { fronts = slice_set self.old.fronts line (max (slice_index self.old.fronts line) index) } }
+    {
+        let front = self.fronts.at(line).max(index);
+        self.fronts.set(line, front);
+    }
+}
+
+/// Follows the next event of a line that was reached, and answers the line where the search may go on.
+fn follow(lines: &[Line], links: &[Numbers], search: &mut Search, line: usize) -> usize
+    requires linked { AreLinked lines.now links.now }
+    requires line { line < length lines.now }
+    requires fronts { length search.old.fronts ≡ length lines.now }
+    requires seen { length search.old.seen ≡ length lines.now }
+    requires pending { slice_index search.old.seen line < slice_index search.old.fronts line }
+    requires within { slice_index search.old.fronts line ≤ length (chart_lines lines.now (suc line)) }
+    ensures line { result < length lines.now }
+    ensures seen { search.new.seen ≡ slice_set search.old.seen line (slice_index search.old.seen line + 1) }
+    ensures grown { HaveGrown search.old.fronts search.new.fronts }
+    ensures kept { (s : Place) → IsSearch (chart_lines lines.now) (length lines.now) s search.old.fronts search.old.seen
+        → IsSearch (chart_lines lines.now) (length lines.now) s search.new.fronts search.new.seen }
+{
+    let place = search.seen.at(line);
+    search.seen.set(line, place + 1);
+    match partner_of(lines, links, line, place) {
+        Partner::Receiver { .. } => line,
+        Partner::Sender {
+            line: sender,
+            index,
+        } => {
+            search.raise(sender, index);
+            sender
+        }
+    }
+}
+
+/// Goes on to the send of this index of a line, and all that is before it. What was reached before is it or before it, as
+/// where it was searched for earlier sends of this line.
+pub fn reach(lines: &[Line], links: &[Numbers], search: &mut Search, line: usize, index: usize)
+    requires linked { AreLinked lines.now links.now }
+    requires line { line < length lines.now }
+    requires send { IsSend (chart_lines lines.now) (at (suc line) index) }
+    requires search { IsSearch (chart_lines lines.now) (length lines.now) (at (suc line) index) search.old.fronts search.old.seen }
+    ensures search { IsSearch (chart_lines lines.now) (length lines.now) (at (suc line) index) search.new.fronts search.new.seen }
+    ensures reached { IsReached (chart_lines lines.now) (at (suc line) index) search.new.fronts }
+{
+    search.raise(line, index);
+    let mut next = line;
+    while let Some(pending) = search.pending(next) {
+        next = follow(lines, links, search, pending);
+    }
+}
+
+/// Whether an event is the send of this index of a line, or before it.
+pub fn is_up_to(
+    alloc: Global,
+    lines: &[Line],
+    links: &[Numbers],
+    event: &EventNo,
+    line: usize,
+    index: usize,
+) -> Result<bool, AllocError>
+    requires linked { AreLinked lines.now links.now }
+    requires line { line < length lines.now }
+    requires send { IsSend (chart_lines lines.now) (at (suc line) index) }
+    ensures { IfOk result (λ up_to. IsTrue up_to ↔ IsUpTo (chart_lines lines.now) (at (suc line) index) (place_of event.now)) }
+{
+    let place = event.instance.place();
+    if place >= lines.len() {
+        return Ok(false);
+    }
+    if event.index == 0 {
+        return Ok(false);
+    }
+    let mut search = Search::new(alloc, lines.len())?;
+    reach(lines, links, &mut search, line, index);
+    Ok(event.index as usize <= search.fronts.at(place))
+}
