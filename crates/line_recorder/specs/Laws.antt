@@ -1,13 +1,19 @@
--- The laws of recorders: statements that the functions of `laws` prove. Each is of any chart that has the recorder's line,
--- at least as the first events of that instance.
-use Rattle.std.specs.Prelude.{◌≡◌, ℕ, ◌+◌, ◌≤◌, ◌⊎◌, List, ◌++◌, length, map}
+-- The laws of recorders: statements that the functions of `laws` prove.
+use Rattle.std.specs.Prelude.{◌≡◌, ℕ, ◌+◌, ◌<◌, ◌≤◌, ◌⊎◌, List, ◌∷◌, ◌++◌, length, map, slice_get, Some}
+use Rattle.chart.specs.declared.history.Event.{Event}
+use Rattle.chart.specs.declared.history.Event.TheVariants.{Receive}
 use Rattle.chart.specs.declared.event.Event.{Event as Mark}
+use Rattle.chart.specs.Histories.{sent, waiting, chart_of, IsLegal}
 use Rattle.chart.specs.Charts.{Chart, Place, at, LineView, BelongsTo}
+use Rattle.chart.specs.Places.{IsSendAfter}
 use Rattle.chart.specs.Order.{IsCyclic, IsReport}
 use Rattle.chart.specs.Knowing.{IsKnown, IsGreatestHeard}
 use Rattle.chart.specs.Reports.{ReportView}
 use Rattle.clock.specs.Clocks.{entry_of}
+use Rattle.line_recorder.specs.Carried.{knowledge_of, clocks_of, waiting_clocks}
 use Rattle.line_recorder.specs.Recorders.{RecorderView, new_recorder, send_clock, after_send, after_receive, IsReportOf}
+
+-- Of any chart that has the recorder's line, at least as the first events of that instance.
 
 -- the chart has these events as the first of the instance's line
 abbrev pub HasLine : Chart → LineView → Type 0
@@ -50,3 +56,26 @@ ReceiveKnowledgeLaw = (c : Chart) (s : Place) (r : RecorderView) (from : ℕ) (n
 abbrev pub ReceiveReportLaw : Type 0
 ReceiveReportLaw = (c : Chart) (s : Place) (r : RecorderView) (from : ℕ) (name : List ℕ) (region : ℕ) (clock : List ℕ) (report : ReportView) → HasLine c (after_receive r from name region clock report).line → BelongsTo c s (next_place r) → IsKnown c s r.line.instance (entry_of clock r.line.instance)
     → IsReportOf r from region clock report → IsReport c (next_place r) (map (λ race. race.index) report.earlier)
+
+-- Along a legal history, whose charts grow event by event.
+
+-- of each other instance an instance knows the greatest heard of it on its line
+abbrev pub CarriedKnowledgeLaw : Type 0
+CarriedKnowledgeLaw = (n k : ℕ) (h : List Event) → IsLegal n k h → (p q : ℕ) → 1 ≤ p → p ≤ n → 1 ≤ q → q ≤ n → (q ≡ p → ⊥) → IsGreatestHeard (chart_of h) p (length (chart_of h p)) q (entry_of (knowledge_of n h p) q)
+
+-- each message has a clock
+abbrev pub CarriedManyLaw : Type 0
+CarriedManyLaw = (n : ℕ) (h : List Event) (q p : ℕ) → length (clocks_of n h q p) ≡ length (sent h q p)
+
+-- it has an entry for each instance
+abbrev pub CarriedEntriesLaw : Type 0
+CarriedEntriesLaw = (n k : ℕ) (h : List Event) → IsLegal n k h → (q p i : ℕ) (clock : List ℕ) → slice_get (clocks_of n h q p) i ≡ Some clock → length clock ≡ n
+
+-- it is what the message's send knows
+abbrev pub CarriedClockLaw : Type 0
+CarriedClockLaw = (n k : ℕ) (h : List Event) → IsLegal n k h → (q p i j : ℕ) (clock : List ℕ) → slice_get (clocks_of n h q p) i ≡ Some clock → IsSendAfter (chart_of h q) p i j → IsClockOf (chart_of h) (at q j) clock
+
+-- the report that is made by the clock of the first message that waits is the report of its receive
+abbrev pub CarriedReportLaw : Type 0
+CarriedReportLaw = (n k : ℕ) (h : List Event) → IsLegal n k h → (p q c : ℕ) → 1 ≤ p → p ≤ n → 0 < length (waiting h q p) → (clock : List ℕ) (rest : List (List ℕ)) → waiting_clocks n h q p ≡ clock ∷ rest → (r : RecorderView) → r.line ≡ record { instance = p; events = chart_of h p } → (report : ReportView) → IsReportOf r q c clock report
+    → IsReport (chart_of (Receive p q c ∷ h)) (next_place r) (map (λ race. race.index) report.earlier)

@@ -1,3 +1,4 @@
+pub mod Carried
 pub mod Laws
 pub mod Recorders
 pub mod Sends

@@ -77,6 +77,15 @@ impl Recorder {
         self.reports.as_slice()
     }
 
+    /// The line and the reports, of which the recorder is made no more.
+    pub fn into_parts(self) -> (Line, Vec<Report>)
+        ensures line { result.0 ≡ self.line }
+        ensures reports { result.1.items ≡ self.reports }
+    {
+        let Recorder { line, reports, .. } = self;
+        (line, reports)
+    }
+
     /// Records a send to this instance, and answers its clock: what is known, and the send itself.
     ///
     /// A refusal, the first of F7 and F6 that applies, changes nothing. With room on the line it takes no memory up to

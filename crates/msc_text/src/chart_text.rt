@@ -9,7 +9,7 @@ use crate::out::Out;
 use chart::{Chart, Event, InstanceNo, Line, Name, Names};
 
 /// The bytes of the name, or none.
-fn bytes_of(name: &Option<Name>) -> &[u8]
+pub(crate) fn bytes_of(name: &Option<Name>) -> &[u8]
     ensures { result.now ≡ unwrap_or name.now [] }
 {
     match name {
@@ -19,7 +19,7 @@ fn bytes_of(name: &Option<Name>) -> &[u8]
 }
 
 /// The name of the instance.
-fn name_at(names: &Names, instance: InstanceNo) -> Option<Name>
+pub(crate) fn name_at(names: &Names, instance: InstanceNo) -> Option<Name>
     ensures { unwrap_or result [] ≡ name_at names.now instance }
 {
     names.name(instance)

@@ -8,6 +8,7 @@ mod fault;
 mod gathering;
 mod lines;
 mod out;
+mod race_text;
 mod word;
 
 pub use chart_text::{add_chart, write};
@@ -15,6 +16,7 @@ pub use fault::{Cause, Fault, TextError};
 pub use gathering::{GATHERED, Gathering, WriteError};
 pub use lines::next_line;
 pub use out::{MemoryOut, Out, OutFault, StreamOut};
+pub use race_text::add_races;
 pub use word::{Words, name_in, next_word, words_in};
 
 #[cfg(test)]

@@ -1,0 +1,18 @@
+-- The lines of a chart's races (this project's profile).
+use Rattle.std.specs.Prelude.{ℕ, List, ◌++◌, codes, decimal}
+use Rattle.std.specs.List.{flat_map}
+use Rattle.chart.specs.declared.instance.EventNo.{EventNo}
+use Rattle.chart.specs.Reports.{ReportView}
+use Rattle.msc_text.specs.ChartText.{name_at}
+
+-- race INSTANCE EARLIER RECEIVE: an earlier event of an instance of this name, and the index of a receive of it
+unfoldable pub race_text : List ℕ → ℕ → EventNo → List ℕ
+race_text name receive earlier = codes "race " ++ (name ++ (codes " " ++ (decimal earlier.index ++ (codes " " ++ (decimal receive ++ codes "\n")))))
+
+-- a line for each race of a receive
+abbrev pub report_text : List (List ℕ) → ReportView → List ℕ
+report_text names report = flat_map (race_text (name_at names report.receive.instance) report.receive.index) report.earlier
+
+-- a line for each race of each of these receives
+abbrev pub races_text : List (List ℕ) → List ReportView → List ℕ
+races_text names reports = flat_map (report_text names) reports
