@@ -10,3 +10,6 @@ mod queue;
 
 pub use drawing::drawn;
 pub use error::Memory;
+
+#[cfg(test)]
+mod tests;
