@@ -6,6 +6,7 @@ use rand_core::utils::NextWord;
 use rand_pcg::Lcg64Xsh32;
 use schedule::Schedule;
 use std::alloc::Global;
+use std::process::Abort;
 use std::test::Fail;
 
 static SEEDS: [u64; 4] = [0, 1, 2, 18446744073709551615];
@@ -78,23 +79,54 @@ fn no_commands(rt: HostRuntime) -> Result<(), Fail> {
     Ok(())
 }
 
-/// The uneven schedule, after a refusal too.
-fn uneven_schedule(alloc: Global) -> Result<Schedule, Fail> {
-    match Schedule::read(alloc, UNEVEN) {
-        Ok(schedule) => Ok(schedule),
-        Err(_) => Ok(Schedule::read(alloc, UNEVEN)?),
-    }
+/// The seed 0 draws the lines of the text in this order, or F6 comes and then, with memory, it does.
+fn draws_or_refuses(
+    rt: &impl Abort,
+    alloc: Global,
+    text: &[u8],
+    lines: &[u64],
+) -> Result<(), Fail> {
+    let schedule = match Schedule::read(alloc, text) {
+        Ok(schedule) => schedule,
+        Err(_) => Schedule::read(alloc, text)?,
+    };
+    let holds = match draws(alloc, &schedule, 0, lines) {
+        Ok(holds) => holds,
+        Err(Memory) => draws(alloc, &schedule, 0, lines)?,
+    };
+    assert!(rt; holds);
+    every_growth_was_refused(alloc)
 }
 
 #[test]
 fn refused_growths(rt: HostRuntime) -> Result<(), Fail> {
-    let schedule = uneven_schedule(rt.alloc())?;
-    let holds = match draws(rt.alloc(), &schedule, 0, &UNEVEN_LINES[0]) {
-        Ok(holds) => holds,
-        Err(Memory) => draws(rt.alloc(), &schedule, 0, &UNEVEN_LINES[0])?,
-    };
-    assert!(rt; holds);
-    every_growth_was_refused(rt.alloc())
+    draws_or_refuses(&rt, rt.alloc(), UNEVEN, &UNEVEN_LINES[0])
+}
+
+#[test]
+fn refused_growths_crossing(rt: HostRuntime) -> Result<(), Fail> {
+    let text = b"instances a b\ncapacity 1\na send b q\nb send a p\na receive b\nb receive a\n";
+    draws_or_refuses(&rt, rt.alloc(), text, &[4, 6, 3, 5])
+}
+
+#[test]
+fn refused_growths_through_a_reply(rt: HostRuntime) -> Result<(), Fail> {
+    let text =
+        b"instances a b c\ncapacity 1\na send b x\nb receive a\nb send c m\nc receive b\nc send b y\nb receive c\n";
+    draws_or_refuses(&rt, rt.alloc(), text, &[4, 6, 7, 3, 5, 8])
+}
+
+#[test]
+fn refused_growths_in_turns(rt: HostRuntime) -> Result<(), Fail> {
+    let text =
+        b"instances a b c\ncapacity 2\na send b x\na send b z\nc send b y\nb any\nb any\nb any\n";
+    draws_or_refuses(&rt, rt.alloc(), text, &[6, 5, 7, 3, 8, 4])
+}
+
+#[test]
+fn refused_growths_of_nine(rt: HostRuntime) -> Result<(), Fail> {
+    let text = b"instances a b c d e f g h i\ncapacity 1\ni send a x\nh send a y\na any\na any\n";
+    draws_or_refuses(&rt, rt.alloc(), text, &[4, 3, 5, 6])
 }
 
 /// A last growth, whose refusal tells that each one before it was refused in an earlier run of the test.
