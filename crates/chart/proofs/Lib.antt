@@ -12,6 +12,7 @@ pub mod Lanes
 pub mod Layouts
 pub mod NameLists
 pub mod Places
+pub mod ReportLists
 pub mod Reports
 pub mod Rising
 pub mod Runs

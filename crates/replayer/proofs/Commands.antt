@@ -1,19 +1,24 @@
 -- What each command leaves is what its definition gives.
 use Rattle.std.proofs.Common.{◌≡◌, ◌≢◌, ℕ, zero, suc, ◌+◌, ◌<◌, ◌≤◌, Bool, true, false, List, [], ◌∷◌, ◌++◌, length, set, get_or, Option, Some, None, Ok, refl, sym, ap, ◌∙◌, subst, arith, inl, inr}
-use Rattle.std.specs.Prelude.{slice_get, find, nat_lt}
+use Rattle.std.specs.Prelude.{◌-◌, slice_get, find, nat_lt, All}
 use Rattle.std.specs.List.{list_all}
 use Rattle.std.proofs.lemmas.Bool.{lt-ltb, le-ltb}
+use Rattle.std.proofs.lemmas.List.{length-drop, get_or-drop}
 use Rattle.std.proofs.lemmas.Option.{slice_get-get_or}
 use Rattle.std.proofs.lemmas.List.Elements.{All-weaker}
 use Rattle.chart.specs.declared.line.TheConstants.{MAX_EVENTS}
 use Rattle.chart.specs.declared.history.Event.{Event}
 use Rattle.chart.specs.declared.history.Event.TheVariants as events
-use Rattle.chart.specs.Marks.{send_mark, MayHaveRegion}
-use Rattle.chart.specs.Histories.{waiting, is_closed}
+use Rattle.chart.specs.Marks.{MayHaveRegion}
+use Rattle.chart.specs.Histories.{waiting, is_closed, sent as history_sent, received as history_received}
+use Rattle.chart.specs.Reports.{ReportView}
+use Rattle.line_recorder.specs.Carried.{clocks_of}
+use Rattle.line_recorder.specs.Recorders.{send_clock, after_send, IsReportOf}
+use Rattle.line_recorder.proofs.Carrying.{clocks_many, carried_right}
 use Rattle.schedule.specs.declared.command.Word.{Word}
 use Rattle.schedule.specs.declared.command.Word.TheVariants as words
 use Rattle.schedule.specs.Meaning.{Run, scan, has_waiting, happens, sends, receives, receives_any, first_waiting, are_closed, closes, opens, shuts}
-use Rattle.replayer.specs.Views.{LaneView, ActorView, after_receive, some_wait, is_shut, lane_waits, lane_is_closed}
+use Rattle.replayer.specs.Views.{LaneView, ActorView, empty_lane, popped, after_receipt, some_wait, is_shut, lane_waits, lane_is_closed}
 use Rattle.replayer.specs.Words.{send_word, receive_word}
 use Rattle.replayer.specs.Agreement.{AreLanes, Agrees, HasActed}
 use Rattle.replayer.proofs.Kept.{sent, taken, shut-off, reopened}
@@ -27,14 +32,38 @@ lane-within n k r actors i j b agrees within at_b =
     omega (arith, its.lanes.many, agrees.many)
 
 -- an instance's line has its number
-pub instance-is : (n k : ℕ) (r : Run) (actors : List ActorView) (i : ℕ) (a : ActorView) → Agrees n k r actors → slice_get actors i ≡ Some a → a.line.instance ≡ suc i
-instance-is n k r actors i a agrees at_a = ap (λ l. l.instance) (agrees.each i a at_a).own.line
+pub instance-is : (n k : ℕ) (r : Run) (actors : List ActorView) (i : ℕ) (a : ActorView) → Agrees n k r actors → slice_get actors i ≡ Some a → a.recorder.line.instance ≡ suc i
+instance-is n k r actors i a agrees at_a = ap (λ l. l.instance) (agrees.each i a at_a).own.recorder.line
+
+-- it knows of each instance
+pub known-many : (n k : ℕ) (r : Run) (actors : List ActorView) (i : ℕ) (a : ActorView) → Agrees n k r actors → slice_get actors i ≡ Some a → length a.recorder.knowledge ≡ length actors
+known-many n k r actors i a agrees at_a =
+    ap length (agrees.each i a at_a).own.recorder.knowledge ∙ (carried_right n k r.history agrees.legal).known_long (suc i) ∙ sym agrees.many
+
+-- as many clocks wait on a lane as names
+pub clocks-many : (n k : ℕ) (r : Run) (actors : List ActorView) (i j : ℕ) (a : ActorView) (lane : LaneView) → Agrees n k r actors → slice_get actors i ≡ Some a → slice_get a.lanes j ≡ Some lane → length lane.clocks ≡ length lane.names
+clocks-many n k r actors i j a lane agrees at_a at_lane =
+    let h = r.history in
+    let its = (agrees.each i a at_a).lanes.each j lane at_lane in
+    ap length its.clocks ∙ length-drop (history_received h (suc j) (suc i)) (clocks_of n h (suc j) (suc i)) ∙ ap (λ l. l - history_received h (suc j) (suc i)) (clocks_many n h (suc j) (suc i)) ∙ sym (length-drop (history_received h (suc j) (suc i)) (history_sent h (suc j) (suc i))) ∙ sym (names-many (waiting h (suc j) (suc i)) lane.names its.names)
+
+-- each has an entry for each instance
+pub clocks-long : (n k : ℕ) (r : Run) (actors : List ActorView) (i j : ℕ) (a : ActorView) (lane : LaneView) → Agrees n k r actors → slice_get actors i ≡ Some a → slice_get a.lanes j ≡ Some lane → All (λ clock. length clock ≡ length a.recorder.knowledge) lane.clocks
+clocks-long n k r actors i j a lane agrees at_a at_lane l d inside =
+    let h = r.history in
+    let its = (agrees.each i a at_a).lanes.each j lane at_lane in
+    let clocks = clocks_of n h (suc j) (suc i) in
+    let past = history_received h (suc j) (suc i) in
+    let shorter = length-drop past clocks in
+    let within : past + l < length clocks = omega (arith, inside, ap length its.clocks, shorter) in
+    let same : get_or lane.clocks l d ≡ get_or clocks (past + l) d = ap (λ cs. get_or cs l d) its.clocks ∙ get_or-drop past clocks l d in
+    ap length same ∙ (carried_right n k h agrees.legal).long (suc j) (suc i) (past + l) (get_or clocks (past + l) d) (slice_get-get_or clocks (past + l) d within) ∙ sym agrees.many ∙ sym (known-many n k r actors i a agrees at_a)
 
 -- the next event may be in the coregion that is open
-pub may-now : (n k : ℕ) (r : Run) (actors : List ActorView) (i : ℕ) (a : ActorView) → Agrees n k r actors → slice_get actors i ≡ Some a → MayHaveRegion a.line.events a.region
+pub may-now : (n k : ℕ) (r : Run) (actors : List ActorView) (i : ℕ) (a : ActorView) → Agrees n k r actors → slice_get actors i ≡ Some a → MayHaveRegion a.recorder.line.events a.region
 may-now n k r actors i a agrees at_a =
     let mine = (agrees.each i a at_a).own in
-    rw (mine.line, mine.region) mine.may
+    rw (mine.recorder.line, mine.region) mine.may
 
 -- the greatest coregion of a line is at most as great as the line may be long
 pub greatest-small : (n k : ℕ) (r : Run) (actors : List ActorView) (i : ℕ) (a : ActorView) → Agrees n k r actors → slice_get actors i ≡ Some a → a.greatest ≤ MAX_EVENTS
@@ -59,7 +88,7 @@ send-refused n k r actors p q i j a b lane name word agrees at_p at_q at_a at_b 
 
 -- one that isn't
 pub send-done : (n k : ℕ) (r : Run) (actors : List ActorView) (p q i j : ℕ) (a b a' b' : ActorView) (lane : LaneView) (name : List ℕ) → Agrees n k r actors → p ≢ q → p ≡ suc i → q ≡ suc j → slice_get actors i ≡ Some a → slice_get actors j ≡ Some b → slice_get b.lanes i ≡ Some lane → send_word k a lane ≡ None
-    → a' ≡ record a { line = record a.line { events = a.line.events ++ send_mark q name ∷ [] } } → b' ≡ record b { lanes = set b.lanes i (record lane { names = lane.names ++ name ∷ [] }) }
+    → a' ≡ record a { recorder = after_send a.recorder q name } → b' ≡ record b { lanes = set b.lanes i (record { names = lane.names ++ name ∷ []; clocks = lane.clocks ++ send_clock a.recorder ∷ []; closed = lane.closed }) }
     → HasActed n k actors (set (set actors i a') j b') (Ok None) (sends k r p q name)
 send-done n k r actors p q i j a b a' b' lane name agrees ne at_p at_q at_a at_b at_lane e first second =
     let free = sends-none k a lane e in
@@ -81,16 +110,18 @@ front-of (x ∷ xs) h = (x, xs, refl)
 
 -- a receive that isn't
 pub receive-done : (n k : ℕ) (r : Run) (actors : List ActorView) (p q i j : ℕ) (a a' : ActorView) (lane : LaneView) → Agrees n k r actors → p ≢ q → p ≡ suc i → q ≡ suc j → j < length actors → slice_get actors i ≡ Some a → slice_get a.lanes j ≡ Some lane → receive_word a lane ≡ None
-    → ((name : List ℕ) (rest : List (List ℕ)) → lane.names ≡ name ∷ rest
-    → a' ≡ after_receive a q j lane name rest)
+    → ((name clock : List ℕ) (names clocks : List (List ℕ)) → lane.names ≡ name ∷ names → lane.clocks ≡ clock ∷ clocks
+    → (report : ReportView) × (a' ≡ after_receipt (record a { lanes = set a.lanes j (popped lane names clocks) }) q name clock report) × IsReportOf a.recorder q a.region clock report)
     → HasActed n k actors (set actors i a') (Ok None) (receives r p q)
 receive-done n k r actors p q i j a a' lane agrees ne at_p at_q within at_a at_lane e new =
     let free = receives-none a lane e in
     let front = front-of lane.names free.0 in
     let other : i ≢ j = λ same. ne (omega arith) in
     let mine = agrees.each i a at_a in
-    rw (new front.0 front.1 front.2, at_p, at_q, receives-by n r (suc i) (suc j) a lane mine.own (mine.lanes.each j lane at_lane))
-    (done-by n k actors _ (receive_word a lane) (received r (suc i) (suc j)) e (taken n k r actors agrees i j other a lane front.0 front.1 within at_a at_lane front.2 free.1))
+    let stamp = front-of lane.clocks (omega (arith, clocks-many n k r actors i j a lane agrees at_a at_lane, free.0)) in
+    let made = new front.0 stamp.0 front.1 stamp.1 front.2 stamp.2 in
+    rw (made.1, at_p, at_q, receives-by n r (suc i) (suc j) a lane mine.own (mine.lanes.each j lane at_lane))
+    (done-by n k actors _ (receive_word a lane) (received r (suc i) (suc j)) e (taken n k r actors agrees i j other a lane front.0 stamp.0 front.1 stamp.1 made.0 within at_a at_lane front.2 stamp.2 (subst (λ x. IsReportOf a.recorder x a.region stamp.0 made.0) at_q made.2) free.1))
 
 -- a close that is refused
 pub close-refused : (n k : ℕ) (r : Run) (actors : List ActorView) (p q i j : ℕ) (b : ActorView) (lane : LaneView) → Agrees n k r actors → p ≡ suc i → q ≡ suc j → slice_get actors j ≡ Some b → slice_get b.lanes i ≡ Some lane → lane.closed ≡ true
@@ -140,7 +171,7 @@ shut-done n k r actors p i a a' agrees at_p at_a some new =
 pub waits-same : (n : ℕ) (h : List Event) (p : ℕ) (lanes : List LaneView) → AreLanes n h p lanes → (q : ℕ) → IsOther n p q → lane_waits lanes q ≡ has_waiting h q p
 waits-same n h p lanes old zero other = absurd (omega (arith, other.0))
 waits-same n h p lanes old (suc j) other =
-    let empty : LaneView = record { names = []; closed = false } in
+    let empty : LaneView = empty_lane in
     let there : slice_get lanes j ≡ Some (get_or lanes j empty) = slice_get-get_or lanes j empty (omega (arith, other.1, old.many)) in
     ap some_wait there ∙ ap (nat_lt 0) (names-many (waiting h (suc j) p) (get_or lanes j empty).names (old.each j (get_or lanes j empty) there).names)
 
@@ -148,7 +179,7 @@ waits-same n h p lanes old (suc j) other =
 pub closed-same : (n : ℕ) (h : List Event) (p : ℕ) (lanes : List LaneView) → AreLanes n h p lanes → (q : ℕ) → IsOther n p q → lane_is_closed lanes q ≡ is_closed h q p
 closed-same n h p lanes old zero other = absurd (omega (arith, other.0))
 closed-same n h p lanes old (suc j) other =
-    let empty : LaneView = record { names = []; closed = false } in
+    let empty : LaneView = empty_lane in
     let there : slice_get lanes j ≡ Some (get_or lanes j empty) = slice_get-get_or lanes j empty (omega (arith, other.1, old.many)) in
     ap is_shut there ∙ (old.each j (get_or lanes j empty) there).closed
 

@@ -1,22 +1,28 @@
 -- The instances stay as far as the run, command by command.
-use Rattle.std.proofs.Common.{◌≡◌, ◌≢◌, ℕ, suc, ◌<◌, ◌≤◌, true, false, List, [], ◌∷◌, ◌++◌, length, set, Some, refl, sym, ap, ◌∙◌, subst, arith}
+use Rattle.std.proofs.Common.{◌≡◌, ◌≢◌, ℕ, suc, ◌<◌, ◌≤◌, true, false, List, [], ◌∷◌, ◌++◌, length, set, Some, refl, sym, ap, ap₂, ◌∙◌, subst, subst₂, arith}
 use Rattle.std.specs.Prelude.{slice_get}
 use Rattle.std.proofs.lemmas.Bool.{eq-eqb, ne_eqb}
 use Rattle.std.proofs.lemmas.List.{length-set, map-append}
 use Rattle.std.proofs.lemmas.Option.{slice_get_within}
 use Rattle.chart.specs.declared.history.Event.{Event}
-use Rattle.chart.specs.declared.history.Event.TheVariants.{Send, Close}
+use Rattle.chart.specs.declared.history.Event.TheVariants.{Send, Receive, Close}
 use Rattle.chart.specs.declared.line.TheConstants.{MAX_EVENTS}
 use Rattle.chart.specs.Charts.{LineView}
 use Rattle.chart.specs.Messages.{Content}
 use Rattle.chart.specs.Marks.{send_mark, receive_mark, MayHaveRegion}
-use Rattle.chart.specs.Histories.{waiting, chart_of, IsLegal, AreTwo}
+use Rattle.chart.specs.Histories.{by, waiting, chart_of, IsLegal, AreTwo}
+use Rattle.chart.specs.Reports.{ReportView}
+use Rattle.chart.proofs.Steps.{line_of_other}
+use Rattle.line_recorder.specs.Carried.{waiting_clocks}
+use Rattle.line_recorder.specs.Recorders.{send_clock, after_send, after_receive, IsReportOf}
 use Rattle.schedule.specs.Meaning.{Run, changed, happens}
-use Rattle.replayer.specs.Views.{LaneView, ActorView, after_receive}
-use Rattle.replayer.specs.Agreement.{names_of, IsLane, IsActor, Agrees}
-use Rattle.replayer.proofs.Actors.{IsOwn-idle, AreLanes-idle, AreLanes-set, IsOwn-push}
-use Rattle.replayer.proofs.Histories.{is_lane-from, is_lane-to, received-le, waiting-send, waiting-send_other, waiting-receive, waiting-receive_other, is_closed-close, is_closed-close_other, chart_of-send, chart_of-send_other, chart_of-receive, chart_of-receive_other, chart_of-close}
+use Rattle.replayer.specs.Views.{LaneView, ActorView, popped, after_receipt}
+use Rattle.replayer.specs.Agreement.{names_of, IsLane, IsRecorder, IsOwn, IsActor, Agrees}
+use Rattle.replayer.proofs.Actors.{IsIdle, AreIdle, IsOwn-idle, AreLanes-idle, AreLanes-set, IsOwn-push}
+use Rattle.replayer.proofs.Clocks.{waiting_clocks-send, waiting_clocks-send_other, waiting_clocks-receive, waiting_clocks-receive_other}
+use Rattle.replayer.proofs.Histories.{is_lane-from, is_lane-to, received-le, waiting-send, waiting-send_other, waiting-receive, waiting-receive_other, is_closed-close, is_closed-close_other, chart_of-send, chart_of-receive, chart_of-close}
 use Rattle.replayer.proofs.Places.{each-set}
+use Rattle.replayer.proofs.Recorders.{knowledge_of-other, send_clock-is, IsRecorder-send, IsRecorder-receive}
 use Rattle.replayer.proofs.Words.{received, message, names-many}
 
 -- two places are two instances
@@ -57,71 +63,103 @@ Agrees-set_two n k r s actors i j a b old legal others first second = record {
       second;
 }
 
+-- what an idle instance is after another one's event that left its line, its last sender and its coregion
+other-idle : (n k : ℕ) (r s : Run) (e : Event) (p : ℕ) (a : ActorView) (lanes : List LaneView) → IsLegal n k r.history → s.history ≡ e ∷ r.history → p ≢ by e → s.last p ≡ r.last p → s.region p ≡ r.region p → IsOwn n r p a → IsOwn n s p (record a { lanes = lanes })
+other-idle n k r s e p a lanes legal grown ne last region own =
+    IsOwn-idle n k r s p a lanes legal (record {
+      begins = (e ∷ [], grown);
+      line = rw grown (line_of_other r.history e p (λ same. ne (sym same)));
+      knowledge = rw grown (knowledge_of-other n r.history e p ne);
+      last = last;
+      region = region;
+    }) own
+
 module _ (n k : ℕ) (r : Run) (actors : List ActorView) (agrees : Agrees n k r actors) (i j : ℕ) (ne : i ≢ j) where
   -- a send
-  pub sent : (a b : ActorView) (lane : LaneView) (name : List ℕ) → slice_get actors i ≡ Some a → slice_get actors j ≡ Some b → slice_get b.lanes i ≡ Some lane → a.region ≡ 0 → lane.closed ≡ false → length a.line.events < MAX_EVENTS → length lane.names < k
-      → Agrees n k (happens r (Send (suc i) (suc j) (message name))) (set (set actors i (record a { line = record a.line { events = a.line.events ++ send_mark (suc j) name ∷ [] } })) j (record b { lanes = set b.lanes i (record lane { names = lane.names ++ name ∷ [] }) }))
+  pub sent : (a b : ActorView) (lane : LaneView) (name : List ℕ) → slice_get actors i ≡ Some a → slice_get actors j ≡ Some b → slice_get b.lanes i ≡ Some lane → a.region ≡ 0 → lane.closed ≡ false → length a.recorder.line.events < MAX_EVENTS → length lane.names < k
+      → Agrees n k (happens r (Send (suc i) (suc j) (message name))) (set (set actors i (record a { recorder = after_send a.recorder (suc j) name })) j (record b { lanes = set b.lanes i (record { names = lane.names ++ name ∷ []; clocks = lane.clocks ++ send_clock a.recorder ∷ []; closed = lane.closed }) }))
   sent a b lane name at_a at_b at_lane outside opened room space =
       let h : List Event = r.history in
+      let p : ℕ = suc i in
+      let q : ℕ = suc j in
       let m : Content = message name in
-      let s : Run = happens r (Send (suc i) (suc j) m) in
-      let mine : IsActor n r (suc i) a = agrees.each i a at_a in
-      let its : IsActor n r (suc j) b = agrees.each j b at_b in
-      let here : IsLane h (suc i) (suc j) lane = its.lanes.each i lane at_lane in
-      let few : length (chart_of h (suc i)) < MAX_EVENTS = subst (λ (l : LineView). length l.events < MAX_EVENTS) mine.own.line room in
-      let none : r.region (suc i) ≡ 0 = sym mine.own.region ∙ outside in
-      let free : length (waiting h (suc i) (suc j)) < k = subst (λ x. x < k) (names-many (waiting h (suc i) (suc j)) lane.names here.names) space in
+      let e : Event = Send p q m in
+      let s : Run = happens r e in
+      let mine : IsActor n r p a = agrees.each i a at_a in
+      let its : IsActor n r q b = agrees.each j b at_b in
+      let here : IsLane n h p q lane = its.lanes.each i lane at_lane in
+      let few : length (chart_of h p) < MAX_EVENTS = subst (λ (l : LineView). length l.events < MAX_EVENTS) mine.own.recorder.line room in
+      let none : r.region p ≡ 0 = sym mine.own.region ∙ outside in
+      let free : length (waiting h p q) < k = subst (λ x. x < k) (names-many (waiting h p q) lane.names here.names) space in
       let i_within : i < n = omega (arith, slice_get_within actors i a at_a, agrees.many) in
       let j_within : j < n = omega (arith, slice_get_within actors j b at_b, agrees.many) in
+      let idle : (o : ℕ) → o ≢ q → AreIdle n h s.history o = λ o other. record {
+        waiting = λ x. waiting-send_other h p q x o m (is_lane-to p q x o other);
+        clocks = λ x. waiting_clocks-send_other n h p q x o m (is_lane-to p q x o other);
+        closed = λ x. refl;
+      } in
       Agrees-set_two n k r s actors i j _ _ agrees
       ((two-places n i j i_within j_within ne, sym here.closed ∙ opened, free, few), agrees.legal)
       (λ l x past other old. record {
-        own = IsOwn-idle n r s (suc l) x x.lanes (record { line = chart_of-send_other h (suc i) (suc j) (suc l) m (λ e. past (omega arith)); last = refl; region = refl }) old.own;
-        lanes = AreLanes-idle n h s.history (suc l) x.lanes (record { waiting = λ q. waiting-send_other h (suc i) (suc j) q (suc l) m (is_lane-to (suc i) (suc j) q (suc l) (λ e. other (omega arith))); closed = λ q. refl }) old.lanes;
+        own = other-idle n k r s e (suc l) x x.lanes agrees.legal refl (λ same. past (omega arith)) refl refl old.own;
+        lanes = AreLanes-idle n h s.history (suc l) x.lanes (idle (suc l) (λ same. other (omega arith))) old.lanes;
       })
       (record {
-        own = IsOwn-push n r s (suc i) a _ (send_mark (suc j) name) mine.own (chart_of-send h (suc i) (suc j) m) refl (sym none) few refl mine.own.last mine.own.known refl (omega arith);
-        lanes = AreLanes-idle n h s.history (suc i) a.lanes (record { waiting = λ q. waiting-send_other h (suc i) (suc j) q (suc i) m (is_lane-to (suc i) (suc j) q (suc i) (λ e. ne (omega arith))); closed = λ q. refl }) mine.lanes;
+        own = IsOwn-push n r s p a _ (send_mark q name) mine.own (IsRecorder-send n k h p q m a.recorder agrees.legal mine.own.recorder) (chart_of-send h p q m) refl (sym none) few mine.own.last mine.own.known refl (omega arith);
+        lanes = AreLanes-idle n h s.history p a.lanes (idle p (λ same. ne (omega arith))) mine.lanes;
       })
       (record {
-        own = IsOwn-idle n r s (suc j) b _ (record { line = chart_of-send_other h (suc i) (suc j) (suc j) m (λ e. ne (omega arith)); last = refl; region = refl }) its.own;
-        lanes = AreLanes-set n h s.history (suc j) i b.lanes _ (λ q past. (waiting-send_other h (suc i) (suc j) q (suc j) m (is_lane-from (suc i) (suc j) q (suc j) past), refl))
+        own = other-idle n k r s e q b _ agrees.legal refl (λ same. ne (omega arith)) refl refl its.own;
+        lanes = AreLanes-set n h s.history q i b.lanes _ (λ x past. (waiting-send_other h p q x q m (is_lane-from p q x q past), waiting_clocks-send_other n h p q x q m (is_lane-from p q x q past), refl))
             (record {
-              names = ap (λ ns. ns ++ name ∷ []) here.names ∙ sym (map-append (λ (x : Content). x.name) (waiting h (suc i) (suc j)) (m ∷ [])) ∙ ap names_of (sym (waiting-send h (suc i) (suc j) m (received-le n k h agrees.legal (suc i) (suc j))));
+              names = ap (λ ns. ns ++ name ∷ []) here.names ∙ sym (map-append (λ (x : Content). x.name) (waiting h p q) (m ∷ [])) ∙ ap names_of (sym (waiting-send h p q m (received-le n k h agrees.legal p q)));
+              clocks = ap₂ (λ cs c. cs ++ c ∷ []) here.clocks (send_clock-is n h p a.recorder mine.own.recorder) ∙ sym (waiting_clocks-send n k h agrees.legal p q m);
               closed = here.closed;
             }) its.lanes;
       })
 
   -- a receive
-  pub taken : (a : ActorView) (lane : LaneView) (name : List ℕ) (rest : List (List ℕ)) → j < length actors → slice_get actors i ≡ Some a → slice_get a.lanes j ≡ Some lane → lane.names ≡ name ∷ rest → length a.line.events < MAX_EVENTS
-      → Agrees n k (received r (suc i) (suc j)) (set actors i (after_receive a (suc j) j lane name rest))
-  taken a lane name rest there at_a at_lane front room =
+  pub taken : (a : ActorView) (lane : LaneView) (name clock : List ℕ) (names clocks : List (List ℕ)) (report : ReportView) → j < length actors → slice_get actors i ≡ Some a → slice_get a.lanes j ≡ Some lane → lane.names ≡ name ∷ names → lane.clocks ≡ clock ∷ clocks → IsReportOf a.recorder (suc j) a.region clock report → length a.recorder.line.events < MAX_EVENTS
+      → Agrees n k (received r (suc i) (suc j)) (set actors i (after_receipt (record a { lanes = set a.lanes j (popped lane names clocks) }) (suc j) name clock report))
+  taken a lane name clock names clocks report there at_a at_lane front stamp made room =
       let h : List Event = r.history in
       let p : ℕ = suc i in
       let q : ℕ = suc j in
       let c : ℕ = r.region p in
+      let e : Event = Receive p q c in
       let s : Run = received r p q in
       let mine : IsActor n r p a = agrees.each i a at_a in
-      let here : IsLane h q p lane = mine.lanes.each j lane at_lane in
-      let few : length (chart_of h p) < MAX_EVENTS = subst (λ (l : LineView). length l.events < MAX_EVENTS) mine.own.line room in
-      let first = first-of (waiting h q p) name rest (sym here.names ∙ front) in
+      let here : IsLane n h q p lane = mine.lanes.each j lane at_lane in
+      let few : length (chart_of h p) < MAX_EVENTS = subst (λ (l : LineView). length l.events < MAX_EVENTS) mine.own.recorder.line room in
+      let first = first-of (waiting h q p) name names (sym here.names ∙ front) in
       let some : 0 < length (waiting h q p) = omega (arith, ap length first.2) in
       let i_within : i < n = omega (arith, slice_get_within actors i a at_a, agrees.many) in
       let j_within : j < n = omega (arith, agrees.many) in
+      let clocked : waiting_clocks n h q p ≡ clock ∷ clocks = sym here.clocks ∙ stamp in
       let grown : chart_of s.history p ≡ chart_of h p ++ receive_mark q name a.region ∷ [] =
       chart_of-receive h p q c first.0 first.1 first.2 ∙ ap (λ w. chart_of h p ++ receive_mark q w c ∷ []) first.3 ∙ ap (λ x. chart_of h p ++ receive_mark q name x ∷ []) (sym mine.own.region) in
+      let recorded = IsRecorder-receive n k h p q c first.0 first.1 clock clocks a.recorder report agrees.legal (omega arith) (omega arith) first.2 clocked (subst (λ x. IsReportOf a.recorder q x clock report) mine.own.region made) mine.own.recorder in
+      let recorder : IsRecorder n s.history p (after_receive a.recorder q name a.region clock report) = subst₂ (λ (w : List ℕ) (x : ℕ). IsRecorder n s.history p (after_receive a.recorder q w x clock report)) first.3 (sym mine.own.region) recorded in
       let last : q ≡ s.last p = sym (changed-same r.last p q) in
       let known : s.last p ≤ n = subst (λ x. x ≤ n) last (omega arith) in
       Agrees-set n k r s actors i _ agrees
       ((two-places n i j i_within j_within ne, some, few, mine.own.may), agrees.legal)
       (λ l x past old. record {
-        own = IsOwn-idle n r s (suc l) x x.lanes (record { line = chart_of-receive_other h p q c (suc l) (λ e. past (omega arith)); last = changed-other r.last p q (suc l) (λ e. past (omega arith)); region = refl }) old.own;
-        lanes = AreLanes-idle n h s.history (suc l) x.lanes (record { waiting = λ o. waiting-receive_other h p q c o (suc l) (is_lane-to q p o (suc l) (λ e. past (omega arith))); closed = λ o. refl }) old.lanes;
+        own = other-idle n k r s e (suc l) x x.lanes agrees.legal refl (λ same. past (omega arith)) (changed-other r.last p q (suc l) (λ same. past (omega arith))) refl old.own;
+        lanes = AreLanes-idle n h s.history (suc l) x.lanes (record {
+          waiting = λ o. waiting-receive_other h p q c o (suc l) (is_lane-to q p o (suc l) (λ same. past (omega arith)));
+          clocks = λ o. waiting_clocks-receive_other n h p q c o (suc l) (is_lane-to q p o (suc l) (λ same. past (omega arith)));
+          closed = λ o. refl;
+        }) old.lanes;
       })
       (record {
-        own = IsOwn-push n r s p a _ (receive_mark q name a.region) mine.own grown refl mine.own.region few refl last known refl refl;
-        lanes = AreLanes-set n h s.history p j a.lanes _ (λ o past. (waiting-receive_other h p q c o p (is_lane-from q p o p past), refl))
-            (record { names = sym first.4 ∙ ap names_of (sym (waiting-receive h p q c first.0 first.1 first.2)); closed = here.closed }) mine.lanes;
+        own = IsOwn-push n r s p a _ (receive_mark q name a.region) mine.own recorder grown refl mine.own.region few last known refl refl;
+        lanes = AreLanes-set n h s.history p j a.lanes _ (λ o past. (waiting-receive_other h p q c o p (is_lane-from q p o p past), waiting_clocks-receive_other n h p q c o p (is_lane-from q p o p past), refl))
+            (record {
+              names = sym first.4 ∙ ap names_of (sym (waiting-receive h p q c first.0 first.1 first.2));
+              clocks = sym (waiting_clocks-receive n h p q c clock clocks clocked);
+              closed = here.closed;
+            }) mine.lanes;
       })
 
   -- a close
@@ -131,21 +169,23 @@ module _ (n k : ℕ) (r : Run) (actors : List ActorView) (agrees : Agrees n k r 
       let h : List Event = r.history in
       let p : ℕ = suc i in
       let q : ℕ = suc j in
-      let s : Run = happens r (Close p q) in
+      let e : Event = Close p q in
+      let s : Run = happens r e in
       let its : IsActor n r q b = agrees.each j b at_b in
-      let here : IsLane h p q lane = its.lanes.each i lane at_lane in
+      let here : IsLane n h p q lane = its.lanes.each i lane at_lane in
       let i_within : i < n = omega (arith, agrees.many) in
       let j_within : j < n = omega (arith, slice_get_within actors j b at_b, agrees.many) in
+      let idle : (l : ℕ) → IsIdle n r s l = λ l. record { begins = (e ∷ [], refl); line = chart_of-close h p q l; knowledge = refl; last = refl; region = refl } in
       Agrees-set n k r s actors j _ agrees
       ((two-places n i j i_within j_within ne, sym here.closed ∙ opened), agrees.legal)
       (λ l x past old. record {
-        own = IsOwn-idle n r s (suc l) x x.lanes (record { line = chart_of-close h p q (suc l); last = refl; region = refl }) old.own;
-        lanes = AreLanes-idle n h s.history (suc l) x.lanes (record { waiting = λ o. refl; closed = λ o. is_closed-close_other h p q o (suc l) (is_lane-to p q o (suc l) (λ e. past (omega arith))) }) old.lanes;
+        own = IsOwn-idle n k r s (suc l) x x.lanes agrees.legal (idle (suc l)) old.own;
+        lanes = AreLanes-idle n h s.history (suc l) x.lanes (record { waiting = λ o. refl; clocks = λ o. refl; closed = λ o. is_closed-close_other h p q o (suc l) (is_lane-to p q o (suc l) (λ same. past (omega arith))) }) old.lanes;
       })
       (record {
-        own = IsOwn-idle n r s q b _ (record { line = chart_of-close h p q q; last = refl; region = refl }) its.own;
-        lanes = AreLanes-set n h s.history q i b.lanes _ (λ o past. (refl, is_closed-close_other h p q o q (is_lane-from p q o q past)))
-            (record { names = here.names; closed = sym (is_closed-close h p q) }) its.lanes;
+        own = IsOwn-idle n k r s q b _ agrees.legal (idle q) its.own;
+        lanes = AreLanes-set n h s.history q i b.lanes _ (λ o past. (refl, refl, is_closed-close_other h p q o q (is_lane-from p q o q past)))
+            (record { names = here.names; clocks = here.clocks; closed = sym (is_closed-close h p q) }) its.lanes;
       })
 
 -- a coregion opens or ends
@@ -158,12 +198,12 @@ reopened n k r actors i c a agrees at_a may =
     let now : s.region p ≡ c = changed-same r.region p c in
     Agrees-set n k r s actors i _ agrees agrees.legal
     (λ l x past old. record {
-      own = IsOwn-idle n r s (suc l) x x.lanes (record { line = refl; last = refl; region = changed-other r.region p c (suc l) (λ e. past (omega arith)) }) old.own;
+      own = IsOwn-idle n k r s (suc l) x x.lanes agrees.legal (record { begins = ([], refl); line = refl; knowledge = refl; last = refl; region = changed-other r.region p c (suc l) (λ e. past (omega arith)) }) old.own;
       lanes = old.lanes;
     })
     (record {
       own = record {
-        line = mine.own.line;
+        recorder = mine.own.recorder;
         last = mine.own.last;
         known = mine.own.known;
         region = sym now;

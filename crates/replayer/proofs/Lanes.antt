@@ -1,8 +1,8 @@
 -- A lane of an inbox, by its number.
-use Rattle.std.proofs.Common.{◌≡◌, ℕ, suc, ◌+◌, ◌<◌, ◌≤◌, ◌==◌, not, Bool, false, List, length, get_or, Some, sym, ap, ◌∙◌, subst, arith}
+use Rattle.std.proofs.Common.{◌≡◌, ℕ, suc, ◌+◌, ◌<◌, ◌≤◌, ◌==◌, not, Bool, false, List, [], ◌∷◌, length, get_or, Some, sym, ap, ◌∙◌, subst, arith}
 use Rattle.std.specs.Prelude.{slice_get, nat_lt}
 use Rattle.std.proofs.lemmas.Bool.{le-ltb}
-use Rattle.replayer.specs.Views.{LaneView, some_wait, is_shut, lane_waits, lane_is_closed}
+use Rattle.replayer.specs.Views.{LaneView, popped, some_wait, is_shut, lane_waits, lane_is_closed}
 use Rattle.replayer.proofs.Places.{slice_get-read}
 
 -- whether a number counts, by the place before it
@@ -26,3 +26,24 @@ pub closed-at : (lanes : List LaneView) (a : ℕ) (lane : LaneView) (b v : Bool)
 closed-at lanes a lane b v within there closed is =
     let e : suc a ≡ a + 1 = omega arith in
     subst (λ x. lane_is_closed lanes x ≡ v) e (ap is_shut (slice_get-read lanes a lane within there) ∙ sym closed ∙ is)
+
+-- the lane that is read at the place of a number
+pub lane-read : (xs lanes : List LaneView) (p a : ℕ) (lane : LaneView) → xs ≡ lanes → p ≡ suc a → p ≤ length lanes → lane ≡ get_or xs a lane → slice_get lanes a ≡ Some lane
+lane-read xs lanes p a lane same place within there = slice_get-read lanes a lane (omega (arith, within, place)) (there ∙ ap (λ ls. get_or ls a lane) same)
+
+-- what a lane is after its first message was taken off, and which message that was
+pub front-of_popped : (lane read new : LaneView) (name name' clock clock' : List ℕ) (names clocks : List (List ℕ)) → lane ≡ read → lane.names ≡ name ∷ names → lane.clocks ≡ clock ∷ clocks → read.names ≡ name' ∷ new.names → read.clocks ≡ clock' ∷ new.clocks → new.closed ≡ read.closed
+    → (popped lane names clocks ≡ new) × (name ≡ name') × (clock ≡ clock')
+front-of_popped lane read new name name' clock clock' names clocks same is_names is_clocks read_names read_clocks closed =
+    let all_names : name ∷ names ≡ name' ∷ new.names = sym is_names ∙ ap (λ (l : LaneView). l.names) same ∙ read_names in
+    let all_clocks : clock ∷ clocks ≡ clock' ∷ new.clocks = sym is_clocks ∙ ap (λ (l : LaneView). l.clocks) same ∙ read_clocks in
+    let rest_names : names ≡ new.names = cc in
+    let rest_clocks : clocks ≡ new.clocks = cc in
+    let first : name ≡ name' = cc in
+    let stamp : clock ≡ clock' = cc in
+    let shut : lane.closed ≡ new.closed = ap (λ (l : LaneView). l.closed) same ∙ sym closed in
+    (ap (λ ns. popped lane ns clocks) rest_names ∙ ap (λ cs. popped lane new.names cs) rest_clocks ∙ ap (λ (b : Bool). record { names = new.names; clocks = new.clocks; closed = b }) shut, first, stamp)
+
+-- a lane on which a message waits isn't empty
+pub none-in_front : (lane : LaneView) (name : List ℕ) (names : List (List ℕ)) → lane.names ≡ name ∷ names → lane.names ≡ [] → ⊥
+none-in_front lane name names some none = cc

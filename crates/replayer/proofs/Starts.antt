@@ -3,6 +3,9 @@ use Rattle.std.proofs.Common.{◌≡◌, ℕ, suc, ◌≤◌, List, [], length, 
 use Rattle.std.specs.Prelude.{slice_get}
 use Rattle.std.proofs.lemmas.List.{length-replicate, get_or-replicate}
 use Rattle.std.proofs.lemmas.Option.{slice_get_within, get_or_from_slice_get}
+use Rattle.std.proofs.lemmas.List.Elements.{All-nil}
+use Rattle.chart.specs.Histories.{chart_of}
+use Rattle.chart.specs.Reports.{IsReportIn}
 use Rattle.schedule.specs.Meaning.{start}
 use Rattle.replayer.specs.Views.{ActorView, empty_lane, fresh_actor}
 use Rattle.replayer.specs.Agreement.{IsLane, IsActor, Agrees}
@@ -16,10 +19,10 @@ replicated n x y j e =
 -- a fresh instance is as far as the start
 IsActor-start : (n p : ℕ) → IsActor n start.run p (fresh_actor n p)
 IsActor-start n p = record {
-  own = record { line = refl; last = refl; known = omega arith; region = refl; may = inl refl; greatest = refl; few = omega arith; short = omega arith };
+  own = record { recorder = record { line = refl; knowledge = refl; receives = refl; reports = All-nil (IsReportIn (chart_of [])) }; last = refl; known = omega arith; region = refl; may = inl refl; greatest = refl; few = omega arith; short = omega arith };
   lanes = record {
     many = length-replicate n empty_lane;
-    each = λ j lane e. subst (λ l. IsLane [] (suc j) p l) (replicated n empty_lane lane j e) (record { names = refl; closed = refl });
+    each = λ j lane e. subst (λ l. IsLane n [] (suc j) p l) (replicated n empty_lane lane j e) (record { names = refl; clocks = refl; closed = refl });
   };
 }
 

@@ -42,23 +42,23 @@ of_four false false false true r = refl
 of_four false false false false r = refl
 
 -- a send by what its sender and its receiver hold
-pub sends-by : (n k : ℕ) (r : Run) (p q : ℕ) (a : ActorView) (lane : LaneView) (name : List ℕ) → IsOwn n r p a → IsLane r.history p q lane → sends k r p q name ≡ by_word (send_word k a lane) (happens r (events.Send p q (message name)))
+pub sends-by : (n k : ℕ) (r : Run) (p q : ℕ) (a : ActorView) (lane : LaneView) (name : List ℕ) → IsOwn n r p a → IsLane n r.history p q lane → sends k r p q name ≡ by_word (send_word k a lane) (happens r (events.Send p q (message name)))
 sends-by n k r p q a lane name own its =
-    rw (own.region, its.closed, ap (λ (l : LineView). length l.events) own.line, names-many (waiting r.history p q) lane.names its.names)
+    rw (own.region, its.closed, ap (λ (l : LineView). length l.events) own.recorder.line, names-many (waiting r.history p q) lane.names its.names)
     (of_four (nat_lt 0 (r.region p)) (is_closed r.history p q) (nat_le MAX_EVENTS (length (chart_of r.history p))) (nat_le k (length (waiting r.history p q))) (happens r (events.Send p q (message name))))
 
 -- no word: each of the four conditions holds
-pub sends-none : (k : ℕ) (a : ActorView) (lane : LaneView) → send_word k a lane ≡ None → (a.region ≡ 0) × (lane.closed ≡ false) × (length a.line.events < MAX_EVENTS) × (length lane.names < k)
-sends-none k a lane e = by (nat_lt 0 a.region) (lane.closed) (nat_le MAX_EVENTS (length a.line.events)) (nat_le k (length lane.names)) refl refl refl refl e
+pub sends-none : (k : ℕ) (a : ActorView) (lane : LaneView) → send_word k a lane ≡ None → (a.region ≡ 0) × (lane.closed ≡ false) × (length a.recorder.line.events < MAX_EVENTS) × (length lane.names < k)
+sends-none k a lane e = by (nat_lt 0 a.region) (lane.closed) (nat_le MAX_EVENTS (length a.recorder.line.events)) (nat_le k (length lane.names)) refl refl refl refl e
   where
-    by : (x y z w : Bool) → nat_lt 0 a.region ≡ x → lane.closed ≡ y → nat_le MAX_EVENTS (length a.line.events) ≡ z → nat_le k (length lane.names) ≡ w
+    by : (x y z w : Bool) → nat_lt 0 a.region ≡ x → lane.closed ≡ y → nat_le MAX_EVENTS (length a.recorder.line.events) ≡ z → nat_le k (length lane.names) ≡ w
         → cond x (Some words.InCoregion) (cond y (Some words.Closed) (cond z (Some words.LineFull) (cond w (Some words.Full) None))) ≡ None
-        → (a.region ≡ 0) × (lane.closed ≡ false) × (length a.line.events < MAX_EVENTS) × (length lane.names < k)
+        → (a.region ≡ 0) × (lane.closed ≡ false) × (length a.recorder.line.events < MAX_EVENTS) × (length lane.names < k)
     by true y z w ex ey ez ew e = cc
     by false true z w ex ey ez ew e = cc
     by false false true w ex ey ez ew e = cc
     by false false false true ex ey ez ew e = cc
-    by false false false false ex ey ez ew e = (omega (arith, ltb-false 0 a.region ex), ey, leb-false MAX_EVENTS (length a.line.events) ez, leb-false k (length lane.names) ew)
+    by false false false false ex ey ez ew e = (omega (arith, ltb-false 0 a.region ex), ey, leb-false MAX_EVENTS (length a.recorder.line.events) ez, leb-false k (length lane.names) ew)
 
 -- of three
 of_three : (a b c : Bool) (r : Run) → cond a (cond b (Err words.LineFull) (Ok r)) (cond c (Err words.Ended) (Err words.Nothing))
@@ -69,18 +69,18 @@ of_three false b true r = refl
 of_three false b false r = refl
 
 -- a receive by what its receiver holds
-pub receives-by : (n : ℕ) (r : Run) (p q : ℕ) (a : ActorView) (lane : LaneView) → IsOwn n r p a → IsLane r.history q p lane → receives r p q ≡ by_word (receive_word a lane) (received r p q)
+pub receives-by : (n : ℕ) (r : Run) (p q : ℕ) (a : ActorView) (lane : LaneView) → IsOwn n r p a → IsLane n r.history q p lane → receives r p q ≡ by_word (receive_word a lane) (received r p q)
 receives-by n r p q a lane own its =
-    rw (its.closed, ap (λ (l : LineView). length l.events) own.line, names-many (waiting r.history q p) lane.names its.names)
+    rw (its.closed, ap (λ (l : LineView). length l.events) own.recorder.line, names-many (waiting r.history q p) lane.names its.names)
     (of_three (nat_lt 0 (length (waiting r.history q p))) (nat_le MAX_EVENTS (length (chart_of r.history p))) (is_closed r.history q p) (received r p q))
 
 -- no word: a message waits, and there is room
-pub receives-none : (a : ActorView) (lane : LaneView) → receive_word a lane ≡ None → (0 < length lane.names) × (length a.line.events < MAX_EVENTS)
-receives-none a lane e = by (nat_lt 0 (length lane.names)) (nat_le MAX_EVENTS (length a.line.events)) lane.closed refl refl e
+pub receives-none : (a : ActorView) (lane : LaneView) → receive_word a lane ≡ None → (0 < length lane.names) × (length a.recorder.line.events < MAX_EVENTS)
+receives-none a lane e = by (nat_lt 0 (length lane.names)) (nat_le MAX_EVENTS (length a.recorder.line.events)) lane.closed refl refl e
   where
-    by : (x y z : Bool) → nat_lt 0 (length lane.names) ≡ x → nat_le MAX_EVENTS (length a.line.events) ≡ y → cond x (cond y (Some words.LineFull) None) (cond z (Some words.Ended) (Some words.Nothing)) ≡ None
-        → (0 < length lane.names) × (length a.line.events < MAX_EVENTS)
+    by : (x y z : Bool) → nat_lt 0 (length lane.names) ≡ x → nat_le MAX_EVENTS (length a.recorder.line.events) ≡ y → cond x (cond y (Some words.LineFull) None) (cond z (Some words.Ended) (Some words.Nothing)) ≡ None
+        → (0 < length lane.names) × (length a.recorder.line.events < MAX_EVENTS)
     by true true z ex ey e = cc
-    by true false z ex ey e = (ltb-true 0 (length lane.names) ex, leb-false MAX_EVENTS (length a.line.events) ey)
+    by true false z ex ey e = (ltb-true 0 (length lane.names) ex, leb-false MAX_EVENTS (length a.recorder.line.events) ey)
     by false y true ex ey e = cc
     by false y false ex ey e = cc

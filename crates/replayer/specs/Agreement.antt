@@ -1,10 +1,13 @@
 -- What a replay holds of the history so far.
-use Rattle.std.specs.Prelude.{◌≡◌, ℕ, suc, ◌≤◌, List, length, map, slice_get, Option, None, Some, Result, Ok, Err}
+use Rattle.std.specs.Prelude.{◌≡◌, ℕ, suc, ◌≤◌, List, length, map, slice_get, All, Option, None, Some, Result, Ok, Err}
 use Rattle.chart.specs.declared.history.Event.{Event}
 use Rattle.chart.specs.declared.line.TheConstants.{MAX_EVENTS}
 use Rattle.chart.specs.Marks.{greatest_region, MayHaveRegion}
 use Rattle.chart.specs.Messages.{Content}
 use Rattle.chart.specs.Histories.{waiting, is_closed, chart_of, IsLegal}
+use Rattle.chart.specs.Reports.{IsReportIn, receives_of}
+use Rattle.line_recorder.specs.Carried.{knowledge_of, waiting_clocks}
+use Rattle.line_recorder.specs.Recorders.{RecorderView}
 use Rattle.schedule.specs.declared.command.Word.{Word}
 use Rattle.schedule.specs.Meaning.{Run}
 use Rattle.replayer.specs.declared.error.ReplayError.{ReplayError}
@@ -14,19 +17,27 @@ use Rattle.replayer.specs.Views.{LaneView, ActorView}
 abbrev pub names_of : List Content → List (List ℕ)
 names_of ms = map (λ (m : Content). m.name) ms
 
--- the lane from q to p is as the history has it
-pub record IsLane (h : List Event) (q p : ℕ) (lane : LaneView) : Type 0 where
+-- the lane from q to p, two of n instances, is as the history has it
+pub record IsLane (n : ℕ) (h : List Event) (q p : ℕ) (lane : LaneView) : Type 0 where
   pub names : lane.names ≡ names_of (waiting h q p)
+  pub clocks : lane.clocks ≡ waiting_clocks n h q p
   pub closed : lane.closed ≡ is_closed h q p
 
 -- the lanes from n instances to p are as the history has them
 pub record AreLanes (n : ℕ) (h : List Event) (p : ℕ) (lanes : List LaneView) : Type 0 where
   pub many : length lanes ≡ n
-  pub each : (j : ℕ) (lane : LaneView) → slice_get lanes j ≡ Some lane → IsLane h (suc j) p lane
+  pub each : (j : ℕ) (lane : LaneView) → slice_get lanes j ≡ Some lane → IsLane n h (suc j) p lane
+
+-- the instance's recorder has p's line in the chart of the history, what p knows, and the reports of its receives
+pub record IsRecorder (n : ℕ) (h : List Event) (p : ℕ) (recorder : RecorderView) : Type 0 where
+  pub line : recorder.line ≡ record { instance = p; events = chart_of h p }
+  pub knowledge : recorder.knowledge ≡ knowledge_of n h p
+  pub receives : map (λ report. report.receive) recorder.reports ≡ receives_of recorder.line
+  pub reports : All (IsReportIn (chart_of h)) recorder.reports
 
 -- what the instance p of n has done is as far as the run
 pub record IsOwn (n : ℕ) (r : Run) (p : ℕ) (a : ActorView) : Type 0 where
-  pub line : a.line ≡ record { instance = p; events = chart_of r.history p }
+  pub recorder : IsRecorder n r.history p a.recorder
   pub last : a.last ≡ r.last p
   pub known : r.last p ≤ n
   pub region : a.region ≡ r.region p

@@ -1,23 +1,37 @@
 -- What a schedule comes to.
-use Rattle.std.specs.Prelude.{ℕ, List, length, map}
-use Rattle.std.specs.List.{range_with_len}
+use Rattle.std.specs.Prelude.{◌≡◌, ℕ, Bool, List, length, map, nat_lt}
+use Rattle.std.specs.List.{range_with_len, list_any}
 use Rattle.chart.specs.declared.history.Event.{Event}
 use Rattle.chart.specs.Charts.{LineView}
 use Rattle.chart.specs.Histories.{chart_of}
+use Rattle.chart.specs.Reports.{ReportView, AreReports}
 use Rattle.schedule.specs.declared.command.Note.{Note}
 use Rattle.schedule.specs.Plans.{Plan}
 use Rattle.schedule.specs.Meaning.{meaning}
 
--- the instances' names, the chart's lines, and the notes in the order of their commands
+-- the instances' names, the chart's lines, the reports of its receives, and the notes in the order of their commands
 pub record OutcomeView : Type 0 where
   pub names : List (List ℕ)
   pub chart : List LineView
+  pub reports : List ReportView
   pub notes : List Note
 
 -- the lines of n instances in the chart of a history
 abbrev pub lines_of : ℕ → List Event → List LineView
 lines_of n h = map (λ p. record { instance = p; events = chart_of h p }) (range_with_len 1 n)
 
--- what a schedule comes to
-abbrev pub outcome_of : Plan → OutcomeView
-outcome_of plan = record { names = plan.names; chart = lines_of (length plan.names) (meaning plan).run.history; notes = (meaning plan).notes }
+-- what a schedule comes to: the chart of the history that its commands make, each of its receives with its report, and the
+-- notes
+pub record IsOutcome (plan : Plan) (o : OutcomeView) : Type 0 where
+  pub names : o.names ≡ plan.names
+  pub chart : o.chart ≡ lines_of (length plan.names) (meaning plan).run.history
+  pub reports : AreReports o.chart o.reports
+  pub notes : o.notes ≡ (meaning plan).notes
+
+-- some receive has a race
+abbrev pub has_races : OutcomeView → Bool
+has_races o = list_any (λ report. nat_lt 0 (length report.earlier)) o.reports
+
+-- a plan comes to one outcome
+abbrev pub OneOutcomeLaw : Type 0
+OneOutcomeLaw = (plan : Plan) (a b : OutcomeView) → IsOutcome plan a → IsOutcome plan b → a ≡ b

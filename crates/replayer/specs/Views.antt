@@ -1,17 +1,18 @@
 -- What a replay holds of an instance, as a contract sees it.
-use Rattle.std.specs.Prelude.{ℕ, zero, suc, max, Bool, false, List, [], ◌∷◌, ◌++◌, length, replicate, slice_get, slice_set, Option, None, Some, nat_lt}
-use Rattle.chart.specs.Marks.{receive_mark}
-use Rattle.chart.specs.Charts.{LineView}
+use Rattle.std.specs.Prelude.{ℕ, zero, suc, max, Bool, false, List, [], length, replicate, slice_get, Option, None, Some, nat_lt}
+use Rattle.chart.specs.Reports.{ReportView}
+use Rattle.line_recorder.specs.Recorders.{RecorderView, new_recorder, after_receive}
 
--- the names that wait on a lane, the oldest first, and whether it is closed
+-- the names and the clocks of the messages that wait on a lane, the oldest first, and whether it is closed
 pub record LaneView : Type 0 where
   pub names : List (List ℕ)
+  pub clocks : List (List ℕ)
   pub closed : Bool
 
--- an instance: its line; from whom it received last, 0 for nobody; its open coregion, 0 for none; the greatest coregion of
--- its line; and the lane from each instance
+-- an instance: its recorder; from whom it received last, 0 for nobody; its open coregion, 0 for none; the greatest coregion
+-- of its line; and the lane from each instance
 pub record ActorView : Type 0 where
-  pub line : LineView
+  pub recorder : RecorderView
   pub last : ℕ
   pub region : ℕ
   pub greatest : ℕ
@@ -19,16 +20,20 @@ pub record ActorView : Type 0 where
 
 -- a lane on which nothing happened
 abbrev pub empty_lane : LaneView
-empty_lane = record { names = []; closed = false }
+empty_lane = record { names = []; clocks = []; closed = false }
 
 -- the instance p among so many, before the first command
 abbrev pub fresh_actor : ℕ → ℕ → ActorView
-fresh_actor instances p = record { line = record { instance = p; events = [] }; last = 0; region = 0; greatest = 0; lanes = replicate instances empty_lane }
+fresh_actor instances p = record { recorder = new_recorder p instances; last = 0; region = 0; greatest = 0; lanes = replicate instances empty_lane }
 
--- the instance after it received the first message that waits on the lane from q, at the place j of its lanes
-abbrev pub after_receive : ActorView → ℕ → ℕ → LaneView → List ℕ → List (List ℕ) → ActorView
-after_receive a q j lane name rest =
-    record { line = record a.line { events = a.line.events ++ receive_mark q name a.region ∷ [] }; last = q; region = a.region; greatest = max a.greatest a.region; lanes = slice_set a.lanes j (record lane { names = rest }) }
+-- the first message is off the lane
+abbrev pub popped : LaneView → List (List ℕ) → List (List ℕ) → LaneView
+popped lane names clocks = record { names = names; clocks = clocks; closed = lane.closed }
+
+-- the instance after it received a message of this name with this clock from q, and reported its races
+abbrev pub after_receipt : ActorView → ℕ → List ℕ → List ℕ → ReportView → ActorView
+after_receipt a q name clock report =
+    record { recorder = after_receive a.recorder q name a.region clock report; last = q; region = a.region; greatest = max a.greatest a.region; lanes = a.lanes }
 
 -- the number of the instance, 0 for none
 abbrev pub number_or_zero : Option ℕ → ℕ

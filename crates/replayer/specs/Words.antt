@@ -7,7 +7,7 @@ use Rattle.replayer.specs.Views.{LaneView, ActorView}
 
 -- its line has as many events as it may have
 abbrev pub is_full : ActorView → Bool
-is_full a = nat_le MAX_EVENTS (length a.line.events)
+is_full a = nat_le MAX_EVENTS (length a.recorder.line.events)
 
 -- of a send to the lane, which has k places
 abbrev pub send_word : ℕ → ActorView → LaneView → Option Word

@@ -1,21 +1,26 @@
 //! The instances of a replay.
-ghost use Rattle.std.specs.Prelude.{ℕ, ◌≡◌, ◌≢◌, ◌≤◌, ◌<◌, ◌+◌, ◌++◌, ◌∷◌, [], false, true, suc, max, List, length, slice_get, slice_set, replicate, Some, IfOk, OnOk};
-ghost use Rattle.chart.specs.Marks.{partner_of, region_of, MayHaveRegion};
+ghost use Rattle.std.specs.Prelude.{ℕ, ◌≡◌, ◌≢◌, ◌≤◌, ◌<◌, ◌+◌, ◌++◌, ◌∷◌, [], true, suc, List, length, slice_get, slice_set, replicate, Some, All, IfOk, OnOk};
+ghost use Rattle.chart.specs.Marks.{MayHaveRegion};
+ghost use Rattle.chart.specs.Reports.{ReportView};
+ghost use Rattle.chart.specs.declared.instance.TheConstants.{MAX_INSTANCES};
 ghost use Rattle.chart.specs.declared.line.TheConstants.{MAX_EVENTS};
-ghost use Rattle.replayer.specs.Views.{LaneView, empty_lane, fresh_actor, after_receive};
+ghost use Rattle.line_recorder.specs.Recorders.{send_clock, after_send, after_receive, IsReportOf};
+ghost use Rattle.replayer.specs.Views.{LaneView, empty_lane, fresh_actor, popped, after_receipt};
 ghost use Rattle.replayer.specs.Words.{is_full, send_word, receive_word};
 
 use crate::error::ReplayError;
-use crate::lane::Lane;
-use chart::{Event, InstanceNo, Line, LineError, MAX_EVENTS, Name};
+use crate::lane::{Lane, Parcel};
+use chart::{InstanceNo, Line, MAX_EVENTS, Name, Report};
+use clock::Clock;
+use line_recorder::{RecordError, Recorder};
 use schedule::Word;
 use std::alloc::Global;
 use std::marker::Model;
 
 /// An instance of a replay. A contract sees a record of its fields.
-#[derive(Debug, Drop)]
+#[derive(Drop)]
 pub struct Actor {
-    line: Line,
+    recorder: Recorder,
     /// From whom it received last.
     last: Option<InstanceNo>,
     /// The coregion that is open, or 0.
@@ -31,7 +36,7 @@ impl Model for Actor {
 
     ghost Value = { ActorView };
 
-    ghost view = { λ a. record { line = a.line; last = number_or_zero a.last; region = a.region; greatest = a.greatest; lanes = a.lanes.items } };
+    ghost view = { λ a. record { recorder = a.recorder; last = number_or_zero a.last; region = a.region; greatest = a.greatest; lanes = a.lanes.items } };
 }
 
 /// A lane from each of so many instances.
@@ -45,27 +50,53 @@ fn open_lanes(alloc: Global, instances: usize) -> Result<Vec<Lane>, ReplayError>
     Ok(lanes)
 }
 
-/// Adds an event to a line that has room for it.
-fn write(line: &mut Line, event: Event) -> Result<(), ReplayError>
-    requires may { MayHaveRegion line.old.events (region_of event) }
-    requires other { partner_of event ≢ line.old.instance }
-    requires room { length line.old.events < MAX_EVENTS }
-    ensures { OnOk result (line.new ≡ record line.old { events = line.old.events ++ event ∷ [] }) }
+/// Records a send on a line that has room for it, and answers its clock.
+fn send(recorder: &mut Recorder, to: InstanceNo, name: Name) -> Result<Clock, ReplayError>
+    requires one { to ≤ length recorder.old.knowledge }
+    requires other { to ≢ recorder.old.line.instance }
+    requires room { length recorder.old.line.events < MAX_EVENTS }
+    ensures done { OnOk result (recorder.new ≡ after_send recorder.old to name) }
+    ensures clock { IfOk result (λ clock. clock ≡ send_clock recorder.old) }
 {
-    match line.push(event) {
-        Ok(()) => Ok(()),
-        Err(LineError::Memory) => Err(ReplayError::Memory),
-        Err(LineError::ToItself | LineError::LineFull) => unreachable!(),
+    match recorder.send(to, name) {
+        Ok(clock) => Ok(clock),
+        Err(RecordError::Memory) => Err(ReplayError::Memory),
+        Err(RecordError::LineFull) => unreachable!(),
+    }
+}
+
+/// Records a receive on a line that has room for it.
+fn receive(
+    recorder: &mut Recorder,
+    from: InstanceNo,
+    name: Name,
+    clock: &Clock,
+    region: u32,
+) -> Result<(), ReplayError>
+    requires one { from ≤ length recorder.old.knowledge }
+    requires other { from ≢ recorder.old.line.instance }
+    requires entries { length clock.now ≡ length recorder.old.knowledge }
+    requires may { MayHaveRegion recorder.old.line.events region }
+    requires room { length recorder.old.line.events < MAX_EVENTS }
+    ensures { OnOk result ((report : ReportView) × (recorder.new ≡ after_receive recorder.old from name region clock.now report) × IsReportOf recorder.old from region clock.now report) }
+{
+    match recorder.receive(from, name, clock, region) {
+        Ok(_) => Ok(()),
+        Err(RecordError::Memory) => Err(ReplayError::Memory),
+        Err(RecordError::LineFull) => unreachable!(),
     }
 }
 
 impl Actor {
     /// An instance among so many, before the first command.
     pub fn new(alloc: Global, instance: InstanceNo, instances: usize) -> Result<Actor, ReplayError>
+        requires several { 2 ≤ instances }
+        requires limit { instances ≤ MAX_INSTANCES }
+        requires one { instance ≤ instances }
         ensures { IfOk result (λ a. a ≡ fresh_actor instances instance) }
     {
         Ok(Actor {
-            line: Line::new(alloc, instance),
+            recorder: Recorder::new(alloc, instance, instances)?,
             last: None,
             region: 0,
             greatest: 0,
@@ -73,11 +104,13 @@ impl Actor {
         })
     }
 
-    pub fn into_line(self) -> Line
-        ensures { result ≡ self.line }
+    /// Its line, and the reports of its receives.
+    pub fn into_parts(self) -> (Line, Vec<Report>)
+        ensures line { result.0 ≡ self.recorder.line }
+        ensures reports { result.1.items ≡ self.recorder.reports }
     {
-        let Actor { line, .. } = self;
-        line
+        let Actor { recorder, .. } = self;
+        recorder.into_parts()
     }
 
     pub fn region(&self) -> u32
@@ -105,7 +138,7 @@ impl Actor {
     fn is_full(&self) -> bool
         ensures { result ≡ is_full self.now }
     {
-        self.line.len() >= MAX_EVENTS
+        self.recorder.line().len() >= MAX_EVENTS
     }
 
     /// The note of a send by this instance to a lane of so many places.
@@ -142,23 +175,25 @@ impl Actor {
         }
     }
 
-    /// Adds a send to the line.
-    pub fn write_send(&mut self, to: InstanceNo, name: Name) -> Result<(), ReplayError>
-        requires other { to ≢ self.old.line.instance }
-        requires room { length self.old.line.events < MAX_EVENTS }
-        ensures { OnOk result (self.new ≡ record self.old { line = record self.old.line { events = self.old.line.events ++ Event.Send to name ∷ [] } }) }
+    /// Sends a message of this name, and answers what its send knows.
+    pub fn send(&mut self, to: InstanceNo, name: Name) -> Result<Clock, ReplayError>
+        requires one { to ≤ length self.old.recorder.knowledge }
+        requires other { to ≢ self.old.recorder.line.instance }
+        requires room { length self.old.recorder.line.events < MAX_EVENTS }
+        ensures done { OnOk result (self.new ≡ record self.old { recorder = after_send self.old.recorder to name }) }
+        ensures clock { IfOk result (λ clock. clock ≡ send_clock self.old.recorder) }
     {
-        write(&mut self.line, Event::Send { to, name })
+        send(&mut self.recorder, to, name)
     }
 
-    /// Puts a message of this name on the lane from an instance.
-    pub fn deliver(&mut self, from: InstanceNo, name: Name) -> Result<(), ReplayError>
+    /// Puts a message on the lane from an instance.
+    pub fn deliver(&mut self, from: InstanceNo, parcel: Parcel) -> Result<(), ReplayError>
         requires { from ≤ length self.old.lanes }
         ensures { (j : ℕ) (lane : LaneView) → from ≡ suc j → slice_get self.old.lanes j ≡ Some lane
-            → OnOk result (self.new ≡ record self.old { lanes = slice_set self.old.lanes j (record lane { names = lane.names ++ name ∷ [] }) }) }
+            → OnOk result (self.new ≡ record self.old { lanes = slice_set self.old.lanes j (record { names = lane.names ++ parcel.name ∷ []; clocks = lane.clocks ++ parcel.clock ∷ []; closed = lane.closed }) }) }
     {
         let lane = &mut self.lanes[from.place()];
-        lane.push(name)
+        lane.push(parcel)
     }
 
     /// Closes the lane from an instance.
@@ -174,20 +209,36 @@ impl Actor {
     /// Receives the first message that waits on the lane from an instance, if one does.
     pub fn take(&mut self, from: InstanceNo) -> Result<(), ReplayError>
         requires within { from ≤ length self.old.lanes }
-        requires may { MayHaveRegion self.old.line.events self.old.region }
-        requires other { from ≢ self.old.line.instance }
-        requires room { length self.old.line.events < MAX_EVENTS }
-        ensures { (j : ℕ) (lane : LaneView) (name : List ℕ) (rest : List (List ℕ)) → from ≡ suc j
-            → slice_get self.old.lanes j ≡ Some lane → lane.names ≡ name ∷ rest
-            → OnOk result (self.new ≡ after_receive self.old from j lane name rest) }
+        requires one { from ≤ length self.old.recorder.knowledge }
+        requires other { from ≢ self.old.recorder.line.instance }
+        requires entries { (j : ℕ) (lane : LaneView) → from ≡ suc j → slice_get self.old.lanes j ≡ Some lane
+            → All (λ clock. length clock ≡ length self.old.recorder.knowledge) lane.clocks }
+        requires may { MayHaveRegion self.old.recorder.line.events self.old.region }
+        requires room { length self.old.recorder.line.events < MAX_EVENTS }
+        ensures { (j : ℕ) (lane : LaneView) (name clock : List ℕ) (names clocks : List (List ℕ)) → from ≡ suc j
+            → slice_get self.old.lanes j ≡ Some lane → lane.names ≡ name ∷ names → lane.clocks ≡ clock ∷ clocks
+            → OnOk result ((report : ReportView) × (self.new ≡ after_receipt (record self.old { lanes = slice_set self.old.lanes j (popped lane names clocks) }) from name clock report) × IsReportOf self.old.recorder from self.old.region clock report) }
     {
         let lane = &mut self.lanes[from.place()];
-        if let Some(name) = lane.pop() {
-            let region = self.region;
-            write(&mut self.line, Event::Receive { from, name, region })?;
-            self.last = Some(from);
-            self.greatest = self.greatest.max(region);
+        match lane.pop() {
+            Some(parcel) => self.receive(from, &parcel),
+            None => Ok(()),
         }
+    }
+
+    /// Records the receive of a message that was on its way.
+    fn receive(&mut self, from: InstanceNo, parcel: &Parcel) -> Result<(), ReplayError>
+        requires one { from ≤ length self.old.recorder.knowledge }
+        requires other { from ≢ self.old.recorder.line.instance }
+        requires entries { length parcel.now.clock ≡ length self.old.recorder.knowledge }
+        requires may { MayHaveRegion self.old.recorder.line.events self.old.region }
+        requires room { length self.old.recorder.line.events < MAX_EVENTS }
+        ensures { OnOk result ((report : ReportView) × (self.new ≡ after_receipt self.old from parcel.now.name parcel.now.clock report) × IsReportOf self.old.recorder from self.old.region parcel.now.clock report) }
+    {
+        let region = self.region;
+        receive(&mut self.recorder, from, parcel.name, &parcel.clock, region)?;
+        self.last = Some(from);
+        self.greatest = self.greatest.max(region);
         Ok(())
     }
 

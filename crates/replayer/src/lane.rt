@@ -1,36 +1,45 @@
 //! Lanes, as their receivers hold them.
-ghost use Rattle.std.specs.Prelude.{ℕ, ◌≡◌, ◌≤◌, ◌-◌, ◌+◌, ◌++◌, ◌∷◌, [], ◌==◌, not, true, false, List, length, filter, find, None, OnOk};
+ghost use Rattle.std.specs.Prelude.{ℕ, ◌≡◌, ◌≤◌, ◌-◌, ◌+◌, ◌++◌, ◌∷◌, [], ◌==◌, not, true, false, List, length, map, filter, find, None, OnOk};
 ghost use Rattle.std.specs.List.{range_with_len, list_all};
 ghost use Rattle.std.specs.Option.{option_to_list};
 ghost use Rattle.schedule.specs.Meaning.{scan};
-ghost use Rattle.replayer.specs.Views.{lane_waits, lane_is_closed};
+ghost use Rattle.replayer.specs.Views.{empty_lane, lane_waits, lane_is_closed};
 
 use crate::error::ReplayError;
 use chart::{InstanceNo, Name};
+use clock::Clock;
 use std::alloc::Global;
 use std::collections::VecDeque;
 use std::marker::Model;
 
-/// A lane to an instance. A contract sees a record of both fields.
+/// A message on its way: its name, and what its send knows.
+#[derive(Debug, Drop)]
+pub struct Parcel {
+    pub name: Name,
+    pub clock: Clock,
+}
+
+/// A lane to an instance. A contract sees the names and the clocks of the messages that wait, and whether it is closed.
 #[derive(Debug, Drop)]
 pub struct Lane {
-    /// The names of the messages that wait, the oldest first.
-    waiting: VecDeque<Name>,
+    /// The messages that wait, the oldest first.
+    waiting: VecDeque<Parcel>,
     is_closed: bool,
 }
 
 impl Model for Lane {
+    ghost use Rattle.std.specs.Prelude.{map};
     ghost use Rattle.replayer.specs.Views.{LaneView};
 
     ghost Value = { LaneView };
 
-    ghost view = { λ l. record { names = l.waiting.items; closed = l.is_closed } };
+    ghost view = { λ l. record { names = map (λ parcel. parcel.name) l.waiting.items; clocks = map (λ parcel. parcel.clock) l.waiting.items; closed = l.is_closed } };
 }
 
 impl Lane {
     /// An open lane on which nothing waits. It takes no memory.
     pub fn new(alloc: Global) -> Lane
-        ensures { result ≡ record { names = []; closed = false } }
+        ensures { result ≡ empty_lane }
     {
         Lane {
             waiting: VecDeque::new(alloc),
@@ -57,17 +66,18 @@ impl Lane {
         self.is_closed = true;
     }
 
-    /// Adds a message of this name behind those that wait.
-    pub fn push(&mut self, name: Name) -> Result<(), ReplayError>
-        ensures { OnOk result (self.new ≡ record self.old { names = self.old.names ++ name ∷ [] }) }
+    /// Adds a message behind those that wait.
+    pub fn push(&mut self, parcel: Parcel) -> Result<(), ReplayError>
+        ensures { OnOk result (self.new ≡ record { names = self.old.names ++ parcel.name ∷ []; clocks = self.old.clocks ++ parcel.clock ∷ []; closed = self.old.closed }) }
     {
-        self.waiting.push_back(name)?;
+        self.waiting.push_back(parcel)?;
         Ok(())
     }
 
     /// Takes the first message that waits.
-    pub fn pop(&mut self) -> Option<Name>
-        ensures names { self.old.names ≡ option_to_list result ++ self.new.names }
+    pub fn pop(&mut self) -> Option<Parcel>
+        ensures names { self.old.names ≡ map (λ parcel. parcel.name) (option_to_list result) ++ self.new.names }
+        ensures clocks { self.old.clocks ≡ map (λ parcel. parcel.clock) (option_to_list result) ++ self.new.clocks }
         ensures none { result ≡ None → self.old.names ≡ [] }
         ensures closed { self.new.closed ≡ self.old.closed }
     {

@@ -1,4 +1,4 @@
-//! Replays a schedule's commands one after the other: lines, and a queue for each lane.
+//! Replays a schedule's commands one after the other: a recorder for each instance, and a queue for each lane.
 #![tactic(auto)]
 
 mod actor;
@@ -12,5 +12,5 @@ mod tests;
 mod text;
 
 pub use error::ReplayError;
-pub use outcome::Outcome;
+pub use outcome::{Outcome, one_outcome_law};
 pub use run::replay;

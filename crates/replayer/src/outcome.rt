@@ -1,17 +1,19 @@
 //! What a replay gives.
 ghost use Rattle.std.specs.Prelude.{◌≡◌, length};
+ghost use Rattle.replayer.specs.Outcomes.{OneOutcomeLaw, has_races};
 
-use chart::{Chart, Names};
+use chart::{Chart, Names, Report};
 use schedule::Note;
 use std::marker::Model;
 
-/// What a schedule comes to: its instances' names, the chart of what happened, and a note for each command that
-/// was refused or found nothing, in the order of the commands. A contract sees a record of these. There are as
-/// many names as lines.
+/// What a schedule comes to: its instances' names, the chart of what happened, the report of each receive by
+/// instance and index, and a note for each command that was refused or found nothing, in the order of the commands. A
+/// contract sees a record of these. There are as many names as lines.
 #[derive(Debug, Drop)]
 pub struct Outcome<'a> {
     names: &'a Names,
     chart: Chart,
+    reports: Vec<Report>,
     notes: Vec<Note>,
 }
 
@@ -21,20 +23,26 @@ impl<'a> Model for Outcome<'a> {
 
     ghost Value = { OutcomeView };
 
-    ghost view = { λ o. record { names = o.names.now; chart = o.chart; notes = o.notes.items } };
+    ghost view = { λ o. record { names = o.names.now; chart = o.chart; reports = o.reports.items; notes = o.notes.items } };
 
     ghost invariant = { λ o. length o.names.now ≡ length o.chart };
 }
 
 impl<'a> Outcome<'a> {
     /// The outcome of these parts.
-    pub(crate) fn new(names: &'a Names, chart: Chart, notes: Vec<Note>) -> Outcome<'a>
+    pub(crate) fn new(
+        names: &'a Names,
+        chart: Chart,
+        reports: Vec<Report>,
+        notes: Vec<Note>,
+    ) -> Outcome<'a>
         requires { length names.now ≡ length chart }
-        ensures { result ≡ record { names = names.now; chart = chart; notes = notes.items } }
+        ensures { result ≡ record { names = names.now; chart = chart; reports = reports.items; notes = notes.items } }
     {
         Outcome {
             names,
             chart,
+            reports,
             notes,
         }
     }
@@ -53,6 +61,22 @@ impl<'a> Outcome<'a> {
         &self.chart
     }
 
+    /// The report of each receive, by instance and index.
+    pub fn reports(&self) -> &[Report]
+        ensures { result.now ≡ self.now.reports }
+    {
+        self.reports.as_slice()
+    }
+
+    /// Whether some receive has a race.
+    pub fn has_races(&self) -> bool
+        ensures { result ≡ has_races self.now }
+    {
+        self.reports()
+            .iter()
+            .any(|report| !report.earlier().is_empty())
+    }
+
     /// The notes, in the order of the commands that left them.
     pub fn notes(&self) -> &[Note]
         ensures { result.now ≡ self.now.notes }
@@ -60,3 +84,8 @@ impl<'a> Outcome<'a> {
         self.notes.as_slice()
     }
 }
+
+/// A schedule comes to one outcome, and no other: a receive has one report.
+pub fn one_outcome_law()
+    ensures { OneOutcomeLaw }
+{}

@@ -1,21 +1,26 @@
 //! The whole replay.
 ghost use Rattle.std.specs.Prelude.{ℕ, ◌≡◌, ◌≤◌, List, length, map, All, IfOk};
+ghost use Rattle.std.specs.List.{flat_map};
+ghost use Rattle.chart.specs.declared.history.Event.{Event};
+ghost use Rattle.chart.specs.declared.instance.TheConstants.{MAX_INSTANCES};
+ghost use Rattle.chart.specs.Histories.{IsLegal};
 ghost use Rattle.schedule.specs.Plans.{IsAmong};
-ghost use Rattle.schedule.specs.Meaning.{Run, start, after};
-ghost use Rattle.replayer.specs.Agreement.{Agrees, IsReached};
-ghost use Rattle.replayer.specs.Outcomes.{lines_of, outcome_of};
+ghost use Rattle.schedule.specs.Meaning.{start, after, meaning};
+ghost use Rattle.replayer.specs.Agreement.{Agrees};
+ghost use Rattle.replayer.specs.Outcomes.{lines_of, IsOutcome};
 
 use crate::actor::Actor;
 use crate::error::ReplayError;
 use crate::outcome::Outcome;
 use crate::steps::act;
-use chart::{Chart, InstanceNo, Line};
+use chart::{Chart, InstanceNo, Line, Report};
 use schedule::{Command, Note, Schedule};
 use std::alloc::Global;
 
 /// So many instances, before the first command.
 fn fresh_actors(alloc: Global, instances: usize) -> Result<Vec<Actor>, ReplayError>
-    requires { instances ≤ 32 }
+    requires several { 2 ≤ instances }
+    requires limit { instances ≤ MAX_INSTANCES }
     ensures { IfOk result (λ actors. (k : ℕ) → Agrees instances k start.run actors.items) }
 {
     let mut actors = Vec::with_capacity(alloc, instances)?;
@@ -50,38 +55,48 @@ fn perform(
     Ok(notes)
 }
 
-/// The instances' lines.
-fn lines(alloc: Global, actors: Vec<Actor>) -> Result<Vec<Line>, ReplayError>
-    ensures { IfOk result (λ lines. lines.items ≡ map (λ a. a.line) actors.items) }
+/// The instances' lines, and the reports of their receives.
+fn parts(alloc: Global, actors: Vec<Actor>) -> Result<(Vec<Line>, Vec<Report>), ReplayError>
+    ensures lines { IfOk result (λ parts. parts.0.items ≡ map (λ a. a.recorder.line) actors.items) }
+    ensures reports { IfOk result (λ parts. parts.1.items ≡ flat_map (λ a. a.recorder.reports) actors.items) }
 {
-    Ok(
-        actors
-            .into_iter()
-            .map(|actor| actor.into_line())
-            .collect(alloc)?,
-    )
+    let mut lines = Vec::with_capacity(alloc, actors.len())?;
+    let mut reports = Vec::new(alloc);
+    for actor in actors {
+        let (line, mut own) = actor.into_parts();
+        lines.push(line)?;
+        reports.append(&mut own)?;
+    }
+    Ok((lines, reports))
 }
 
-/// The chart of what the instances did.
-fn chart(alloc: Global, actors: Vec<Actor>) -> Result<Chart, ReplayError>
-    requires several { 2 ≤ length actors.items }
-    requires reached { (k : ℕ) × IsReached k actors.items }
-    ensures { (n k : ℕ) (r : Run) → Agrees n k r actors.items → IfOk result (λ c. c ≡ lines_of n r.history) }
+/// The chart of these lines, which are those of a run.
+fn chart(lines: Vec<Line>) -> Chart
+    requires { (n k : ℕ) × (h : List Event) × (2 ≤ n) × (n ≤ MAX_INSTANCES) × IsLegal n k h × (lines.items ≡ lines_of n h) }
+    ensures { result ≡ lines.items }
 {
-    match Chart::new(lines(alloc, actors)?) {
-        Ok(chart) => Ok(chart),
+    match Chart::new(lines) {
+        Ok(chart) => chart,
         Err(_) => unreachable!(),
     }
 }
 
+/// The instances after the schedule's commands, and the notes.
+fn played(alloc: Global, schedule: &Schedule) -> Result<(Vec<Actor>, Vec<Note>), ReplayError>
+    ensures agrees { IfOk result (λ played. Agrees (length schedule.now.names) schedule.now.capacity (meaning schedule.now).run played.0.items) }
+    ensures notes { IfOk result (λ played. played.1.items ≡ (meaning schedule.now).notes) }
+{
+    let capacity = schedule.capacity().places();
+    let mut actors = fresh_actors(alloc, schedule.names().len())?;
+    let notes = perform(alloc, &mut actors, capacity, schedule.commands())?;
+    Ok((actors, notes))
+}
+
 /// Replays a schedule's commands one after the other: what they come to.
 pub fn replay<'a>(alloc: Global, schedule: &'a Schedule) -> Result<Outcome<'a>, ReplayError>
-    ensures { IfOk result (λ o. o ≡ outcome_of schedule.now) }
+    ensures { IfOk result (IsOutcome schedule.now) }
 {
-    let names = schedule.names();
-    let capacity = schedule.capacity().places();
-    let mut actors = fresh_actors(alloc, names.len())?;
-    let notes = perform(alloc, &mut actors, capacity, schedule.commands())?;
-    let chart = chart(alloc, actors)?;
-    Ok(Outcome::new(names, chart, notes))
+    let (actors, notes) = played(alloc, schedule)?;
+    let (lines, reports) = parts(alloc, actors)?;
+    Ok(Outcome::new(schedule.names(), chart(lines), reports, notes))
 }

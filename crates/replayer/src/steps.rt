@@ -6,7 +6,7 @@ ghost use Rattle.replayer.specs.Agreement.{Agrees, IsReached, HasActed};
 
 use crate::actor::Actor;
 use crate::error::ReplayError;
-use crate::lane::{are_closed, first_waiting};
+use crate::lane::{Parcel, are_closed, first_waiting};
 use chart::{InstanceNo, Name};
 use schedule::{Action, Word};
 
@@ -30,8 +30,8 @@ fn send(
     if let Some(word) = actors[from].send_word(lane, capacity) {
         return Ok(Some(word));
     }
-    actors[from].write_send(receiver, name)?;
-    actors[to].deliver(sender, name)?;
+    let clock = actors[from].send(receiver, name)?;
+    actors[to].deliver(sender, Parcel { name, clock })?;
     Ok(None)
 }
 

@@ -6,7 +6,7 @@ ghost use Rattle.replayer.specs.OutcomeText.{word_text, note_text, outcome_text}
 
 use crate::outcome::Outcome;
 use itoa::Buffer;
-use msc_text::{Gathering, Out, WriteError, add_chart};
+use msc_text::{Gathering, Out, WriteError, add_chart, add_races};
 use schedule::{Note, Word};
 
 #[tactic(auto, unfolding(crate::specs::OutcomeText::word_text))]
@@ -60,13 +60,15 @@ fn add_outcome<W: Out>(
 {
     let names = outcome.names();
     let chart = outcome.chart();
+    let reports = outcome.reports();
     let notes = outcome.notes();
     add_chart(gathering, out, names, chart)?;
+    add_races(gathering, out, names, reports)?;
     add_notes(gathering, out, notes)
 }
 
 impl Outcome<'_> {
-    /// Writes the outcome's text: the chart's, and then a line for each note. It takes no memory. Where a put fails
+    /// Writes the outcome's text: the chart's, and then a line for each race and for each note. It takes no memory. Where a put fails
     /// (F24), a beginning of the text was written, and no other put is tried.
     #[tactic(auto, using(msc_text::proofs::Writes::joining))]
     pub fn write<W: Out>(&self, out: &mut W) -> Result<(), WriteError>

@@ -1,10 +1,10 @@
 -- What the program does with the bytes of a file.
-use Rattle.std.specs.Prelude.{◌≡◌, ℕ, ◌⊎◌, List, Option, Result, Ok, Err}
+use Rattle.std.specs.Prelude.{◌≡◌, ℕ, ◌⊎◌, List, Option, Result, Ok, Err, if◌then◌else◌}
 use Rattle.msc_text.specs.declared.fault.Fault.{Fault}
 use Rattle.msc_text.specs.Writing.{Puts, Breaks}
 use Rattle.schedule.specs.Plans.{Plan}
 use Rattle.interleaver.specs.Interleavings.{drawn_of}
-use Rattle.replayer.specs.Outcomes.{outcome_of}
+use Rattle.replayer.specs.Outcomes.{OutcomeView, IsOutcome, has_races}
 use Rattle.replayer.specs.OutcomeText.{outcome_text}
 use Rattle.tasks.specs.declared.error.ProgramError.{ProgramError}
 use Rattle.tasks.specs.declared.error.ProgramError.TheVariants as errors
@@ -31,14 +31,18 @@ Reads (Err errors.Usage) said = ⊥
 Reads (Err errors.File) said = ⊥
 Reads (Err errors.Write) said = ⊥
 
+-- the exit status after a run: 1 where there are races, and 0 where there are none
+abbrev pub status_of : OutcomeView → ℕ
+status_of o = if has_races o then 1 else 0
+
 module _ {S : Type 0} (contents : S → Option (List ℕ)) (failures : S → ℕ) where
   -- the text of what the schedule comes to was written; or a beginning of it, where a put failed; or nothing, where the
   -- text says no schedule, or where memory ran out
   abbrev pub Replays : S → S → Result ℕ ProgramError → Result Plan Fault → Type 0
-  Replays old new (Ok status) said = (plan : Plan) × (said ≡ Ok plan) × (status ≡ 0) × Puts contents failures old new (outcome_text (outcome_of plan))
+  Replays old new (Ok status) said = (plan : Plan) × (o : OutcomeView) × (said ≡ Ok plan) × IsOutcome plan o × (status ≡ status_of o) × Puts contents failures old new (outcome_text o)
   Replays old new (Err errors.Memory) said = new ≡ old
   Replays old new (Err (errors.Text fault)) said = (said ≡ Err fault) × (new ≡ old)
-  Replays old new (Err errors.Write) said = (plan : Plan) × (said ≡ Ok plan) × Breaks contents failures old new (outcome_text (outcome_of plan))
+  Replays old new (Err errors.Write) said = (plan : Plan) × (o : OutcomeView) × (said ≡ Ok plan) × IsOutcome plan o × Breaks contents failures old new (outcome_text o)
   Replays old new (Err errors.Usage) said = ⊥
   Replays old new (Err errors.File) said = ⊥
 

@@ -60,13 +60,13 @@ fn replayed<W: Out>(
         Err(ReplayError::Memory) => return Err(ProgramError::Memory),
     };
     match outcome.write(out) {
-        Ok(()) => Ok(0),
+        Ok(()) => Ok(u8::from(outcome.has_races())),
         Err(_) => Err(ProgramError::Write),
     }
 }
 
 /// Does the task with the bytes of the file: writes its output to `out`, or the line of a refusal to `err`, and answers the
-/// exit status: 0, or 2 after a refusal. Nothing is written to `out` before a refusal, but where writing to it failed (F24).
+/// exit status: 0, 1 where there are races, or 2 after a refusal. Nothing is written to `out` before a refusal, but where writing to it failed (F24).
 /// A failed write to `err` changes nothing.
 pub fn perform<W: Out, V: Out>(
     alloc: Global,

@@ -80,8 +80,8 @@ fn thirty_two_instances(rt: HostRuntime) {
 fn crossing_messages_race(rt: HostRuntime) {
     let schedule = b"instances a b\ncapacity 1\na send b q\nb send a p\na receive b\nb receive a\n";
     let written =
-        b"msc run;\ninstance a;\nout q to b;\nin p from b;\nendinstance;\ninstance b;\nout p to a;\nin q from a;\nendinstance;\nendmsc;\n";
-    replays(&rt, rt.alloc(), schedule, written, 0);
+        b"msc run;\ninstance a;\nout q to b;\nin p from b;\nendinstance;\ninstance b;\nout p to a;\nin q from a;\nendinstance;\nendmsc;\nrace a 1 2\nrace b 1 2\n";
+    replays(&rt, rt.alloc(), schedule, written, 1);
 }
 
 #[test]
@@ -89,8 +89,8 @@ fn two_senders_race(rt: HostRuntime) {
     let schedule =
         b"instances a b c\ncapacity 1\na send b x\nc send b y\nb receive a\nb receive c\n";
     let written =
-        b"msc run;\ninstance a;\nout x to b;\nendinstance;\ninstance b;\nin x from a;\nin y from c;\nendinstance;\ninstance c;\nout y to b;\nendinstance;\nendmsc;\n";
-    replays(&rt, rt.alloc(), schedule, written, 0);
+        b"msc run;\ninstance a;\nout x to b;\nendinstance;\ninstance b;\nin x from a;\nin y from c;\nendinstance;\ninstance c;\nout y to b;\nendinstance;\nendmsc;\nrace b 1 2\n";
+    replays(&rt, rt.alloc(), schedule, written, 1);
 }
 
 #[test]
@@ -107,8 +107,8 @@ fn overtaken_by_a_third(rt: HostRuntime) {
     let schedule =
         b"instances a b c\ncapacity 1\na send b x\na send c y\nc receive a\nc send b z\nb receive a\nb receive c\n";
     let written =
-        b"msc run;\ninstance a;\nout x to b;\nout y to c;\nendinstance;\ninstance b;\nin x from a;\nin z from c;\nendinstance;\ninstance c;\nin y from a;\nout z to b;\nendinstance;\nendmsc;\n";
-    replays(&rt, rt.alloc(), schedule, written, 0);
+        b"msc run;\ninstance a;\nout x to b;\nout y to c;\nendinstance;\ninstance b;\nin x from a;\nin z from c;\nendinstance;\ninstance c;\nin y from a;\nout z to b;\nendinstance;\nendmsc;\nrace b 1 2\n";
+    replays(&rt, rt.alloc(), schedule, written, 1);
 }
 
 #[test]
@@ -116,8 +116,8 @@ fn clock_of_this_message(rt: HostRuntime) {
     let schedule =
         b"instances a b c\ncapacity 1\nb send c m\nc receive b\nc send b y\na send b x\nb receive c\nb receive a\n";
     let written =
-        b"msc run;\ninstance a;\nout x to b;\nendinstance;\ninstance b;\nout m to c;\nin y from c;\nin x from a;\nendinstance;\ninstance c;\nin m from b;\nout y to b;\nendinstance;\nendmsc;\n";
-    replays(&rt, rt.alloc(), schedule, written, 0);
+        b"msc run;\ninstance a;\nout x to b;\nendinstance;\ninstance b;\nout m to c;\nin y from c;\nin x from a;\nendinstance;\ninstance c;\nin m from b;\nout y to b;\nendinstance;\nendmsc;\nrace b 1 3\nrace b 2 3\n";
+    replays(&rt, rt.alloc(), schedule, written, 1);
 }
 
 #[test]
@@ -125,8 +125,8 @@ fn any_takes_turns(rt: HostRuntime) {
     let schedule =
         b"instances a b c\ncapacity 2\na send b x\na send b z\nc send b y\nb any\nb any\nb any\n";
     let written =
-        b"msc run;\ninstance a;\nout x to b;\nout z to b;\nendinstance;\ninstance b;\nin x from a;\nin y from c;\nin z from a;\nendinstance;\ninstance c;\nout y to b;\nendinstance;\nendmsc;\n";
-    replays(&rt, rt.alloc(), schedule, written, 0);
+        b"msc run;\ninstance a;\nout x to b;\nout z to b;\nendinstance;\ninstance b;\nin x from a;\nin y from c;\nin z from a;\nendinstance;\ninstance c;\nout y to b;\nendinstance;\nendmsc;\nrace b 1 2\nrace b 2 3\n";
+    replays(&rt, rt.alloc(), schedule, written, 1);
 }
 
 #[test]
@@ -143,8 +143,8 @@ fn coregion_round_two(rt: HostRuntime) {
     let schedule =
         b"instances a b c\ncapacity 2\na send b x\na send b z\nc send b y\nb concurrent\nb any\nb any\nb endconcurrent\nb any\n";
     let written =
-        b"msc run;\ninstance a;\nout x to b;\nout z to b;\nendinstance;\ninstance b;\nconcurrent;\nin x from a;\nin y from c;\nendconcurrent;\nin z from a;\nendinstance;\ninstance c;\nout y to b;\nendinstance;\nendmsc;\n";
-    replays(&rt, rt.alloc(), schedule, written, 0);
+        b"msc run;\ninstance a;\nout x to b;\nout z to b;\nendinstance;\ninstance b;\nconcurrent;\nin x from a;\nin y from c;\nendconcurrent;\nin z from a;\nendinstance;\ninstance c;\nout y to b;\nendinstance;\nendmsc;\nrace b 2 3\n";
+    replays(&rt, rt.alloc(), schedule, written, 1);
 }
 
 #[test]
@@ -152,6 +152,6 @@ fn nine_instances(rt: HostRuntime) {
     let schedule =
         b"instances a b c d e f g h i\ncapacity 1\ni send a x\nh send a y\na any\na any\n";
     let written =
-        b"msc run;\ninstance a;\nin y from h;\nin x from i;\nendinstance;\ninstance b;\nendinstance;\ninstance c;\nendinstance;\ninstance d;\nendinstance;\ninstance e;\nendinstance;\ninstance f;\nendinstance;\ninstance g;\nendinstance;\ninstance h;\nout y to a;\nendinstance;\ninstance i;\nout x to a;\nendinstance;\nendmsc;\n";
-    replays(&rt, rt.alloc(), schedule, written, 0);
+        b"msc run;\ninstance a;\nin y from h;\nin x from i;\nendinstance;\ninstance b;\nendinstance;\ninstance c;\nendinstance;\ninstance d;\nendinstance;\ninstance e;\nendinstance;\ninstance f;\nendinstance;\ninstance g;\nendinstance;\ninstance h;\nout y to a;\nendinstance;\ninstance i;\nout x to a;\nendinstance;\nendmsc;\nrace a 1 2\n";
+    replays(&rt, rt.alloc(), schedule, written, 1);
 }

@@ -21,4 +21,4 @@ loop-place-preserved c =
 pub returns : goal.returns
 returns c k =
     let many : length c.loop-place.actors.items ≡ c.args.instances = omega arith in
-    Agrees-start c.args.instances k c.loop-place.actors.items many c.requires c.loop-place.invariant.each
+    Agrees-start c.args.instances k c.loop-place.actors.items many c.requires.limit c.loop-place.invariant.each

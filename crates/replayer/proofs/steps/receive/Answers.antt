@@ -1,7 +1,7 @@
 use Rattle.std.proofs.Common.{get_or, arith, sym, ◌∙◌}
 use Rattle.std.proofs.lemmas.Option.{get_or_from_slice_get, slice_get-get_or}
 use Rattle.replayer.proofs.Places.{slice_get-read_in}
-use Rattle.replayer.proofs.Commands.{lane-within, instance-is, may-now, receive-refused, receive-done}
+use Rattle.replayer.proofs.Commands.{lane-within, instance-is, known-many, clocks-long, may-now, receive-refused, receive-done}
 use Rattle.replayer.proofs.steps.receive.Goals as goal
 
 pub bounds-lanes-from : goal.bounds-lanes-from
@@ -32,6 +32,25 @@ take-requires-clause-within c =
     let at_a = slice_get-get_or actors i c.index-actors-to.result (omega arith) in
     let within = lane-within reached.1.0 reached.0 reached.1.1 actors c.place-from.result i a reached.1.2 (omega arith) at_a in
     rw (get_or_from_slice_get actors i a c.index-actors-to-2.result at_a) (omega arith)
+
+pub take-requires-clause-one : goal.take-requires-clause-one
+take-requires-clause-one c =
+    let actors = c.args.actors.now in
+    let i = c.place-to.result in
+    let a = get_or actors i c.index-actors-to.result in
+    let reached = c.requires.reached in
+    let at_a = slice_get-get_or actors i c.index-actors-to.result (omega arith) in
+    let many = known-many reached.1.0 reached.0 reached.1.1 actors i a reached.1.2 at_a in
+    rw (get_or_from_slice_get actors i a c.index-actors-to-2.result at_a) (omega (arith, many, c.requires.sender))
+
+pub take-requires-clause-entries : goal.take-requires-clause-entries
+take-requires-clause-entries c =
+    let actors = c.args.actors.now in
+    let i = c.place-to.result in
+    let a = get_or actors i c.index-actors-to.result in
+    let reached = c.requires.reached in
+    let at_a = slice_get-get_or actors i c.index-actors-to.result (omega arith) in
+    rw (get_or_from_slice_get actors i a c.index-actors-to-2.result at_a) (λ j lane from at_lane. clocks-long reached.1.0 reached.0 reached.1.1 actors i j a lane reached.1.2 at_a at_lane)
 
 pub take-requires-clause-may : goal.take-requires-clause-may
 take-requires-clause-may c =
@@ -65,4 +84,4 @@ returns c n k r agrees =
     let took = c.in_ok-take.ensures in
     let new = rw (get_or_from_slice_get actors i a c.index-actors-to-2.result at_a) at took in
     receive-done n k r actors c.args.receiver c.args.sender i j a c.take.new.self lane agrees c.requires.two c.place-to.ensures.value c.place-from.ensures.value (omega arith) at_a at_lane (sym c.receive_word.ensures ∙ c.in_default.is)
-    (λ name rest e. new j lane name rest c.place-from.ensures.value at_lane e)
+    (λ name clock names clocks front stamp. new j lane name clock names clocks c.place-from.ensures.value at_lane front stamp)

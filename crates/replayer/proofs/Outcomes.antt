@@ -1,0 +1,21 @@
+-- What a plan comes to is one.
+use Rattle.std.proofs.Common.{◌≡◌, ℕ, List, map, sym, ap, ◌∙◌, subst}
+use Rattle.std.specs.List.{flat_map}
+use Rattle.chart.specs.Charts.{LineView, chart_lines}
+use Rattle.chart.specs.Reports.{ReportView, AreReports, receives_of}
+use Rattle.chart.proofs.ReportLists.{same_reports}
+use Rattle.schedule.specs.declared.command.Note.{Note}
+use Rattle.schedule.specs.Plans.{Plan}
+use Rattle.replayer.specs.Outcomes.{OutcomeView, IsOutcome}
+
+abbrev with_these : List (List ℕ) → List LineView → List ReportView → List Note → OutcomeView
+with_these names chart reports notes = record { names = names; chart = chart; reports = reports; notes = notes }
+
+pub one_outcome : (plan : Plan) (a b : OutcomeView) → IsOutcome plan a → IsOutcome plan b → a ≡ b
+one_outcome plan a b one other =
+    let names : a.names ≡ b.names = one.names ∙ sym other.names in
+    let chart : a.chart ≡ b.chart = one.chart ∙ sym other.chart in
+    let notes : a.notes ≡ b.notes = one.notes ∙ sym other.notes in
+    let others = subst (λ c. AreReports c b.reports) (sym chart) other.reports in
+    let reports : a.reports ≡ b.reports = same_reports (chart_lines a.chart) a.reports b.reports (one.reports.receives ∙ sym others.receives) one.reports.each others.each in
+    ap (λ x. with_these x a.chart a.reports a.notes) names ∙ ap (λ x. with_these b.names x a.reports a.notes) chart ∙ ap (λ x. with_these b.names b.chart x a.notes) reports ∙ ap (λ x. with_these b.names b.chart b.reports x) notes
