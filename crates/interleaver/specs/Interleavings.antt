@@ -1,5 +1,5 @@
 -- Drawn interleavings: each instance makes its commands in order, and the words of a generator draw whose turn it is (this
--- project's profile).
+-- project's profile; the generator is of M. O'Neill, PCG, 2014).
 use Rattle.std.specs.Prelude.{ℕ, ◌%◌, ◌==◌, Bool, true, false, List, [], ◌∷◌, ◌++◌, length, filter, take, slice_index, if◌then◌else◌}
 use Rattle.std.specs.List.{range_with_len}
 use Rattle.rand_core.specs.Pcg32Seed.{pcg32_seed}
