@@ -71,6 +71,17 @@ impl Names {
         }
     }
 
+    /// A copy.
+    ///
+    /// F6: it fails only where there is no memory.
+    pub fn copied(&self) -> Result<Names, AllocError>
+        ensures { IfOk result (λ names. names ≡ self.now) }
+    {
+        Ok(Names {
+            names: self.names.clone()?,
+        })
+    }
+
     pub fn len(&self) -> usize
         ensures value { result ≡ length self.now }
         ensures limit { result ≤ MAX_INSTANCES }

@@ -5,28 +5,45 @@ ghost use Rattle.std.specs.Prelude.{◌≡◌, ◌↔◌, ◌⊎◌};
 ghost use Rattle.clap.specs.Words.{kind_of};
 
 use clap::error::ErrorKind;
-use clap::{Arg, ArgAction, Command, Error};
+use clap::{Arg, ArgAction, ArgMatches, Command, Error};
 use msc_text::StreamOut;
 use std::alloc::{AllocError, Global};
 use std::convert::AsStr;
 use std::process::ExitCode;
 use std::rt::{Env, Files};
 use std::{env, fs, io};
-use tasks::{ProgramError, Task, perform, refused};
+use tasks::{ProgramError, Task, perform, refused, seed_in};
+
+/// The word for the file that a command reads.
+fn file_word<'a>(alloc: Global) -> Arg<'a> {
+    Arg::new(alloc, "FILE")
+        .required(true)
+        .action(ArgAction::Set)
+}
+
+/// `random FILE --seed N`.
+fn random_command<'a>(alloc: Global) -> Result<Command<'a>, AllocError> {
+    let seed = Arg::new(alloc, "seed")
+        .long("seed")
+        .required(true)
+        .action(ArgAction::Set);
+    Command::new(alloc, "random")
+        .disable_help_flag(true)
+        .arg(file_word(alloc))?
+        .arg(seed)
+}
 
 /// The command line that the program understands. Help, the version, no command and an unknown one are all mistakes.
 fn command_line<'a>(alloc: Global) -> Result<Command<'a>, AllocError> {
-    let file = Arg::new(alloc, "FILE")
-        .required(true)
-        .action(ArgAction::Set);
     let replay = Command::new(alloc, "replay")
         .disable_help_flag(true)
-        .arg(file)?;
+        .arg(file_word(alloc))?;
     Command::new(alloc, "mscrun")
         .disable_help_flag(true)
         .disable_help_subcommand(true)
         .subcommand_required(true)
-        .subcommand(replay)
+        .subcommand(replay)?
+        .subcommand(random_command(alloc)?)
 }
 
 /// A command line that doesn't parse is G1, or F6 where memory ran out.
@@ -48,17 +65,28 @@ fn cause(error: &io::Error, other: ProgramError) -> ProgramError {
     }
 }
 
+/// The task that a command's words ask for.
+fn task_of(command: &str, words: &ArgMatches) -> Option<Task> {
+    match command {
+        "replay" => Some(Task::Replay),
+        "random" => {
+            let seed = seed_in(words.get_str("seed")?)?;
+            Some(Task::Random { seed })
+        }
+        _ => None,
+    }
+}
+
 /// What is asked for, and the file.
 fn task_in<'a, S: AsStr>(alloc: Global, words: &'a [S]) -> Result<(Task, &'a str), ProgramError> {
     let command = command_line(alloc).map_err(|_| ProgramError::Memory)?;
     let matches = command
         .try_get_matches_from(words)
         .map_err(|error| usage(&error))?;
-    let Some(("replay", replay)) = matches.subcommand() else {
-        return Err(ProgramError::Usage);
-    };
-    let file = replay.get_str("FILE").ok_or(ProgramError::Usage)?;
-    Ok((Task::Replay, file))
+    let (command, words) = matches.subcommand().ok_or(ProgramError::Usage)?;
+    let task = task_of(command, words).ok_or(ProgramError::Usage)?;
+    let file = words.get_str("FILE").ok_or(ProgramError::Usage)?;
+    Ok((task, file))
 }
 
 fn words_of<R: Env + AllocGlobal>(rt: &R) -> Result<Vec<String>, ProgramError> {
@@ -98,6 +126,20 @@ mod tests {
         assert!(rt; matches!(task_in(alloc, words), Err(ProgramError::Usage)));
     }
 
+    /// The seed is read so.
+    fn seeds(rt: &impl Abort, alloc: Global, word: &str, seed: u64) {
+        let words = ["mscrun", "random", "a file", "--seed", word];
+        assert_eq!(rt;
+            task_in(alloc, &words),
+            Ok((Task::Random { seed }, "a file"))
+        );
+    }
+
+    /// The seed is none.
+    fn misses_seed(rt: &impl Abort, alloc: Global, word: &str) {
+        misses(rt, alloc, &["mscrun", "random", "a file", "--seed", word]);
+    }
+
     #[test]
     fn command_lines(rt: HostRuntime) {
         let words = ["mscrun", "replay", "a file"];
@@ -111,5 +153,51 @@ mod tests {
         misses(&rt, rt.alloc(), &["mscrun", "help"]);
         misses(&rt, rt.alloc(), &["mscrun", "--help"]);
         misses(&rt, rt.alloc(), &["mscrun", "--version"]);
+    }
+
+    #[test]
+    fn seeds_of_64_bits(rt: HostRuntime) {
+        seeds(&rt, rt.alloc(), "0", 0);
+        seeds(&rt, rt.alloc(), "7", 7);
+        seeds(&rt, rt.alloc(), "0007", 7);
+        seeds(&rt, rt.alloc(), "18446744073709551615", u64::MAX);
+        seeds(&rt, rt.alloc(), "000018446744073709551615", u64::MAX);
+        misses_seed(&rt, rt.alloc(), "18446744073709551616");
+        misses_seed(&rt, rt.alloc(), "99999999999999999999999999");
+        misses_seed(&rt, rt.alloc(), "");
+        misses_seed(&rt, rt.alloc(), "+7");
+        misses_seed(&rt, rt.alloc(), "-7");
+        misses_seed(&rt, rt.alloc(), " 7");
+        misses_seed(&rt, rt.alloc(), "7 ");
+        misses_seed(&rt, rt.alloc(), "0x7");
+        misses_seed(&rt, rt.alloc(), "1_000");
+        misses_seed(&rt, rt.alloc(), "seven");
+    }
+
+    #[test]
+    fn random_command_lines(rt: HostRuntime) {
+        let words = ["mscrun", "random", "--seed", "7", "a file"];
+        assert!(rt;
+            matches!(
+                task_in(rt.alloc(), &words),
+                Ok((Task::Random { seed: 7 }, "a file"))
+            )
+        );
+        misses(&rt, rt.alloc(), &["mscrun", "random"]);
+        misses(&rt, rt.alloc(), &["mscrun", "random", "one"]);
+        misses(&rt, rt.alloc(), &["mscrun", "random", "--seed", "7"]);
+        misses(&rt, rt.alloc(), &["mscrun", "random", "one", "--seed"]);
+        misses(
+            &rt,
+            rt.alloc(),
+            &["mscrun", "random", "one", "two", "--seed", "7"],
+        );
+        misses(
+            &rt,
+            rt.alloc(),
+            &["mscrun", "random", "one", "--seed", "7", "--seed", "7"],
+        );
+        misses(&rt, rt.alloc(), &["mscrun", "random", "one", "--see", "7"]);
+        misses(&rt, rt.alloc(), &["mscrun", "replay", "one", "--seed", "7"]);
     }
 }

@@ -1,3 +1,4 @@
 pub use Rattle.msc_text.specs.Writing
 pub mod Refusals
 pub mod Tasks
+pub mod Seeds

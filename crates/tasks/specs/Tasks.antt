@@ -3,11 +3,24 @@ use Rattle.std.specs.Prelude.{◌≡◌, ℕ, ◌⊎◌, List, Option, Result, O
 use Rattle.msc_text.specs.declared.fault.Fault.{Fault}
 use Rattle.msc_text.specs.Writing.{Puts, Breaks}
 use Rattle.schedule.specs.Plans.{Plan}
+use Rattle.interleaver.specs.Interleavings.{drawn_of}
 use Rattle.replayer.specs.Outcomes.{OutcomeView, IsOutcome, has_races}
 use Rattle.replayer.specs.OutcomeText.{outcome_text}
 use Rattle.tasks.specs.declared.error.ProgramError.{ProgramError}
 use Rattle.tasks.specs.declared.error.ProgramError.TheVariants as errors
+use Rattle.tasks.specs.declared.task.Task.{Task}
+use Rattle.tasks.specs.declared.task.Task.TheVariants.{Replay, Random}
 use Rattle.tasks.specs.Refusals.{refusal_text, Tried}
+
+-- the plan that the task replays
+abbrev pub plan_for : Task → Plan → Plan
+plan_for Replay plan = plan
+plan_for (Random seed) plan = drawn_of plan seed
+
+-- the same of what a text says
+abbrev pub asked : Task → Result Plan Fault → Result Plan Fault
+asked task (Ok plan) = Ok (plan_for task plan)
+asked task (Err fault) = Err fault
 
 -- the schedule is what its text says, or the error is what is wrong with the text, memory aside
 abbrev pub Reads : Result Plan ProgramError → Result Plan Fault → Type 0

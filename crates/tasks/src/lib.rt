@@ -3,10 +3,12 @@
 
 mod error;
 mod refusal;
+mod seed;
 mod task;
 
 pub use error::ProgramError;
 pub use refusal::refused;
+pub use seed::seed_in;
 pub use task::{Task, perform};
 
 #[cfg(test)]

@@ -1,5 +1,6 @@
 //! Worked cases, to the byte: what the program writes for a schedule, and what it refuses.
 
+mod drawn;
 mod refusals;
 mod schedules;
 

@@ -1,0 +1,5 @@
+pub mod Commands
+pub mod Draw
+pub mod Progress
+pub mod Queued
+pub mod Turns

@@ -1,0 +1,10 @@
+-- Numbers in decimal, as they are parsed.
+use Rattle.std.proofs.Common.{◌≡◌, ℕ, ◌+◌, ◌-◌, ◌*◌, true, List, length, ap, rules}
+use Rattle.std.specs.Char.{is_ascii_digit}
+use Rattle.std.specs.List.{list_all}
+use Rattle.std.proofs.lemmas.Str.Parse.{IsNumeralModel, numerals_by_fold}
+use Rattle.schedule.specs.FirstLines.{number_from}
+
+-- digits, and the number that they say
+pub numerals : IsNumeralModel (λ ds. list_all is_ascii_digit ds ≡ true) (number_from 0)
+numerals = numerals_by_fold _ (search rules) number_from (search rules)
