@@ -18,7 +18,7 @@ spaced words = join_with_byte 32 words
 abbrev pub instances_line : List (List ℕ) → List ℕ
 instances_line names = spaced (codes "instances" ∷ names)
 
--- capacity N
+-- capacity N, in decimal
 abbrev pub capacity_line : ℕ → List ℕ
 capacity_line capacity = spaced (codes "capacity" ∷ decimal capacity ∷ [])
 
