@@ -21,6 +21,13 @@ fn file_word<'a>(alloc: Global) -> Arg<'a> {
         .action(ArgAction::Set)
 }
 
+/// A command with a FILE and nothing else.
+fn file_command<'a>(alloc: Global, name: &'static str) -> Result<Command<'a>, AllocError> {
+    Command::new(alloc, name)
+        .disable_help_flag(true)
+        .arg(file_word(alloc))
+}
+
 /// `random FILE --seed N`.
 fn random_command<'a>(alloc: Global) -> Result<Command<'a>, AllocError> {
     let seed = Arg::new(alloc, "seed")
@@ -35,15 +42,13 @@ fn random_command<'a>(alloc: Global) -> Result<Command<'a>, AllocError> {
 
 /// The command line that the program understands. Help, the version, no command and an unknown one are all mistakes.
 fn command_line<'a>(alloc: Global) -> Result<Command<'a>, AllocError> {
-    let replay = Command::new(alloc, "replay")
-        .disable_help_flag(true)
-        .arg(file_word(alloc))?;
     Command::new(alloc, "mscrun")
         .disable_help_flag(true)
         .disable_help_subcommand(true)
         .subcommand_required(true)
-        .subcommand(replay)?
-        .subcommand(random_command(alloc)?)
+        .subcommand(file_command(alloc, "replay")?)?
+        .subcommand(random_command(alloc)?)?
+        .subcommand(file_command(alloc, "check")?)
 }
 
 /// A command line that doesn't parse is G1, or F6 where memory ran out.
@@ -69,6 +74,7 @@ fn cause(error: &io::Error, other: ProgramError) -> ProgramError {
 fn task_of(command: &str, words: &ArgMatches) -> Option<Task> {
     match command {
         "replay" => Some(Task::Replay),
+        "check" => Some(Task::Check),
         "random" => {
             let seed = seed_in(words.get_str("seed")?)?;
             Some(Task::Random { seed })

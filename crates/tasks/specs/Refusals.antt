@@ -7,7 +7,7 @@ use Rattle.msc_text.specs.declared.fault.Cause.TheVariants.{Name, LineFull, Inst
 use Rattle.msc_text.specs.declared.fault.Fault.TheVariants.{Line, Unfinished}
 use Rattle.msc_text.specs.Writing.{Puts, Breaks}
 use Rattle.tasks.specs.declared.error.ProgramError.{ProgramError}
-use Rattle.tasks.specs.declared.error.ProgramError.TheVariants.{Usage, File, Memory, Text, Write}
+use Rattle.tasks.specs.declared.error.ProgramError.TheVariants.{Usage, File, Memory, Text, ReceiveWithoutSend, NameMismatch, Cyclic, Write}
 
 -- a name's fault, by number and name
 unfoldable pub name_label : NameError → List ℕ
@@ -34,6 +34,9 @@ label File = codes "G2 File"
 label Memory = codes "F6 Memory"
 label (Text (Line n cause)) = cause_label cause
 label (Text Unfinished) = codes "F21 Unfinished"
+label (ReceiveWithoutSend instance index) = codes "F16 ReceiveWithoutSend"
+label (NameMismatch instance index) = codes "F17 NameMismatch"
+label Cyclic = codes "F18 Cyclic"
 label Write = codes "F24 Write"
 
 -- a number behind a space
@@ -55,13 +58,20 @@ cause_detail n Syntax = behind_space n
 cause_detail n Duplicate = behind_space n
 cause_detail n UnknownInstance = behind_space n
 
--- where a refusal's cause is, if it is in a line of the text
+-- an event behind a space: its instance's name and its number
+unfoldable pub event_detail : List ℕ → ℕ → List ℕ
+event_detail instance index = codes " " ++ (instance ++ behind_space index)
+
+-- where a refusal's cause is, if it is in a line of the text or at an event of the chart
 unfoldable pub detail : ProgramError → List ℕ
 detail Usage = []
 detail File = []
 detail Memory = []
 detail (Text (Line n cause)) = cause_detail n cause
 detail (Text Unfinished) = []
+detail (ReceiveWithoutSend instance index) = event_detail instance index
+detail (NameMismatch instance index) = event_detail instance index
+detail Cyclic = []
 detail Write = []
 
 unfoldable pub start_text : List ℕ

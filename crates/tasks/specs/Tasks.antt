@@ -1,54 +1,88 @@
 -- What the program does with the bytes of a file.
-use Rattle.std.specs.Prelude.{◌≡◌, ℕ, ◌⊎◌, List, Option, Result, Ok, Err, if◌then◌else◌}
+use Rattle.std.specs.Prelude.{◌≡◌, ℕ, suc, ◌⊎◌, Bool, List, length, Option, Result, Ok, Err, nat_lt, if◌then◌else◌}
+use Rattle.std.specs.List.{list_any}
+use Rattle.chart.specs.declared.instance.EventNo.{EventNo}
+use Rattle.chart.specs.Charts.{LineView, chart_lines, IsPossible}
+use Rattle.chart.specs.Reports.{ReportView}
+use Rattle.closure.specs.Faults.{Refuses}
+use Rattle.closure.specs.Reported.{AreReports}
+use Rattle.closure.specs.declared.error.ChartError.{ChartError}
+use Rattle.closure.specs.declared.error.ChartError.TheVariants as faults
+use Rattle.msc_reader.specs.Reading.{chart_of}
+use Rattle.msc_text.specs.ChartText.{name_at}
+use Rattle.msc_text.specs.RaceText.{races_text}
 use Rattle.msc_text.specs.declared.fault.Fault.{Fault}
 use Rattle.msc_text.specs.Writing.{Puts, Breaks}
 use Rattle.schedule.specs.Plans.{Plan}
+use Rattle.schedule.specs.Reading.{schedule_of}
 use Rattle.interleaver.specs.Interleavings.{drawn_of}
-use Rattle.replayer.specs.Outcomes.{OutcomeView, IsOutcome, has_races}
+use Rattle.replayer.specs.Outcomes.{OutcomeView, IsOutcome}
 use Rattle.replayer.specs.OutcomeText.{outcome_text}
 use Rattle.tasks.specs.declared.error.ProgramError.{ProgramError}
 use Rattle.tasks.specs.declared.error.ProgramError.TheVariants as errors
 use Rattle.tasks.specs.declared.task.Task.{Task}
-use Rattle.tasks.specs.declared.task.Task.TheVariants.{Replay, Random}
+use Rattle.tasks.specs.declared.task.Task.TheVariants.{Replay, Random, Check}
 use Rattle.tasks.specs.Refusals.{refusal_text, Tried}
 
--- the plan that the task replays
-abbrev pub plan_for : Task → Plan → Plan
-plan_for Replay plan = plan
-plan_for (Random seed) plan = drawn_of plan seed
-
--- the same of what a text says
-abbrev pub asked : Task → Result Plan Fault → Result Plan Fault
-asked task (Ok plan) = Ok (plan_for task plan)
-asked task (Err fault) = Err fault
-
--- the schedule is what its text says, or the error is what is wrong with the text, memory aside
-abbrev pub Reads : Result Plan ProgramError → Result Plan Fault → Type 0
-Reads (Ok plan) said = said ≡ Ok plan
+-- what was read is what the text says, or the error is what is wrong with the text, memory aside
+abbrev pub Reads : {A : Type 0} → Result A ProgramError → Result A Fault → Type 0
+Reads (Ok read) said = said ≡ Ok read
 Reads (Err errors.Memory) said = Unit {0}
 Reads (Err (errors.Text fault)) said = said ≡ Err fault
-Reads (Err errors.Usage) said = ⊥
-Reads (Err errors.File) said = ⊥
-Reads (Err errors.Write) said = ⊥
+Reads (Err _) said = ⊥
 
--- the exit status after a run: 1 where there are races, and 0 where there are none
-abbrev pub status_of : OutcomeView → ℕ
-status_of o = if has_races o then 1 else 0
+-- some report has a race
+abbrev pub has_races : List ReportView → Bool
+has_races reports = list_any (λ report. nat_lt 0 (length report.earlier)) reports
+
+-- the exit status: 1 where there are races, and 0 where there are none
+abbrev pub status_of : List ReportView → ℕ
+status_of reports = if has_races reports then 1 else 0
+
+-- what a seed makes of what a text says
+abbrev pub drawn_by : ℕ → Result Plan Fault → Result Plan Fault
+drawn_by seed (Ok plan) = Ok (drawn_of plan seed)
+drawn_by seed (Err fault) = Err fault
+
+-- a chart's names and lines
+abbrev pub Named : Type 0
+Named = List (List ℕ) × List LineView
+
+-- the chart that the text says, refused so: the receive is named by its instance's name and its number
+abbrev pub IsRefused : ProgramError → Named → Type 0
+IsRefused (errors.ReceiveWithoutSend instance index) (names, lines) = (p : ℕ) × (instance ≡ name_at names p) × Refuses (chart_lines lines) (faults.ReceiveWithoutSend (record { instance = p; index = index }))
+IsRefused (errors.NameMismatch instance index) (names, lines) = (p : ℕ) × (instance ≡ name_at names p) × Refuses (chart_lines lines) (faults.NameMismatch (record { instance = p; index = index }))
+IsRefused errors.Cyclic (names, lines) = Refuses (chart_lines lines) faults.Cyclic
+IsRefused _ named = ⊥
 
 module _ {S : Type 0} (contents : S → Option (List ℕ)) (failures : S → ℕ) where
   -- the text of what the schedule comes to was written; or a beginning of it, where a put failed; or nothing, where the
   -- text says no schedule, or where memory ran out
   abbrev pub Replays : S → S → Result ℕ ProgramError → Result Plan Fault → Type 0
-  Replays old new (Ok status) said = (plan : Plan) × (o : OutcomeView) × (said ≡ Ok plan) × IsOutcome plan o × (status ≡ status_of o) × Puts contents failures old new (outcome_text o)
+  Replays old new (Ok status) said = (plan : Plan) × (o : OutcomeView) × (said ≡ Ok plan) × IsOutcome plan o × (status ≡ status_of o.reports) × Puts contents failures old new (outcome_text o)
   Replays old new (Err errors.Memory) said = new ≡ old
   Replays old new (Err (errors.Text fault)) said = (said ≡ Err fault) × (new ≡ old)
   Replays old new (Err errors.Write) said = (plan : Plan) × (o : OutcomeView) × (said ≡ Ok plan) × IsOutcome plan o × Breaks contents failures old new (outcome_text o)
-  Replays old new (Err errors.Usage) said = ⊥
-  Replays old new (Err errors.File) said = ⊥
+  Replays old new (Err _) said = ⊥
+
+  -- the races of the chart were written, which is possible; or a beginning of them, where a put failed; or nothing, where
+  -- the text says no chart, or one that is not possible, or where memory ran out
+  abbrev pub Checks : S → S → Result ℕ ProgramError → Result Named Fault → Type 0
+  Checks old new (Ok status) said = (named : Named) × (reports : List ReportView) × (said ≡ Ok named) × IsPossible (length named.1) (chart_lines named.1) × AreReports named.1 reports × (status ≡ status_of reports) × Puts contents failures old new (races_text named.0 reports)
+  Checks old new (Err errors.Memory) said = new ≡ old
+  Checks old new (Err (errors.Text fault)) said = (said ≡ Err fault) × (new ≡ old)
+  Checks old new (Err errors.Write) said = (named : Named) × (reports : List ReportView) × (said ≡ Ok named) × IsPossible (length named.1) (chart_lines named.1) × AreReports named.1 reports × Breaks contents failures old new (races_text named.0 reports)
+  Checks old new (Err error) said = (named : Named) × (said ≡ Ok named) × IsRefused error named × (new ≡ old)
+
+  -- what the task does with the bytes
+  abbrev pub Does : Task → List ℕ → S → S → Result ℕ ProgramError → Type 0
+  Does Replay bytes old new done = Replays old new done (schedule_of bytes)
+  Does (Random seed) bytes old new done = Replays old new done (drawn_by seed (schedule_of bytes))
+  Does Check bytes old new done = Checks old new done (chart_of bytes)
 
 -- the task is done and nothing is said, or it is refused with status 2 and a line, of which a failed write may leave a
 -- beginning
-abbrev pub Performs : {S T : Type 0} → (S → Option (List ℕ)) → (S → ℕ) → (T → Option (List ℕ)) → (T → ℕ) → S → S → T → T → ℕ → Result Plan Fault → Type 0
-Performs contents failures err_contents err_failures old new err_old err_new status said =
-    (Replays contents failures old new (Ok status) said × (err_new ≡ err_old))
-    ⊎ ((error : ProgramError) × Replays contents failures old new (Err error) said × (status ≡ 2) × Tried err_contents err_failures err_old err_new (refusal_text error))
+abbrev pub Performs : {S T : Type 0} → (S → Option (List ℕ)) → (S → ℕ) → (T → Option (List ℕ)) → (T → ℕ) → Task → List ℕ → S → S → T → T → ℕ → Type 0
+Performs contents failures err_contents err_failures task bytes old new err_old err_new status =
+    (Does contents failures task bytes old new (Ok status) × (err_new ≡ err_old))
+    ⊎ ((error : ProgramError) × Does contents failures task bytes old new (Err error) × (status ≡ 2) × Tried err_contents err_failures err_old err_new (refusal_text error))

@@ -1,5 +1,6 @@
 //! What the program refuses.
 
+use chart::Name;
 use msc_text::Fault;
 use thiserror::Error;
 
@@ -18,6 +19,25 @@ pub enum ProgramError {
     /// F1 to F4, F7 to F9, F13, F20 to F23: what is wrong with the text.
     #[error("{0}")]
     Text(Fault),
+    /// F16: on the lane of this receive fewer messages were sent than were received up to it.
+    #[error("a message is received that was not sent")]
+    ReceiveWithoutSend {
+        /// The name of the receive's instance.
+        instance: Name,
+        /// The number of the receive on its line, from 1.
+        index: u32,
+    },
+    /// F17: the send of this receive has another name.
+    #[error("a message is received by another name than it was sent by")]
+    NameMismatch {
+        /// The name of the receive's instance.
+        instance: Name,
+        /// The number of the receive on its line, from 1.
+        index: u32,
+    },
+    /// F18: the enforced order of the chart puts an event before itself.
+    #[error("an event comes before itself")]
+    Cyclic,
     /// F24: a write failed.
     #[error("the output could not be written")]
     Write,

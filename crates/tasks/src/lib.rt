@@ -1,8 +1,10 @@
 //! What the program `mscrun` does with the bytes of a file, and what it says where it can't.
 #![tactic(auto)]
 
+mod checking;
 mod error;
 mod refusal;
+mod replaying;
 mod seed;
 mod task;
 

@@ -1,10 +1,10 @@
 //! Refusals as text.
 ghost use Rattle.std.specs.Prelude.{◌≡◌, ◌<◌};
 ghost use Rattle.msc_text.specs.Writing.{Wrote, Adds};
-ghost use Rattle.tasks.specs.Refusals.{name_label, cause_label, label, behind_space, cause_detail, detail, start_text, end_text, refusal_text, Tried};
+ghost use Rattle.tasks.specs.Refusals.{name_label, cause_label, label, behind_space, cause_detail, event_detail, detail, start_text, end_text, refusal_text, Tried};
 
 use crate::error::ProgramError;
-use chart::NameError;
+use chart::{Name, NameError};
 use itoa::Buffer;
 use msc_text::{Cause, Fault, Gathering, Out, WriteError};
 
@@ -37,15 +37,18 @@ fn cause_label(cause: Cause) -> &'static [u8]
 }
 
 #[tactic(auto, unfolding(crate::specs::Refusals::label))]
-fn label(error: ProgramError) -> &'static [u8]
-    ensures { result.now ≡ label error }
+fn label(error: &ProgramError) -> &'static [u8]
+    ensures { result.now ≡ label error.now }
 {
     match error {
         ProgramError::Usage => b"G1 Usage",
         ProgramError::File => b"G2 File",
         ProgramError::Memory => b"F6 Memory",
-        ProgramError::Text(Fault::Line(_, cause)) => cause_label(cause),
+        ProgramError::Text(Fault::Line(_, cause)) => cause_label(*cause),
         ProgramError::Text(Fault::Unfinished) => b"F21 Unfinished",
+        ProgramError::ReceiveWithoutSend { .. } => b"F16 ReceiveWithoutSend",
+        ProgramError::NameMismatch { .. } => b"F17 NameMismatch",
+        ProgramError::Cyclic => b"F18 Cyclic",
         ProgramError::Write => b"F24 Write",
     }
 }
@@ -80,18 +83,37 @@ fn add_cause_detail<W: Out>(
     }
 }
 
+#[tactic(auto, unfolding(crate::specs::Refusals::event_detail, crate::specs::Refusals::behind_space))]
+fn add_event<W: Out>(
+    gathering: &mut Gathering,
+    out: &mut W,
+    instance: &Name,
+    index: u32,
+) -> Result<(), WriteError>
+    requires { W.failures out.old < u64.MAX }
+    ensures { Adds W.contents W.failures out.old out.new gathering.old gathering.new result (event_detail instance.now index) }
+{
+    let mut buffer = Buffer::new();
+    let digits = buffer.format(index).as_bytes();
+    gathering.add_all(out, &[b" ", instance.as_bytes(), b" ", digits])
+}
+
 #[tactic(auto, unfolding(crate::specs::Refusals::detail))]
 fn add_detail<W: Out>(
     gathering: &mut Gathering,
     out: &mut W,
-    error: ProgramError,
+    error: &ProgramError,
 ) -> Result<(), WriteError>
     requires { W.failures out.old < u64.MAX }
-    ensures { Adds W.contents W.failures out.old out.new gathering.old gathering.new result (detail error) }
+    ensures { Adds W.contents W.failures out.old out.new gathering.old gathering.new result (detail error.now) }
 {
     match error {
         ProgramError::Text(Fault::Line(line, cause)) => {
-            add_cause_detail(gathering, out, line, cause)
+            add_cause_detail(gathering, out, *line, *cause)
+        }
+        ProgramError::ReceiveWithoutSend { instance, index }
+        | ProgramError::NameMismatch { instance, index } => {
+            add_event(gathering, out, instance, *index)
         }
         _ => gathering.add(out, b""),
     }
@@ -117,10 +139,10 @@ fn add_end<W: Out>(gathering: &mut Gathering, out: &mut W) -> Result<(), WriteEr
 fn add_refusal<W: Out>(
     gathering: &mut Gathering,
     out: &mut W,
-    error: ProgramError,
+    error: &ProgramError,
 ) -> Result<(), WriteError>
     requires { W.failures out.old < u64.MAX }
-    ensures { Adds W.contents W.failures out.old out.new gathering.old gathering.new result (refusal_text error) }
+    ensures { Adds W.contents W.failures out.old out.new gathering.old gathering.new result (refusal_text error.now) }
 {
     add_start(gathering, out)?;
     gathering.add(out, label(error))?;
@@ -129,9 +151,9 @@ fn add_refusal<W: Out>(
 }
 
 #[tactic(auto, using(msc_text::proofs::Writes::joining))]
-fn write_refusal<W: Out>(error: ProgramError, out: &mut W) -> Result<(), WriteError>
+fn write_refusal<W: Out>(error: &ProgramError, out: &mut W) -> Result<(), WriteError>
     requires { W.failures out.old < u64.MAX }
-    ensures { Wrote W.contents W.failures out.old out.new result (refusal_text error) }
+    ensures { Wrote W.contents W.failures out.old out.new result (refusal_text error.now) }
 {
     let mut gathering = Gathering::new();
     add_refusal(&mut gathering, out, error)?;
@@ -144,6 +166,6 @@ pub fn refused<V: Out>(error: &ProgramError, err: &mut V) -> u8
     ensures status { result ≡ 2 }
     ensures line { Tried V.contents V.failures err.old err.new (refusal_text error.now) }
 {
-    let _ = write_refusal(*error, err);
+    let _ = write_refusal(error, err);
     2
 }

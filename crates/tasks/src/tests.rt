@@ -1,33 +1,44 @@
 //! Worked cases, to the byte: what the program writes for a schedule, and what it refuses.
 
+mod charts;
 mod drawn;
 mod refusals;
 mod schedules;
 
 use crate::{Task, perform};
+use charts::is_checked;
 use msc_text::MemoryOut;
+use schedule::Schedule;
 use std::alloc::Global;
 use std::process::Abort;
 use std::test::Fail;
 
 /// What is written for the text, what is said of it, and the status.
-fn performs(rt: &impl Abort, alloc: Global, text: &[u8], written: &[u8], said: &[u8], status: u8) {
+fn performs(
+    rt: &impl Abort,
+    alloc: Global,
+    task: Task,
+    text: &[u8],
+    written: &[u8],
+    said: &[u8],
+    status: u8,
+) {
     let mut out = MemoryOut::new(alloc);
     let mut err = MemoryOut::new(alloc);
-    assert_eq!(rt;
-        perform(alloc, &Task::Replay, text, &mut out, &mut err),
-        status
-    );
+    assert_eq!(rt; perform(alloc, &task, text, &mut out, &mut err), status);
     assert_eq!(rt; out.as_bytes(), written);
     assert_eq!(rt; err.as_bytes(), said);
 }
 
+/// The schedule comes to this, and its chart is checked.
 fn replays(rt: &impl Abort, alloc: Global, text: &[u8], written: &[u8], status: u8) {
-    performs(rt, alloc, text, written, b"", status);
+    performs(rt, alloc, Task::Replay, text, written, b"", status);
+    let schedule = Schedule::read(alloc, text).expect(rt, "a schedule");
+    is_checked(rt, alloc, &schedule);
 }
 
 fn refuses(rt: &impl Abort, alloc: Global, text: &[u8], said: &[u8]) {
-    performs(rt, alloc, text, b"", said, 2);
+    performs(rt, alloc, Task::Replay, text, b"", said, 2);
 }
 
 /// The piece, so many times, after the front and before the end.

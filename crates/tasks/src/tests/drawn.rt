@@ -1,5 +1,6 @@
 //! Schedules that are replayed in a drawn order.
 
+use super::charts::is_checked;
 use super::{every_growth_was_refused, repeated};
 use crate::{Task, perform};
 use chart::{Event, InstanceNo, Line};
@@ -110,8 +111,14 @@ fn are_lanes(lines: &[Line]) -> bool {
         .all(|from| lines.iter().all(|to| is_lane(from, to)))
 }
 
-fn draws_lanes(alloc: Global, schedule: &Schedule, seed: u64) -> Result<bool, Fail> {
+fn draws_lanes(
+    rt: &impl Abort,
+    alloc: Global,
+    schedule: &Schedule,
+    seed: u64,
+) -> Result<bool, Fail> {
     let drawn = drawn(alloc, schedule, seed)?;
+    is_checked(rt, alloc, &drawn);
     let outcome = replay(alloc, &drawn)?;
     Ok(
         (1..=3)
@@ -128,7 +135,7 @@ fn a_thousand_seeds(rt: HostRuntime) -> Result<(), Fail> {
     let text = repeated(rt.alloc(), b"instances a b c\ncapacity 2\n", turn, 20, b"")?;
     let schedule = Schedule::read(rt.alloc(), text.as_slice())?;
     for seed in 0..1000 {
-        assert!(rt; draws_lanes(rt.alloc(), &schedule, seed)?);
+        assert!(rt; draws_lanes(&rt, rt.alloc(), &schedule, seed)?);
     }
     Ok(())
 }

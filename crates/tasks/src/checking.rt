@@ -1,0 +1,110 @@
+//! Checks charts: whether they are possible, and their races.
+ghost use Rattle.std.specs.Prelude.{◌≡◌, ◌≤◌, ◌<◌, ◌⊎◌, List, length, OnOk, IfErr, IfOk};
+ghost use Rattle.chart.specs.Charts.{LineView, chart_lines, IsPossible};
+ghost use Rattle.closure.specs.Reported.{AreReports};
+ghost use Rattle.closure.specs.Faults.{Refuses};
+ghost use Rattle.msc_reader.specs.Reading.{chart_of};
+ghost use Rattle.msc_text.specs.ChartText.{name_at};
+ghost use Rattle.msc_text.specs.RaceText.{races_text};
+ghost use Rattle.msc_text.specs.Writing.{Wrote};
+ghost use Rattle.tasks.specs.Tasks.{Reads, IsRefused, has_races, Checks};
+
+use crate::error::ProgramError;
+use chart::{Chart, InstanceNo, Name, Names, Report};
+use closure::{ChartError, Closure};
+use msc_reader::read;
+use msc_text::{Gathering, Out, TextError, WriteError, add_races};
+use std::alloc::Global;
+
+/// The names and the chart that the text says.
+fn chart_in(alloc: Global, text: &[u8]) -> Result<(Names, Chart), ProgramError>
+    ensures read { Reads result (chart_of text.now) }
+    ensures named { IfOk result (λ read. length read.0 ≡ length read.1) }
+{
+    match read(alloc, text) {
+        Ok(read) => Ok(read),
+        Err(TextError::Memory) => Err(ProgramError::Memory),
+        Err(TextError::Fault(fault)) => Err(ProgramError::Text(fault)),
+    }
+}
+
+/// Writes the line of each race.
+#[tactic(auto, using(msc_text::proofs::Writes::joining))]
+fn write<W: Out>(names: &Names, reports: &[Report], out: &mut W) -> Result<(), WriteError>
+    requires { W.failures out.old < u64.MAX }
+    ensures { Wrote W.contents W.failures out.old out.new result (races_text names.now reports.now) }
+{
+    let mut gathering = Gathering::new();
+    add_races(&mut gathering, out, names, reports)?;
+    gathering.finish(out)
+}
+
+/// Whether a report has a race.
+fn has_races(reports: &[Report]) -> bool
+    ensures { result ≡ has_races reports.now }
+{
+    reports.iter().any(|report| !report.earlier().is_empty())
+}
+
+/// The name of the instance, which has one.
+fn named(names: &Names, instance: InstanceNo) -> Name
+    requires { instance ≤ length names.now }
+    ensures { result ≡ name_at names.now instance }
+{
+    let place = instance.place();
+    prove!(place < names.len());
+    match names.name(instance) {
+        Some(name) => name,
+        None => unreachable!(),
+    }
+}
+
+/// The refusal of the chart, by the names of its instances.
+fn refusal(names: &Names, error: ChartError) -> ProgramError
+    requires { (lines : List LineView) × (length names.now ≡ length lines) × Refuses (chart_lines lines) error }
+    ensures { (lines : List LineView) → Refuses (chart_lines lines) error
+        → (result ≡ ProgramError.Memory) ⊎ IsRefused result (names.now, lines) }
+{
+    match error {
+        ChartError::ReceiveWithoutSend(receive) => ProgramError::ReceiveWithoutSend {
+            instance: named(names, receive.instance),
+            index: receive.index,
+        },
+        ChartError::NameMismatch(receive) => ProgramError::NameMismatch {
+            instance: named(names, receive.instance),
+            index: receive.index,
+        },
+        ChartError::Cyclic => ProgramError::Cyclic,
+        ChartError::Memory => ProgramError::Memory,
+    }
+}
+
+/// The races of the chart, if it is possible.
+fn races_of(alloc: Global, names: &Names, chart: &Chart) -> Result<Vec<Report>, ProgramError>
+    requires { length names.now ≡ length chart.now }
+    ensures possible { OnOk result (IsPossible (length chart.now) (chart_lines chart.now)) }
+    ensures reports { IfOk result (λ reports. AreReports chart.now reports.items) }
+    ensures refused { IfErr result (λ e. (e ≡ ProgramError.Memory) ⊎ IsRefused e (names.now, chart.now)) }
+{
+    let closure = match Closure::of(alloc, chart) {
+        Ok(closure) => closure,
+        Err(error) => return Err(refusal(names, error)),
+    };
+    match closure.races() {
+        Ok(reports) => Ok(reports),
+        Err(_) => Err(ProgramError::Memory),
+    }
+}
+
+/// Checks the chart that the text says: writes its races, and answers the exit status.
+pub fn checked<W: Out>(alloc: Global, text: &[u8], out: &mut W) -> Result<u8, ProgramError>
+    requires { W.failures out.old < u64.MAX }
+    ensures { Checks W.contents W.failures out.old out.new result (chart_of text.now) }
+{
+    let (names, chart) = chart_in(alloc, text)?;
+    let reports = races_of(alloc, &names, &chart)?;
+    match write(&names, reports.as_slice(), out) {
+        Ok(()) => Ok(u8::from(has_races(reports.as_slice()))),
+        Err(_) => Err(ProgramError::Write),
+    }
+}

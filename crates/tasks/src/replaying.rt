@@ -1,0 +1,72 @@
+//! Replays schedules, as their text says or in a drawn order.
+ghost use Rattle.std.specs.Prelude.{◌≡◌, ◌<◌, Result, Ok};
+ghost use Rattle.schedule.specs.Plans.{Plan};
+ghost use Rattle.schedule.specs.Reading.{schedule_of};
+ghost use Rattle.msc_text.specs.declared.fault.Fault.{Fault};
+ghost use Rattle.tasks.specs.Tasks.{Reads, drawn_by, Replays};
+
+use crate::error::ProgramError;
+use interleaver::{Memory, drawn};
+use msc_text::{Out, TextError};
+use replayer::{ReplayError, replay};
+use schedule::Schedule;
+use std::alloc::Global;
+
+fn schedule_in(alloc: Global, text: &[u8]) -> Result<Schedule, ProgramError>
+    ensures { Reads result (schedule_of text.now) }
+{
+    match Schedule::read(alloc, text) {
+        Ok(schedule) => Ok(schedule),
+        Err(TextError::Memory) => Err(ProgramError::Memory),
+        Err(TextError::Fault(fault)) => Err(ProgramError::Text(fault)),
+    }
+}
+
+/// The schedule in the order that the seed draws.
+fn drawn_in(alloc: Global, seed: u64, text: &[u8]) -> Result<Schedule, ProgramError>
+    ensures { Reads result (drawn_by seed (schedule_of text.now)) }
+{
+    let schedule = schedule_in(alloc, text)?;
+    match drawn(alloc, &schedule, seed) {
+        Ok(drawn) => Ok(drawn),
+        Err(Memory) => Err(ProgramError::Memory),
+    }
+}
+
+/// Replays a schedule, writes what comes out, and answers the exit status.
+fn written<W: Out>(alloc: Global, schedule: &Schedule, out: &mut W) -> Result<u8, ProgramError>
+    requires { W.failures out.old < u64.MAX }
+    ensures { (said : Result Plan Fault) → said ≡ Ok schedule.now → Replays W.contents W.failures out.old out.new result said }
+{
+    let outcome = match replay(alloc, schedule) {
+        Ok(outcome) => outcome,
+        Err(ReplayError::Memory) => return Err(ProgramError::Memory),
+    };
+    match outcome.write(out) {
+        Ok(()) => Ok(u8::from(outcome.has_races())),
+        Err(_) => Err(ProgramError::Write),
+    }
+}
+
+/// Replays the schedule that the text says.
+pub fn replayed<W: Out>(alloc: Global, text: &[u8], out: &mut W) -> Result<u8, ProgramError>
+    requires { W.failures out.old < u64.MAX }
+    ensures { Replays W.contents W.failures out.old out.new result (schedule_of text.now) }
+{
+    let schedule = schedule_in(alloc, text)?;
+    written(alloc, &schedule, out)
+}
+
+/// Replays it in the order that the seed draws.
+pub fn replayed_by<W: Out>(
+    alloc: Global,
+    seed: u64,
+    text: &[u8],
+    out: &mut W,
+) -> Result<u8, ProgramError>
+    requires { W.failures out.old < u64.MAX }
+    ensures { Replays W.contents W.failures out.old out.new result (drawn_by seed (schedule_of text.now)) }
+{
+    let schedule = drawn_in(alloc, seed, text)?;
+    written(alloc, &schedule, out)
+}
