@@ -23,14 +23,15 @@ use Rattle.msc_text.proofs.Parts.{lines_again, end_again}
 use Rattle.msc_text.proofs.Results.{bind_at}
 use Rattle.msc_reader.specs.Drawings.{DrawingView, blank, with_head, drawn}
 use Rattle.msc_reader.specs.HasText.{HasText, CanBeSpelled}
-use Rattle.msc_reader.specs.Reading.{names_after, with_name, look_from, draw_from, names_in, lines_in, chart_of}
+use Rattle.msc_text.specs.Instances.{with_name}
+use Rattle.msc_reader.specs.Reading.{names_after, look_from, draw_from, names_in, lines_in, chart_of}
 use Rattle.msc_reader.specs.declared.place.Place.TheVariants as places
 use Rattle.msc_reader.specs.declared.place.Region.TheVariants as regions
 use Rattle.msc_reader.specs.declared.place.Saying.{Saying}
 use Rattle.msc_reader.specs.declared.place.Saying.TheVariants as sayings
 use Rattle.msc_reader.proofs.EventPaths.{IsSpelled, MayFollow, spot_in, spot_behind, body_path, close_path}
 use Rattle.msc_reader.proofs.Moves.Moves.{begins, heads, ends, leaves}
-use Rattle.msc_reader.proofs.NewNames.{with_name-ok}
+use Rattle.msc_text.proofs.NewNames.{with_name-ok}
 use Rattle.msc_reader.proofs.Paths.{Spot, Passes, Path, one_pass, path_then, look_path, draw_path, path_lacks}
 use Rattle.msc_reader.proofs.Paths.Path.{stay, pass}
 use Rattle.msc_reader.proofs.SayingsAgain.{saying_line}

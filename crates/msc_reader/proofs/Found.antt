@@ -19,7 +19,8 @@ use Rattle.msc_text.proofs.Parts.{lines_joined}
 use Rattle.msc_text.proofs.Results.{bind_ok, bind_at, guard_ok, when_ok, in_line_ok, ok_is}
 use Rattle.msc_reader.specs.Drawings.{DrawingView, blank, drawn}
 use Rattle.msc_reader.specs.HasText.{HasText, CanBeSpelled}
-use Rattle.msc_reader.specs.Reading.{names_after, with_name, finished, look_from, draw_from, names_in, lines_in, chart_of}
+use Rattle.msc_text.specs.Instances.{with_name}
+use Rattle.msc_reader.specs.Reading.{names_after, finished, look_from, draw_from, names_in, lines_in, chart_of}
 use Rattle.msc_reader.specs.Steps.{Step, step_of}
 use Rattle.msc_reader.specs.declared.place.Place.{Place}
 use Rattle.msc_reader.specs.declared.place.Place.TheVariants as places

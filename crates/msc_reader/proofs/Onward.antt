@@ -19,8 +19,10 @@ use Rattle.msc_text.specs.declared.fault.Cause.{Cause}
 use Rattle.msc_text.specs.declared.fault.Cause.TheVariants.{Instances, Duplicate, UnknownInstance}
 use Rattle.msc_text.proofs.Lookups.{IsNamed, instance_is}
 use Rattle.msc_text.proofs.Results.{bind_at, guard_ok, ok_is}
-use Rattle.msc_reader.specs.Drawings.{DrawingView, blank, known, known_of, with_mark, with_head, with_foot, with_send, with_receive, drawn}
-use Rattle.msc_reader.specs.Reading.{with_name, names_after}
+use Rattle.msc_text.specs.Instances.{known, known_of}
+use Rattle.msc_reader.specs.Drawings.{DrawingView, blank, with_mark, with_head, with_foot, with_send, with_receive, drawn}
+use Rattle.msc_text.specs.Instances.{with_name}
+use Rattle.msc_reader.specs.Reading.{names_after}
 use Rattle.msc_reader.specs.Steps.{held}
 use Rattle.msc_reader.specs.declared.place.Place.{Place}
 use Rattle.msc_reader.specs.declared.place.Place.TheVariants as places

@@ -18,8 +18,10 @@ use Rattle.msc_text.specs.declared.fault.Cause.{Cause}
 use Rattle.msc_text.specs.declared.fault.Fault.{Fault}
 use Rattle.msc_text.proofs.Lookups.{instance_again}
 use Rattle.msc_text.proofs.Results.{bind_at}
-use Rattle.msc_reader.specs.Drawings.{DrawingView, blank, known, known_of, greater, with_mark, with_head, with_foot, with_send, with_receive, drawn}
-use Rattle.msc_reader.specs.Reading.{names_after, with_name, finished, look_from, draw_from}
+use Rattle.msc_text.specs.Instances.{known, known_of}
+use Rattle.msc_reader.specs.Drawings.{DrawingView, blank, greater, with_mark, with_head, with_foot, with_send, with_receive, drawn}
+use Rattle.msc_text.specs.Instances.{with_name}
+use Rattle.msc_reader.specs.Reading.{names_after, finished, look_from, draw_from}
 use Rattle.msc_reader.specs.Steps.{Step, held, step_of}
 use Rattle.msc_reader.specs.declared.place.Place.{Place}
 use Rattle.msc_reader.specs.declared.place.Place.TheVariants as places

@@ -8,7 +8,7 @@ use Rattle.std.proofs.lemmas.Map.Views.{list_any-from_Contains}
 use Rattle.chart.proofs.NameLists.{Contains-found}
 use Rattle.chart.specs.declared.instance.TheConstants.{MAX_INSTANCES}
 use Rattle.msc_text.specs.declared.fault.Cause.TheVariants.{Instances, Duplicate}
-use Rattle.msc_reader.specs.Reading.{with_name}
+use Rattle.msc_text.specs.Instances.{with_name}
 
 -- a name that is there is found
 is_given : (names : List (List ℕ)) (name : List ℕ) → Contains names name → list_any (bytes_eq name) names ≡ true
