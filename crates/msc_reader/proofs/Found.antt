@@ -15,6 +15,7 @@ use Rattle.msc_text.specs.declared.fault.Cause.{Cause}
 use Rattle.msc_text.specs.declared.fault.Cause.TheVariants.{Instances, Syntax, UnknownInstance}
 use Rattle.msc_text.specs.declared.fault.Fault.{Fault}
 use Rattle.msc_text.specs.declared.fault.Fault.TheVariants.{Line}
+use Rattle.msc_text.proofs.NewNames.{with_name-is}
 use Rattle.msc_text.proofs.Parts.{lines_joined}
 use Rattle.msc_text.proofs.Results.{bind_ok, bind_at, guard_ok, when_ok, in_line_ok, ok_is}
 use Rattle.msc_reader.specs.Drawings.{DrawingView, blank, drawn}
@@ -26,7 +27,7 @@ use Rattle.msc_reader.specs.declared.place.Place.{Place}
 use Rattle.msc_reader.specs.declared.place.Place.TheVariants as places
 use Rattle.msc_reader.specs.declared.place.Saying.{Saying}
 use Rattle.msc_reader.specs.declared.place.Saying.TheVariants as sayings
-use Rattle.msc_reader.proofs.Onward.{Draws, Outcome, IsAdded, is_added, onward}
+use Rattle.msc_reader.proofs.Onward.{Draws, Outcome, onward}
 use Rattle.msc_reader.proofs.SayingsAgain.{saying_line, line-is}
 use Rattle.msc_reader.proofs.Standing.{IsMark, IsLineAmong, Stands, State, so_far}
 use Rattle.msc_reader.proofs.TextSayings.{part, chart_sayings, spell, chart_text-is}
@@ -42,7 +43,7 @@ same_prefix begun more e = record { later = []; is = sym e ∙ sym (append-nil b
 
 after-prefix : (begun more : List (List ℕ)) (saying : Saying) → names_after begun saying ≡ Ok more → IsPrefix begun more
 after-prefix begun more sayings.Begin e = same_prefix begun more (ok_is begun more e)
-after-prefix begun more (sayings.Head own) e = record { later = own ∷ []; is = sym ((is_added begun own more e).is) }
+after-prefix begun more (sayings.Head own) e = record { later = own ∷ []; is = sym (with_name-is begun own more e) }
 after-prefix begun more (sayings.Send to name) e = same_prefix begun more (ok_is begun more e)
 after-prefix begun more (sayings.Receive from name) e = same_prefix begun more (ok_is begun more e)
 after-prefix begun more sayings.Open e = same_prefix begun more (ok_is begun more e)

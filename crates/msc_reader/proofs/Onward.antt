@@ -18,6 +18,7 @@ use Rattle.msc_text.specs.Faults.{◌>>=◌}
 use Rattle.msc_text.specs.declared.fault.Cause.{Cause}
 use Rattle.msc_text.specs.declared.fault.Cause.TheVariants.{Instances, Duplicate, UnknownInstance}
 use Rattle.msc_text.proofs.Lookups.{IsNamed, instance_is}
+use Rattle.msc_text.proofs.NewNames.{with_name-names}
 use Rattle.msc_text.proofs.Results.{bind_at, guard_ok, ok_is}
 use Rattle.msc_text.specs.Instances.{known, known_of}
 use Rattle.msc_reader.specs.Drawings.{DrawingView, blank, with_mark, with_head, with_foot, with_send, with_receive, drawn}
@@ -46,19 +47,6 @@ pub record Draws (names more : List (List ℕ)) (place next : Place) (d : Drawin
 abbrev pub Outcome : List (List ℕ) → List (List ℕ) → Place → Place → DrawingView → Saying → Type 0
 Outcome names more place next d saying = (drawn names d saying ≡ Err UnknownInstance) ⊎ ((e : DrawingView) × Draws names more place next d saying e)
 
--- ---- names
-
-pub record IsAdded (begun : List (List ℕ)) (own : List ℕ) (more : List (List ℕ)) : Type 0 where
-  pub is : begun ++ own ∷ [] ≡ more
-  pub room : length begun ≢ MAX_INSTANCES
-  pub new : list_any (bytes_eq own) begun ≡ false
-
-pub is_added : (begun : List (List ℕ)) (own : List ℕ) (more : List (List ℕ)) → with_name begun own ≡ Ok more → IsAdded begun own more
-is_added begun own more e =
-    let a = guard_ok (list_any (bytes_eq own) begun) Duplicate (cond (eqb (length begun) MAX_INSTANCES) (Err Instances) (Ok (begun ++ own ∷ []))) more e in
-    let b = guard_ok (eqb (length begun) MAX_INSTANCES) Instances (Ok (begun ++ own ∷ [])) more a.1 in
-    record { is = ok_is (begun ++ own ∷ []) more b.1; room = eqb-false (length begun) MAX_INSTANCES b.0; new = a.0 }
-
 add-one-length : (lines : List LineView) (line : LineView) → length (lines ++ line ∷ []) ≡ suc (length lines)
 add-one-length lines line = omega (arith, length-append lines (line ∷ []))
 
@@ -85,17 +73,19 @@ empty_line n p = record { line_is = record { short = omega arith; partners = λ 
 head-on : (names begun more later : List (List ℕ)) (own : List ℕ) (d : DrawingView) → IsName own → State names begun places.Outside d → with_name begun own ≡ Ok more → names ≡ more ++ later
     → Outcome names more places.Outside (places.Inside own 0 regions.Closed) d (sayings.Head own)
 head-on names begun more later own d name s e prefix =
-    let add = is_added begun own more e in
+    let add = with_name-names begun own more s.are e in
+    let is : begun ++ own ∷ [] ≡ more = sym add.1 in
+    let are : AreNames (begun ++ own ∷ []) = subst AreNames add.1 add.0 in
     let many : length begun ≡ length d.lines = s.stands.1 in
-    let limit = s.are.limit in
-    let room : length begun < MAX_INSTANCES = omega (arith, add.room) in
-    let whole : names ≡ (begun ++ own ∷ []) ++ later = prefix ∙ ap (λ l. l ++ later) (sym add.is) in
+    let limit : length (begun ++ own ∷ []) ≤ MAX_INSTANCES = are.limit in
+    let room : length begun < MAX_INSTANCES = omega (arith, length-append begun (own ∷ [])) in
+    let whole : names ≡ (begun ++ own ∷ []) ++ later = prefix ∙ ap (λ l. l ++ later) add.1 in
     let owner : name_at names (suc (length d.lines)) ≡ own = ap (λ k. name_at names (suc k)) (sym many) ∙ ap (λ l. name_at l (suc (length begun))) whole ∙ name_at-there begun own later in
     let line : LineView = record { instance = suc (length d.lines); events = [] } in
     let e : DrawingView = record { lines = d.lines; line = Some line; open_region = 0; greatest = 0 } in
     let inside : IsInside names own 0 regions.Closed e line = record { there = refl; next = refl; owner = owner; many = refl; most = refl; open_is = refl; among = empty_line (length names) (suc (length d.lines)) } in
     let state : State names (begun ++ own ∷ []) (places.Inside own 0 regions.Closed) e = record {
-      are = AreNames-push begun own s.are room (not_there begun own add.new);
+      are = are;
       each = all-push IsName begun own s.each name;
       numbered = s.numbered;
       among = s.among;
@@ -105,7 +95,7 @@ head-on names begun more later own d name s e prefix =
       e,
       record {
         is_drawn = ap (λ b. cond b (Err Instances) (Ok e)) (lt-leb MAX_INSTANCES (length d.lines) (omega arith));
-        state = subst (λ b. State names b (places.Inside own 0 regions.Closed) e) add.is state;
+        state = subst (λ b. State names b (places.Inside own 0 regions.Closed) e) is state;
         says = refl;
       },
     )

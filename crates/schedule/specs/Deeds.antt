@@ -2,6 +2,7 @@
 use Rattle.std.specs.Prelude.{ℕ, not, ◌||◌, ◌==◌, List, [], ◌∷◌, length, Option, None, Some, Result, Ok, Err, if◌then◌else◌}
 use Rattle.chart.specs.Names.{instance_of}
 use Rattle.msc_text.specs.Faults.{◌>>=◌}
+use Rattle.msc_text.specs.Instances.{known_of}
 use Rattle.msc_text.specs.Lines.{words_of, name_or_cause}
 use Rattle.msc_text.specs.declared.fault.Cause.{Cause}
 use Rattle.msc_text.specs.declared.fault.Cause.TheVariants.{ToItself, Syntax, UnknownInstance}
@@ -12,15 +13,6 @@ use Rattle.schedule.specs.declared.command.Action.TheVariants.{Send, Receive, An
 -- an instance, and its action
 abbrev pub Deed : Type 0
 Deed = ℕ × Action
-
--- an instance that a look-up found
-abbrev pub known : Option ℕ → Result ℕ Cause
-known None = Err UnknownInstance
-known (Some p) = Ok p
-
--- the instance of the name
-unfoldable pub known_of : List (List ℕ) → List ℕ → Result ℕ Cause
-known_of names name = known (instance_of names name)
 
 -- two instances, which are not the same
 unfoldable pub pair_of : List (List ℕ) → List ℕ → List ℕ → Result (ℕ × ℕ) Cause
