@@ -1,17 +1,14 @@
 -- What both looks read is spelled so: laws about lists alone.
-use Rattle.std.proofs.Common.{◌≡◌, ◌≢◌, ℕ, zero, suc, ◌+◌, ◌<◌, ◌≤◌, Bool, true, false, cond, eqb, nat_lt, List, [], ◌∷◌, ◌++◌, length, map, All, Option, Some, None, Result, Ok, Err, ◌⊎◌, inl, inr, refl, sym, ap, ◌∙◌, subst, arith, append_assoc, append-nil}
+use Rattle.std.proofs.Common.{◌≡◌, ℕ, ◌+◌, ◌≤◌, eqb, nat_lt, List, [], ◌∷◌, ◌++◌, length, map, All, Result, Ok, Err, inl, inr, refl, sym, ap, ◌∙◌, subst, arith, append_assoc, append-nil}
 use Rattle.std.specs.List.{flat_map, AllByRecursion}
 use Rattle.std.proofs.lemmas.Bool.{eqb-true}
 use Rattle.std.proofs.lemmas.List.Elements.{All-from_recursion}
-use Rattle.chart.specs.Charts.{LineView, IsLine, IsChart, HasPartners}
+use Rattle.chart.specs.Charts.{LineView, IsLine, HasPartners}
 use Rattle.chart.specs.Marks.{partner_of}
 use Rattle.chart.specs.Names.{IsName}
-use Rattle.chart.specs.NameSets.{AreNames}
-use Rattle.chart.specs.declared.event.Event.{Event as Mark}
 use Rattle.msc_text.specs.ChartText.{chart_text}
 use Rattle.msc_text.specs.Faults.{◌>>=◌, in_line}
 use Rattle.msc_text.specs.Lines.{lines_of, end_of, ended}
-use Rattle.msc_text.specs.declared.fault.Cause.{Cause}
 use Rattle.msc_text.specs.declared.fault.Cause.TheVariants.{Instances, Syntax, UnknownInstance}
 use Rattle.msc_text.specs.declared.fault.Fault.{Fault}
 use Rattle.msc_text.specs.declared.fault.Fault.TheVariants.{Line}
@@ -20,7 +17,6 @@ use Rattle.msc_text.proofs.Parts.{lines_joined}
 use Rattle.msc_text.proofs.Results.{bind_ok, bind_at, guard_ok, when_ok, in_line_ok, ok_is}
 use Rattle.msc_reader.specs.Drawings.{DrawingView, blank, drawn}
 use Rattle.msc_reader.specs.HasText.{HasText, CanBeSpelled}
-use Rattle.msc_text.specs.Instances.{with_name}
 use Rattle.msc_reader.specs.Reading.{names_after, finished, look_from, draw_from, names_in, lines_in, chart_of}
 use Rattle.msc_reader.specs.Steps.{Step, step_of}
 use Rattle.msc_reader.specs.declared.place.Place.{Place}
@@ -29,8 +25,8 @@ use Rattle.msc_reader.specs.declared.place.Saying.{Saying}
 use Rattle.msc_reader.specs.declared.place.Saying.TheVariants as sayings
 use Rattle.msc_reader.proofs.Onward.{Draws, Outcome, onward}
 use Rattle.msc_reader.proofs.SayingsAgain.{saying_line, line-is}
-use Rattle.msc_reader.proofs.Standing.{IsMark, IsLineAmong, Stands, State, so_far}
-use Rattle.msc_reader.proofs.TextSayings.{part, chart_sayings, spell, chart_text-is}
+use Rattle.msc_reader.proofs.Standing.{IsMark, IsLineAmong, State, so_far}
+use Rattle.msc_reader.proofs.TextSayings.{chart_sayings, spell, chart_text-is}
 
 -- ---- names that were read stay
 

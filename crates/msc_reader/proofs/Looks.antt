@@ -1,7 +1,6 @@
 -- The two looks at a text's lines, as the loops take them.
-use Rattle.std.proofs.Common.{◌≡◌, ℕ, ◌+◌, List, [], ◌∷◌, Result, Ok, Err, refl, sym, ap, ◌∙◌}
-use Rattle.chart.specs.Charts.{LineView}
-use Rattle.msc_text.specs.Faults.{◌>>=◌, in_line, Fails, Gives}
+use Rattle.std.proofs.Common.{◌≡◌, ℕ, ◌+◌, List, [], ◌∷◌, Result, Ok, Err, refl, sym, ◌∙◌}
+use Rattle.msc_text.specs.Faults.{in_line, Fails, Gives}
 use Rattle.msc_text.specs.declared.fault.Fault.{Fault}
 use Rattle.msc_text.specs.declared.fault.TextError.{TextError}
 use Rattle.msc_text.specs.declared.fault.TextError.TheVariants as errors

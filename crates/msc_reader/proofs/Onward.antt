@@ -1,12 +1,10 @@
 -- What one more line makes of both looks: it is drawn, or its partner is no instance.
-use Rattle.std.proofs.Common.{◌≡◌, ◌≢◌, ℕ, zero, suc, ◌+◌, ◌<◌, ◌≤◌, Bool, true, false, cond, eqb, leb, nat_lt, List, [], ◌∷◌, ◌++◌, length, Option, Some, None, Result, Ok, Err, ◌⊎◌, inl, inr, refl, sym, ap, ◌∙◌, subst, arith, append_assoc, length-append}
-use Rattle.std.specs.Prelude.{bytes_eq, nat_le}
-use Rattle.std.specs.List.{flat_map, list_any, AllByRecursion}
-use Rattle.std.proofs.lemmas.Bool.{eqb-false, ltb-false, lt-leb}
+use Rattle.std.proofs.Common.{◌≡◌, ℕ, suc, ◌+◌, ◌<◌, ◌≤◌, cond, nat_lt, List, [], ◌∷◌, ◌++◌, length, Option, Some, None, Ok, Err, ◌⊎◌, inl, inr, refl, sym, ap, ◌∙◌, subst, arith, append_assoc, length-append}
+use Rattle.std.specs.List.{flat_map}
+use Rattle.std.proofs.lemmas.Bool.{ltb-false, lt-leb}
 use Rattle.std.proofs.lemmas.List.{flat_map_more}
-use Rattle.chart.proofs.NameLists.{AreNames-push, not_there}
 use Rattle.chart.proofs.Places.{each-push}
-use Rattle.chart.specs.Charts.{LineView, IsLine, IsNumbered}
+use Rattle.chart.specs.Charts.{LineView}
 use Rattle.chart.specs.Marks.{partner_of, name_of, region_of}
 use Rattle.chart.specs.Names.{IsName, instance_of}
 use Rattle.chart.specs.NameSets.{AreNames}
@@ -15,13 +13,12 @@ use Rattle.chart.specs.declared.event.Event.TheVariants as marks
 use Rattle.chart.specs.declared.instance.TheConstants.{MAX_INSTANCES}
 use Rattle.msc_text.specs.ChartText.{name_at}
 use Rattle.msc_text.specs.Faults.{◌>>=◌}
-use Rattle.msc_text.specs.declared.fault.Cause.{Cause}
-use Rattle.msc_text.specs.declared.fault.Cause.TheVariants.{Instances, Duplicate, UnknownInstance}
+use Rattle.msc_text.specs.declared.fault.Cause.TheVariants.{Instances, UnknownInstance}
 use Rattle.msc_text.proofs.Lookups.{IsNamed, instance_is}
 use Rattle.msc_text.proofs.NewNames.{with_name-names}
-use Rattle.msc_text.proofs.Results.{bind_at, guard_ok, ok_is}
+use Rattle.msc_text.proofs.Results.{guard_ok, ok_is}
 use Rattle.msc_text.specs.Instances.{known, known_of}
-use Rattle.msc_reader.specs.Drawings.{DrawingView, blank, with_mark, with_head, with_foot, with_send, with_receive, drawn}
+use Rattle.msc_reader.specs.Drawings.{DrawingView, with_mark, with_foot, with_send, with_receive, drawn}
 use Rattle.msc_text.specs.Instances.{with_name}
 use Rattle.msc_reader.specs.Reading.{names_after}
 use Rattle.msc_reader.specs.Steps.{held}
@@ -34,8 +31,8 @@ use Rattle.msc_reader.specs.declared.place.Saying.TheVariants as sayings
 use Rattle.msc_reader.proofs.Coregions.{HasOpen, tail_of, last_from-is, closing-open}
 use Rattle.msc_reader.proofs.Moves.{IsEvent, Moves}
 use Rattle.msc_reader.proofs.Moves.Moves.{begins, heads, ends, sends, receives, opens, shuts, leaves}
-use Rattle.msc_reader.proofs.Standing.{IsMark, IsLineAmong, IsInside, Stands, State, inside_said, so_far, all-push, name_at-there, Pushes, more_line, more_drawn, mark-drawn, mark-inside, mark-said}
-use Rattle.msc_reader.proofs.TextSayings.{said, marked, body, last_from, closing, part}
+use Rattle.msc_reader.proofs.Standing.{IsLineAmong, IsInside, State, inside_said, so_far, all-push, name_at-there, Pushes, more_line, more_drawn, mark-drawn, mark-inside, mark-said}
+use Rattle.msc_reader.proofs.TextSayings.{said, body, last_from, closing, part}
 
 -- one more line is drawn
 pub record Draws (names more : List (List ℕ)) (place next : Place) (d : DrawingView) (saying : Saying) (e : DrawingView) : Type 0 where

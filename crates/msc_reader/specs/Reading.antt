@@ -9,7 +9,7 @@ use Rattle.msc_text.specs.declared.fault.Cause.TheVariants.{Instances, Syntax}
 use Rattle.msc_text.specs.declared.fault.Fault.{Fault}
 use Rattle.msc_text.specs.declared.fault.Fault.TheVariants.{Line, Unfinished}
 use Rattle.msc_reader.specs.Drawings.{DrawingView, blank, drawn}
-use Rattle.msc_reader.specs.Steps.{Step, step_of}
+use Rattle.msc_reader.specs.Steps.{step_of}
 use Rattle.msc_reader.specs.declared.place.Place.{Place}
 use Rattle.msc_reader.specs.declared.place.Place.TheVariants.{Start, Outside, Inside, Done}
 use Rattle.msc_reader.specs.declared.place.Saying.{Saying}
