@@ -1,17 +1,13 @@
 -- Names that are added one by one, and the words of a line.
-use Rattle.std.proofs.Common.{◌≡◌, ℕ, Bool, true, false, not, List, [], ◌∷◌, ◌++◌, length, Option, Some, None, Result, Ok, Err, refl, sym, ap, subst, ◌∙◌, Contains, ◌&&◌, eqb, arith, eq-eqb}
-use Rattle.std.specs.Prelude.{bytes_eq, MatchOption}
-use Rattle.std.specs.List.{list_any, list_all}
-use Rattle.std.specs.Cmp.Lexicographic.{nat_list_eq_equiv}
+use Rattle.std.proofs.Common.{◌≡◌, ℕ, Bool, true, false, not, List, [], ◌∷◌, length, Option, Some, None, Result, Ok, Err, refl, sym, ap, subst, ◌∙◌, ◌&&◌, eqb, arith}
+use Rattle.std.specs.Prelude.{MatchOption}
+use Rattle.std.specs.List.{list_all}
 use Rattle.std.proofs.lemmas.Bool.{ne_eqb, and_right, cond-false}
-use Rattle.std.proofs.lemmas.Map.Views.{list_any-from_Contains}
-use Rattle.chart.proofs.NameLists.{Contains-found}
-use Rattle.chart.specs.declared.instance.TheConstants.{MAX_INSTANCES}
 use Rattle.msc_text.proofs.Parts.{Cons, words_cons}
 use Rattle.msc_text.specs.Faults.{in_line, Fails}
 use Rattle.msc_text.specs.Lines.{words_of, name_or_cause}
 use Rattle.msc_text.specs.declared.fault.Cause.{Cause}
-use Rattle.msc_text.specs.declared.fault.Cause.TheVariants.{Instances, Syntax, Duplicate}
+use Rattle.msc_text.specs.declared.fault.Cause.TheVariants.{Syntax}
 use Rattle.msc_text.specs.declared.fault.TextError.{TextError}
 use Rattle.msc_text.specs.Instances.{with_name}
 use Rattle.schedule.specs.FirstLines.{is_word, are_words, with_word, with_words, instances_of, instances_by, names_of}

@@ -1,13 +1,12 @@
 -- Line 1, the instances' names: what is read is spelled so, and what is spelled so is read. Laws about lists alone.
-use Rattle.std.proofs.Common.{◌≡◌, ℕ, ◌≤◌, ◌<◌, true, not, ◌&&◌, cond, eqb, ltb, List, [], ◌∷◌, ◌++◌, length, Some, Ok, Err, All, Contains, refl, sym, ap, ◌∙◌, subst, arith, append_assoc, append-nil}
-use Rattle.std.specs.Prelude.{bytes_eq, codes, slice_get}
-use Rattle.std.specs.List.{AllByRecursion, list_any, list_all}
-use Rattle.std.proofs.lemmas.Bool.{eqb-false, ne_eqb, ltb-false, le-ltb, and_parts, and_from, cond-true, cond-false}
+use Rattle.std.proofs.Common.{◌≡◌, ℕ, ◌≤◌, ◌<◌, true, not, ◌&&◌, eqb, ltb, List, [], ◌∷◌, ◌++◌, length, Some, Ok, Err, All, Contains, refl, sym, ap, ◌∙◌, subst, arith, append_assoc, append-nil}
+use Rattle.std.specs.Prelude.{codes, slice_get}
+use Rattle.std.specs.List.{AllByRecursion, list_all}
+use Rattle.std.proofs.lemmas.Bool.{ne_eqb, ltb-false, le-ltb, and_parts, and_from, cond-true, cond-false}
 use Rattle.std.proofs.lemmas.List.{length-append}
 use Rattle.std.proofs.lemmas.List.Elements.{All-from_recursion, recursion_from_All}
 use Rattle.std.proofs.lemmas.Option.{slice_get-get_or}
 use Rattle.std.proofs.Math.Seq.{get_or-append_seam}
-use Rattle.chart.proofs.NameLists.{AreNames-push, not_there}
 use Rattle.chart.proofs.Places.{slice_get-append}
 use Rattle.chart.specs.Names.{IsName}
 use Rattle.chart.specs.NameSets.{AreNames}
@@ -16,7 +15,7 @@ use Rattle.msc_text.proofs.Lookups.{same_bytes}
 use Rattle.msc_text.proofs.Parts.{lacks_if}
 use Rattle.msc_text.proofs.Results.{bind_ok, bind_at, guard_ok, name_is, name_again, name_some, when_ok, ok_is}
 use Rattle.msc_text.specs.Lines.{words_of, name_or_cause, Lacks}
-use Rattle.msc_text.specs.declared.fault.Cause.TheVariants.{Instances, Syntax, Duplicate}
+use Rattle.msc_text.specs.declared.fault.Cause.TheVariants.{Instances, Syntax}
 use Rattle.msc_text.specs.Instances.{with_name}
 use Rattle.schedule.specs.FirstLines.{is_word, are_words, with_word, with_words, several, instances_of, instances_by, names_of}
 use Rattle.schedule.specs.Keywords.{is_instances}

@@ -1,12 +1,11 @@
 -- The first two lines of a schedule's text: the instances' names, and the capacity.
-use Rattle.std.specs.Prelude.{ℕ, ◌+◌, ◌-◌, ◌*◌, Bool, false, not, ◌&&◌, ◌||◌, ◌==◌, List, [], ◌∷◌, ◌++◌, length, Result, Ok, Err, nat_lt, nat_le, bytes_eq, if◌then◌else◌}
-use Rattle.std.specs.List.{list_all, list_any}
-use Rattle.chart.specs.declared.instance.TheConstants.{MAX_INSTANCES}
+use Rattle.std.specs.Prelude.{ℕ, ◌+◌, ◌-◌, ◌*◌, Bool, false, not, ◌&&◌, ◌||◌, ◌==◌, List, [], ◌∷◌, length, Result, Ok, Err, nat_lt, nat_le, if◌then◌else◌}
+use Rattle.std.specs.List.{list_all}
 use Rattle.msc_text.specs.Faults.{◌>>=◌}
 use Rattle.msc_text.specs.Instances.{with_name}
 use Rattle.msc_text.specs.Lines.{words_of, name_or_cause}
 use Rattle.msc_text.specs.declared.fault.Cause.{Cause}
-use Rattle.msc_text.specs.declared.fault.Cause.TheVariants.{Instances, Capacity, Syntax, Duplicate}
+use Rattle.msc_text.specs.declared.fault.Cause.TheVariants.{Instances, Capacity, Syntax}
 use Rattle.schedule.specs.Keywords.{is_instances, is_capacity}
 use Rattle.schedule.specs.declared.schedule.TheConstants.{MAX_CAPACITY}
 
