@@ -1,14 +1,13 @@
 -- The lines of a chart's text, as both looks pass them: what is spelled is read.
-use Rattle.std.proofs.Common.{◌≡◌, ◌≢◌, ℕ, zero, suc, ◌+◌, ◌<◌, ◌≤◌, Bool, true, false, cond, nat_lt, List, [], ◌∷◌, ◌++◌, length, map, take, get_or, All, Contains, Option, Some, None, Result, Ok, Err, refl, sym, ap, ◌∙◌, subst, arith, append_assoc, append-nil, length-append}
+use Rattle.std.proofs.Common.{◌≡◌, ◌≢◌, ℕ, zero, suc, ◌+◌, ◌<◌, ◌≤◌, cond, List, [], ◌∷◌, ◌++◌, length, map, take, All, Contains, Some, None, Ok, Err, refl, sym, ap, ◌∙◌, subst, arith, append_assoc, append-nil, length-append}
 use Rattle.std.specs.Prelude.{slice_get, unwrap_or}
 use Rattle.std.specs.List.{flat_map, AllByRecursion}
 use Rattle.std.proofs.Math.Seq.{take-append_seam}
 use Rattle.std.proofs.lemmas.Bool.{lt-leb, le-ltb}
-use Rattle.std.proofs.lemmas.List.Elements.{recursion_from_All}
 use Rattle.std.proofs.lemmas.Option.{slice_get-get_or, slice_get_within, get_or_from_slice_get}
 use Rattle.chart.proofs.Places.{slice_get-append}
-use Rattle.chart.specs.Charts.{LineView, IsLine, IsChart, HasPartners, IsNumbered}
-use Rattle.chart.specs.Marks.{partner_of, name_of, region_of, greatest_region, MayHaveRegion, HasRegionsInOrder}
+use Rattle.chart.specs.Charts.{LineView, IsLine}
+use Rattle.chart.specs.Marks.{partner_of, region_of, greatest_region, MayHaveRegion, HasRegionsInOrder}
 use Rattle.chart.specs.Names.{IsName, instance_of}
 use Rattle.chart.specs.NameSets.{AreNames}
 use Rattle.chart.specs.declared.event.Event.{Event as Mark}
@@ -16,25 +15,24 @@ use Rattle.chart.specs.declared.instance.TheConstants.{MAX_INSTANCES}
 use Rattle.chart.specs.declared.line.TheConstants.{MAX_EVENTS}
 use Rattle.msc_text.specs.ChartText.{chart_text, name_at}
 use Rattle.msc_text.specs.Faults.{◌>>=◌}
-use Rattle.msc_text.specs.Lines.{Lacks, lines_of, end_of, ended}
+use Rattle.msc_text.specs.Lines.{lines_of, end_of}
 use Rattle.msc_text.specs.declared.fault.Cause.TheVariants.{Instances}
 use Rattle.msc_text.proofs.Lookups.{instance_again, name_at_all}
 use Rattle.msc_text.proofs.Parts.{lines_again, end_again}
 use Rattle.msc_text.proofs.Results.{bind_at}
-use Rattle.msc_reader.specs.Drawings.{DrawingView, blank, with_head, drawn}
+use Rattle.msc_reader.specs.Drawings.{DrawingView, blank}
 use Rattle.msc_reader.specs.HasText.{HasText, CanBeSpelled}
-use Rattle.msc_reader.specs.Reading.{names_after, with_name, look_from, draw_from, names_in, lines_in, chart_of}
+use Rattle.msc_reader.specs.Reading.{look_from, draw_from, names_in, lines_in, chart_of}
 use Rattle.msc_reader.specs.declared.place.Place.TheVariants as places
 use Rattle.msc_reader.specs.declared.place.Region.TheVariants as regions
-use Rattle.msc_reader.specs.declared.place.Saying.{Saying}
 use Rattle.msc_reader.specs.declared.place.Saying.TheVariants as sayings
 use Rattle.msc_reader.proofs.EventPaths.{IsSpelled, MayFollow, spot_in, spot_behind, body_path, close_path}
 use Rattle.msc_reader.proofs.Moves.Moves.{begins, heads, ends, leaves}
-use Rattle.msc_reader.proofs.NewNames.{with_name-ok}
+use Rattle.msc_text.proofs.NewNames.{with_name-ok}
 use Rattle.msc_reader.proofs.Paths.{Spot, Passes, Path, one_pass, path_then, look_path, draw_path, path_lacks}
 use Rattle.msc_reader.proofs.Paths.Path.{stay, pass}
 use Rattle.msc_reader.proofs.SayingsAgain.{saying_line}
-use Rattle.msc_reader.proofs.TextSayings.{body, closing, last_from, part, chart_sayings, spell, chart_text-is}
+use Rattle.msc_reader.proofs.TextSayings.{body, closing, last_from, part, chart_sayings, chart_text-is}
 
 -- ---- one instance
 

@@ -1,5 +1,5 @@
 -- What a drawing keeps when an event is added.
-use Rattle.std.proofs.Common.{◌≡◌, ℕ, suc, ◌+◌, ◌≤◌, cond, eqb, max, List, [], ◌∷◌, ◌++◌, length, Some, Result, Ok, Err, sym, subst, ap, ◌∙◌, ◌⊎◌, inl, inr, arith, refl, zero}
+use Rattle.std.proofs.Common.{◌≡◌, ℕ, suc, ◌+◌, ◌≤◌, cond, eqb, max, List, [], ◌∷◌, ◌++◌, length, Some, Ok, Err, sym, subst, ap, ◌∙◌, ◌⊎◌, inl, inr, arith, refl, zero}
 use Rattle.std.proofs.lemmas.List.{length-append}
 use Rattle.std.proofs.lemmas.Bool.{eqb-false, ne_eqb}
 use Rattle.chart.specs.Charts.{LineView}

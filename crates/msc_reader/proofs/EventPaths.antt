@@ -1,5 +1,5 @@
 -- The events of a line, as both looks pass them.
-use Rattle.std.proofs.Common.{◌≡◌, ◌≢◌, ℕ, zero, suc, ◌+◌, ◌<◌, ◌≤◌, max, List, [], ◌∷◌, ◌++◌, length, Option, Some, None, Result, Ok, Err, inl, inr, refl, sym, ap, ◌∙◌, subst, arith, append_assoc, append-nil, length-append}
+use Rattle.std.proofs.Common.{◌≡◌, ◌≢◌, ℕ, zero, suc, ◌+◌, ◌<◌, ◌≤◌, List, [], ◌∷◌, ◌++◌, length, Some, Ok, inl, inr, refl, sym, ap, ◌∙◌, subst, arith, append_assoc, append-nil, length-append}
 use Rattle.std.specs.List.{AllByRecursion}
 use Rattle.chart.proofs.Regions.{greatest_region-push}
 use Rattle.chart.specs.Charts.{LineView}
@@ -11,7 +11,8 @@ use Rattle.chart.specs.declared.line.TheConstants.{MAX_EVENTS}
 use Rattle.msc_text.specs.ChartText.{name_at}
 use Rattle.msc_text.specs.Faults.{◌>>=◌}
 use Rattle.msc_text.proofs.Results.{bind_at}
-use Rattle.msc_reader.specs.Drawings.{DrawingView, known, known_of, pushed, greater, with_mark, with_send, with_receive, drawn}
+use Rattle.msc_text.specs.Instances.{known, known_of}
+use Rattle.msc_reader.specs.Drawings.{DrawingView, pushed, greater, with_mark, with_send, with_receive}
 use Rattle.msc_reader.specs.Steps.{held}
 use Rattle.msc_reader.specs.declared.place.Place.TheVariants as places
 use Rattle.msc_reader.specs.declared.place.Region.{Region}

@@ -1,34 +1,32 @@
 -- What both looks read is spelled so: laws about lists alone.
-use Rattle.std.proofs.Common.{◌≡◌, ◌≢◌, ℕ, zero, suc, ◌+◌, ◌<◌, ◌≤◌, Bool, true, false, cond, eqb, nat_lt, List, [], ◌∷◌, ◌++◌, length, map, All, Option, Some, None, Result, Ok, Err, ◌⊎◌, inl, inr, refl, sym, ap, ◌∙◌, subst, arith, append_assoc, append-nil}
+use Rattle.std.proofs.Common.{◌≡◌, ℕ, ◌+◌, ◌≤◌, eqb, nat_lt, List, [], ◌∷◌, ◌++◌, length, map, All, Result, Ok, Err, inl, inr, refl, sym, ap, ◌∙◌, subst, arith, append_assoc, append-nil}
 use Rattle.std.specs.List.{flat_map, AllByRecursion}
 use Rattle.std.proofs.lemmas.Bool.{eqb-true}
 use Rattle.std.proofs.lemmas.List.Elements.{All-from_recursion}
-use Rattle.chart.specs.Charts.{LineView, IsLine, IsChart, HasPartners}
+use Rattle.chart.specs.Charts.{LineView, IsLine, HasPartners}
 use Rattle.chart.specs.Marks.{partner_of}
 use Rattle.chart.specs.Names.{IsName}
-use Rattle.chart.specs.NameSets.{AreNames}
-use Rattle.chart.specs.declared.event.Event.{Event as Mark}
 use Rattle.msc_text.specs.ChartText.{chart_text}
 use Rattle.msc_text.specs.Faults.{◌>>=◌, in_line}
 use Rattle.msc_text.specs.Lines.{lines_of, end_of, ended}
-use Rattle.msc_text.specs.declared.fault.Cause.{Cause}
 use Rattle.msc_text.specs.declared.fault.Cause.TheVariants.{Instances, Syntax, UnknownInstance}
 use Rattle.msc_text.specs.declared.fault.Fault.{Fault}
 use Rattle.msc_text.specs.declared.fault.Fault.TheVariants.{Line}
+use Rattle.msc_text.proofs.NewNames.{with_name-is}
 use Rattle.msc_text.proofs.Parts.{lines_joined}
 use Rattle.msc_text.proofs.Results.{bind_ok, bind_at, guard_ok, when_ok, in_line_ok, ok_is}
 use Rattle.msc_reader.specs.Drawings.{DrawingView, blank, drawn}
 use Rattle.msc_reader.specs.HasText.{HasText, CanBeSpelled}
-use Rattle.msc_reader.specs.Reading.{names_after, with_name, finished, look_from, draw_from, names_in, lines_in, chart_of}
+use Rattle.msc_reader.specs.Reading.{names_after, finished, look_from, draw_from, names_in, lines_in, chart_of}
 use Rattle.msc_reader.specs.Steps.{Step, step_of}
 use Rattle.msc_reader.specs.declared.place.Place.{Place}
 use Rattle.msc_reader.specs.declared.place.Place.TheVariants as places
 use Rattle.msc_reader.specs.declared.place.Saying.{Saying}
 use Rattle.msc_reader.specs.declared.place.Saying.TheVariants as sayings
-use Rattle.msc_reader.proofs.Onward.{Draws, Outcome, IsAdded, is_added, onward}
+use Rattle.msc_reader.proofs.Onward.{Draws, Outcome, onward}
 use Rattle.msc_reader.proofs.SayingsAgain.{saying_line, line-is}
-use Rattle.msc_reader.proofs.Standing.{IsMark, IsLineAmong, Stands, State, so_far}
-use Rattle.msc_reader.proofs.TextSayings.{part, chart_sayings, spell, chart_text-is}
+use Rattle.msc_reader.proofs.Standing.{IsMark, IsLineAmong, State, so_far}
+use Rattle.msc_reader.proofs.TextSayings.{chart_sayings, spell, chart_text-is}
 
 -- ---- names that were read stay
 
@@ -41,7 +39,7 @@ same_prefix begun more e = record { later = []; is = sym e ∙ sym (append-nil b
 
 after-prefix : (begun more : List (List ℕ)) (saying : Saying) → names_after begun saying ≡ Ok more → IsPrefix begun more
 after-prefix begun more sayings.Begin e = same_prefix begun more (ok_is begun more e)
-after-prefix begun more (sayings.Head own) e = record { later = own ∷ []; is = sym ((is_added begun own more e).is) }
+after-prefix begun more (sayings.Head own) e = record { later = own ∷ []; is = sym (with_name-is begun own more e) }
 after-prefix begun more (sayings.Send to name) e = same_prefix begun more (ok_is begun more e)
 after-prefix begun more (sayings.Receive from name) e = same_prefix begun more (ok_is begun more e)
 after-prefix begun more sayings.Open e = same_prefix begun more (ok_is begun more e)

@@ -5,7 +5,6 @@ pub mod Drawings
 pub mod Found
 pub mod Looks
 pub mod Moves
-pub mod NewNames
 pub mod Onward
 pub mod Paths
 pub mod Sayings

@@ -1,21 +1,14 @@
 -- The two looks at a text's lines, as the loops take them.
-use Rattle.std.proofs.Common.{◌≡◌, ℕ, ◌+◌, List, [], ◌∷◌, Result, Ok, Err, refl, sym, ap, ◌∙◌}
-use Rattle.chart.specs.Charts.{LineView}
-use Rattle.msc_text.specs.Faults.{◌>>=◌, in_line, Fails, Gives}
+use Rattle.std.proofs.Common.{◌≡◌, ℕ, ◌+◌, List, [], ◌∷◌, Result, Ok, Err, refl, sym, ◌∙◌}
+use Rattle.msc_text.specs.Faults.{in_line, Fails, Gives}
 use Rattle.msc_text.specs.declared.fault.Fault.{Fault}
 use Rattle.msc_text.specs.declared.fault.TextError.{TextError}
 use Rattle.msc_text.specs.declared.fault.TextError.TheVariants as errors
-use Rattle.msc_text.proofs.Results.{bind_at}
+use Rattle.msc_text.proofs.Results.{bind_at, fails_then}
 use Rattle.msc_reader.specs.Drawings.{DrawingView, drawn}
 use Rattle.msc_reader.specs.Reading.{finished, names_after, look_from, draw_from}
 use Rattle.msc_reader.specs.Steps.{Step, step_of}
 use Rattle.msc_reader.specs.declared.place.Place.{Place}
-
--- a step that failed decides
-pub fails_then : {A B : Type 0} (error : TextError) (r : Result A Fault) (f : A → Result B Fault) → Fails error r → Fails error (r >>= f)
-fails_then errors.Memory r f h = tt
-fails_then (errors.Fault fault) (Ok x) f h = absurd cc
-fails_then (errors.Fault fault) (Err d) f h = cc
 
 -- what fails is what was to be read
 pub fails_so : {A : Type 0} (error : TextError) (r s : Result A Fault) → r ≡ s → Fails error r → Fails error s

@@ -1,5 +1,5 @@
 -- What may be said in each place of a chart's text, and in which words.
-use Rattle.std.proofs.Common.{◌≡◌, ◌≢◌, ℕ, ◌+◌, ◌<◌, List, [], ◌∷◌, ◌++◌}
+use Rattle.std.proofs.Common.{◌≢◌, ℕ, ◌+◌, ◌<◌, List, [], ◌∷◌, ◌++◌}
 use Rattle.std.specs.Prelude.{codes}
 use Rattle.chart.specs.Names.{IsName}
 use Rattle.chart.specs.declared.line.TheConstants.{MAX_EVENTS}

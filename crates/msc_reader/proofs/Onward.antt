@@ -1,12 +1,10 @@
 -- What one more line makes of both looks: it is drawn, or its partner is no instance.
-use Rattle.std.proofs.Common.{◌≡◌, ◌≢◌, ℕ, zero, suc, ◌+◌, ◌<◌, ◌≤◌, Bool, true, false, cond, eqb, leb, nat_lt, List, [], ◌∷◌, ◌++◌, length, Option, Some, None, Result, Ok, Err, ◌⊎◌, inl, inr, refl, sym, ap, ◌∙◌, subst, arith, append_assoc, length-append}
-use Rattle.std.specs.Prelude.{bytes_eq, nat_le}
-use Rattle.std.specs.List.{flat_map, list_any, AllByRecursion}
-use Rattle.std.proofs.lemmas.Bool.{eqb-false, ltb-false, lt-leb}
+use Rattle.std.proofs.Common.{◌≡◌, ℕ, suc, ◌+◌, ◌<◌, ◌≤◌, cond, nat_lt, List, [], ◌∷◌, ◌++◌, length, Option, Some, None, Ok, Err, ◌⊎◌, inl, inr, refl, sym, ap, ◌∙◌, subst, arith, append_assoc, length-append}
+use Rattle.std.specs.List.{flat_map}
+use Rattle.std.proofs.lemmas.Bool.{ltb-false, lt-leb}
 use Rattle.std.proofs.lemmas.List.{flat_map_more}
-use Rattle.chart.proofs.NameLists.{AreNames-push, not_there}
 use Rattle.chart.proofs.Places.{each-push}
-use Rattle.chart.specs.Charts.{LineView, IsLine, IsNumbered}
+use Rattle.chart.specs.Charts.{LineView}
 use Rattle.chart.specs.Marks.{partner_of, name_of, region_of}
 use Rattle.chart.specs.Names.{IsName, instance_of}
 use Rattle.chart.specs.NameSets.{AreNames}
@@ -15,12 +13,14 @@ use Rattle.chart.specs.declared.event.Event.TheVariants as marks
 use Rattle.chart.specs.declared.instance.TheConstants.{MAX_INSTANCES}
 use Rattle.msc_text.specs.ChartText.{name_at}
 use Rattle.msc_text.specs.Faults.{◌>>=◌}
-use Rattle.msc_text.specs.declared.fault.Cause.{Cause}
-use Rattle.msc_text.specs.declared.fault.Cause.TheVariants.{Instances, Duplicate, UnknownInstance}
+use Rattle.msc_text.specs.declared.fault.Cause.TheVariants.{Instances, UnknownInstance}
 use Rattle.msc_text.proofs.Lookups.{IsNamed, instance_is}
-use Rattle.msc_text.proofs.Results.{bind_at, guard_ok, ok_is}
-use Rattle.msc_reader.specs.Drawings.{DrawingView, blank, known, known_of, with_mark, with_head, with_foot, with_send, with_receive, drawn}
-use Rattle.msc_reader.specs.Reading.{with_name, names_after}
+use Rattle.msc_text.proofs.NewNames.{with_name-names}
+use Rattle.msc_text.proofs.Results.{guard_ok, ok_is}
+use Rattle.msc_text.specs.Instances.{known, known_of}
+use Rattle.msc_reader.specs.Drawings.{DrawingView, with_mark, with_foot, with_send, with_receive, drawn}
+use Rattle.msc_text.specs.Instances.{with_name}
+use Rattle.msc_reader.specs.Reading.{names_after}
 use Rattle.msc_reader.specs.Steps.{held}
 use Rattle.msc_reader.specs.declared.place.Place.{Place}
 use Rattle.msc_reader.specs.declared.place.Place.TheVariants as places
@@ -31,8 +31,8 @@ use Rattle.msc_reader.specs.declared.place.Saying.TheVariants as sayings
 use Rattle.msc_reader.proofs.Coregions.{HasOpen, tail_of, last_from-is, closing-open}
 use Rattle.msc_reader.proofs.Moves.{IsEvent, Moves}
 use Rattle.msc_reader.proofs.Moves.Moves.{begins, heads, ends, sends, receives, opens, shuts, leaves}
-use Rattle.msc_reader.proofs.Standing.{IsMark, IsLineAmong, IsInside, Stands, State, inside_said, so_far, all-push, name_at-there, Pushes, more_line, more_drawn, mark-drawn, mark-inside, mark-said}
-use Rattle.msc_reader.proofs.TextSayings.{said, marked, body, last_from, closing, part}
+use Rattle.msc_reader.proofs.Standing.{IsLineAmong, IsInside, State, inside_said, so_far, all-push, name_at-there, Pushes, more_line, more_drawn, mark-drawn, mark-inside, mark-said}
+use Rattle.msc_reader.proofs.TextSayings.{said, body, last_from, closing, part}
 
 -- one more line is drawn
 pub record Draws (names more : List (List ℕ)) (place next : Place) (d : DrawingView) (saying : Saying) (e : DrawingView) : Type 0 where
@@ -43,19 +43,6 @@ pub record Draws (names more : List (List ℕ)) (place next : Place) (d : Drawin
 -- or not
 abbrev pub Outcome : List (List ℕ) → List (List ℕ) → Place → Place → DrawingView → Saying → Type 0
 Outcome names more place next d saying = (drawn names d saying ≡ Err UnknownInstance) ⊎ ((e : DrawingView) × Draws names more place next d saying e)
-
--- ---- names
-
-pub record IsAdded (begun : List (List ℕ)) (own : List ℕ) (more : List (List ℕ)) : Type 0 where
-  pub is : begun ++ own ∷ [] ≡ more
-  pub room : length begun ≢ MAX_INSTANCES
-  pub new : list_any (bytes_eq own) begun ≡ false
-
-pub is_added : (begun : List (List ℕ)) (own : List ℕ) (more : List (List ℕ)) → with_name begun own ≡ Ok more → IsAdded begun own more
-is_added begun own more e =
-    let a = guard_ok (list_any (bytes_eq own) begun) Duplicate (cond (eqb (length begun) MAX_INSTANCES) (Err Instances) (Ok (begun ++ own ∷ []))) more e in
-    let b = guard_ok (eqb (length begun) MAX_INSTANCES) Instances (Ok (begun ++ own ∷ [])) more a.1 in
-    record { is = ok_is (begun ++ own ∷ []) more b.1; room = eqb-false (length begun) MAX_INSTANCES b.0; new = a.0 }
 
 add-one-length : (lines : List LineView) (line : LineView) → length (lines ++ line ∷ []) ≡ suc (length lines)
 add-one-length lines line = omega (arith, length-append lines (line ∷ []))
@@ -83,17 +70,19 @@ empty_line n p = record { line_is = record { short = omega arith; partners = λ 
 head-on : (names begun more later : List (List ℕ)) (own : List ℕ) (d : DrawingView) → IsName own → State names begun places.Outside d → with_name begun own ≡ Ok more → names ≡ more ++ later
     → Outcome names more places.Outside (places.Inside own 0 regions.Closed) d (sayings.Head own)
 head-on names begun more later own d name s e prefix =
-    let add = is_added begun own more e in
+    let add = with_name-names begun own more s.are e in
+    let is : begun ++ own ∷ [] ≡ more = sym add.1 in
+    let are : AreNames (begun ++ own ∷ []) = subst AreNames add.1 add.0 in
     let many : length begun ≡ length d.lines = s.stands.1 in
-    let limit = s.are.limit in
-    let room : length begun < MAX_INSTANCES = omega (arith, add.room) in
-    let whole : names ≡ (begun ++ own ∷ []) ++ later = prefix ∙ ap (λ l. l ++ later) (sym add.is) in
+    let limit : length (begun ++ own ∷ []) ≤ MAX_INSTANCES = are.limit in
+    let room : length begun < MAX_INSTANCES = omega (arith, length-append begun (own ∷ [])) in
+    let whole : names ≡ (begun ++ own ∷ []) ++ later = prefix ∙ ap (λ l. l ++ later) add.1 in
     let owner : name_at names (suc (length d.lines)) ≡ own = ap (λ k. name_at names (suc k)) (sym many) ∙ ap (λ l. name_at l (suc (length begun))) whole ∙ name_at-there begun own later in
     let line : LineView = record { instance = suc (length d.lines); events = [] } in
     let e : DrawingView = record { lines = d.lines; line = Some line; open_region = 0; greatest = 0 } in
     let inside : IsInside names own 0 regions.Closed e line = record { there = refl; next = refl; owner = owner; many = refl; most = refl; open_is = refl; among = empty_line (length names) (suc (length d.lines)) } in
     let state : State names (begun ++ own ∷ []) (places.Inside own 0 regions.Closed) e = record {
-      are = AreNames-push begun own s.are room (not_there begun own add.new);
+      are = are;
       each = all-push IsName begun own s.each name;
       numbered = s.numbered;
       among = s.among;
@@ -103,7 +92,7 @@ head-on names begun more later own d name s e prefix =
       e,
       record {
         is_drawn = ap (λ b. cond b (Err Instances) (Ok e)) (lt-leb MAX_INSTANCES (length d.lines) (omega arith));
-        state = subst (λ b. State names b (places.Inside own 0 regions.Closed) e) add.is state;
+        state = subst (λ b. State names b (places.Inside own 0 regions.Closed) e) is state;
         says = refl;
       },
     )

@@ -1,36 +1,16 @@
 -- Lines that both looks pass, one after the other: laws about lists alone.
-use Rattle.std.proofs.Common.{◌≡◌, ◌≢◌, ℕ, zero, suc, ◌+◌, ◌<◌, ◌≤◌, Bool, true, false, cond, eqb, nat_lt, max, List, [], ◌∷◌, ◌++◌, length, map, take, All, Contains, Option, Some, None, Result, Ok, Err, ◌⊎◌, inl, inr, refl, sym, ap, ◌∙◌, subst, arith, append_assoc, append-nil, length-append, add-zero}
-use Rattle.std.specs.Prelude.{slice_get}
-use Rattle.std.specs.List.{flat_map, AllByRecursion}
-use Rattle.std.proofs.lemmas.Bool.{eqb-true, lt-leb}
-use Rattle.chart.specs.Charts.{LineView, IsLine, IsChart, HasPartners, IsNumbered}
-use Rattle.chart.specs.Marks.{partner_of, name_of, region_of, greatest_region, last_region, MayHaveRegion, HasRegionsInOrder}
-use Rattle.chart.specs.Names.{IsName, instance_of}
-use Rattle.chart.specs.NameSets.{AreNames}
-use Rattle.chart.specs.declared.event.Event.{Event as Mark}
-use Rattle.chart.specs.declared.event.Event.TheVariants as marks
-use Rattle.chart.specs.declared.instance.TheConstants.{MAX_INSTANCES}
-use Rattle.chart.specs.declared.line.TheConstants.{MAX_EVENTS}
-use Rattle.msc_text.specs.ChartText.{chart_text, name_at}
+use Rattle.std.proofs.Common.{◌≡◌, ℕ, ◌+◌, List, [], ◌∷◌, ◌++◌, length, map, Ok, refl, sym, ap, ◌∙◌, arith, add-zero}
+use Rattle.std.specs.List.{AllByRecursion}
 use Rattle.msc_text.specs.Faults.{◌>>=◌, in_line}
 use Rattle.msc_text.specs.Lines.{Lacks}
-use Rattle.msc_text.specs.declared.fault.Cause.{Cause}
-use Rattle.msc_text.specs.declared.fault.Fault.{Fault}
-use Rattle.msc_text.proofs.Lookups.{instance_again}
 use Rattle.msc_text.proofs.Results.{bind_at}
-use Rattle.msc_reader.specs.Drawings.{DrawingView, blank, known, known_of, greater, with_mark, with_head, with_foot, with_send, with_receive, drawn}
-use Rattle.msc_reader.specs.Reading.{names_after, with_name, finished, look_from, draw_from}
-use Rattle.msc_reader.specs.Steps.{Step, held, step_of}
+use Rattle.msc_reader.specs.Drawings.{DrawingView, drawn}
+use Rattle.msc_reader.specs.Reading.{names_after, finished, look_from, draw_from}
+use Rattle.msc_reader.specs.Steps.{step_of}
 use Rattle.msc_reader.specs.declared.place.Place.{Place}
-use Rattle.msc_reader.specs.declared.place.Place.TheVariants as places
-use Rattle.msc_reader.specs.declared.place.Region.{Region}
-use Rattle.msc_reader.specs.declared.place.Region.TheVariants as regions
 use Rattle.msc_reader.specs.declared.place.Saying.{Saying}
-use Rattle.msc_reader.specs.declared.place.Saying.TheVariants as sayings
-use Rattle.msc_reader.proofs.Moves.{IsEvent, Moves}
-use Rattle.msc_reader.proofs.Moves.Moves.{begins, heads, ends, sends, receives, opens, shuts, leaves}
+use Rattle.msc_reader.proofs.Moves.{Moves}
 use Rattle.msc_reader.proofs.SayingsAgain.{saying_line, line-again, line-lacks}
-use Rattle.msc_reader.proofs.TextSayings.{said, marked, body, last_from, closing, opening, part, chart_sayings}
 
 -- where both looks are: the names that have begun, the place and what is drawn
 pub record Spot : Type 0 where

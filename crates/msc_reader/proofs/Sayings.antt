@@ -1,26 +1,24 @@
 -- Lines that are read, and the words that say them: laws about lists alone.
-use Rattle.std.proofs.Common.{◌≡◌, ◌≢◌, ℕ, ◌+◌, ◌<◌, ◌≤◌, Bool, true, false, cond, not, ◌&&◌, leb, List, [], ◌∷◌, ◌++◌, length, Option, Some, None, Result, Ok, Err, refl, sym, ap, ◌∙◌, subst, arith, inl, inr}
+use Rattle.std.proofs.Common.{◌≡◌, ◌≢◌, ℕ, ◌+◌, Bool, true, false, cond, ◌&&◌, List, [], ◌∷◌, Option, Some, None, Ok, Err, refl, sym, ap, ◌∙◌, subst, inl, inr}
 use Rattle.std.specs.Prelude.{codes, bytes_eq, nat_le}
 use Rattle.std.proofs.lemmas.Bool.{false≢true, leb-false}
 use Rattle.chart.specs.Names.{IsName}
 use Rattle.chart.specs.declared.line.TheConstants.{MAX_EVENTS}
 use Rattle.msc_text.specs.Faults.{◌>>=◌}
-use Rattle.msc_text.specs.Lines.{words_of, name_or_cause}
-use Rattle.msc_text.specs.declared.fault.Cause.{Cause}
+use Rattle.msc_text.specs.Lines.{name_or_cause}
 use Rattle.msc_text.specs.declared.fault.Cause.TheVariants.{Syntax, ToItself, LineFull}
 use Rattle.msc_text.proofs.Lookups.{same_bytes, same_itself}
-use Rattle.msc_text.proofs.Results.{bind_ok, bind_at, guard_ok, when_ok, chosen, ok_is, name_is, name_again}
+use Rattle.msc_text.proofs.Results.{bind_ok, guard_ok, when_ok, chosen, ok_is, name_is}
 use Rattle.msc_reader.specs.Keywords.{is_msc, is_run, is_instance, is_endinstance, is_out, is_to, is_in, is_from, is_concurrent, is_endconcurrent, is_endmsc}
 use Rattle.msc_reader.specs.Steps.{Step, before_semicolon, is_plain, start_by, head_of, outside_by, pair_of, names_of, held, send_of, receive_of, is_closed, event_of, alone_of, inside_by, step_by}
 use Rattle.msc_reader.specs.declared.place.Place.{Place}
 use Rattle.msc_reader.specs.declared.place.Place.TheVariants as places
 use Rattle.msc_reader.specs.declared.place.Region.{Region}
 use Rattle.msc_reader.specs.declared.place.Region.TheVariants as regions
-use Rattle.msc_reader.specs.declared.place.Saying.{Saying}
 use Rattle.msc_reader.specs.declared.place.Saying.TheVariants as sayings
 use Rattle.msc_reader.proofs.Moves.{IsEvent, Moves, semi, saying_words}
 use Rattle.msc_reader.proofs.Moves.Moves.{begins, heads, ends, sends, receives, opens, shuts, leaves}
-use Rattle.msc_reader.proofs.Semicolons.{before_is, before_again, plain_again}
+use Rattle.msc_reader.proofs.Semicolons.{before_is}
 
 -- the words say what may be said
 pub record Says (place : Place) (words : List (List ℕ)) (step : Step) : Type 0 where

@@ -1,20 +1,19 @@
 -- What may be said, read again from its words: laws about lists alone.
-use Rattle.std.proofs.Common.{◌≡◌, ◌≢◌, ℕ, ◌+◌, ◌<◌, Bool, true, false, cond, ◌&&◌, List, [], ◌∷◌, ◌++◌, Option, Some, None, Result, Ok, Err, refl, sym, ap, ◌∙◌, arith}
+use Rattle.std.proofs.Common.{◌≡◌, ◌≢◌, ℕ, ◌+◌, Bool, true, false, cond, List, [], ◌∷◌, Ok, Err, refl, ap, ◌∙◌}
 use Rattle.std.specs.Prelude.{codes, bytes_eq, nat_le}
-use Rattle.std.specs.List.{join_with_byte, AllByRecursion}
+use Rattle.std.specs.List.{join_with_byte}
 use Rattle.std.proofs.lemmas.Bool.{lt-leb}
 use Rattle.chart.specs.Names.{IsName}
 use Rattle.chart.specs.declared.line.TheConstants.{MAX_EVENTS}
 use Rattle.msc_text.specs.Faults.{◌>>=◌}
 use Rattle.msc_text.specs.Lines.{words_of, name_or_cause, Lacks}
-use Rattle.msc_text.specs.declared.fault.Cause.{Cause}
 use Rattle.msc_text.specs.declared.fault.Cause.TheVariants.{Syntax, ToItself, LineFull}
 use Rattle.msc_text.proofs.Lookups.{same_bytes}
 use Rattle.msc_text.proofs.Parts.{lacks_if, lacks_append}
 use Rattle.msc_text.proofs.Results.{bind_at, name_again}
 use Rattle.msc_text.proofs.Spacing.{IsPlain, ArePlain, plain_name, spaced_again, spaced_lacks, is_spaced}
 use Rattle.msc_reader.specs.Keywords.{is_msc, is_run, is_instance, is_endinstance, is_out, is_to, is_in, is_from, is_concurrent, is_endconcurrent, is_endmsc}
-use Rattle.msc_reader.specs.Steps.{Step, before_semicolon, is_plain, head_of, pair_of, names_of, held, send_of, receive_of, event_of, alone_of, step_by, step_of}
+use Rattle.msc_reader.specs.Steps.{Step, before_semicolon, head_of, pair_of, names_of, held, send_of, receive_of, event_of, alone_of, step_by, step_of}
 use Rattle.msc_reader.specs.declared.place.Place.{Place}
 use Rattle.msc_reader.specs.declared.place.Place.TheVariants as places
 use Rattle.msc_reader.specs.declared.place.Region.{Region}
@@ -23,7 +22,7 @@ use Rattle.msc_reader.specs.declared.place.Saying.{Saying}
 use Rattle.msc_reader.specs.declared.place.Saying.TheVariants as sayings
 use Rattle.msc_reader.proofs.Moves.{IsEvent, Moves, semi, saying_words}
 use Rattle.msc_reader.proofs.Moves.Moves.{begins, heads, ends, sends, receives, opens, shuts, leaves}
-use Rattle.msc_reader.proofs.Sayings.{Says, step-says}
+use Rattle.msc_reader.proofs.Sayings.{step-says}
 use Rattle.msc_reader.proofs.Semicolons.{before_again, plain_again}
 
 -- ---- by the words

@@ -1,41 +1,27 @@
 -- Where the second look at a text stands: what was said so far, and what is drawn of it.
-use Rattle.std.proofs.Common.{◌≡◌, ◌≢◌, ℕ, zero, suc, ◌+◌, ◌<◌, ◌≤◌, Bool, true, false, cond, eqb, nat_lt, List, [], ◌∷◌, ◌++◌, length, Option, Some, None, Result, Ok, Err, ◌⊎◌, inl, inr, refl, sym, ap, ◌∙◌, subst, arith, append_assoc, length-append}
-use Rattle.std.specs.Prelude.{bytes_eq}
-use Rattle.std.specs.List.{flat_map, list_any, AllByRecursion}
-use Rattle.std.proofs.lemmas.Bool.{eqb-false, ne_eqb, ltb-false}
-use Rattle.std.proofs.lemmas.List.{flat_map_more}
+use Rattle.std.proofs.Common.{◌≡◌, ◌≢◌, ℕ, suc, ◌+◌, ◌<◌, ◌≤◌, List, [], ◌∷◌, ◌++◌, length, Option, Some, None, Ok, refl, sym, ap, ◌∙◌, arith, append_assoc, length-append}
+use Rattle.std.specs.List.{flat_map, AllByRecursion}
+use Rattle.std.proofs.lemmas.Bool.{ne_eqb}
 use Rattle.chart.proofs.Layouts.{IsLine-push}
-use Rattle.chart.proofs.NameLists.{AreNames-push, not_there}
-use Rattle.chart.proofs.Places.{each-push}
 use Rattle.chart.specs.Charts.{LineView, IsLine, IsNumbered}
-use Rattle.chart.specs.Marks.{partner_of, name_of, region_of, greatest_region, HasRegionsInOrder}
-use Rattle.chart.specs.Names.{IsName, instance_of}
+use Rattle.chart.specs.Marks.{partner_of, name_of, region_of, greatest_region}
+use Rattle.chart.specs.Names.{IsName}
 use Rattle.chart.specs.NameSets.{AreNames}
 use Rattle.chart.specs.declared.event.Event.{Event as Mark}
-use Rattle.chart.specs.declared.event.Event.TheVariants as marks
-use Rattle.chart.specs.declared.instance.TheConstants.{MAX_INSTANCES}
 use Rattle.chart.specs.declared.line.TheConstants.{MAX_EVENTS}
 use Rattle.chart.proofs.Regions.{greatest_region-push}
 use Rattle.msc_text.specs.ChartText.{name_at}
-use Rattle.msc_text.specs.Faults.{◌>>=◌}
-use Rattle.msc_text.specs.declared.fault.Cause.{Cause}
-use Rattle.msc_text.specs.declared.fault.Cause.TheVariants.{Instances, Duplicate, ToItself, LineFull, UnknownInstance}
-use Rattle.msc_text.proofs.Lookups.{IsNamed, instance_is}
-use Rattle.msc_text.proofs.Results.{bind_at, guard_ok, ok_is}
-use Rattle.msc_reader.specs.Drawings.{DrawingView, blank, known, known_of, pushed, greater, with_mark, with_head, with_foot, with_send, with_receive, drawn}
-use Rattle.msc_reader.specs.Reading.{with_name, names_after}
+use Rattle.msc_text.proofs.Results.{bind_at}
+use Rattle.msc_reader.specs.Drawings.{DrawingView, blank, pushed, greater, with_mark}
 use Rattle.msc_reader.specs.Steps.{held}
 use Rattle.msc_reader.specs.declared.place.Place.{Place}
 use Rattle.msc_reader.specs.declared.place.Place.TheVariants as places
 use Rattle.msc_reader.specs.declared.place.Region.{Region}
-use Rattle.msc_reader.specs.declared.place.Region.TheVariants as regions
 use Rattle.msc_reader.specs.declared.place.Saying.{Saying}
 use Rattle.msc_reader.specs.declared.place.Saying.TheVariants as sayings
-use Rattle.msc_reader.proofs.Coregions.{HasOpen, open-may, open-more, tail_of, last_from-push, body-push, closing-open, tail-more, last_from-is}
+use Rattle.msc_reader.proofs.Coregions.{HasOpen, open-may, open-more, tail_of, last_from-push, body-push, tail-more}
 use Rattle.msc_reader.proofs.Drawings.{greater-most}
-use Rattle.msc_reader.proofs.Moves.{IsEvent, Moves}
-use Rattle.msc_reader.proofs.Moves.Moves.{begins, heads, ends, sends, receives, opens, shuts, leaves}
-use Rattle.msc_reader.proofs.TextSayings.{said, marked, body, last_from, closing, part}
+use Rattle.msc_reader.proofs.TextSayings.{said, marked, body, last_from, part}
 
 -- ---- what is drawn
 

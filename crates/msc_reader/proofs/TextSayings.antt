@@ -1,10 +1,9 @@
 -- A chart's text as a list of what its lines say.
-use Rattle.std.proofs.Common.{◌≡◌, ℕ, ◌+◌, Bool, true, false, ◌||◌, cond, eqb, List, [], ◌∷◌, ◌++◌, refl, sym, ap, ◌∙◌, append_assoc, append-nil, map}
+use Rattle.std.proofs.Common.{◌≡◌, ℕ, Bool, true, false, ◌||◌, cond, eqb, List, [], ◌∷◌, ◌++◌, refl, sym, ap, ◌∙◌, append_assoc, append-nil, map}
 use Rattle.std.specs.Prelude.{codes}
 use Rattle.std.specs.List.{flat_map}
-use Rattle.std.proofs.lemmas.List.Concat.{flat_map-append}
 use Rattle.chart.specs.Charts.{LineView}
-use Rattle.chart.specs.Marks.{region_of, last_region}
+use Rattle.chart.specs.Marks.{region_of}
 use Rattle.chart.specs.declared.event.Event.{Event as Mark}
 use Rattle.chart.specs.declared.event.Event.TheVariants as marks
 use Rattle.msc_text.specs.ChartText.{name_at, event_text, ending, beginning, marked_text, events_text, head_text, foot_text, line_text, begin_text, end_text, chart_text}

@@ -2,14 +2,14 @@
 use Rattle.std.specs.Prelude.{◌≡◌, ℕ, suc, ◌+◌, ◌≤◌, ◌==◌, List, [], ◌∷◌, ◌++◌, length, Option, None, Some, Result, Ok, Err, nat_le, MatchOption, if◌then◌else◌}
 use Rattle.chart.specs.Charts.{LineView, IsNumbered}
 use Rattle.chart.specs.Marks.{partner_of, region_of, greatest_region, MayHaveRegion}
-use Rattle.chart.specs.Names.{instance_of}
 use Rattle.chart.specs.declared.event.Event.{Event as Mark}
 use Rattle.chart.specs.declared.event.Event.TheVariants as marks
 use Rattle.chart.specs.declared.instance.TheConstants.{MAX_INSTANCES}
 use Rattle.chart.specs.declared.line.TheConstants.{MAX_EVENTS}
 use Rattle.msc_text.specs.Faults.{◌>>=◌}
+use Rattle.msc_text.specs.Instances.{known_of}
 use Rattle.msc_text.specs.declared.fault.Cause.{Cause}
-use Rattle.msc_text.specs.declared.fault.Cause.TheVariants.{Syntax, Instances, ToItself, LineFull, UnknownInstance}
+use Rattle.msc_text.specs.declared.fault.Cause.TheVariants.{Syntax, Instances, ToItself, LineFull}
 use Rattle.msc_reader.specs.declared.place.Saying.{Saying}
 use Rattle.msc_reader.specs.declared.place.Saying.TheVariants.{Begin, Head, Send, Receive, Open, Shut, Foot, End}
 
@@ -24,15 +24,6 @@ pub record DrawingView : Type 0 where
 -- nothing is drawn
 abbrev pub blank : DrawingView
 blank = record { lines = []; line = None; open_region = 0; greatest = 0 }
-
--- an instance that a look-up found
-abbrev pub known : Option ℕ → Result ℕ Cause
-known None = Err UnknownInstance
-known (Some p) = Ok p
-
--- the instance of the name
-unfoldable pub known_of : List (List ℕ) → List ℕ → Result ℕ Cause
-known_of names name = known (instance_of names name)
 
 -- the line with an event more
 unfoldable pub pushed : LineView → Mark → Result LineView Cause

@@ -1,26 +1,19 @@
 -- A chart's text, line by line from the top: the names and the chart that it says, or the first fault.
-use Rattle.std.specs.Prelude.{ℕ, ◌+◌, ◌==◌, List, [], ◌∷◌, ◌++◌, length, Result, Ok, Err, nat_lt, bytes_eq, if◌then◌else◌}
-use Rattle.std.specs.List.{list_any}
+use Rattle.std.specs.Prelude.{ℕ, ◌+◌, ◌==◌, List, [], ◌∷◌, length, Result, Ok, Err, nat_lt, if◌then◌else◌}
 use Rattle.chart.specs.Charts.{LineView}
-use Rattle.chart.specs.declared.instance.TheConstants.{MAX_INSTANCES}
+use Rattle.msc_text.specs.Instances.{with_name}
 use Rattle.msc_text.specs.Faults.{◌>>=◌, in_line}
 use Rattle.msc_text.specs.Lines.{lines_of, end_of}
 use Rattle.msc_text.specs.declared.fault.Cause.{Cause}
-use Rattle.msc_text.specs.declared.fault.Cause.TheVariants.{Instances, Duplicate, Syntax}
+use Rattle.msc_text.specs.declared.fault.Cause.TheVariants.{Instances, Syntax}
 use Rattle.msc_text.specs.declared.fault.Fault.{Fault}
 use Rattle.msc_text.specs.declared.fault.Fault.TheVariants.{Line, Unfinished}
 use Rattle.msc_reader.specs.Drawings.{DrawingView, blank, drawn}
-use Rattle.msc_reader.specs.Steps.{Step, step_of}
+use Rattle.msc_reader.specs.Steps.{step_of}
 use Rattle.msc_reader.specs.declared.place.Place.{Place}
 use Rattle.msc_reader.specs.declared.place.Place.TheVariants.{Start, Outside, Inside, Done}
 use Rattle.msc_reader.specs.declared.place.Saying.{Saying}
 use Rattle.msc_reader.specs.declared.place.Saying.TheVariants.{Begin, Head, Send, Receive, Open, Shut, Foot, End}
-
--- a new name goes behind the names before it
-abbrev pub with_name : List (List ℕ) → List ℕ → Result (List (List ℕ)) Cause
-with_name names name =
-    if list_any (bytes_eq name) names then Err Duplicate else (
-    if length names == MAX_INSTANCES then Err Instances else Ok (names ++ name ∷ []))
 
 -- the names after a line, or what is wrong with them
 abbrev pub names_after : List (List ℕ) → Saying → Result (List (List ℕ)) Cause

@@ -3,30 +3,13 @@ ghost use Rattle.std.specs.Prelude.{◌≡◌, ◌+◌, ◌⊎◌, ◌≤◌, if
 ghost use Rattle.chart.specs.Charts.{IsNumbered};
 ghost use Rattle.chart.specs.Marks.{region_of, MayHaveRegion};
 ghost use Rattle.msc_text.specs.Faults.{Gives, in_line};
-ghost use Rattle.msc_reader.specs.Drawings.{blank, known_of, pushed, greater, with_mark, with_head, with_foot, with_send, with_receive, drawn};
+ghost use Rattle.msc_reader.specs.Drawings.{blank, pushed, greater, with_mark, with_head, with_foot, with_send, with_receive, drawn};
 
 use crate::place::Saying;
 use chart::{Event, InstanceNo, Line, LineError, MAX_INSTANCES, Name, Names};
-use msc_text::{Cause, Fault, TextError};
+use msc_text::{Cause, TextError, at_line, fault_at, known_in};
 use std::alloc::Global;
 use std::marker::Model;
-
-/// What a line is read as, with its number on its fault.
-pub(crate) fn at_line<T>(number: u64, read: Result<T, Cause>) -> Result<T, TextError>
-    ensures { Gives (λ x. x) result (in_line number read) }
-{
-    match read {
-        Ok(value) => Ok(value),
-        Err(cause) => Err(at(number, cause)),
-    }
-}
-
-/// A fault of the line.
-pub(crate) fn at(number: u64, cause: Cause) -> TextError
-    ensures { result ≡ TextError.Fault (Fault.Line number cause) }
-{
-    TextError::Fault(Fault::Line(number, cause))
-}
 
 /// The lines that are drawn so far, and that which is being drawn. A contract sees a record of its fields.
 #[derive(Debug, Drop)]
@@ -50,17 +33,6 @@ impl Model for Drawing {
     ghost invariant = { λ d. IsDrawing (record { lines = d.lines.items; line = d.line; open_region = d.open_region; greatest = d.greatest }) };
 }
 
-/// The instance of the name, or F23.
-#[tactic(auto, unfolding(crate::specs::Drawings::known_of))]
-fn known_in(names: &Names, name: Name) -> Result<InstanceNo, Cause>
-    ensures { result ≡ known_of names.now name }
-{
-    match names.instance(name) {
-        None => Err(Cause::UnknownInstance),
-        Some(instance) => Ok(instance),
-    }
-}
-
 /// Adds an event to the line, which may have its coregion.
 #[tactic(auto, unfolding(crate::specs::Drawings::pushed))]
 fn push(number: u64, line: &mut Line, event: Event) -> Result<(), TextError>
@@ -69,8 +41,8 @@ fn push(number: u64, line: &mut Line, event: Event) -> Result<(), TextError>
 {
     match line.push(event) {
         Ok(()) => Ok(()),
-        Err(LineError::ToItself) => Err(at(number, Cause::ToItself)),
-        Err(LineError::LineFull) => Err(at(number, Cause::LineFull)),
+        Err(LineError::ToItself) => Err(fault_at(number, Cause::ToItself)),
+        Err(LineError::LineFull) => Err(fault_at(number, Cause::LineFull)),
         Err(LineError::Memory) => Err(TextError::Memory),
     }
 }
@@ -110,7 +82,7 @@ impl Drawing {
     {
         let Drawing { lines, .. } = self;
         if lines.len() >= MAX_INSTANCES {
-            return Err(at(number, Cause::Instances));
+            return Err(fault_at(number, Cause::Instances));
         }
         let instance = InstanceNo::at_place(lines.len());
         Ok(Drawing {
@@ -131,7 +103,7 @@ impl Drawing {
             ..
         } = self;
         let Some(line) = line else {
-            return Err(at(number, Cause::Syntax));
+            return Err(fault_at(number, Cause::Syntax));
         };
         lines.push(line)?;
         Ok(Drawing {
@@ -154,7 +126,7 @@ impl Drawing {
             ..
         } = self;
         let Some(mut line) = line else {
-            return Err(at(number, Cause::Syntax));
+            return Err(fault_at(number, Cause::Syntax));
         };
         push(number, &mut line, event)?;
         let region = event.region();

@@ -5,26 +5,14 @@ ghost use Rattle.msc_text.specs.ChartText.{chart_text};
 ghost use Rattle.msc_text.specs.Faults.{Gives, in_line};
 ghost use Rattle.msc_text.specs.Lines.{lines_of, end_of};
 ghost use Rattle.msc_reader.specs.HasText.{HasText};
-ghost use Rattle.msc_reader.specs.Reading.{with_name, names_after, finished, names_in, lines_in, are_read, chart_of};
+ghost use Rattle.msc_reader.specs.Reading.{names_after, finished, names_in, lines_in, are_read, chart_of};
 
-use crate::drawing::{Drawing, at, at_line};
+use crate::drawing::Drawing;
 use crate::place::{Place, Saying};
 use crate::step::step_in;
-use chart::{Chart, Line, Name, Names, NamesError};
-use msc_text::{Cause, Fault, TextError, next_line};
+use chart::{Chart, Line, Names};
+use msc_text::{Cause, Fault, TextError, add_name, at_line, fault_at, next_line};
 use std::alloc::Global;
-
-/// The name is the next instance's. F22 and F8 refuse it.
-fn add_name(number: u64, names: &mut Names, name: Name) -> Result<(), TextError>
-    ensures { Gives (λ _. names.new) result (in_line number (with_name names.old name)) }
-{
-    match names.add(name) {
-        Ok(_) => Ok(()),
-        Err(NamesError::Duplicate) => Err(at(number, Cause::Duplicate)),
-        Err(NamesError::Instances) => Err(at(number, Cause::Instances)),
-        Err(NamesError::Memory) => Err(TextError::Memory),
-    }
-}
 
 /// The names with what one more line says. F22 and F8 refuse an instance, and F8 an end.
 fn add_names(number: u64, names: &mut Names, saying: Saying) -> Result<(), TextError>
@@ -32,7 +20,7 @@ fn add_names(number: u64, names: &mut Names, saying: Saying) -> Result<(), TextE
 {
     match saying {
         Saying::Head(own) => add_name(number, names, own),
-        Saying::End if names.len() < 2 => Err(at(number, Cause::Instances)),
+        Saying::End if names.len() < 2 => Err(fault_at(number, Cause::Instances)),
         _ => Ok(()),
     }
 }
@@ -43,7 +31,7 @@ fn finish(number: u64, names: Names, place: Place, rest: &[u8]) -> Result<Names,
 {
     match place {
         Place::Done if rest.is_empty() => Ok(names),
-        Place::Done => Err(at(number, Cause::Syntax)),
+        Place::Done => Err(fault_at(number, Cause::Syntax)),
         _ => Err(TextError::Fault(Fault::Unfinished)),
     }
 }

@@ -1,5 +1,6 @@
 pub mod ChartText
 pub mod Faults
+pub mod Instances
 pub mod Lines
 pub mod Outs
 pub mod RaceText

@@ -6,6 +6,7 @@
 mod chart_text;
 mod fault;
 mod gathering;
+mod instances;
 mod lines;
 mod out;
 mod race_text;
@@ -14,6 +15,7 @@ mod word;
 pub use chart_text::{add_chart, write};
 pub use fault::{Cause, Fault, TextError};
 pub use gathering::{GATHERED, Gathering, WriteError};
+pub use instances::{add_name, at_line, fault_at, known_in};
 pub use lines::next_line;
 pub use out::{MemoryOut, Out, OutFault, StreamOut};
 pub use race_text::add_races;

@@ -1,19 +1,16 @@
 -- Names that are added one by one, and the words of a line.
-use Rattle.std.proofs.Common.{◌≡◌, ℕ, Bool, true, false, not, List, [], ◌∷◌, ◌++◌, length, Option, Some, None, Result, Ok, Err, refl, sym, ap, subst, ◌∙◌, Contains, ◌&&◌, eqb, arith, eq-eqb}
-use Rattle.std.specs.Prelude.{bytes_eq, MatchOption}
-use Rattle.std.specs.List.{list_any, list_all}
-use Rattle.std.specs.Cmp.Lexicographic.{nat_list_eq_equiv}
+use Rattle.std.proofs.Common.{◌≡◌, ℕ, Bool, true, false, not, List, [], ◌∷◌, length, Option, Some, None, Result, Ok, Err, refl, sym, ap, subst, ◌∙◌, ◌&&◌, eqb, arith}
+use Rattle.std.specs.Prelude.{MatchOption}
+use Rattle.std.specs.List.{list_all}
 use Rattle.std.proofs.lemmas.Bool.{ne_eqb, and_right, cond-false}
-use Rattle.std.proofs.lemmas.Map.Views.{list_any-from_Contains}
-use Rattle.chart.proofs.NameLists.{Contains-found}
-use Rattle.chart.specs.declared.instance.TheConstants.{MAX_INSTANCES}
 use Rattle.msc_text.proofs.Parts.{Cons, words_cons}
 use Rattle.msc_text.specs.Faults.{in_line, Fails}
 use Rattle.msc_text.specs.Lines.{words_of, name_or_cause}
 use Rattle.msc_text.specs.declared.fault.Cause.{Cause}
-use Rattle.msc_text.specs.declared.fault.Cause.TheVariants.{Instances, Syntax, Duplicate}
+use Rattle.msc_text.specs.declared.fault.Cause.TheVariants.{Syntax}
 use Rattle.msc_text.specs.declared.fault.TextError.{TextError}
-use Rattle.schedule.specs.FirstLines.{is_word, are_words, with_name, with_word, with_words, instances_of, instances_by, names_of}
+use Rattle.msc_text.specs.Instances.{with_name}
+use Rattle.schedule.specs.FirstLines.{is_word, are_words, with_word, with_words, instances_of, instances_by, names_of}
 use Rattle.schedule.specs.Keywords.{is_instances}
 use Rattle.msc_text.proofs.Results.{in_line_ok, bind_at, fails_in_line}
 
@@ -44,30 +41,6 @@ unfolding names_of are_words
 lone_keyword line keyword are = ap instances_by are ∙ cond-false (is_instances keyword && are_words []) (instances_of []) (Err Syntax) (and_right (is_instances keyword) (are_words []) refl)
 
 -- ---- one name
-
--- a name that is there is found
-is_given : (names : List (List ℕ)) (name : List ℕ) → Contains names name → list_any (bytes_eq name) names ≡ true
-is_given names name there = list_any-from_Contains nat_list_eq_equiv name names there
-
--- a name that isn't there is not found
-pub is_new : (names : List (List ℕ)) (name : List ℕ) → (Contains names name → ⊥) → list_any (bytes_eq name) names ≡ false
-is_new names name absent = by (list_any (bytes_eq name) names) refl
-  where
-    by : (b : Bool) → list_any (bytes_eq name) names ≡ b → list_any (bytes_eq name) names ≡ false
-    by true e = absurd (absent (Contains-found names name e))
-    by false e = e
-
--- what becomes of a name: it goes behind the others
-pub with_name-ok : (names : List (List ℕ)) (name : List ℕ) → (Contains names name → ⊥) → (length names ≡ MAX_INSTANCES → ⊥) → with_name names name ≡ Ok (names ++ name ∷ [])
-with_name-ok names name absent room = rw (is_new names name absent, ne_eqb (length names) MAX_INSTANCES room) refl
-
--- it was given before
-pub with_name-given : (names : List (List ℕ)) (name : List ℕ) → Contains names name → with_name names name ≡ Err Duplicate
-with_name-given names name there = rw (is_given names name there) refl
-
--- it is one too many
-pub with_name-full : (names : List (List ℕ)) (name : List ℕ) → (Contains names name → ⊥) → length names ≡ MAX_INSTANCES → with_name names name ≡ Err Instances
-with_name-full names name absent full = rw (is_new names name absent, eq-eqb (length names) MAX_INSTANCES full) refl
 
 -- the name of a word, and what becomes of it
 pub with_word-by : (names : List (List ℕ)) (word name : List ℕ) (r : Result (List (List ℕ)) Cause) → in_line 1 (name_or_cause word) ≡ Ok name → with_name names name ≡ r → with_word names word ≡ r

@@ -11,7 +11,8 @@ use Rattle.msc_text.specs.declared.fault.Cause.{Cause}
 use Rattle.msc_text.specs.declared.fault.Cause.TheVariants.{Syntax, ToItself}
 use Rattle.msc_text.proofs.Lookups.{IsNamed, instance_is, same_bytes}
 use Rattle.msc_text.proofs.Results.{bind_ok, guard_ok, in_line_ok, name_is, when_ok, chosen, ok_is}
-use Rattle.schedule.specs.Deeds.{Deed, known, known_of, pair_of, partners_of, send_of, receive_of, close_of, alone_of, by_two, by_three, deed_by, deed_of}
+use Rattle.msc_text.specs.Instances.{known, known_of}
+use Rattle.schedule.specs.Deeds.{Deed, pair_of, partners_of, send_of, receive_of, close_of, alone_of, by_two, by_three, deed_by, deed_of}
 use Rattle.schedule.specs.Keywords.{is_send, is_receive, is_any, is_close, is_concurrent, is_endconcurrent}
 use Rattle.schedule.specs.Plans.{IsAmong, HasPartner}
 use Rattle.schedule.specs.Reading.{command_at, commands_from}

@@ -12,7 +12,8 @@ use Rattle.msc_text.specs.declared.fault.Cause.TheVariants.{Syntax, ToItself}
 use Rattle.msc_text.proofs.Lookups.{instance_again, name_at_all}
 use Rattle.msc_text.proofs.Parts.{lacks_if}
 use Rattle.msc_text.proofs.Results.{bind_at, name_again, name_some}
-use Rattle.schedule.specs.Deeds.{known, known_of, pair_of, partners_of, send_of, receive_of, close_of, alone_of, by_two, by_three, deed_by, deed_of}
+use Rattle.msc_text.specs.Instances.{known, known_of}
+use Rattle.schedule.specs.Deeds.{pair_of, partners_of, send_of, receive_of, close_of, alone_of, by_two, by_three, deed_by, deed_of}
 use Rattle.schedule.specs.Keywords.{is_send, is_receive, is_any, is_close, is_concurrent, is_endconcurrent}
 use Rattle.schedule.specs.Plans.{IsAmong, HasPartner}
 use Rattle.schedule.specs.Reading.{command_at, commands_from}

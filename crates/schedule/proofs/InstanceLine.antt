@@ -1,13 +1,12 @@
 -- Line 1, the instances' names: what is read is spelled so, and what is spelled so is read. Laws about lists alone.
-use Rattle.std.proofs.Common.{◌≡◌, ℕ, ◌≤◌, ◌<◌, true, not, ◌&&◌, cond, eqb, ltb, List, [], ◌∷◌, ◌++◌, length, Some, Ok, Err, All, Contains, refl, sym, ap, ◌∙◌, subst, arith, append_assoc, append-nil}
-use Rattle.std.specs.Prelude.{bytes_eq, codes, slice_get}
-use Rattle.std.specs.List.{AllByRecursion, list_any, list_all}
-use Rattle.std.proofs.lemmas.Bool.{eqb-false, ne_eqb, ltb-false, le-ltb, and_parts, and_from, cond-true, cond-false}
+use Rattle.std.proofs.Common.{◌≡◌, ℕ, ◌≤◌, ◌<◌, true, not, ◌&&◌, eqb, ltb, List, [], ◌∷◌, ◌++◌, length, Some, Ok, Err, All, Contains, refl, sym, ap, ◌∙◌, subst, arith, append_assoc, append-nil}
+use Rattle.std.specs.Prelude.{codes, slice_get}
+use Rattle.std.specs.List.{AllByRecursion, list_all}
+use Rattle.std.proofs.lemmas.Bool.{ne_eqb, ltb-false, le-ltb, and_parts, and_from, cond-true, cond-false}
 use Rattle.std.proofs.lemmas.List.{length-append}
 use Rattle.std.proofs.lemmas.List.Elements.{All-from_recursion, recursion_from_All}
 use Rattle.std.proofs.lemmas.Option.{slice_get-get_or}
 use Rattle.std.proofs.Math.Seq.{get_or-append_seam}
-use Rattle.chart.proofs.NameLists.{AreNames-push, not_there}
 use Rattle.chart.proofs.Places.{slice_get-append}
 use Rattle.chart.specs.Names.{IsName}
 use Rattle.chart.specs.NameSets.{AreNames}
@@ -16,11 +15,12 @@ use Rattle.msc_text.proofs.Lookups.{same_bytes}
 use Rattle.msc_text.proofs.Parts.{lacks_if}
 use Rattle.msc_text.proofs.Results.{bind_ok, bind_at, guard_ok, name_is, name_again, name_some, when_ok, ok_is}
 use Rattle.msc_text.specs.Lines.{words_of, name_or_cause, Lacks}
-use Rattle.msc_text.specs.declared.fault.Cause.TheVariants.{Instances, Syntax, Duplicate}
-use Rattle.schedule.specs.FirstLines.{is_word, are_words, with_name, with_word, with_words, several, instances_of, instances_by, names_of}
+use Rattle.msc_text.specs.declared.fault.Cause.TheVariants.{Instances, Syntax}
+use Rattle.msc_text.specs.Instances.{with_name}
+use Rattle.schedule.specs.FirstLines.{is_word, are_words, with_word, with_words, several, instances_of, instances_by, names_of}
 use Rattle.schedule.specs.Keywords.{is_instances}
 use Rattle.schedule.specs.ScheduleText.{instances_line, spaced}
-use Rattle.schedule.proofs.Adding.{with_name-ok}
+use Rattle.msc_text.proofs.NewNames.{with_name-ok, with_name-names}
 use Rattle.msc_text.proofs.Spacing.{ArePlain, plain_names, spaced_again, spaced_lacks, is_spaced}
 
 -- ---- what is read is spelled so
@@ -35,24 +35,13 @@ record AreGiven (names words new : List (List ℕ)) : Type 0 where
   pub named : AllByRecursion IsName words
   pub behind : new ≡ names ++ words
 
--- names with a new one are names
-with_name-given : (names : List (List ℕ)) (name : List ℕ) (new : List (List ℕ)) → AreNames names → with_name names name ≡ Ok new → AreNames new × (new ≡ names ++ name ∷ [])
-with_name-given names name new old e =
-    let a = guard_ok (list_any (bytes_eq name) names) Duplicate (cond (eqb (length names) MAX_INSTANCES) (Err Instances) (Ok (names ++ name ∷ []))) new e in
-    let b = guard_ok (eqb (length names) MAX_INSTANCES) Instances (Ok (names ++ name ∷ [])) new a.1 in
-    let other : length names ≡ MAX_INSTANCES → ⊥ = eqb-false (length names) MAX_INSTANCES b.0 in
-    let limit = old.limit in
-    let room : length names < MAX_INSTANCES = omega arith in
-    let same : names ++ name ∷ [] ≡ new = ok_is (names ++ name ∷ []) new b.1 in
-    (subst AreNames same (AreNames-push names name old room (not_there names name a.0)), sym same)
-
--- the same by its word
+-- a new name by its word
 with_word-given : (names : List (List ℕ)) (word : List ℕ) (new : List (List ℕ)) → AreNames names → with_word names word ≡ Ok new → AreNames new × IsName word × (new ≡ names ++ word ∷ [])
 unfolding with_word
 with_word-given names word new old e =
     let a = bind_ok (name_or_cause word) (with_name names) new e in
     let name = name_is word a.0 a.1 in
-    let given = with_name-given names a.0 new old a.2 in
+    let given = with_name-names names a.0 new old a.2 in
     (given.0, name.1, given.1 ∙ ap (λ w. names ++ w ∷ []) name.0)
 
 -- and by many

@@ -1,10 +1,10 @@
 -- The commands of a schedule's text: who acts, and what it does (this project's profile).
-use Rattle.std.specs.Prelude.{ℕ, not, ◌||◌, ◌==◌, List, [], ◌∷◌, length, Option, None, Some, Result, Ok, Err, if◌then◌else◌}
-use Rattle.chart.specs.Names.{instance_of}
+use Rattle.std.specs.Prelude.{ℕ, not, ◌||◌, ◌==◌, List, [], ◌∷◌, length, Result, Ok, Err, if◌then◌else◌}
 use Rattle.msc_text.specs.Faults.{◌>>=◌}
+use Rattle.msc_text.specs.Instances.{known_of}
 use Rattle.msc_text.specs.Lines.{words_of, name_or_cause}
 use Rattle.msc_text.specs.declared.fault.Cause.{Cause}
-use Rattle.msc_text.specs.declared.fault.Cause.TheVariants.{ToItself, Syntax, UnknownInstance}
+use Rattle.msc_text.specs.declared.fault.Cause.TheVariants.{ToItself, Syntax}
 use Rattle.schedule.specs.Keywords.{is_send, is_receive, is_any, is_close, is_concurrent, is_endconcurrent}
 use Rattle.schedule.specs.declared.command.Action.{Action}
 use Rattle.schedule.specs.declared.command.Action.TheVariants.{Send, Receive, Any, Close, Open, Shut}
@@ -12,15 +12,6 @@ use Rattle.schedule.specs.declared.command.Action.TheVariants.{Send, Receive, An
 -- an instance, and its action
 abbrev pub Deed : Type 0
 Deed = ℕ × Action
-
--- an instance that a look-up found
-abbrev pub known : Option ℕ → Result ℕ Cause
-known None = Err UnknownInstance
-known (Some p) = Ok p
-
--- the instance of the name
-unfoldable pub known_of : List (List ℕ) → List ℕ → Result ℕ Cause
-known_of names name = known (instance_of names name)
 
 -- two instances, which are not the same
 unfoldable pub pair_of : List (List ℕ) → List ℕ → List ℕ → Result (ℕ × ℕ) Cause

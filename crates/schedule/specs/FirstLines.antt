@@ -1,11 +1,11 @@
 -- The first two lines of a schedule's text: the instances' names, and the capacity (this project's profile).
-use Rattle.std.specs.Prelude.{ℕ, ◌+◌, ◌-◌, ◌*◌, Bool, false, not, ◌&&◌, ◌||◌, ◌==◌, List, [], ◌∷◌, ◌++◌, length, Result, Ok, Err, nat_lt, nat_le, bytes_eq, if◌then◌else◌}
-use Rattle.std.specs.List.{list_all, list_any}
-use Rattle.chart.specs.declared.instance.TheConstants.{MAX_INSTANCES}
+use Rattle.std.specs.Prelude.{ℕ, ◌+◌, ◌-◌, ◌*◌, Bool, false, not, ◌&&◌, ◌||◌, ◌==◌, List, [], ◌∷◌, length, Result, Ok, Err, nat_lt, nat_le, if◌then◌else◌}
+use Rattle.std.specs.List.{list_all}
 use Rattle.msc_text.specs.Faults.{◌>>=◌}
+use Rattle.msc_text.specs.Instances.{with_name}
 use Rattle.msc_text.specs.Lines.{words_of, name_or_cause}
 use Rattle.msc_text.specs.declared.fault.Cause.{Cause}
-use Rattle.msc_text.specs.declared.fault.Cause.TheVariants.{Instances, Capacity, Syntax, Duplicate}
+use Rattle.msc_text.specs.declared.fault.Cause.TheVariants.{Instances, Capacity, Syntax}
 use Rattle.schedule.specs.Keywords.{is_instances, is_capacity}
 use Rattle.schedule.specs.declared.schedule.TheConstants.{MAX_CAPACITY}
 
@@ -16,12 +16,6 @@ is_word word = not (length word == 0)
 -- there is a word, and each has a byte at least
 unfoldable pub are_words : List (List ℕ) → Bool
 are_words words = not (length words == 0) && list_all is_word words
-
--- a new name goes behind the names before it
-abbrev pub with_name : List (List ℕ) → List ℕ → Result (List (List ℕ)) Cause
-with_name names name =
-    if list_any (bytes_eq name) names then Err Duplicate else (
-    if length names == MAX_INSTANCES then Err Instances else Ok (names ++ name ∷ []))
 
 -- the word names the next instance
 unfoldable pub with_word : List (List ℕ) → List ℕ → Result (List (List ℕ)) Cause

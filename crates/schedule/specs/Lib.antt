@@ -5,6 +5,7 @@ pub use Rattle.chart.specs.Messages
 pub use Rattle.chart.specs.Names
 pub use Rattle.chart.specs.NameSets
 pub use Rattle.msc_text.specs.Faults
+pub use Rattle.msc_text.specs.Instances
 pub use Rattle.msc_text.specs.Lines
 pub mod Deeds
 pub mod FirstLines

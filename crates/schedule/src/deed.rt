@@ -1,22 +1,11 @@
 //! A command's line: who acts, and what it does.
 ghost use Rattle.std.specs.Prelude.{◌≡◌};
-ghost use Rattle.schedule.specs.Deeds.{known_of, pair_of, partners_of, send_of, receive_of, close_of, alone_of, by_two, by_three, deed_of};
+ghost use Rattle.schedule.specs.Deeds.{pair_of, partners_of, send_of, receive_of, close_of, alone_of, by_two, by_three, deed_of};
 
 use crate::command::Action;
 use crate::keyword::{is_any, is_close, is_concurrent, is_endconcurrent, is_receive, is_send};
 use chart::{InstanceNo, Name, Names};
-use msc_text::{Cause, Words, name_in, words_in};
-
-/// The instance of the name, or F23.
-#[tactic(auto, unfolding(crate::specs::Deeds::known_of))]
-fn known_in(names: &Names, name: Name) -> Result<InstanceNo, Cause>
-    ensures { result ≡ known_of names.now name }
-{
-    match names.instance(name) {
-        None => Err(Cause::UnknownInstance),
-        Some(instance) => Ok(instance),
-    }
-}
+use msc_text::{Cause, Words, known_in, name_in, words_in};
 
 /// Two instances, or F23 for the first name that is none, and F13 where they are the same.
 #[tactic(auto, unfolding(crate::specs::Deeds::pair_of))]

@@ -7,26 +7,11 @@ ghost use Rattle.schedule.specs.FirstLines.{is_word, are_words, with_word, with_
 
 use crate::keyword::{is_capacity, is_instances};
 use crate::schedule::Capacity;
-use chart::{Names, NamesError};
-use msc_text::{Cause, Fault, TextError, Words, name_in, next_word, words_in};
+use chart::Names;
+use msc_text::{
+    Cause, TextError, Words, add_name, at_line, fault_at, name_in, next_word, words_in,
+};
 use std::alloc::Global;
-
-/// What a line is read as, with its number on its fault.
-pub(crate) fn at_line<T>(number: u64, read: Result<T, Cause>) -> Result<T, TextError>
-    ensures { Gives (λ x. x) result (in_line number read) }
-{
-    match read {
-        Ok(value) => Ok(value),
-        Err(cause) => Err(TextError::Fault(Fault::Line(number, cause))),
-    }
-}
-
-/// A fault of line 1.
-fn at_first(cause: Cause) -> TextError
-    ensures { result ≡ TextError.Fault (Fault.Line 1 cause) }
-{
-    TextError::Fault(Fault::Line(1, cause))
-}
 
 /// Whether each word has a byte at least.
 fn are_words(line: &[u8]) -> bool
@@ -51,12 +36,7 @@ fn add_word(names: &mut Names, word: &[u8]) -> Result<(), TextError>
     ensures { Gives (λ _. names.new) result (in_line 1 (with_word names.old word.now)) }
 {
     let name = at_line(1, name_in(word))?;
-    match names.add(name) {
-        Ok(_) => Ok(()),
-        Err(NamesError::Duplicate) => Err(at_first(Cause::Duplicate)),
-        Err(NamesError::Instances) => Err(at_first(Cause::Instances)),
-        Err(NamesError::Memory) => Err(TextError::Memory),
-    }
+    add_name(1, names, name)
 }
 
 /// Each word names the next instance.
@@ -81,7 +61,7 @@ fn instances_in(alloc: Global, words: &[u8]) -> Result<Names, TextError>
     let mut names = Names::new(alloc);
     add_words(&mut names, words)?;
     if names.len() < 2 {
-        return Err(at_first(Cause::Instances));
+        return Err(fault_at(1, Cause::Instances));
     }
     Ok(names)
 }
@@ -93,10 +73,10 @@ pub(crate) fn names_in(alloc: Global, line: &[u8]) -> Result<Names, TextError>
 {
     let (keyword, words) = next_word(line);
     let Some(words) = words else {
-        return Err(at_first(Cause::Syntax));
+        return Err(fault_at(1, Cause::Syntax));
     };
     if !is_instances(keyword) || !are_words(words) {
-        return Err(at_first(Cause::Syntax));
+        return Err(fault_at(1, Cause::Syntax));
     }
     instances_in(alloc, words)
 }

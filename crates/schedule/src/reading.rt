@@ -8,10 +8,10 @@ ghost use Rattle.schedule.specs.ScheduleText.{schedule_text, HasText};
 
 use crate::command::Command;
 use crate::deed::deed_in;
-use crate::first_lines::{at_line, capacity_in, names_in};
+use crate::first_lines::{capacity_in, names_in};
 use crate::schedule::{Capacity, Schedule};
 use chart::Names;
-use msc_text::{Fault, TextError, next_line};
+use msc_text::{Fault, TextError, at_line, next_line};
 use std::alloc::Global;
 
 /// The next line, and what follows it, or F21.

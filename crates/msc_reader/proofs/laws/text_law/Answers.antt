@@ -1,4 +1,4 @@
-use Rattle.std.proofs.Common.{◌≡◌, Ok, ap, sym, ◌∙◌}
+use Rattle.std.proofs.Common.{◌≡◌, ap, sym, ◌∙◌}
 use Rattle.msc_text.proofs.Results.{ok_is}
 use Rattle.msc_reader.specs.Reading.{chart_of}
 use Rattle.msc_reader.proofs.ChartPaths.{chart-again}

@@ -1,7 +1,7 @@
 use Rattle.std.proofs.Common.{◌≡◌, Ok, sym, ◌∙◌, ap, arith, refl}
 use Rattle.std.proofs.lemmas.Result.{err_from_is_err_and}
-use Rattle.msc_text.specs.Faults.{in_line, Fails}
-use Rattle.msc_reader.specs.Reading.{draw_from, lines_in}
+use Rattle.msc_text.specs.Faults.{in_line}
+use Rattle.msc_reader.specs.Reading.{lines_in}
 use Rattle.msc_reader.specs.Steps.{step_of}
 use Rattle.msc_reader.proofs.Looks.{fails_so, draw_stops, draw_stops_at, draw_goes_on, draw_ends}
 use Rattle.msc_reader.proofs.reading.lines_in.Goals as goal

@@ -1,7 +1,7 @@
 use Rattle.std.proofs.Common.{◌≡◌, Ok, sym, ◌∙◌, ap, arith, refl}
 use Rattle.std.proofs.lemmas.Result.{err_from_is_err_and}
-use Rattle.msc_text.specs.Faults.{in_line, Fails}
-use Rattle.msc_reader.specs.Reading.{look_from, names_in}
+use Rattle.msc_text.specs.Faults.{in_line}
+use Rattle.msc_reader.specs.Reading.{names_in}
 use Rattle.msc_reader.specs.Steps.{step_of}
 use Rattle.msc_reader.proofs.Looks.{fails_so, gives_so, look_stops, look_stops_at, look_goes_on, look_ends}
 use Rattle.msc_reader.proofs.reading.names_in.Goals as goal

@@ -4,4 +4,4 @@ use Rattle.schedule.proofs.Adding.{lone_keyword}
 use Rattle.schedule.proofs.first_lines.names_in.Goals as goal
 
 pub returns-in_default : goal.returns-in_default
-returns-in_default c = rw c.at_first.ensures (ap (in_line 1) (lone_keyword _ _ (rw c.in_default.is at c.next_word.ensures.words)))
+returns-in_default c = rw c.fault_at.ensures (ap (in_line 1) (lone_keyword _ _ (rw c.in_default.is at c.next_word.ensures.words)))

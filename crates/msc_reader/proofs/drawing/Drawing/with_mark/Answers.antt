@@ -1,4 +1,3 @@
-use Rattle.std.proofs.Common.{ap}
 use Rattle.msc_reader.proofs.Drawings.{IsDrawing-mark}
 use Rattle.msc_reader.proofs.drawing.Drawing.with_mark.Goals as goal
 

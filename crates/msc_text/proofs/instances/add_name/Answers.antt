@@ -1,7 +1,7 @@
 use Rattle.std.proofs.Common.{ap, ◌∙◌, sym, Ok, Err, Contains}
 use Rattle.msc_text.specs.Faults.{in_line}
-use Rattle.msc_reader.proofs.NewNames.{with_name-ok, with_name-given, with_name-full}
-use Rattle.msc_reader.proofs.reading.add_name.Goals as goal
+use Rattle.msc_text.proofs.NewNames.{with_name-ok, with_name-given, with_name-full}
+use Rattle.msc_text.proofs.instances.add_name.Goals as goal
 
 pub returns-in-Ok : goal.returns-in-Ok
 returns-in-Ok c =
@@ -14,9 +14,9 @@ returns-in-Ok c =
 pub returns-in-Err-Duplicate : goal.returns-in-Err-Duplicate
 returns-in-Err-Duplicate c =
     let given = with_name-given c.args.names.now c.args.name (c.in-Err-Duplicate.ensures.duplicate.0 (ap Err c.in-Err-Duplicate.field-0-is)) in
-    rw c.at.ensures (ap (in_line c.args.number) given)
+    rw c.fault_at.ensures (ap (in_line c.args.number) given)
 
 pub returns-in-Err-Instances : goal.returns-in-Err-Instances
 returns-in-Err-Instances c =
     let both = c.in-Err-Instances.ensures.instances.0 (ap Err c.in-Err-Instances.field-0-is) in
-    rw c.at-in-Err-Instances.ensures (ap (in_line c.args.number) (with_name-full c.args.names.now c.args.name both.0 both.1))
+    rw c.fault_at-in-Err-Instances.ensures (ap (in_line c.args.number) (with_name-full c.args.names.now c.args.name both.0 both.1))
