@@ -1,11 +1,10 @@
 -- What a search keeps, and what it has found where all was seen.
-use Rattle.std.proofs.Common.{◌≡◌, ◌≢◌, ℕ, zero, suc, ◌+◌, ◌<◌, ◌≤◌, ◌↔◌, ◌⊎◌, inl, inr, max, List, length, get_or, set, replicate, refl, sym, ap, ◌∙◌, subst, arith}
+use Rattle.std.proofs.Common.{◌≡◌, ℕ, zero, suc, ◌+◌, ◌<◌, ◌≤◌, ◌⊎◌, inl, inr, max, List, length, set, replicate, refl, sym, ap, ◌∙◌, subst, arith}
 use Rattle.std.specs.Prelude.{slice_index}
 use Rattle.std.proofs.lemmas.Bool.{cases_lt, cases_eq}
 use Rattle.std.proofs.lemmas.List.{length-set, get_or-set_same, get_or-replicate, get_or_past, length-replicate}
 use Rattle.chart.specs.Marks.{is_send_to, is_receive_from}
 use Rattle.chart.specs.Charts.{Chart, Place, at, LineView, IsSendTo, BelongsTo, chart_lines}
-use Rattle.chart.specs.Places.{IsEvent}
 use Rattle.chart.specs.Order.{IsEarlier, Direct, Before}
 use Rattle.chart.specs.Order.Direct.{message, to_send, same_sender}
 use Rattle.chart.specs.Order.Before.{direct, through}
@@ -137,11 +136,11 @@ module _ (c : Chart) (n : ℕ) (s : Place) (fronts seen : List ℕ) (p : ℕ) (p
       elim (old.sound (suc p)) [
         | inl none ↦ absurd (omega arith)
         | inr w ↦ inr (
-          let front : Before c t (at (suc p) (entry fronts (suc p))) = elim (cases_eq (suc k) (entry fronts (suc p))) [
-            | inl e ↦ direct (message (subst (λ x. BelongsTo c t (at (suc p) x)) e belongs))
-            | inr differs ↦ through (direct (message belongs)) (direct (to_send w.0.0 (record { line = refl; begun = omega arith; less = omega arith }) w.0.1))
-          ] in
-          elim w.1 [ inl same ↦ subst (Before c t) same front | inr before ↦ through front before ])
+            let front : Before c t (at (suc p) (entry fronts (suc p))) = elim (cases_eq (suc k) (entry fronts (suc p))) [
+              | inl e ↦ direct (message (subst (λ x. BelongsTo c t (at (suc p) x)) e belongs))
+              | inr differs ↦ through (direct (message belongs)) (direct (to_send w.0.0 (record { line = refl; begun = omega arith; less = omega arith }) w.0.1))
+            ] in
+            elim w.1 [ inl same ↦ subst (Before c t) same front | inr before ↦ through front before ])
       ]
 
 -- the send of a receive is reached then

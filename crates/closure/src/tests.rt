@@ -166,12 +166,7 @@ fn reports(
 }
 
 /// A report of this receive, with these earlier events.
-fn report(
-    rt: &impl Abort,
-    alloc: Global,
-    receive: (usize, u32),
-    earlier: &[u32],
-) -> Report {
+fn report(rt: &impl Abort, alloc: Global, receive: (usize, u32), earlier: &[u32]) -> Report {
     let mut events = Vec::new(alloc);
     for index in earlier {
         if events.push(event_no(rt, receive.0, *index)).is_err() {
@@ -200,15 +195,12 @@ fn audited(
 }
 
 /// The first wrong report names this receive.
-fn wrong(
-    rt: &impl Abort,
-    alloc: Global,
-    chart: &Chart,
-    reports: &[Report],
-    receive: (usize, u32),
-) {
+fn wrong(rt: &impl Abort, alloc: Global, chart: &Chart, reports: &[Report], receive: (usize, u32)) {
     let named = event_no(rt, receive.0, receive.1);
-    assert_eq!(rt; audited(rt, alloc, chart, reports), Err(AuditError::WrongReport(named)));
+    assert_eq!(rt;
+        audited(rt, alloc, chart, reports),
+        Err(AuditError::WrongReport(named))
+    );
 }
 
 fn turns(rt: &impl Abort, alloc: Global) -> Chart {
@@ -379,13 +371,7 @@ fn impossible_charts(rt: HostRuntime) {
     );
     let other_name = ChartError::NameMismatch(event_no(&rt, B, 1));
     refuses(&rt, alloc, &renamed, &other_name);
-    let both = chart(
-        &rt,
-        alloc,
-        &[Out(C, b'x')],
-        &[In(A, b'p')],
-        &[In(A, b'y')],
-    );
+    let both = chart(&rt, alloc, &[Out(C, b'x')], &[In(A, b'p')], &[In(A, b'y')]);
     let first = ChartError::ReceiveWithoutSend(event_no(&rt, B, 1));
     refuses(&rt, alloc, &both, &first);
 }
@@ -413,19 +399,50 @@ fn full_lines(rt: HostRuntime) {
     assert_eq!(rt; audited(&rt, alloc, &chart, found.as_slice()), Ok(()));
 }
 
-/// Each call, made once more where its growth is refused: what was lent is as before.
+// Each call is made once more where its growth is refused, and then answers in full: what was lent is as before.
+
 #[test]
-fn refused_growths(rt: HostRuntime) -> Result<(), Fail> {
+fn refused_growths_of_closures(rt: HostRuntime) -> Result<(), Fail> {
+    let alloc = rt.alloc();
+    let chart = turns(&rt, alloc);
+    let closure = closure_of(&rt, alloc, &chart);
+    before(&rt, &closure, (A, 1), (4, 1), false);
+    every_growth_was_refused(alloc)
+}
+
+#[test]
+fn refused_growths_before(rt: HostRuntime) -> Result<(), Fail> {
     let alloc = rt.alloc();
     let chart = turns(&rt, alloc);
     let closure = closure_of(&rt, alloc, &chart);
     before(&rt, &closure, (A, 1), (B, 3), true);
     before(&rt, &closure, (B, 2), (B, 3), false);
+    every_growth_was_refused(alloc)
+}
+
+#[test]
+fn refused_growths_of_reports(rt: HostRuntime) -> Result<(), Fail> {
+    let alloc = rt.alloc();
+    let chart = turns(&rt, alloc);
+    let closure = closure_of(&rt, alloc, &chart);
     let found = races(&rt, &closure);
     assert_eq!(rt; found.len(), 3);
     reports(&rt, found.as_slice(), 1, (B, 2), &[1]);
     reports(&rt, found.as_slice(), 2, (B, 3), &[2]);
-    assert_eq!(rt; audited(&rt, alloc, &chart, found.as_slice()), Ok(()));
+    every_growth_was_refused(alloc)
+}
+
+#[test]
+fn refused_growths_of_audits(rt: HostRuntime) -> Result<(), Fail> {
+    let alloc = rt.alloc();
+    let chart = turns(&rt, alloc);
+    let right = [
+        report(&rt, alloc, (B, 1), &[]),
+        report(&rt, alloc, (B, 2), &[1]),
+        report(&rt, alloc, (B, 3), &[2]),
+    ];
+    let right = right.as_slice();
+    assert_eq!(rt; audited(&rt, alloc, &chart, right), Ok(()));
     every_growth_was_refused(alloc)
 }
 
