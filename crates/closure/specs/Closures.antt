@@ -1,4 +1,4 @@
--- What the checker keeps of a chart beside its lines.
+-- What the checker keeps of a chart beside its lines (this project's own).
 use Rattle.std.specs.Prelude.{ℕ, suc, ◌<◌, List, length}
 use Rattle.chart.specs.Charts.{Place, at, LineView, IsSendTo, BelongsTo, IsPossible, IsChart, chart_lines}
 use Rattle.closure.specs.declared.partner.Partner.{Partner}
