@@ -1,8 +1,7 @@
 -- What is before an event, by what kind of event it is.
-use Rattle.std.proofs.Common.{◌≡◌, ℕ, suc, ◌<◌, ◌≤◌, ◌↔◌, ◌⊎◌, inl, inr, List, length, sym, subst, arith}
-use Rattle.chart.specs.Charts.{Chart, Place, LineView, IsSendTo, BelongsTo, IsPossible, chart_lines}
-use Rattle.chart.specs.Places.{IsEvent}
-use Rattle.chart.specs.Order.{Before, IsCyclic}
+use Rattle.std.proofs.Common.{◌≡◌, ℕ, suc, ◌<◌, ◌≤◌, ◌↔◌, ◌⊎◌, inl, inr, List, length, arith}
+use Rattle.chart.specs.Charts.{Chart, Place, LineView, BelongsTo, chart_lines}
+use Rattle.chart.specs.Order.{Before}
 use Rattle.chart.specs.Order.Direct.{same_sender}
 use Rattle.chart.specs.Order.Before.{direct}
 use Rattle.chart.specs.Knowing.{IsUpTo}

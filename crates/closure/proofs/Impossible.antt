@@ -1,7 +1,6 @@
 -- What is refused is not possible.
 use Rattle.std.proofs.Common.{◌≡◌, ℕ, ◌⊎◌, inl, inr, refl, sym, subst}
 use Rattle.std.proofs.Math.Path.{fun_ext}
-use Rattle.chart.specs.Histories.{chart_of}
 use Rattle.chart.specs.Charts.{Chart, Place, HasNoSend, HasOtherName, IsPossible}
 use Rattle.chart.specs.Order.{IsCyclic}
 use Rattle.chart.proofs.Sends.{none_without_send, none_of_other_name}

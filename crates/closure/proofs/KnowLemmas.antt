@@ -1,5 +1,5 @@
 -- What the sends of a line know, found by one search.
-use Rattle.std.proofs.Common.{◌≡◌, ℕ, suc, ◌+◌, ◌-◌, ◌<◌, ◌≤◌, List, length, replicate, refl, sym, subst, arith, add-one}
+use Rattle.std.proofs.Common.{◌≡◌, ℕ, suc, ◌-◌, ◌<◌, List, length, replicate, refl, sym, subst, arith}
 use Rattle.std.specs.Prelude.{slice_index}
 use Rattle.chart.specs.Marks.{is_send_to}
 use Rattle.chart.specs.Charts.{Chart, Place, at, LineView, IsSendTo, BelongsTo, chart_lines}
@@ -7,7 +7,7 @@ use Rattle.chart.specs.Knowing.{IsUpTo, IsKnown}
 use Rattle.chart.proofs.Belongs.{IsEvent-from_passes, not_both, one_receiver}
 use Rattle.chart.proofs.Counts.{count_from_front}
 use Rattle.closure.specs.Rows.{entry, number_at, AreRows}
-use Rattle.closure.specs.Searches.{IsSend, IsReached, IsSearch, IsSearchAfter, IsKnowledge}
+use Rattle.closure.specs.Searches.{IsReached, IsSearch, IsSearchAfter, IsKnowledge}
 use Rattle.closure.proofs.SearchLemmas.{IsSearch-none, IsSearch-later, front_within}
 
 -- a search that has reached nothing serves each send

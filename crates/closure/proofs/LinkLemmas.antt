@@ -1,6 +1,6 @@
 -- How the sends of a lane are passed, and what linked receives have.
-use Rattle.std.proofs.Common.{◌≡◌, ◌≢◌, ℕ, zero, suc, ◌+◌, ◌<◌, ◌≤◌, ◌⊎◌, inl, inr, Bool, true, false, List, [], ◌∷◌, ◌++◌, length, get_or, set, count_by, Some, refl, sym, ap, ◌∙◌, subst, arith, add-one, eq-eqb, ne_eqb, ◌==◌}
-use Rattle.std.proofs.lemmas.Bool.{cases_lt, cases_eq, false≢true}
+use Rattle.std.proofs.Common.{◌≡◌, ◌≢◌, ℕ, zero, suc, ◌+◌, ◌<◌, ◌≤◌, inl, inr, Bool, true, false, List, [], ◌∷◌, ◌++◌, length, get_or, set, count_by, Some, refl, sym, ap, ◌∙◌, subst, arith, add-one, eq-eqb, ne_eqb, ◌==◌}
+use Rattle.std.proofs.lemmas.Bool.{cases_eq, false≢true}
 use Rattle.std.proofs.lemmas.Option.{same_Some, slice_get_read, get_or_from_slice_get, slice_get-get_or}
 use Rattle.std.proofs.lemmas.List.{length-set, get_or-set_same, get_or-set_other, length_push}
 use Rattle.std.specs.Prelude.{slice_index}
@@ -17,7 +17,7 @@ use Rattle.closure.specs.declared.error.ChartError.{ChartError}
 use Rattle.closure.specs.declared.error.ChartError.TheVariants.{ReceiveWithoutSend, NameMismatch, Cyclic, Memory}
 use Rattle.closure.specs.declared.linking.Fault.{Fault}
 use Rattle.closure.specs.declared.linking.Fault.TheVariants.{NoSend, OtherName}
-use Rattle.closure.specs.Faults.{place_of, IsSooner, IsFaulty, IsFirst, Refuses}
+use Rattle.closure.specs.Faults.{place_of, IsFaulty, IsFirst, Refuses}
 use Rattle.closure.specs.Rows.{IsRow, AreRows}
 use Rattle.closure.specs.Links.{HasSameName, IsLink, IsNextSend, HasPassed, IsFaultOf, refusal_of, RefusesLine}
 use Rattle.closure.proofs.ReadLemmas.{instance_within}

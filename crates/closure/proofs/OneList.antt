@@ -1,5 +1,5 @@
 -- A chart has one list of reports.
-use Rattle.std.proofs.Common.{◌≡◌, ◌≢◌, ℕ, ◌↔◌, ◌⊎◌, inl, inr, List, [], ◌∷◌, length, map, All, Contains, refl, sym, ap, ap₂, ◌∙◌, subst}
+use Rattle.std.proofs.Common.{◌≡◌, ℕ, ◌⊎◌, inl, inr, List, [], ◌∷◌, length, map, All, refl, sym, ap, ap₂, ◌∙◌, subst}
 use Rattle.std.specs.Prelude.{slice_get}
 use Rattle.std.proofs.lemmas.List.Elements.{All-head, All-tail}
 use Rattle.chart.specs.declared.instance.EventNo.{EventNo}
@@ -32,7 +32,7 @@ same_report c x y same a b =
     let there = subst (λ r. IsReport c (place_of r) (map (λ e. e.index) x.earlier)) same a.exact in
     let own = subst (λ (r : EventNo). All (λ e. e.instance ≡ r.instance) x.earlier) same a.own in
     let indices = same_rising (map (λ e. e.index) x.earlier) (map (λ e. e.index) y.earlier) there.rising b.exact.rising
-        (λ j. (λ here. (b.exact.exact j).1 ((there.exact j).0 here), λ w. (there.exact j).1 ((b.exact.exact j).0 w))) in
+    (λ j. (λ here. (b.exact.exact j).1 ((there.exact j).0 here), λ w. (there.exact j).1 ((b.exact.exact j).0 w))) in
     ap₂ (λ r es. record { receive = r; earlier = es }) same (same_events y.receive.instance x.earlier y.earlier indices own b.own)
 
 -- and so receives have one list of reports

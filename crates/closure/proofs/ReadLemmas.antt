@@ -1,6 +1,5 @@
 -- Reads of lines, and what stands at their places.
-use Rattle.std.proofs.Common.{◌≡◌, ◌≢◌, ℕ, zero, suc, ◌+◌, ◌-◌, ◌<◌, ◌≤◌, inl, inr, List, [], length, get_or, Some, refl, sym, ap, ◌∙◌, subst, arith}
-use Rattle.std.specs.Prelude.{slice_get}
+use Rattle.std.proofs.Common.{◌≡◌, ◌≢◌, ℕ, zero, suc, ◌-◌, ◌<◌, ◌≤◌, inl, inr, List, [], length, get_or, Some, refl, sym, ap, ◌∙◌, subst, arith}
 use Rattle.std.proofs.lemmas.Bool.{cases_lt}
 use Rattle.std.proofs.lemmas.Option.{slice_get_read, slice_get-get_or, get_or_from_slice_get}
 use Rattle.std.proofs.lemmas.List.{get_or_past}
@@ -9,7 +8,7 @@ use Rattle.chart.specs.declared.line.TheConstants.{MAX_EVENTS}
 use Rattle.chart.specs.Marks.{ith, partner_of}
 use Rattle.chart.specs.Charts.{Place, at, mark_at, LineView, IsLine, IsChart, chart_lines}
 use Rattle.chart.specs.Places.{IsEvent}
-use Rattle.chart.proofs.Tally.{ith_within, ith_nil}
+use Rattle.chart.proofs.Tally.{ith_within}
 
 -- what was read before an index stands at it
 pub ith_read : {X : Type 0} (xs : List X) (j : ℕ) (x : X) → 1 ≤ j → j ≤ length xs → x ≡ get_or xs (j - 1) x → ith xs j ≡ Some x

@@ -1,20 +1,19 @@
 -- The reports of the receives, one after another.
-use Rattle.std.proofs.Common.{◌≡◌, ◌≢◌, ℕ, zero, suc, ◌+◌, ◌-◌, ◌<◌, ◌≤◌, Bool, true, false, List, [], ◌∷◌, ◌++◌, length, get_or, take, map, All, Some, refl, sym, ap, ap₂, ◌∙◌, subst, arith, add-one, append_assoc, append-nil, take_all}
+use Rattle.std.proofs.Common.{◌≡◌, ℕ, suc, ◌+◌, ◌<◌, true, List, [], ◌∷◌, ◌++◌, length, take, map, All, Some, refl, sym, ap, ◌∙◌, subst, add-one, append_assoc, append-nil}
 use Rattle.std.proofs.lemmas.Bool.{false≢true}
-use Rattle.std.proofs.lemmas.Option.{same_Some, get_or_from_slice_get}
+use Rattle.std.proofs.lemmas.Option.{get_or_from_slice_get}
 use Rattle.std.proofs.lemmas.List.{map-append, take_more}
 use Rattle.std.proofs.lemmas.List.Elements.{All-push}
 use Rattle.chart.specs.declared.event.Event.{Event as Mark}
 use Rattle.chart.specs.declared.event.Event.TheVariants.{Send, Receive}
 use Rattle.chart.specs.declared.instance.EventNo.{EventNo}
-use Rattle.chart.specs.declared.line.TheConstants.{MAX_EVENTS}
 use Rattle.chart.specs.Marks.{is_send_to, is_receive_from, region_of}
 use Rattle.chart.specs.Charts.{Chart, Place, at, mark_at, LineView, IsSendTo, IsReceiveFrom, BelongsTo, chart_lines}
-use Rattle.chart.specs.Order.{IsReport, IsRaces, region_of_event}
+use Rattle.chart.specs.Order.{IsRaces, region_of_event}
 use Rattle.chart.specs.Knowing.{IsKnown}
 use Rattle.chart.specs.Reports.{ReportView}
 use Rattle.chart.proofs.Reports.{report_from_races}
-use Rattle.closure.specs.Reported.{receive_at, receives_of, all_receives, IsReportOf, AreReports, HaveReported, IsReportAt, line_above}
+use Rattle.closure.specs.Reported.{receive_at, receives_of, all_receives, IsReportOf, AreReports, HaveReported, line_above}
 
 -- a send is no receive
 pub receive_at-send : (c : Chart) (q p i : ℕ) → IsSendTo c q (at p i) → receive_at (mark_at c (at p i)) p i ≡ []

@@ -1,10 +1,10 @@
 -- The events that were made are those of a legal history; where no more can be made, the order has a cycle.
-use Rattle.std.proofs.Common.{◌≡◌, ◌≢◌, ℕ, zero, suc, ◌+◌, ◌-◌, ◌<◌, ◌≤◌, ◌⊎◌, ◌==◌, inl, inr, Bool, true, false, List, [], ◌∷◌, ◌++◌, length, get_or, set, take, drop, count_by, Some, refl, sym, ap, ap₂, ◌∙◌, subst, arith, add-one, eqb-true, take_all, take-append-drop}
+use Rattle.std.proofs.Common.{◌≡◌, ◌≢◌, ℕ, zero, suc, ◌+◌, ◌-◌, ◌<◌, ◌≤◌, ◌⊎◌, inl, inr, Bool, true, false, List, [], ◌∷◌, ◌++◌, length, set, take, drop, count_by, Some, refl, sym, ap, ap₂, ◌∙◌, subst, arith, eqb-true, take_all, take-append-drop}
 use Rattle.std.specs.Prelude.{slice_index, MatchBool}
 use Rattle.std.proofs.lemmas.Bool.{cases_lt, cases_eq, false≢true}
-use Rattle.std.proofs.lemmas.Option.{same_Some, get_or_from_slice_get}
-use Rattle.std.proofs.lemmas.List.{length-set, length-drop, get_or-set_same, get_or-set_other, get_or-replicate, get_or_past, length-replicate, take_more}
-use Rattle.std.proofs.Common.{length-take, length-take-le, replicate}
+use Rattle.std.proofs.lemmas.Option.{get_or_from_slice_get}
+use Rattle.std.proofs.lemmas.List.{length-drop, get_or-set_same, get_or-set_other, get_or-replicate, get_or_past, length-replicate, take_more}
+use Rattle.std.proofs.Common.{length-take, replicate}
 use Rattle.std.proofs.lemmas.List.Sums.{count_by-le-length}
 use Rattle.chart.specs.declared.history.Event.{Event}
 use Rattle.chart.specs.declared.history.Event.TheVariants.{Send as Sends, Receive as Receives}
@@ -12,22 +12,21 @@ use Rattle.chart.specs.declared.event.Event.{Event as Mark}
 use Rattle.chart.specs.declared.event.Event.TheVariants.{Send, Receive}
 use Rattle.chart.specs.declared.line.TheConstants.{MAX_EVENTS}
 use Rattle.chart.specs.Messages.{Content}
-use Rattle.chart.specs.Marks.{ith, tally, is_send_to, is_receive_from, name_of, send_mark, receive_mark, MayHaveRegion}
-use Rattle.chart.specs.Histories.{by, sent, received, waiting, is_closed, chart_of, AreTwo, MayFollow, IsLegal}
-use Rattle.chart.specs.Charts.{Chart, Place, at, mark_at, LineView, IsLine, IsChart, IsSendTo, BelongsTo, IsPossible, chart_lines}
-use Rattle.chart.specs.Places.{IsSendAfter}
+use Rattle.chart.specs.Marks.{ith, tally, is_send_to, is_receive_from, send_mark, receive_mark, MayHaveRegion}
+use Rattle.chart.specs.Histories.{by, sent, received, waiting, is_closed, chart_of, MayFollow, IsLegal}
+use Rattle.chart.specs.Charts.{Chart, at, mark_at, LineView, IsChart, IsSendTo, BelongsTo, IsPossible, chart_lines}
 use Rattle.chart.specs.Order.{Before, IsCyclic}
 use Rattle.chart.specs.Order.Direct.{message, to_send}
 use Rattle.chart.specs.Order.Before.{direct, through}
 use Rattle.chart.proofs.Tally.{Passes, tally-le, tally-append, same_from_tally, ith_within, ith_from_take}
-use Rattle.chart.proofs.Belongs.{IsEvent-from_passes, same_place}
+use Rattle.chart.proofs.Belongs.{IsEvent-from_passes}
 use Rattle.chart.proofs.Lanes.{sent_count, received_count, send_of_first}
 use Rattle.chart.proofs.Sends.{line_after_send, line_after_receive}
 use Rattle.chart.proofs.Steps.{line_of_other}
 use Rattle.closure.specs.Rows.{entry}
 use Rattle.closure.specs.Links.{HasSameName}
 use Rattle.closure.specs.Runs.{next_of, IsReady, IsStopped, AreStopped}
-use Rattle.closure.proofs.ReadLemmas.{empty_line, line_short, partner_within, partner_other}
+use Rattle.closure.proofs.ReadLemmas.{empty_line, line_short, partner_other}
 use Rattle.closure.proofs.LinkLemmas.{tally_pass}
 use Rattle.closure.proofs.Circles.{circle, HasCircle}
 
@@ -225,10 +224,14 @@ IsCyclic-from_stopped c n made stopped p inside more =
         by_reason (inl done) = absurd (omega arith)
         by_reason (inr (q, j, q_in, belongs, later)) =
             let event = IsEvent-from_passes c (is_send_to (suc x)) (at (suc q) j) belongs.sent in
-            inl (q, (q_in, omega (arith, event.1, later)), elim (cases_eq (suc (slice_index made q)) j) [
-              | inl e ↦ direct (message (subst (λ i. BelongsTo c (at (suc q) i) (next_of made x)) (sym e) belongs))
-              | inr differs ↦ through (direct (to_send (suc x) (record { line = refl; begun = omega arith; less = omega arith }) belongs.sent)) (direct (message belongs))
-            ])
+            inl (
+              q,
+              (q_in, omega (arith, event.1, later)),
+              elim (cases_eq (suc (slice_index made q)) j) [
+                | inl e ↦ direct (message (subst (λ i. BelongsTo c (at (suc q) i) (next_of made x)) (sym e) belongs))
+                | inr differs ↦ through (direct (to_send (suc x) (record { line = refl; begun = omega arith; less = omega arith }) belongs.sent)) (direct (message belongs))
+              ],
+            )
 
 -- so running tells whether the chart is possible
 pub runs_out : (lines : List LineView) (made : List ℕ) (all : Bool) → IsMade (length lines) (chart_lines lines) made → AreStopped (chart_lines lines) (length lines) made

@@ -1,11 +1,10 @@
 -- What a search keeps, and what it has found where all was seen.
-use Rattle.std.proofs.Common.{◌≡◌, ◌≢◌, ℕ, zero, suc, ◌+◌, ◌<◌, ◌≤◌, ◌↔◌, ◌⊎◌, inl, inr, max, List, length, get_or, set, replicate, refl, sym, ap, ◌∙◌, subst, arith}
+use Rattle.std.proofs.Common.{◌≡◌, ℕ, zero, suc, ◌+◌, ◌<◌, ◌≤◌, ◌⊎◌, inl, inr, max, List, length, set, replicate, refl, sym, ap, ◌∙◌, subst, arith}
 use Rattle.std.specs.Prelude.{slice_index}
 use Rattle.std.proofs.lemmas.Bool.{cases_lt, cases_eq}
 use Rattle.std.proofs.lemmas.List.{length-set, get_or-set_same, get_or-replicate, get_or_past, length-replicate}
 use Rattle.chart.specs.Marks.{is_send_to, is_receive_from}
 use Rattle.chart.specs.Charts.{Chart, Place, at, LineView, IsSendTo, BelongsTo, chart_lines}
-use Rattle.chart.specs.Places.{IsEvent}
 use Rattle.chart.specs.Order.{IsEarlier, Direct, Before}
 use Rattle.chart.specs.Order.Direct.{message, to_send, same_sender}
 use Rattle.chart.specs.Order.Before.{direct, through}
@@ -137,11 +136,11 @@ module _ (c : Chart) (n : ℕ) (s : Place) (fronts seen : List ℕ) (p : ℕ) (p
       elim (old.sound (suc p)) [
         | inl none ↦ absurd (omega arith)
         | inr w ↦ inr (
-          let front : Before c t (at (suc p) (entry fronts (suc p))) = elim (cases_eq (suc k) (entry fronts (suc p))) [
-            | inl e ↦ direct (message (subst (λ x. BelongsTo c t (at (suc p) x)) e belongs))
-            | inr differs ↦ through (direct (message belongs)) (direct (to_send w.0.0 (record { line = refl; begun = omega arith; less = omega arith }) w.0.1))
-          ] in
-          elim w.1 [ inl same ↦ subst (Before c t) same front | inr before ↦ through front before ])
+            let front : Before c t (at (suc p) (entry fronts (suc p))) = elim (cases_eq (suc k) (entry fronts (suc p))) [
+              | inl e ↦ direct (message (subst (λ x. BelongsTo c t (at (suc p) x)) e belongs))
+              | inr differs ↦ through (direct (message belongs)) (direct (to_send w.0.0 (record { line = refl; begun = omega arith; less = omega arith }) w.0.1))
+            ] in
+            elim w.1 [ inl same ↦ subst (Before c t) same front | inr before ↦ through front before ])
       ]
 
 -- the send of a receive is reached then
@@ -179,7 +178,7 @@ module _ (c : Chart) (fronts : List ℕ) (closed : (t r : Place) → BelongsTo c
 pub IsReached-from_seen : (lines : List LineView) (s : Place) (fronts seen : List ℕ) → IsSearch (chart_lines lines) (length lines) s fronts seen → AreSeen fronts seen → s.index ≤ entry fronts s.instance → IsReached (chart_lines lines) s fronts
 IsReached-from_seen lines s fronts seen search all reached e begun = (inside, upto)
   where
-    all_seen : (p : ℕ) → entry fronts p ≤ entry seen p
+    all_seen : (p : ℕ) → entry fronts p ≤ entry seen p + 1
     all_seen zero = omega arith
     all_seen (suc p) =
         elim (cases_lt p (length fronts)) [
@@ -187,8 +186,20 @@ IsReached-from_seen lines s fronts seen search all reached e begun = (inside, up
           | inr past ↦ let none = entry-past fronts p past in omega (arith, none)
         ]
 
+    -- a receive within the fronts was seen: a front is no receive
+    receive_seen : (t r : Place) → BelongsTo (chart_lines lines) t r → r.index ≤ entry fronts r.instance → r.index ≤ entry seen r.instance
+    receive_seen t r belongs r_in =
+        elim (cases_eq r.index (entry fronts r.instance)) [
+          | inr below ↦ let most = all_seen r.instance in omega arith
+          | inl at_front ↦
+              elim (search.sound r.instance) [
+                | inl none ↦ let event = IsEvent-from_passes (chart_lines lines) (is_receive_from t.instance) r belongs.received in absurd (omega (arith, event.0))
+                | inr w ↦ absurd (not_both (chart_lines lines) w.0.0 t.instance r (subst (λ i. IsSendTo (chart_lines lines) w.0.0 (at r.instance i)) (sym at_front) w.0.1) belongs.received)
+              ]
+        ]
+
     closed : (t r : Place) → BelongsTo (chart_lines lines) t r → r.index ≤ entry fronts r.instance → t.index ≤ entry fronts t.instance
-    closed t r belongs r_in = search.followed t r belongs (let seen_r = all_seen r.instance in omega arith)
+    closed t r belongs r_in = search.followed t r belongs (receive_seen t r belongs r_in)
 
     inside : IsUpTo (chart_lines lines) s e → e.index ≤ entry fronts e.instance
     inside (inl same) = subst (λ (x : Place). x.index ≤ entry fronts x.instance) (sym same) reached

@@ -1,4 +1,4 @@
--- Where a list of reports isn't that of a chart.
+-- Where a list of reports isn't that of a chart (this project's profile).
 use Rattle.std.specs.Prelude.{◌≡◌, ◌≢◌, ℕ, List, take, slice_get, Option, None, Some, length}
 use Rattle.chart.specs.declared.instance.EventNo.{EventNo}
 use Rattle.chart.specs.Charts.{LineView, IsPossible, chart_lines}

@@ -1,5 +1,5 @@
--- What the checker keeps of a chart beside its lines.
-use Rattle.std.specs.Prelude.{◌≡◌, ℕ, suc, ◌<◌, List, length}
+-- What the checker keeps of a chart beside its lines (this project's own).
+use Rattle.std.specs.Prelude.{ℕ, suc, ◌<◌, List, length}
 use Rattle.chart.specs.Charts.{Place, at, LineView, IsSendTo, BelongsTo, IsPossible, IsChart, chart_lines}
 use Rattle.closure.specs.declared.partner.Partner.{Partner}
 use Rattle.closure.specs.declared.partner.Partner.TheVariants.{Receiver, Sender}

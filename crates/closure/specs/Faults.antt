@@ -1,5 +1,5 @@
 -- Why a chart is not possible (after Alur, Holzmann and Peled 1996; the order of the faults is this project's profile).
-use Rattle.std.specs.Prelude.{◌≡◌, ℕ, ◌<◌, ◌⊎◌}
+use Rattle.std.specs.Prelude.{◌≡◌, ◌<◌, ◌⊎◌}
 use Rattle.chart.specs.declared.instance.EventNo.{EventNo}
 use Rattle.chart.specs.Charts.{Chart, Place, at, HasNoSend, HasOtherName}
 use Rattle.chart.specs.Order.{IsCyclic}

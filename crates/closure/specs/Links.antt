@@ -1,5 +1,6 @@
--- Which send each receive belongs to, and how the sends of a lane are passed along the sender's line.
-use Rattle.std.specs.Prelude.{◌≡◌, ◌≢◌, ℕ, suc, ◌+◌, ◌<◌, ◌≤◌, true, List, length, slice_index, Some}
+-- Which send each receive belongs to, and how the sends of a lane are passed along the sender's line (lanes are first in,
+-- first out, as Alur, Holzmann and Peled 1996 have them).
+use Rattle.std.specs.Prelude.{◌≡◌, ℕ, suc, ◌+◌, ◌<◌, ◌≤◌, true, List, length, slice_index, Some}
 use Rattle.chart.specs.declared.event.Event.{Event as Mark}
 use Rattle.chart.specs.declared.instance.EventNo.{EventNo}
 use Rattle.chart.specs.Marks.{ith, tally, is_send_to, is_receive_from, name_of}

@@ -1,4 +1,4 @@
--- Numbers that are kept for the events of each line.
+-- Numbers that are kept for the events of each line (this project's own).
 use Rattle.std.specs.Prelude.{◌≡◌, ℕ, zero, suc, ◌<◌, List, [], length, slice_index, slice_index_or}
 use Rattle.chart.specs.Charts.{Chart, Place, at}
 

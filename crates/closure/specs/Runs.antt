@@ -1,5 +1,6 @@
--- Running a chart: the first events of each line were made, and each next one comes where it can.
-use Rattle.std.specs.Prelude.{◌≡◌, ℕ, suc, ◌<◌, ◌≤◌, ◌⊎◌, List, length, slice_index}
+-- Running a chart: the first events of each line were made, and each next one comes where it can (ITU-T Z.120: a message's
+-- input comes after its output).
+use Rattle.std.specs.Prelude.{ℕ, suc, ◌<◌, ◌≤◌, ◌⊎◌, List, length, slice_index}
 use Rattle.chart.specs.Charts.{Chart, Place, at, IsSendTo, BelongsTo}
 use Rattle.closure.specs.Links.{HasSameName}
 

@@ -1,5 +1,6 @@
--- Searching backwards from a send: for each line the greatest send that is this send or before it.
-use Rattle.std.specs.Prelude.{◌≡◌, ℕ, suc, ◌<◌, ◌≤◌, ◌↔◌, ◌⊎◌, List, length, slice_index}
+-- Searching backwards from a send: for each line the greatest send that is this send or before it (over the order of Alur,
+-- Holzmann and Peled 1996, in this project's profile).
+use Rattle.std.specs.Prelude.{◌≡◌, ℕ, suc, ◌+◌, ◌<◌, ◌≤◌, ◌↔◌, ◌⊎◌, List, length, slice_index}
 use Rattle.chart.specs.Charts.{Chart, Place, at, IsSendTo, IsReceiveFrom, BelongsTo}
 use Rattle.chart.specs.Order.{IsEarlier}
 use Rattle.chart.specs.Knowing.{IsUpTo, IsKnown}
@@ -22,9 +23,9 @@ pub record IsSearch (c : Chart) (n : ℕ) (s : Place) (fronts seen : List ℕ) :
   pub behind : (p : ℕ) → entry seen p ≤ entry fronts p
   pub followed : (t r : Place) → BelongsTo c t r → r.index ≤ entry seen r.instance → t.index ≤ entry fronts t.instance
 
--- all up to the fronts was seen
+-- all before the fronts was seen; the fronts themselves are sends
 abbrev pub AreSeen : List ℕ → List ℕ → Type 0
-AreSeen fronts seen = (p : ℕ) → p < length fronts → slice_index fronts p ≤ slice_index seen p
+AreSeen fronts seen = (p : ℕ) → p < length fronts → slice_index fronts p ≤ slice_index seen p + 1
 
 -- no front went back
 abbrev pub HaveGrown : List ℕ → List ℕ → Type 0

@@ -37,7 +37,12 @@ fn known_at(
 }
 
 /// What each send of a line knows of its receiver's line, by one search.
-fn known_on(alloc: Global, lines: &[Line], links: &[Numbers], line: usize) -> Result<Numbers, AllocError>
+fn known_on(
+    alloc: Global,
+    lines: &[Line],
+    links: &[Numbers],
+    line: usize,
+) -> Result<Numbers, AllocError>
     requires linked { AreLinked lines.now links.now }
     requires line { line < length lines.now }
     ensures { IfOk result
@@ -53,7 +58,11 @@ fn known_on(alloc: Global, lines: &[Line], links: &[Numbers], line: usize) -> Re
 }
 
 /// What each send knows of its receiver's line: for each line a row with a number for each of its sends.
-pub fn knowledge(alloc: Global, lines: &[Line], links: &[Numbers]) -> Result<Vec<Numbers>, AllocError>
+pub fn knowledge(
+    alloc: Global,
+    lines: &[Line],
+    links: &[Numbers],
+) -> Result<Vec<Numbers>, AllocError>
     requires { AreLinked lines.now links.now }
     ensures { IfOk result
         (λ known. AreRows (IsKnowledge (chart_lines lines.now)) (chart_lines lines.now) (length lines.now) known.items) }

@@ -91,7 +91,11 @@ fn add_reports(
 }
 
 /// The reports of all receives, by instance and index.
-pub fn reports_of(alloc: Global, lines: &[Line], links: &[Numbers]) -> Result<Vec<Report>, AllocError>
+pub fn reports_of(
+    alloc: Global,
+    lines: &[Line],
+    links: &[Numbers],
+) -> Result<Vec<Report>, AllocError>
     requires { AreLinked lines.now links.now }
     ensures { IfOk result (λ reports. AreReports lines.now reports.items) }
 {

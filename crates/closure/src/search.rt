@@ -3,7 +3,7 @@
 //! What is a send or before it is, of each line, the events up to some send, its front: all that stands above a send is
 //! before it. So the pairs to be followed are those from a receive to its send, and each event is seen once. Of a later
 //! send of the same line the fronts are no smaller, and the search goes on from where it is.
-ghost use Rattle.std.specs.Prelude.{ℕ, ◌≡◌, ◌<◌, ◌≤◌, ◌+◌, ◌↔◌, suc, max, length, replicate, slice_index, slice_set, nat_lt, IsTrue, IfOk, IfSome, MatchOption};
+ghost use Rattle.std.specs.Prelude.{ℕ, ◌≡◌, ◌<◌, ◌≤◌, ◌+◌, ◌↔◌, suc, max, length, replicate, slice_index, slice_set, IsTrue, IfOk, IfSome, MatchBool, MatchOption};
 ghost use Rattle.chart.specs.Charts.{Place, at, chart_lines};
 ghost use Rattle.chart.specs.Knowing.{IsUpTo};
 ghost use Rattle.closure.specs.Faults.{place_of};
@@ -35,22 +35,24 @@ impl Search {
         })
     }
 
-    /// Whether events of the line were reached and not followed yet.
+    /// Whether events of the line are to be followed. The front itself is a send, and needs not be.
     fn is_pending(&self, line: usize) -> bool
         requires fronts { line < length self.now.fronts }
         requires seen { line < length self.now.seen }
-        ensures { result ≡ nat_lt (slice_index self.now.seen line) (slice_index self.now.fronts line) }
+        ensures { MatchBool result (slice_index self.now.seen line + 1 < slice_index self.now.fronts line)
+            (slice_index self.now.fronts line ≤ slice_index self.now.seen line + 1) }
     {
-        self.seen.at(line) < self.fronts.at(line)
+        let front = self.fronts.at(line);
+        front > 0 && self.seen.at(line) < front - 1
     }
 
-    /// A line whose events were reached and not followed yet: the hint, or else the first.
+    /// A line with events to be followed: the hint, or else the first.
     fn pending(&self, hint: usize) -> Option<usize>
         requires seen { length self.now.seen ≡ length self.now.fronts }
         requires hint { hint < length self.now.fronts }
         ensures within { IfSome result (λ line. line < length self.now.fronts) }
         ensures pending { MatchOption result (AreSeen self.now.fronts self.now.seen)
-            (λ line. slice_index self.now.seen line < slice_index self.now.fronts line) }
+            (λ line. slice_index self.now.seen line + 1 < slice_index self.now.fronts line) }
     {
         if self.is_pending(hint) {
             return Some(hint);

@@ -1,4 +1,4 @@
-use Rattle.std.proofs.Common.{◌≡◌, ◌+◌, suc, length, refl, sym, subst, arith, add-one}
+use Rattle.std.proofs.Common.{suc, length, sym, subst, arith, add-one}
 use Rattle.chart.specs.Charts.{at, chart_lines}
 use Rattle.closure.specs.Searches.{IsSearch, IsReached}
 use Rattle.closure.proofs.KnowLemmas.{IsSearchAfter-reached, IsSearchAfter-more, IsKnowledge-from_reached}

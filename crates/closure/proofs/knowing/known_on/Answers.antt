@@ -6,11 +6,10 @@ use Rattle.closure.proofs.LinkLemmas.{IsRow-push}
 use Rattle.closure.proofs.knowing.known_on.Goals as goal
 
 pub loop-place-preserved : goal.loop-place-preserved
-loop-place-preserved c =
-    (
-      subst (λ k. IsSearchAfter (chart_lines c.args.lines.now) (length c.args.lines.now) c.args.line k c.known_at-known.new.search.fronts c.known_at-known.new.search.seen) (sym (add-one c.loop-place.place)) c.known_at-known.ensures.search,
-      rw c.in_ok-push.ensures (IsRow-push (IsKnowledge (chart_lines c.args.lines.now)) (suc c.args.line) c.loop-place.place c.loop-place.row c.known_at-known.result c.loop-place.invariant.1 c.known_at-known.ensures.known),
-    )
+loop-place-preserved c = (
+  subst (λ k. IsSearchAfter (chart_lines c.args.lines.now) (length c.args.lines.now) c.args.line k c.known_at-known.new.search.fronts c.known_at-known.new.search.seen) (sym (add-one c.loop-place.place)) c.known_at-known.ensures.search,
+  rw c.in_ok-push.ensures (IsRow-push (IsKnowledge (chart_lines c.args.lines.now)) (suc c.args.line) c.loop-place.place c.loop-place.row c.known_at-known.result c.loop-place.invariant.1 c.known_at-known.ensures.known),
+)
 
 pub returns : goal.returns
 returns c =

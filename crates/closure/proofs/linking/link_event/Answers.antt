@@ -1,12 +1,10 @@
-use Rattle.std.proofs.Common.{◌≡◌, ◌<◌, suc, length, Some, ap, sym, ◌∙◌, subst, arith, refl}
-use Rattle.chart.specs.declared.event.Event.TheVariants.{Send, Receive}
+use Rattle.std.proofs.Common.{suc, length, Some, ap, sym, ◌∙◌, arith}
+use Rattle.chart.specs.declared.event.Event.TheVariants.{Receive}
 use Rattle.std.proofs.lemmas.Bool.{false≢true}
 use Rattle.chart.specs.Marks.{ith}
-use Rattle.chart.specs.Charts.{at, mark_at, chart_lines}
-use Rattle.std.proofs.lemmas.Option.{slice_get_read}
-use Rattle.closure.specs.Links.{IsNextSend}
+use Rattle.chart.specs.Charts.{at, chart_lines}
 use Rattle.closure.proofs.ReadLemmas.{ith_read, partner_within}
-use Rattle.closure.proofs.LinkLemmas.{HasPassed-send, HasPassed-receive, IsLink-from_belongs, IsLink-send, belongs_to_next, none_left, no_more, IsNextSend-same}
+use Rattle.closure.proofs.LinkLemmas.{HasPassed-send, HasPassed-receive, IsLink-from_belongs, belongs_to_next, none_left, no_more, IsNextSend-same}
 use Rattle.closure.proofs.linking.link_event.Goals as goal
 
 pub returns-in_default-clause-next : goal.returns-in_default-clause-next
@@ -35,8 +33,7 @@ returns-then-not-are_same-clause-fault c =
     let at_r = c.event_at.ensures ∙ ap (λ x. Some x) c.in-Receive.is in
     let w = partner_within c.args.lines.now c.args.line c.args.place _ c.requires.chart c.requires.line at_r in
     let next = IsNextSend-same _ (chart_lines c.args.lines.now (suc c.place-sender.result)) _ (suc c.args.line) _ _ c.in-Some.index c.events_of-events.ensures c.at_place.ensures c.at.ensures c.in-Some.ensures in
-    let belongs = belongs_to_next (chart_lines c.args.lines.now) (length c.args.lines.now) c.args.line c.args.place c.args.passed.now c.requires.passed c.place-sender.result c.in-Receive.from c.in-Receive.name c.in-Receive.region (omega (arith, w, c.place-sender.ensures.value)) c.place-sender.ensures.value at_r c.in-Some.index next in
-    (
+    let belongs = belongs_to_next (chart_lines c.args.lines.now) (length c.args.lines.now) c.args.line c.args.place c.args.passed.now c.requires.passed c.place-sender.result c.in-Receive.from c.in-Receive.name c.in-Receive.region (omega (arith, w, c.place-sender.ensures.value)) c.place-sender.ensures.value at_r c.in-Some.index next in (
       at (suc c.place-sender.result) c.in-Some.index,
       c.index-events-index.result,
       Receive c.in-Receive.from c.in-Receive.name c.in-Receive.region,

@@ -1,4 +1,4 @@
-use Rattle.std.proofs.Common.{◌≡◌, ◌+◌, suc, length, sym, ap, ◌∙◌, subst, arith, add-one}
+use Rattle.std.proofs.Common.{◌+◌, suc, length, sym, ap, ◌∙◌, subst, arith, add-one}
 use Rattle.chart.specs.Charts.{chart_lines}
 use Rattle.closure.specs.Links.{IsLink, HasPassed, refusal_of}
 use Rattle.closure.specs.Rows.{IsRow}
@@ -9,11 +9,10 @@ pub returns-in-Err-clause-err : goal.returns-in-Err-clause-err
 returns-in-Err-clause-err c = RefusesLine-from_fault (chart_lines c.args.lines.now) (suc c.args.line) c.loop-place.place c.loop-place.row c.in-Err.fault c.refusal.result c.loop-place.invariant.1 c.in-Err.ensures.fault (c.refusal.ensures ∙ ap (λ x. refusal_of c.in-Err.fault (record { instance = x; index = c.loop-place.place + 1 })) c.at_place.ensures)
 
 pub loop-place-preserved : goal.loop-place-preserved
-loop-place-preserved c =
-    (
-      subst (λ k. HasPassed (chart_lines c.args.lines.now) (length c.args.lines.now) c.args.line k c.link_event.new.passed) (sym (add-one c.loop-place.place)) c.in-Ok.ensures.next,
-      rw c.in_ok-push-in-Ok.ensures (IsRow-push (IsLink (chart_lines c.args.lines.now)) (suc c.args.line) c.loop-place.place c.loop-place.row c.in-Ok.index c.loop-place.invariant.1 c.in-Ok.ensures.ok),
-    )
+loop-place-preserved c = (
+  subst (λ k. HasPassed (chart_lines c.args.lines.now) (length c.args.lines.now) c.args.line k c.link_event.new.passed) (sym (add-one c.loop-place.place)) c.in-Ok.ensures.next,
+  rw c.in_ok-push-in-Ok.ensures (IsRow-push (IsLink (chart_lines c.args.lines.now)) (suc c.args.line) c.loop-place.place c.loop-place.row c.in-Ok.index c.loop-place.invariant.1 c.in-Ok.ensures.ok),
+)
 
 pub returns-clause-ok : goal.returns-clause-ok
 returns-clause-ok c =

@@ -2,7 +2,7 @@ use Rattle.std.proofs.Common.{◌≡◌, ◌↔◌, ◌-◌, suc, length, refl, 
 use Rattle.std.specs.Prelude.{IsTrue}
 use Rattle.std.proofs.lemmas.Bool.{false≢true}
 use Rattle.std.proofs.lemmas.Result.{IfOk-weaker}
-use Rattle.chart.specs.Charts.{Place, at, BelongsTo, chart_lines}
+use Rattle.chart.specs.Charts.{at, BelongsTo, chart_lines}
 use Rattle.chart.specs.Order.{Before}
 use Rattle.chart.specs.Knowing.{IsUpTo}
 use Rattle.closure.specs.Faults.{place_of}
@@ -25,8 +25,7 @@ returns-then-index-len_of c =
 
 pub returns-then-is_at : goal.returns-then-is_at
 returns-then-is_at c =
-    let same = c.is_at.ensures.0 c.if-is_at.true in
-    (
+    let same = c.is_at.ensures.0 c.if-is_at.true in (
       λ never. absurd (false≢true never),
       λ before. absurd (no_cycle (length c.args.lines.now) (chart_lines c.args.lines.now) c.requires.possible (at (suc c.args.line) c.args.index, subst (λ x. Before (chart_lines c.args.lines.now) x (at (suc c.args.line) c.args.index)) same before)),
     )
@@ -43,7 +42,7 @@ returns-else-is_receive_above c =
     let e : suc (c.args.index - 1) ≡ c.args.index = omega (arith, c.if-index-eq0.false) in
     let belongs = subst (λ i. BelongsTo (chart_lines c.args.lines.now) (at (suc c.in-Sender.sender) c.in-Sender.sent) (at (suc c.args.line) i)) e c.in-Sender.ensures.1 in
     let other = λ (above : IsReceiveAbove (chart_lines c.args.lines.now) (suc c.in-Sender.sender) (place_of c.args.earlier.now) (at (suc c.args.line) c.args.index)).
-        false≢true (sym c.if-is_receive_above.false ∙ c.is_receive_above.ensures.1 (subst (λ q. IsReceiveAbove (chart_lines c.args.lines.now) q (place_of c.args.earlier.now) (at (suc c.args.line) c.args.index)) (sym c.at_place.ensures) above)) in
+    false≢true (sym c.if-is_receive_above.false ∙ c.is_receive_above.ensures.1 (subst (λ q. IsReceiveAbove (chart_lines c.args.lines.now) q (place_of c.args.earlier.now) (at (suc c.args.line) c.args.index)) (sym c.at_place.ensures) above)) in
     let both = before_received_up (chart_lines c.args.lines.now) (place_of c.args.earlier.now) (at (suc c.in-Sender.sender) c.in-Sender.sent) (at (suc c.args.line) c.args.index) belongs other in
     IfOk-weaker c.is_up_to-in-Sender.result (λ b. IsTrue b ↔ IsUpTo (chart_lines c.args.lines.now) (at (suc c.in-Sender.sender) c.in-Sender.sent) (place_of c.args.earlier.now)) (λ b. IsTrue b ↔ Before (chart_lines c.args.lines.now) (place_of c.args.earlier.now) (at (suc c.args.line) c.args.index))
     (λ b h. (λ t. both.0 (h.0 t), λ before. h.1 (both.1 before))) c.is_up_to-in-Sender.ensures

@@ -1,10 +1,8 @@
-use Rattle.std.proofs.Common.{suc, length, Some, ap, ◌∙◌, subst, sym, eq-eqb, arith}
-use Rattle.chart.specs.declared.event.Event.TheVariants.{Send, Receive}
+use Rattle.std.proofs.Common.{suc, Some, ap, ◌∙◌, subst, sym, eq-eqb, arith}
+use Rattle.chart.specs.declared.event.Event.TheVariants.{Receive}
 use Rattle.chart.specs.Charts.{at, BelongsTo, chart_lines}
 use Rattle.closure.specs.Links.{HasSameName}
 use Rattle.closure.proofs.ReadLemmas.{partner_within}
-use Rattle.closure.proofs.RunLemmas.{IsMade-next}
-use Rattle.closure.proofs.Impossible.{impossible}
 use Rattle.closure.proofs.partner.partner_of.Goals as goal
 
 pub returns-in-Receive : goal.returns-in-Receive

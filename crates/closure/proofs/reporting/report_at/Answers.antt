@@ -1,10 +1,8 @@
-use Rattle.std.proofs.Common.{◌≡◌, ◌+◌, ◌-◌, ◌∷◌, [], suc, length, map, take, All, sym, ap, ◌∙◌, subst, arith, add-one}
-use Rattle.chart.specs.Marks.{is_send_to}
-use Rattle.chart.specs.Charts.{Place, at, LineView, BelongsTo, chart_lines}
+use Rattle.std.proofs.Common.{◌≡◌, ◌∷◌, [], suc, map, take, All, sym, ap, ◌∙◌, subst, arith, add-one}
+use Rattle.chart.specs.Charts.{at, LineView, chart_lines}
 use Rattle.chart.specs.Order.{IsRaces}
 use Rattle.chart.specs.Knowing.{IsKnown}
 use Rattle.chart.proofs.Counts.{count-le}
-use Rattle.closure.specs.Rows.{number_at}
 use Rattle.closure.proofs.ReadLemmas.{line_short}
 use Rattle.closure.proofs.KnowLemmas.{known_entry}
 use Rattle.closure.proofs.ReportLemmas.{receive_at-receive, IsReportOf-from_races}
@@ -26,8 +24,7 @@ returns c =
     let races = subst (λ q. IsRaces (take c.args.place (chart_lines c.args.lines.now (suc c.args.line))) c.number_at-entry.result q c.region-region.result xs) c.at_place.ensures in_line in
     let own = subst (λ (x : LineView). All (λ e. e.instance ≡ x.instance) c.in_ok-earlier.earlier.items) c.requires.above c.in_ok-earlier.ensures.own in
     let here = subst (λ k. IsKnown (chart_lines c.args.lines.now) s (suc c.args.line) k) (sym c.number_at-entry.ensures) known in
-    rw (c.new.ensures, c.at_place-2.ensures)
-    (
+    rw (c.new.ensures, c.at_place-2.ensures) (
       receive_at-receive (chart_lines c.args.lines.now) (suc c.in-Sender.sender) (suc c.args.line) (suc c.args.place) c.in-Sender.ensures.1.received ∙ ap (λ i. record { instance = suc c.args.line; index = i } ∷ []) (sym (add-one c.args.place)),
       IsReportOf-from_races (chart_lines c.args.lines.now) s (suc c.args.line) c.args.place c.number_at-entry.result c.region-region.result c.event_at.result c.in_ok-earlier.earlier.items c.in-Sender.ensures.1 c.event_at.ensures c.region-region.ensures here races own,
     )

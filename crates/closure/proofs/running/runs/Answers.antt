@@ -1,13 +1,12 @@
-use Rattle.std.proofs.Common.{◌≡◌, ◌+◌, ◌<◌, length, slice_index, ap, sym, ◌∙◌, subst, arith}
+use Rattle.std.proofs.Common.{◌+◌, length, slice_index, ap, sym, ◌∙◌, subst, arith}
 use Rattle.std.proofs.lemmas.List.{length-replicate, length-set}
 use Rattle.chart.specs.Charts.{chart_lines}
-use Rattle.closure.proofs.RunLemmas.{IsMade, IsMade-none, IsMade-next, left, left-less, runs_out}
+use Rattle.closure.proofs.RunLemmas.{IsMade, IsMade-none, IsMade-next, left-less, runs_out}
 use Rattle.closure.proofs.running.runs.Goals as goal
 
 pub loop-ready-init : goal.loop-ready-init
 loop-ready-init c =
-    let n = length c.args.lines.now in
-    (
+    let n = length c.args.lines.now in (
       ap length c.in_ok-made.ensures ∙ length-replicate n 0,
       omega (arith, c.requires.chart.several),
       subst (IsMade n (chart_lines c.args.lines.now)) (sym c.in_ok-made.ensures) (IsMade-none n n (chart_lines c.args.lines.now)),
@@ -20,8 +19,7 @@ loop-ready-smaller c =
 
 pub loop-ready-preserved : goal.loop-ready-preserved
 loop-ready-preserved c =
-    rw (c.set.ensures, c.at.ensures)
-    (
+    rw (c.set.ensures, c.at.ensures) (
       length-set c.loop-ready.made c.in-Some.ready (slice_index c.loop-ready.made c.in-Some.ready + 1) ∙ c.loop-ready.invariant.0,
       c.in-Some.ensures.within,
       IsMade-next c.args.lines.now c.loop-ready.made c.in-Some.ready c.requires.chart c.loop-ready.invariant.0 c.loop-ready.invariant.2 c.in-Some.ensures.within c.in-Some.ensures.ready,

@@ -1,4 +1,4 @@
-use Rattle.std.proofs.Common.{suc, length, subst, arith}
+use Rattle.std.proofs.Common.{suc, length, subst}
 use Rattle.chart.specs.Charts.{at, BelongsTo, chart_lines}
 use Rattle.closure.proofs.SearchLemmas.{IsSearch-receive}
 use Rattle.closure.proofs.search.follow.Goals as goal

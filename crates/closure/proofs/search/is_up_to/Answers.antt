@@ -1,4 +1,4 @@
-use Rattle.std.proofs.Common.{suc, length, subst, ap, sym, arith}
+use Rattle.std.proofs.Common.{suc, length, ap, arith}
 use Rattle.std.proofs.lemmas.Bool.{false≢true, leb-true, le-leb}
 use Rattle.chart.specs.Charts.{at, chart_lines}
 use Rattle.closure.specs.Faults.{place_of}
@@ -20,8 +20,7 @@ reach-requires-clause-search c = rw c.in_ok-search.ensures (IsSearch-none (chart
 pub returns : goal.returns
 returns c =
     let is = c.reach.ensures.reached (place_of c.args.event.now) (omega (arith, c.if-event-eq0.false)) in
-    let front = ap (entry c.reach.new.search.fronts) c.place-place.ensures.value in
-    (
+    let front = ap (entry c.reach.new.search.fronts) c.place-place.ensures.value in (
       λ yes'. is.1 (let le = leb-true c.args.event.now.index c.at.result yes' in omega (arith, c.at.ensures, front)),
       λ up. le-leb c.args.event.now.index c.at.result (let le = is.0 up in omega (arith, c.at.ensures, front)),
     )

@@ -1,14 +1,13 @@
-use Rattle.std.proofs.Common.{◌≤◌, suc, length, slice_index, inl, refl, arith}
+use Rattle.std.proofs.Common.{suc, length, inl, refl, arith}
 use Rattle.chart.specs.Charts.{at, chart_lines}
-use Rattle.closure.proofs.RunLemmas.{left, left-less}
+use Rattle.closure.proofs.RunLemmas.{left-less}
 use Rattle.closure.proofs.SearchLemmas.{IsSearch-raised, IsReached-from_seen, front_within, raised-same}
 use Rattle.closure.proofs.search.reach.Goals as goal
 
 pub loop-pending-init : goal.loop-pending-init
 loop-pending-init c =
     let fronts = c.args.search.now.fronts in
-    rw c.raise.ensures
-    (
+    rw c.raise.ensures (
       IsSearch-raised (chart_lines c.args.lines.now) (length c.args.lines.now) (at (suc c.args.line) c.args.index) fronts c.args.search.now.seen c.args.line c.args.index c.requires.line c.requires.send (inl refl) c.requires.search,
       (let new = raised-same fronts c.args.line c.args.index (omega (arith, c.requires.search.fronts_whole, c.requires.line)) in omega (arith, new)),
       c.requires.line,
@@ -26,12 +25,11 @@ loop-pending-smaller c =
     (left-less (chart_lines c.args.lines.now) (length c.args.lines.now) c.in-Some.pending c.loop-pending.search.seen (omega (arith, c.loop-pending.invariant.0.fronts_whole)) (omega (arith, c.loop-pending.invariant.0.fronts_whole, c.loop-pending.invariant.0.seen_whole)) (omega arith))
 
 pub loop-pending-preserved : goal.loop-pending-preserved
-loop-pending-preserved c =
-    (
-      c.follow-next.ensures.kept (at (suc c.args.line) c.args.index) c.loop-pending.invariant.0,
-      (let grown = c.follow-next.ensures.grown (suc c.args.line) in omega (arith, grown, c.loop-pending.invariant.1)),
-      c.follow-next.ensures.line,
-    )
+loop-pending-preserved c = (
+  c.follow-next.ensures.kept (at (suc c.args.line) c.args.index) c.loop-pending.invariant.0,
+  (let grown = c.follow-next.ensures.grown (suc c.args.line) in omega (arith, grown, c.loop-pending.invariant.1)),
+  c.follow-next.ensures.line,
+)
 
 pub returns-clause-reached : goal.returns-clause-reached
 returns-clause-reached c = IsReached-from_seen c.args.lines.now (at (suc c.args.line) c.args.index) c.loop-pending.search.fronts c.loop-pending.search.seen c.loop-pending.invariant.0 c.in_default.ensures.pending c.loop-pending.invariant.1

@@ -1,9 +1,8 @@
-use Rattle.std.proofs.Common.{◌≡◌, List, length, sym, inr, ap, ◌∙◌, subst, subst₂, arith}
+use Rattle.std.proofs.Common.{List, length, sym, inr, subst}
 use Rattle.std.specs.Prelude.{MatchBool}
 use Rattle.chart.specs.Charts.{Place, LineView, IsChart, chart_lines, IsPossible}
 use Rattle.chart.specs.Order.{IsCyclic}
 use Rattle.closure.specs.Faults.{IsFaulty, Refuses}
-use Rattle.closure.specs.Closures.{AreLinked}
 use Rattle.closure.proofs.LinkLemmas.{none_faulty}
 use Rattle.closure.proofs.Impossible.{impossible, no_cycle}
 use Rattle.closure.proofs.closure.Closure.of.Goals as goal
