@@ -2,11 +2,10 @@
 use Rattle.std.specs.Prelude.{◌≡◌, ◌≢◌, ℕ, List, take, slice_get, Option, None, Some, length}
 use Rattle.chart.specs.declared.instance.EventNo.{EventNo}
 use Rattle.chart.specs.Charts.{LineView, IsPossible, chart_lines}
-use Rattle.chart.specs.Reports.{ReportView}
 use Rattle.closure.specs.declared.error.AuditError.{AuditError}
 use Rattle.closure.specs.declared.error.AuditError.TheVariants.{Chart, WrongReport}
 use Rattle.closure.specs.Faults.{Refuses}
-use Rattle.closure.specs.Reported.{AreReports}
+use Rattle.chart.specs.Reports.{ReportView, AreReports}
 
 -- the receive that belongs in a place or, where none does, that of the surplus report there
 abbrev pub IsNamed : Option ReportView → Option ReportView → EventNo → Type 0

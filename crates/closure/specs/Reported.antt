@@ -1,12 +1,10 @@
--- The reports of a chart: one for each receive, by instance and index (races after Alur, Holzmann and Peled 1996).
+-- The reports of a chart's receives so far, while they are made: by instance and index (this project's own).
 use Rattle.std.specs.Prelude.{◌≡◌, ℕ, zero, suc, List, [], ◌∷◌, ◌++◌, length, map, take, All, Option, None, Some}
 use Rattle.chart.specs.declared.event.Event.{Event as Mark}
 use Rattle.chart.specs.declared.event.Event.TheVariants.{Send, Receive}
 use Rattle.chart.specs.declared.instance.EventNo.{EventNo}
 use Rattle.chart.specs.Charts.{Chart, at, mark_at, LineView, chart_lines}
-use Rattle.chart.specs.Order.{IsReport}
-use Rattle.chart.specs.Reports.{ReportView}
-use Rattle.closure.specs.Faults.{place_of}
+use Rattle.chart.specs.Reports.{ReportView, IsReportIn}
 
 -- the event at i of p's line, if it is a receive
 abbrev pub receive_at : Option Mark → ℕ → ℕ → List EventNo
@@ -24,25 +22,15 @@ abbrev pub all_receives : Chart → ℕ → List EventNo
 all_receives c zero = []
 all_receives c (suc n) = all_receives c n ++ receives_of c (suc n) (length (c (suc n)))
 
--- the report is exactly that of its receive, and names events of the receive's line
-pub record IsReportOf (c : Chart) (report : ReportView) : Type 0 where
-  pub exact : IsReport c (place_of report.receive) (map (λ e. e.index) report.earlier)
-  pub own : All (λ e. e.instance ≡ report.receive.instance) report.earlier
-
--- the reports are those of all receives, by instance and index
-pub record AreReports (lines : List LineView) (reports : List ReportView) : Type 0 where
-  pub receives : map (λ r. r.receive) reports ≡ all_receives (chart_lines lines) (length lines)
-  pub each : All (IsReportOf (chart_lines lines)) reports
-
 -- the reports are those of the receives of the lines before p, and among the first k events of the line at p
 pub record HaveReported (c : Chart) (p k : ℕ) (reports : List ReportView) : Type 0 where
   pub receives : map (λ r. r.receive) reports ≡ all_receives c p ++ receives_of c (suc p) k
-  pub each : All (IsReportOf c) reports
+  pub each : All (IsReportIn c) reports
 
 -- the report of the event at i of p's line, where it is a receive
 abbrev pub IsReportAt : Chart → ℕ → ℕ → Option ReportView → Type 0
 IsReportAt c p i None = receive_at (mark_at c (at p i)) p i ≡ []
-IsReportAt c p i (Some report) = (receive_at (mark_at c (at p i)) p i ≡ report.receive ∷ []) × IsReportOf c report
+IsReportAt c p i (Some report) = (receive_at (mark_at c (at p i)) p i ≡ report.receive ∷ []) × IsReportIn c report
 
 -- the line of p with its first k events alone
 abbrev pub line_above : Chart → ℕ → ℕ → LineView

@@ -1,7 +1,7 @@
 //! Audits of reports.
 ghost use Rattle.std.specs.Prelude.{◌≡◌, ◌↔◌, ◌⊎◌, length, IsTrue, MatchOption, OnOk, IfErr};
 ghost use Rattle.chart.specs.Charts.{chart_lines, IsPossible};
-ghost use Rattle.closure.specs.Reported.{AreReports};
+ghost use Rattle.chart.specs.Reports.{AreReports};
 ghost use Rattle.closure.specs.Audits.{IsFirstWrong, RefusesReports};
 
 use crate::closure::Closure;

@@ -3,7 +3,7 @@ ghost use Rattle.std.specs.Prelude.{◌≡◌, ◌⊎◌, length, ◌↔◌, IsT
 ghost use Rattle.chart.specs.Charts.{chart_lines, IsPossible};
 ghost use Rattle.chart.specs.Order.{Before};
 ghost use Rattle.closure.specs.Faults.{place_of, Refuses};
-ghost use Rattle.closure.specs.Reported.{AreReports};
+ghost use Rattle.chart.specs.Reports.{AreReports};
 
 use crate::error::ChartError;
 use crate::linking::links_of;

@@ -6,7 +6,8 @@ ghost use Rattle.chart.specs.Charts.{chart_lines};
 ghost use Rattle.closure.specs.Rows.{AreRows};
 ghost use Rattle.closure.specs.Closures.{AreLinked};
 ghost use Rattle.closure.specs.Searches.{IsKnowledge};
-ghost use Rattle.closure.specs.Reported.{AreReports, HaveReported, IsReportAt, line_above};
+ghost use Rattle.chart.specs.Reports.{AreReports};
+ghost use Rattle.closure.specs.Reported.{HaveReported, IsReportAt, line_above};
 
 use crate::knowing::knowledge;
 use crate::numbers::Numbers;

@@ -154,6 +154,10 @@ mod tests {
     fn command_lines(rt: HostRuntime) {
         let words = ["mscrun", "replay", "a file"];
         assert!(rt; matches!(task_in(rt.alloc(), &words), Ok((Task::Replay, "a file"))));
+        let words = ["mscrun", "check", "a file"];
+        assert!(rt; matches!(task_in(rt.alloc(), &words), Ok((Task::Check, "a file"))));
+        misses(&rt, rt.alloc(), &["mscrun", "check"]);
+        misses(&rt, rt.alloc(), &["mscrun", "check", "one", "--seed", "7"]);
         misses(&rt, rt.alloc(), &["mscrun"]);
         misses(&rt, rt.alloc(), &["mscrun", "replay"]);
         misses(&rt, rt.alloc(), &["mscrun", "replay", "one", "two"]);

@@ -1,12 +1,9 @@
 -- What the program does with the bytes of a file.
-use Rattle.std.specs.Prelude.{◌≡◌, ℕ, suc, ◌⊎◌, Bool, List, length, Option, Result, Ok, Err, nat_lt, if◌then◌else◌}
+use Rattle.std.specs.Prelude.{◌≡◌, ℕ, ◌⊎◌, Bool, List, length, Option, Result, Ok, Err, nat_lt, if◌then◌else◌}
 use Rattle.std.specs.List.{list_any}
-use Rattle.chart.specs.declared.instance.EventNo.{EventNo}
 use Rattle.chart.specs.Charts.{LineView, chart_lines, IsPossible}
-use Rattle.chart.specs.Reports.{ReportView}
+use Rattle.chart.specs.Reports.{ReportView, AreReports}
 use Rattle.closure.specs.Faults.{Refuses}
-use Rattle.closure.specs.Reported.{AreReports}
-use Rattle.closure.specs.declared.error.ChartError.{ChartError}
 use Rattle.closure.specs.declared.error.ChartError.TheVariants as faults
 use Rattle.msc_reader.specs.Reading.{chart_of}
 use Rattle.msc_text.specs.ChartText.{name_at}

@@ -1,7 +1,7 @@
 //! Checks charts: whether they are possible, and their races.
 ghost use Rattle.std.specs.Prelude.{◌≡◌, ◌≤◌, ◌<◌, ◌⊎◌, List, length, OnOk, IfErr, IfOk};
 ghost use Rattle.chart.specs.Charts.{LineView, chart_lines, IsPossible};
-ghost use Rattle.closure.specs.Reported.{AreReports};
+ghost use Rattle.chart.specs.Reports.{AreReports};
 ghost use Rattle.closure.specs.Faults.{Refuses};
 ghost use Rattle.msc_reader.specs.Reading.{chart_of};
 ghost use Rattle.msc_text.specs.ChartText.{name_at};

@@ -1,8 +1,7 @@
 use Rattle.std.proofs.Common.{List, subst}
 use Rattle.chart.specs.Charts.{LineView}
-use Rattle.chart.specs.Reports.{ReportView}
 use Rattle.closure.specs.declared.error.AuditError.TheVariants.{WrongReport}
-use Rattle.closure.specs.Reported.{AreReports}
+use Rattle.chart.specs.Reports.{ReportView, AreReports}
 use Rattle.closure.specs.Audits.{IsFirstWrong}
 use Rattle.closure.proofs.OneList.{refused_rightly}
 use Rattle.closure.proofs.checking.audit.Goals as goal

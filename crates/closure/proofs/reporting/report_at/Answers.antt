@@ -5,7 +5,7 @@ use Rattle.chart.specs.Knowing.{IsKnown}
 use Rattle.chart.proofs.Counts.{count-le}
 use Rattle.closure.proofs.ReadLemmas.{line_short}
 use Rattle.closure.proofs.KnowLemmas.{known_entry}
-use Rattle.closure.proofs.ReportLemmas.{receive_at-receive, IsReportOf-from_races}
+use Rattle.closure.proofs.ReportLemmas.{receive_at-receive, IsReportIn-from_races}
 use Rattle.closure.proofs.reporting.report_at.Goals as goal
 
 pub overflow_cast-entry : goal.overflow_cast-entry
@@ -26,5 +26,5 @@ returns c =
     let here = subst (λ k. IsKnown (chart_lines c.args.lines.now) s (suc c.args.line) k) (sym c.number_at-entry.ensures) known in
     rw (c.new.ensures, c.at_place-2.ensures) (
       receive_at-receive (chart_lines c.args.lines.now) (suc c.in-Sender.sender) (suc c.args.line) (suc c.args.place) c.in-Sender.ensures.1.received ∙ ap (λ i. record { instance = suc c.args.line; index = i } ∷ []) (sym (add-one c.args.place)),
-      IsReportOf-from_races (chart_lines c.args.lines.now) s (suc c.args.line) c.args.place c.number_at-entry.result c.region-region.result c.event_at.result c.in_ok-earlier.earlier.items c.in-Sender.ensures.1 c.event_at.ensures c.region-region.ensures here races own,
+      IsReportIn-from_races (chart_lines c.args.lines.now) s (suc c.args.line) c.args.place c.number_at-entry.result c.region-region.result c.event_at.result c.in_ok-earlier.earlier.items c.in-Sender.ensures.1 c.event_at.ensures c.region-region.ensures here races own,
     )
