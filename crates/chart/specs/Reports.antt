@@ -34,5 +34,5 @@ pub record AreReportsOf (c : Chart) (lines : List LineView) (reports : List Repo
   pub each : All (IsReportIn c) reports
 
 -- the report of each receive of the chart, by instance and index
-abbrev pub AreReports : List LineView → List ReportView → Type 0
-AreReports lines reports = AreReportsOf (chart_lines lines) lines reports
+pub record AreReports (lines : List LineView) (reports : List ReportView) : Type 0 where
+  pub are : AreReportsOf (chart_lines lines) lines reports

@@ -16,7 +16,7 @@ use Rattle.closure.proofs.Impossible.{impossible}
 
 -- a chart has one list of reports
 pub one_list : (lines : List LineView) (xs ys : List ReportView) → AreReports lines xs → AreReports lines ys → xs ≡ ys
-one_list lines xs ys a b = same_reports (chart_lines lines) xs ys (a.receives ∙ sym b.receives) a.each b.each
+one_list lines xs ys a b = same_reports (chart_lines lines) xs ys (a.are.receives ∙ sym b.are.receives) a.are.each b.are.each
 
 -- so what is refused, but for memory, is not the list of a possible chart
 pub refused_rightly : (lines : List LineView) (given : List ReportView) (e : AuditError) → RefusesReports lines given e → (e ≡ OfChart Memory) ⊎ (IsPossible (length lines) (chart_lines lines) → AreReports lines given → ⊥)

@@ -101,8 +101,10 @@ all_receives-first lines (suc n) numbered within =
 -- after the last line all are there
 pub AreReports-from_lines : (lines : List LineView) (p : ℕ) (reports : List ReportView) → IsNumbered lines → p ≡ length lines → HaveReported (chart_lines lines) p 0 reports → AreReports lines reports
 AreReports-from_lines lines p reports numbered e old = record {
-  receives = old.receives ∙ append-nil (all_receives (chart_lines lines) p) ∙ ap (all_receives (chart_lines lines)) e ∙ all_receives-first lines (length lines) numbered (omega arith) ∙ ap (flat_map receives_in) (take_all (length lines) lines (omega arith));
-  each = old.each;
+  are = record {
+    receives = old.receives ∙ append-nil (all_receives (chart_lines lines) p) ∙ ap (all_receives (chart_lines lines)) e ∙ all_receives-first lines (length lines) numbered (omega arith) ∙ ap (flat_map receives_in) (take_all (length lines) lines (omega arith));
+    each = old.each;
+  };
 }
 
 -- the line above the next event

@@ -83,8 +83,10 @@ chart-is n k h legal = fun_ext (λ p. at_instance p)
 pub reports-are : (n k : ℕ) (r : Run) (actors : List ActorView) → Agrees n k r actors → AreReports (lines_of n r.history) (flat_map (λ (a : ActorView). a.recorder.reports) actors)
 reports-are n k r actors agrees =
     let lines = lines-are n k r actors agrees in
-    subst₂ (λ c ls. AreReportsOf c ls (flat_map (λ (a : ActorView). a.recorder.reports) actors)) (chart-is n k r.history agrees.legal) lines
-    (reports-of (chart_of r.history) actors (λ i a e. let its = (agrees.each i a e).own.recorder in (its.receives, its.reports)))
+    record {
+      are = subst₂ (λ c ls. AreReportsOf c ls (flat_map (λ (a : ActorView). a.recorder.reports) actors)) (chart-is n k r.history agrees.legal) lines
+          (reports-of (chart_of r.history) actors (λ i a e. let its = (agrees.each i a e).own.recorder in (its.receives, its.reports)));
+    }
 
 -- they are numbered
 pub lines-numbered : (n : ℕ) (h : List Event) → IsNumbered (lines_of n h)

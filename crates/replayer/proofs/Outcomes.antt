@@ -16,5 +16,5 @@ one_outcome plan a b one other =
     let chart : a.chart ≡ b.chart = one.chart ∙ sym other.chart in
     let notes : a.notes ≡ b.notes = one.notes ∙ sym other.notes in
     let others = subst (λ c. AreReports c b.reports) (sym chart) other.reports in
-    let reports : a.reports ≡ b.reports = same_reports (chart_lines a.chart) a.reports b.reports (one.reports.receives ∙ sym others.receives) one.reports.each others.each in
+    let reports : a.reports ≡ b.reports = same_reports (chart_lines a.chart) a.reports b.reports (one.reports.are.receives ∙ sym others.are.receives) one.reports.are.each others.are.each in
     ap (λ x. with_these x a.chart a.reports a.notes) names ∙ ap (λ x. with_these b.names x a.reports a.notes) chart ∙ ap (λ x. with_these b.names b.chart x a.notes) reports ∙ ap (λ x. with_these b.names b.chart b.reports x) notes
