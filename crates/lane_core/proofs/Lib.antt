@@ -1,0 +1,3 @@
+pub mod IndexRuns
+pub mod Passing
+pub mod Rings

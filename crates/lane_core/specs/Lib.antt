@@ -1,0 +1,4 @@
+pub mod IndexLaws
+pub mod IndexWords
+pub mod Steps
+pub mod Traffic
