@@ -2,17 +2,16 @@
 use Rattle.std.proofs.Common.{◌≡◌, ℕ, ◌+◌, ◌-◌, ◌*◌, ◌/◌, ◌%◌, ◌<◌, ◌≤◌, ◌==◌, ◌⊎◌, Bool, true, false, cond, List, [], ◌∷◌, ◌++◌, length, drop, Option, None, Some, refl, sym, ap, ◌∙◌, subst, arith}
 use Rattle.std.specs.Prelude.{◌↔◌, reverse, nat_lt}
 use Rattle.std.proofs.lemmas.Bool.{lt-ltb, ltb-true, ltb-false}
-use Rattle.std.proofs.lemmas.List.{append_assoc, append-nil, length_push, length-append, length-reverse, length-drop, nil_from_length}
+use Rattle.std.proofs.lemmas.List.{append_assoc, append-nil, length_push, length-append, length-reverse, nil_from_length}
 use Rattle.lane_core.specs.declared.answers.Room.{Room}
 use Rattle.lane_core.specs.declared.answers.Room.TheVariants.{Open, Full}
 use Rattle.lane_core.specs.declared.answers.Found.{Found}
 use Rattle.lane_core.specs.declared.answers.Found.TheVariants.{Message, Nothing, Ended}
 use Rattle.lane_core.specs.Steps.{Step, Sender_loads, Fills, Publishes, Closes, Receiver_loads, Takes, Puts_back, Frees}
 use Rattle.lane_core.specs.Traffic.{Traffic, put_in, published_all, closed_off, taken_out, back_in, freed_all, waiting}
-use Rattle.lane_core.specs.IndexWords.{IndexLane, new_lane, after, lane_after, IsRun, MayFollow, SenderClaims, ReceiverClaims, fill_place, take_place, back_place, take_count, sender_loaded, room_of, receiver_loaded, found_by}
-use Rattle.lane_core.specs.IndexLaws.{traffic_of}
+use Rattle.lane_core.specs.IndexWords.{IndexLane, new_lane, after, lane_after, IsRun, MayFollow, SenderClaims, ReceiverClaims, fill_place, take_place, back_place, take_count, sender_loaded, room_of, receiver_loaded, found_by, traffic_of, receiver_finds}
 use Rattle.lane_core.proofs.Rings.{other_place}
-use Rattle.lane_core.proofs.Passing.{Holds, count_left, holds_first, holds_filled, holds_published, holds_closed, has_next, holds_taken, holds_back, holds_freed}
+use Rattle.lane_core.proofs.Passing.{Holds, IsFoundRightly, found_rightly, count_left, count_waiting, holds_first, holds_filled, holds_published, holds_closed, has_next, holds_taken, holds_back, holds_freed}
 
 -- the low bit of the word put
 abbrev bit : Bool → ℕ
@@ -145,10 +144,6 @@ fits k (e ∷ h) run = kept k (lane_after k h) e (fits k h run.1) run.0
 
 -- The laws.
 
--- how many wait
-count_waiting : (k : ℕ) (t : Traffic) → length (waiting t) ≡ length t.published - length t.freed
-count_waiting k t = length-drop (length t.freed) t.published
-
 pub in_order : (k : ℕ) (h : List Step) → 1 ≤ k → IsRun k h → (rest : List ℕ) × ((traffic_of k h).published ≡ (traffic_of k h).freed ++ rest)
 in_order k h some run =
     let t = traffic_of k h in
@@ -156,18 +151,18 @@ in_order k h some run =
     (reverse t.emptying ++ held.left, held.order ∙ append_assoc t.freed (reverse t.emptying) held.left)
 
 pub bounded : (k : ℕ) (h : List Step) → 1 ≤ k → IsRun k h → length (waiting (traffic_of k h)) ≤ k
-bounded k h some run = let f = fits k h run in omega (arith, count_waiting k (traffic_of k h))
+bounded k h some run = let f = fits k h run in omega (arith, count_waiting (traffic_of k h))
 
 pub apart : (k : ℕ) (h : List Step) → 1 ≤ k → IsRun k h → (c d : ℕ) → SenderClaims (lane_after k h).sender c → ReceiverClaims (lane_after k h).receiver d → c % k ≡ d % k → ⊥
 apart k h some run c d sends receives same = let f = fits k h run in other_place k d c (omega arith) (omega arith) (sym same)
 
-pub takes_message : (k : ℕ) (h : List Step) → 1 ≤ k → IsRun k (Takes ∷ h) → (m : ℕ) × ((traffic_of k h).slots (take_place (lane_after k h).receiver) ≡ Some m)
+pub takes_message : (k : ℕ) (h : List Step) → 1 ≤ k → IsRun k (Takes ∷ h) → ReceiverClaims (lane_after k h).receiver (take_count (lane_after k h).receiver) × ((m : ℕ) × ((traffic_of k h).slots (take_count (lane_after k h).receiver % k) ≡ Some m))
 takes_message k h some run =
     let l = lane_after k h in
     let f = fits k h run.1 in
     let may = run.0 in
     let counts : l.receiver.freed + l.receiver.emptied ≡ length l.traffic.freed + length l.traffic.emptying = omega arith in
-    has_next k l.traffic f.holds (take_place l.receiver) (omega arith) (ap (λ c. (l.receiver.freed + l.receiver.emptied) % c) f.receiver_places ∙ ap (λ c. c % k) counts)
+    ((omega arith, may), has_next k l.traffic f.holds (take_count l.receiver % k) (omega arith) (ap (λ c. c % k) counts))
 
 -- no step publishes on a closed lane, or opens it
 after_closed : (k : ℕ) (l : IndexLane) (e : Step) → Fits k l → MayFollow l e → l.traffic.closed ≡ true → ((after l e).traffic.published ≡ l.traffic.published) × ((after l e).traffic.closed ≡ true)
@@ -195,37 +190,24 @@ full_exactly k h some run = go (nat_lt l.sender.published (l.taken + l.sender.ca
     l = lane_after k h
 
     go : (b : Bool) → nat_lt l.sender.published (l.taken + l.sender.capacity) ≡ b → Fits k l → cond b Open Full ≡ Full ↔ length (waiting l.traffic) ≡ k
-    go true e f = let less : l.sender.published < l.taken + l.sender.capacity = ltb-true _ _ e in ((λ (no : Open ≡ Full). cc), (λ many. absurd (omega (arith, count_waiting k l.traffic))))
-    go false e f = let more : l.taken + l.sender.capacity ≤ l.sender.published = ltb-false _ _ e in ((λ yes. omega (arith, count_waiting k l.traffic)), (λ many. refl))
+    go true e f = let less : l.sender.published < l.taken + l.sender.capacity = ltb-true _ _ e in ((λ (no : Open ≡ Full). cc), (λ many. absurd (omega (arith, count_waiting l.traffic))))
+    go false e f = let more : l.taken + l.sender.capacity ≤ l.sender.published = ltb-false _ _ e in ((λ yes. omega (arith, count_waiting l.traffic)), (λ many. refl))
 
--- a message is found exactly where one waits, and the end exactly where none waits and the lane is closed
-abbrev Says : IndexLane → Found → Type 0
-Says l found = (found ≡ Message ↔ 0 < length (waiting l.traffic)) × (found ≡ Ended ↔ ((waiting l.traffic ≡ []) × (l.traffic.closed ≡ true)))
-
--- what a fresh load of the receiver finds
-found_exactly : (k : ℕ) (h : List Step) → 1 ≤ k → IsRun k h
-    → (found_by (receiver_loaded (lane_after k h).receiver (lane_after k h).put) ≡ Message ↔ 0 < length (waiting (traffic_of k h))) × (found_by (receiver_loaded (lane_after k h).receiver (lane_after k h).put) ≡ Ended ↔ ((waiting (traffic_of k h) ≡ []) × ((traffic_of k h).closed ≡ true)))
-found_exactly k h some run = go (nat_lt l.receiver.freed (l.put / 2)) refl (fits k h run)
+-- what a load of the receiver finds
+found_exactly : (k : ℕ) (h : List Step) → IsRun k h → IsFoundRightly (traffic_of k h) (receiver_finds k h)
+found_exactly k h run = go (fits k h run)
   where
     l : IndexLane
     l = lane_after k h
 
-    none : (closed : Bool) → l.traffic.closed ≡ closed → waiting l.traffic ≡ [] → Says l (cond closed Ended Nothing)
-    none true e empty = (((λ (no : Ended ≡ Message). cc), (λ more. absurd (omega (arith, ap length empty)))), ((λ yes. (empty, e)), (λ both. refl)))
-    none false e empty = (((λ (no : Nothing ≡ Message). cc), (λ more. absurd (omega (arith, ap length empty)))), ((λ (no : Nothing ≡ Ended). cc), (λ both. let no : true ≡ false = sym both.1 ∙ e in cc)))
+    go : Fits k l → IsFoundRightly l.traffic (receiver_finds k h)
+    go f =
+        let count = half l.put l.sender.published l.sender.closed f.put in
+        let more : nat_lt l.receiver.freed (l.put / 2) ≡ nat_lt (length l.traffic.freed) (length l.traffic.published) = ap (λ n. nat_lt l.receiver.freed n) (count ∙ f.published) ∙ ap (λ n. nat_lt n (length l.traffic.published)) f.freed in
+        found_rightly l.traffic (nat_lt l.receiver.freed (l.put / 2)) (l.put % 2 == 1) more (λ none. low l.put l.sender.published l.sender.closed f.put ∙ f.closed)
 
-    go : (b : Bool) → nat_lt l.receiver.freed (l.put / 2) ≡ b → Fits k l → Says l (cond b Message (cond (l.put % 2 == 1) Ended Nothing))
-    go true e f =
-        let less : l.receiver.freed < l.put / 2 = ltb-true _ _ e in
-        let more : 0 < length (waiting l.traffic) = omega (arith, count_waiting k l.traffic, half l.put l.sender.published l.sender.closed f.put) in
-        (((λ yes. more), (λ more. refl)), ((λ (no : Message ≡ Ended). cc), (λ both. absurd (omega (arith, ap length both.0)))))
-    go false e f =
-        let least : l.put / 2 ≤ l.receiver.freed = ltb-false _ _ e in
-        let empty : waiting l.traffic ≡ [] = nil_from_length (waiting l.traffic) (omega (arith, count_waiting k l.traffic, half l.put l.sender.published l.sender.closed f.put)) in
-        subst (λ b. Says l (cond b Ended Nothing)) (sym f.closed ∙ sym (low l.put l.sender.published l.sender.closed f.put)) (none l.traffic.closed refl empty)
+pub message_exactly : (k : ℕ) (h : List Step) → 1 ≤ k → IsRun k h → receiver_finds k h ≡ Message ↔ 0 < length (waiting (traffic_of k h))
+message_exactly k h some run = (found_exactly k h run).0
 
-pub message_exactly : (k : ℕ) (h : List Step) → 1 ≤ k → IsRun k h → found_by (receiver_loaded (lane_after k h).receiver (lane_after k h).put) ≡ Message ↔ 0 < length (waiting (traffic_of k h))
-message_exactly k h some run = (found_exactly k h some run).0
-
-pub ended_exactly : (k : ℕ) (h : List Step) → 1 ≤ k → IsRun k h → found_by (receiver_loaded (lane_after k h).receiver (lane_after k h).put) ≡ Ended ↔ ((waiting (traffic_of k h) ≡ []) × ((traffic_of k h).closed ≡ true))
-ended_exactly k h some run = (found_exactly k h some run).1
+pub ended_exactly : (k : ℕ) (h : List Step) → 1 ≤ k → IsRun k h → receiver_finds k h ≡ Ended ↔ ((waiting (traffic_of k h) ≡ []) × ((traffic_of k h).closed ≡ true))
+ended_exactly k h some run = (found_exactly k h run).1

@@ -1,42 +1,25 @@
 -- What the slots of a lane hold, and what was published and freed, at each touch and publish and free: the same in both
 -- forms.
 use Rattle.std.proofs.Common.{◌≡◌, ℕ, ◌+◌, ◌-◌, ◌%◌, ◌<◌, ◌≤◌, ◌==◌, ◌⊎◌, Bool, true, false, cond, List, [], ◌∷◌, ◌++◌, length, Option, None, Some, refl, sym, ap, ◌∙◌, subst, arith}
-use Rattle.std.specs.Prelude.{reverse}
-use Rattle.std.proofs.lemmas.Bool.{eqb-true}
-use Rattle.std.proofs.lemmas.List.{append_assoc, append-nil, length_push, length-append, length-reverse}
+use Rattle.std.specs.Prelude.{◌↔◌, reverse, nat_lt}
+use Rattle.std.proofs.lemmas.Bool.{ltb-true, ltb-false}
+use Rattle.lane_core.specs.declared.answers.Found.{Found}
+use Rattle.lane_core.specs.declared.answers.Found.TheVariants.{Message, Nothing, Ended}
+use Rattle.std.proofs.lemmas.List.{append_assoc, append-nil, length_push, length-append, length-reverse, length-drop, nil_from_length}
 use Rattle.std.proofs.lemmas.Grind.{reverse_onto}
-use Rattle.lane_core.specs.Traffic.{Traffic, no_traffic, with_slot, message_in, put_in, published_all, closed_off, taken_out, back_in, freed_all}
-use Rattle.lane_core.proofs.Rings.{other_place}
+use Rattle.lane_core.specs.Traffic.{Traffic, no_traffic, with_at, message_in, put_in, published_all, closed_off, taken_out, back_in, freed_all, waiting}
+use Rattle.lane_core.proofs.Rings.{other_place, set_there, set_other}
 
 -- from the place of this count on, the slots hold these messages
 abbrev pub HasSlots : (ℕ → Option ℕ) → ℕ → ℕ → List ℕ → Type 0
 HasSlots slots k n [] = Unit {0}
 HasSlots slots k n (m ∷ ms) = (slots (n % k) ≡ Some m) × HasSlots slots k (n + 1) ms
 
--- the slot that was set
-slot_there : (slots : ℕ → Option ℕ) (place i : ℕ) (o : Option ℕ) → i ≡ place → with_slot slots place o i ≡ o
-slot_there slots place i o same = go (i == place) (eqb-same)
-  where
-    eqb-same : (i == place) ≡ true
-    eqb-same = grind (arith, same)
-
-    go : (its : Bool) → its ≡ true → cond its o (slots i) ≡ o
-    go true e = refl
-    go false e = cc
-
--- any other slot
-slot_other : (slots : ℕ → Option ℕ) (place i : ℕ) (o : Option ℕ) → (i ≡ place → ⊥) → with_slot slots place o i ≡ slots i
-slot_other slots place i o other = go (i == place) refl
-  where
-    go : (its : Bool) → (i == place) ≡ its → cond its o (slots i) ≡ slots i
-    go true e = absurd (other (eqb-true i place e))
-    go false e = refl
-
 -- a slot is set that has none of these messages
-has_other : (slots : ℕ → Option ℕ) (k n : ℕ) (ms : List ℕ) (place : ℕ) (o : Option ℕ) → ((c : ℕ) → n ≤ c → c < n + length ms → c % k ≡ place → ⊥) → HasSlots slots k n ms → HasSlots (with_slot slots place o) k n ms
+has_other : (slots : ℕ → Option ℕ) (k n : ℕ) (ms : List ℕ) (place : ℕ) (o : Option ℕ) → ((c : ℕ) → n ≤ c → c < n + length ms → c % k ≡ place → ⊥) → HasSlots slots k n ms → HasSlots (with_at slots place o) k n ms
 has_other slots k n [] place o other has = tt
 has_other slots k n (m ∷ ms) place o other has =
-    (slot_other slots place (n % k) o (other n (omega arith) (omega arith)) ∙ has.0,
+    (set_other slots place (n % k) o (other n (omega arith) (omega arith)) ∙ has.0,
     has_other slots k (n + 1) ms place o (λ c low high. other c (omega arith) (omega arith)) has.1)
 
 -- one message more
@@ -88,11 +71,11 @@ module _ (k : ℕ) (t : Traffic) (h : Holds k t) where
   holds_filled place m room at = record {
     left = h.left;
     order = h.order;
-    slots = subst (HasSlots new k reached) (append_assoc h.left t.filling (m ∷ [])) (has_push new k reached (h.left ++ t.filling) m (has_other t.slots k reached (h.left ++ t.filling) place (Some m) other h.slots) (slot_there t.slots place ((reached + length (h.left ++ t.filling)) % k) (Some m) (ap (λ c. c % k) count_held ∙ sym at)));
+    slots = subst (HasSlots new k reached) (append_assoc h.left t.filling (m ∷ [])) (has_push new k reached (h.left ++ t.filling) m (has_other t.slots k reached (h.left ++ t.filling) place (Some m) other h.slots) (set_there t.slots place ((reached + length (h.left ++ t.filling)) % k) (Some m) (ap (λ c. c % k) count_held ∙ sym at)));
   }
     where
       new : ℕ → Option ℕ
-      new = with_slot t.slots place (Some m)
+      new = with_at t.slots place (Some m)
 
       other : (c : ℕ) → reached ≤ c → c < reached + length (h.left ++ t.filling) → c % k ≡ place → ⊥
       other c low high same = other_place k c (length t.published + length t.filling) (omega (arith, count_held)) (omega arith) (same ∙ at)
@@ -130,13 +113,13 @@ module _ (k : ℕ) (t : Traffic) (h : Holds k t) where
       go (m ∷ ms) order has counted more =
           let found : t.slots place ≡ Some m = ap t.slots at ∙ has.0 in
           let shift : reached + 1 ≡ length t.freed + length (m ∷ t.emptying) = omega arith in
-          let kept : HasSlots (with_slot t.slots place None) k (reached + 1) (ms ++ t.filling) = has_other t.slots k (reached + 1) (ms ++ t.filling) place None (λ c low high same. other_place k reached c (omega arith) (omega arith) (sym (same ∙ at))) has.1 in
-          let taken : Holds k (record t { slots = with_slot t.slots place None; emptying = m ∷ t.emptying }) = record {
+          let kept : HasSlots (with_at t.slots place None) k (reached + 1) (ms ++ t.filling) = has_other t.slots k (reached + 1) (ms ++ t.filling) place None (λ c low high same. other_place k reached c (omega arith) (omega arith) (sym (same ∙ at))) has.1 in
+          let taken : Holds k (record t { slots = with_at t.slots place None; emptying = m ∷ t.emptying }) = record {
             left = ms;
             order = order ∙ between t.freed t.emptying m ms;
-            slots = subst (λ n. HasSlots (with_slot t.slots place None) k n (ms ++ t.filling)) shift kept;
+            slots = subst (λ n. HasSlots (with_at t.slots place None) k n (ms ++ t.filling)) shift kept;
           } in
-          subst (λ (o : Option ℕ). Holds k (record t { slots = with_slot t.slots place None; emptying = message_in o ++ t.emptying })) (sym found) taken
+          subst (λ (o : Option ℕ). Holds k (record t { slots = with_at t.slots place None; emptying = message_in o ++ t.emptying })) (sym found) taken
 
   -- the receiver puts back what it took last
   pub holds_back : (place : ℕ) → 0 < length t.emptying → HasRoom k t → place ≡ (length t.freed + (length t.emptying - 1)) % k → Holds k (back_in t t.emptying place)
@@ -148,11 +131,11 @@ module _ (k : ℕ) (t : Traffic) (h : Holds k t) where
           let n : ℕ = length t.freed + length ms in
           let shift : reached ≡ n + 1 = omega (arith, ap length e) in
           let there : (length t.freed + (length t.emptying - 1)) ≡ n = omega (arith, ap length e) in
-          let kept : HasSlots (with_slot t.slots place (Some m)) k (n + 1) (h.left ++ t.filling) = has_other t.slots k (n + 1) (h.left ++ t.filling) place (Some m) (λ c low high same. other_place k n c (omega arith) (omega (arith, count_held)) (sym (same ∙ at ∙ ap (λ c. c % k) there))) (subst (λ c. HasSlots t.slots k c (h.left ++ t.filling)) shift h.slots) in
+          let kept : HasSlots (with_at t.slots place (Some m)) k (n + 1) (h.left ++ t.filling) = has_other t.slots k (n + 1) (h.left ++ t.filling) place (Some m) (λ c low high same. other_place k n c (omega arith) (omega (arith, count_held)) (sym (same ∙ at ∙ ap (λ c. c % k) there))) (subst (λ c. HasSlots t.slots k c (h.left ++ t.filling)) shift h.slots) in
           record {
             left = m ∷ h.left;
             order = h.order ∙ ap (λ ms. (t.freed ++ reverse ms) ++ h.left) e ∙ sym (between t.freed ms m h.left);
-            slots = (slot_there t.slots place (n % k) (Some m) (sym (at ∙ ap (λ c. c % k) there)), kept);
+            slots = (set_there t.slots place (n % k) (Some m) (sym (at ∙ ap (λ c. c % k) there)), kept);
           }
 
   -- what it took is freed
@@ -162,3 +145,26 @@ module _ (k : ℕ) (t : Traffic) (h : Holds k t) where
     order = h.order ∙ ap (λ ms. ms ++ h.left) (sym (append-nil (t.freed ++ reverse t.emptying)));
     slots = subst (λ n. HasSlots t.slots k n (h.left ++ t.filling)) (omega (arith, length-append t.freed (reverse t.emptying), length-reverse t.emptying)) h.slots;
   }
+
+-- how many wait
+pub count_waiting : (t : Traffic) → length (waiting t) ≡ length t.published - length t.freed
+count_waiting t = length-drop (length t.freed) t.published
+
+-- a message is found exactly where one waits, and the end exactly where none waits and the lane is closed
+abbrev pub IsFoundRightly : Traffic → Found → Type 0
+IsFoundRightly t found = (found ≡ Message ↔ 0 < length (waiting t)) × (found ≡ Ended ↔ ((waiting t ≡ []) × (t.closed ≡ true)))
+
+-- an answer by two tests: whether one waits, and where none does whether the lane is closed
+pub found_rightly : (t : Traffic) (some ended : Bool) → some ≡ nat_lt (length t.freed) (length t.published) → (length t.published ≤ length t.freed → ended ≡ t.closed) → IsFoundRightly t (cond some Message (cond ended Ended Nothing))
+found_rightly t true ended e right =
+    let less : length t.freed < length t.published = ltb-true _ _ (sym e) in
+    let more : 0 < length (waiting t) = omega (arith, count_waiting t) in
+    (((λ yes. more), (λ more. refl)), ((λ (no : Message ≡ Ended). cc), (λ both. absurd (omega (arith, ap length both.0)))))
+found_rightly t false ended e right =
+    let least : length t.published ≤ length t.freed = ltb-false _ _ (sym e) in
+    let empty : waiting t ≡ [] = nil_from_length (waiting t) (omega (arith, count_waiting t)) in
+    subst (λ b. IsFoundRightly t (cond b Ended Nothing)) (sym (right least)) (none t.closed refl empty)
+  where
+    none : (closed : Bool) → t.closed ≡ closed → waiting t ≡ [] → IsFoundRightly t (cond closed Ended Nothing)
+    none true e empty = (((λ (no : Ended ≡ Message). cc), (λ more. absurd (omega (arith, ap length empty)))), ((λ yes. (empty, e)), (λ both. refl)))
+    none false e empty = (((λ (no : Nothing ≡ Message). cc), (λ more. absurd (omega (arith, ap length empty)))), ((λ (no : Nothing ≡ Ended). cc), (λ both. let no : true ≡ false = sym both.1 ∙ e in cc)))

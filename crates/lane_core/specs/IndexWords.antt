@@ -204,3 +204,33 @@ lane_after k (e ∷ h) = after (lane_after k h) e
 abbrev pub IsRun : ℕ → List Step → Type 0
 IsRun k [] = Unit {0}
 IsRun k (e ∷ h) = MayFollow (lane_after k h) e × IsRun k h
+
+-- What the laws of runs speak of.
+
+-- what passed through the lane in these steps
+abbrev pub traffic_of : ℕ → List Step → Traffic
+traffic_of k h = (lane_after k h).traffic
+
+-- what the sender would find by a load now
+abbrev pub sender_finds : ℕ → List Step → Room
+sender_finds k h = room_of (sender_loaded (lane_after k h).sender (lane_after k h).taken)
+
+-- what the receiver would find by a load now
+abbrev pub receiver_finds : ℕ → List Step → Found
+receiver_finds k h = found_by (receiver_loaded (lane_after k h).receiver (lane_after k h).put)
+
+-- the sender claims the place of this count
+abbrev pub SenderHas : ℕ → List Step → ℕ → Type 0
+SenderHas k h count = SenderClaims (lane_after k h).sender count
+
+-- the receiver claims the place of this count
+abbrev pub ReceiverHas : ℕ → List Step → ℕ → Type 0
+ReceiverHas k h count = ReceiverClaims (lane_after k h).receiver count
+
+-- the count whose place the sender fills next
+abbrev pub fills_next : ℕ → List Step → ℕ
+fills_next k h = fill_count (lane_after k h).sender
+
+-- the count whose place the receiver takes from next
+abbrev pub takes_next : ℕ → List Step → ℕ
+takes_next k h = take_count (lane_after k h).receiver

@@ -1,4 +1,5 @@
-pub mod IndexLaws
 pub mod IndexWords
+pub mod Laws
+pub mod SlotWords
 pub mod Steps
 pub mod Traffic

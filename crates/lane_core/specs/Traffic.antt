@@ -20,9 +20,9 @@ pub record Traffic : Type 0 where
 abbrev pub no_traffic : Traffic
 no_traffic = record { slots = λ i. None; filling = []; emptying = []; published = []; freed = []; closed = false }
 
--- the slots with this in the slot of a place
-abbrev pub with_slot : (ℕ → Option ℕ) → ℕ → Option ℕ → ℕ → Option ℕ
-with_slot slots place o i = if i == place then o else slots i
+-- what each place has, with this at one place
+abbrev pub with_at : {A : Type 0} → (ℕ → A) → ℕ → A → ℕ → A
+with_at at place a i = if i == place then a else at i
 
 -- the message of a slot, if it has one
 abbrev pub message_in : Option ℕ → List ℕ
@@ -31,7 +31,7 @@ message_in (Some m) = m ∷ []
 
 -- the sender puts a message into the slot of a place
 abbrev pub put_in : Traffic → ℕ → ℕ → Traffic
-put_in t place m = record t { slots = with_slot t.slots place (Some m); filling = t.filling ++ m ∷ [] }
+put_in t place m = record t { slots = with_at t.slots place (Some m); filling = t.filling ++ m ∷ [] }
 
 -- what it put in is published
 abbrev pub published_all : Traffic → Traffic
@@ -43,12 +43,12 @@ closed_off t = record t { filling = []; closed = true }
 
 -- the receiver takes what the slot of a place holds
 abbrev pub taken_out : Traffic → ℕ → Traffic
-taken_out t place = record t { slots = with_slot t.slots place None; emptying = message_in (t.slots place) ++ t.emptying }
+taken_out t place = record t { slots = with_at t.slots place None; emptying = message_in (t.slots place) ++ t.emptying }
 
 -- the receiver puts what it took last back into the slot of a place
 abbrev pub back_in : Traffic → List ℕ → ℕ → Traffic
 back_in t [] place = t
-back_in t (m ∷ ms) place = record t { slots = with_slot t.slots place (Some m); emptying = ms }
+back_in t (m ∷ ms) place = record t { slots = with_at t.slots place (Some m); emptying = ms }
 
 -- what it took is freed
 abbrev pub freed_all : Traffic → Traffic

@@ -1,21 +1,31 @@
-//! What holds of every run of the two ends of a lane, in any order of their steps: the contract of a function that does
+//! What holds of every run of the two ends of a lane, in any order of their steps: the contracts of functions that do
 //! nothing.
-ghost use Rattle.lane_core.specs.IndexLaws.{FreedInOrder, AtMostCapacity, NoPlaceOfBoth, FillsOwnPlace, TakesOwnPlace, TakesAMessage, NothingAfterClose, FullExactly, MessageExactly, EndedExactly};
+ghost use Rattle.lane_core.specs.Laws.{FreedInOrder, AtMostCapacity, NoPlaceOfBoth, FillsOwnPlace, TakesOwnMessage, NothingAfterClose, FullExactly, MessageExactly, EndedExactly};
+ghost use Rattle.lane_core.specs.IndexWords.{IsRun as IsIndexRun, traffic_of as index_traffic, sender_finds as index_sender_finds, receiver_finds as index_receiver_finds, SenderHas as IndexSenderHas, ReceiverHas as IndexReceiverHas, fills_next as index_fills_next, takes_next as index_takes_next};
+ghost use Rattle.lane_core.specs.SlotWords.{IsRun as IsSlotRun, traffic_of as slot_traffic, sender_finds as slot_sender_finds, receiver_finds as slot_receiver_finds, SenderHas as SlotSenderHas, ReceiverHas as SlotReceiverHas, fills_next as slot_fills_next, takes_next as slot_takes_next};
 
-/// Of every run over index words, of any capacity: the messages freed are the first of those published, in order; no more
+/// Of every run, in either form and of any capacity: the messages freed are the first of those published, in order; no more
 /// wait than the lane has places; no place is claimed by both ends, and each touches only slots of places that it claims;
 /// what is taken is a message; after the close nothing is published; and what an end finds by a load is so: full exactly
 /// where as many wait as there are places, a message exactly where one waits, and ended exactly where none waits and the
 /// lane is closed.
 pub fn every_run()
-    ensures index_in_order { FreedInOrder }
-    ensures index_bounded { AtMostCapacity }
-    ensures index_apart { NoPlaceOfBoth }
-    ensures index_fills { FillsOwnPlace }
-    ensures index_takes { TakesOwnPlace }
-    ensures index_taken { TakesAMessage }
-    ensures index_closed { NothingAfterClose }
-    ensures index_full { FullExactly }
-    ensures index_message { MessageExactly }
-    ensures index_ended { EndedExactly }
+    ensures index_in_order { FreedInOrder IsIndexRun index_traffic }
+    ensures index_bounded { AtMostCapacity IsIndexRun index_traffic }
+    ensures index_apart { NoPlaceOfBoth IsIndexRun IndexSenderHas IndexReceiverHas }
+    ensures index_fills { FillsOwnPlace IsIndexRun IndexSenderHas index_fills_next }
+    ensures index_takes { TakesOwnMessage IsIndexRun index_traffic IndexReceiverHas index_takes_next }
+    ensures index_closed { NothingAfterClose IsIndexRun index_traffic }
+    ensures index_full { FullExactly IsIndexRun index_traffic index_sender_finds }
+    ensures index_message { MessageExactly IsIndexRun index_traffic index_receiver_finds }
+    ensures index_ended { EndedExactly IsIndexRun index_traffic index_receiver_finds }
+    ensures slot_in_order { FreedInOrder IsSlotRun slot_traffic }
+    ensures slot_bounded { AtMostCapacity IsSlotRun slot_traffic }
+    ensures slot_apart { NoPlaceOfBoth IsSlotRun SlotSenderHas SlotReceiverHas }
+    ensures slot_fills { FillsOwnPlace IsSlotRun SlotSenderHas slot_fills_next }
+    ensures slot_takes { TakesOwnMessage IsSlotRun slot_traffic SlotReceiverHas slot_takes_next }
+    ensures slot_closed { NothingAfterClose IsSlotRun slot_traffic }
+    ensures slot_full { FullExactly IsSlotRun slot_traffic slot_sender_finds }
+    ensures slot_message { MessageExactly IsSlotRun slot_traffic slot_receiver_finds }
+    ensures slot_ended { EndedExactly IsSlotRun slot_traffic slot_receiver_finds }
 {}

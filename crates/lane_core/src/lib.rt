@@ -7,5 +7,6 @@
 pub mod answers;
 pub mod index_words;
 pub mod laws;
+pub mod slot_words;
 
 pub use laws::every_run;
