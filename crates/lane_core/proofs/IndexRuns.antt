@@ -8,8 +8,10 @@ use Rattle.lane_core.specs.declared.answers.Room.TheVariants.{Open, Full}
 use Rattle.lane_core.specs.declared.answers.Found.{Found}
 use Rattle.lane_core.specs.declared.answers.Found.TheVariants.{Message, Nothing, Ended}
 use Rattle.lane_core.specs.Steps.{Step, Sender_loads, Fills, Publishes, Closes, Receiver_loads, Takes, Puts_back, Frees}
-use Rattle.lane_core.specs.Traffic.{Traffic, put_in, published_all, closed_off, taken_out, back_in, freed_all, waiting}
-use Rattle.lane_core.specs.IndexWords.{IndexLane, new_lane, after, lane_after, IsRun, MayFollow, SenderClaims, ReceiverClaims, fill_place, take_place, back_place, take_count, sender_loaded, room_of, receiver_loaded, found_by, traffic_of, receiver_finds}
+use Rattle.lane_core.specs.Traffic.{Traffic, message_in, put_in, published_all, closed_off, taken_out, back_in, freed_all, waiting}
+use Rattle.lane_core.specs.IndexWords.{IndexLane, new_lane, after, lane_after, IsRun, MayFollow, SenderClaims, ReceiverClaims, fill_place, take_place, back_place, take_count, sender_loaded, room_of, receiver_loaded, found_by, traffic_of, sender_finds, receiver_finds}
+use Rattle.lane_core.specs.Alone.{ReceiverAlone, SenderAlone}
+use Rattle.lane_core.proofs.Calls.{Took, Gave, receiver_alone, sender_alone}
 use Rattle.lane_core.proofs.Rings.{other_place}
 use Rattle.lane_core.proofs.Passing.{Holds, IsFoundRightly, found_rightly, count_left, count_waiting, holds_first, holds_filled, holds_published, holds_closed, has_next, holds_taken, holds_back, holds_freed}
 
@@ -45,6 +47,16 @@ half word n false e = omega arith
 low : (word n : ℕ) (closed : Bool) → word ≡ 2 * n + bit closed → (word % 2 == 1) ≡ closed
 low word n true e = let odd : word % 2 ≡ 1 = omega arith in rw odd refl
 low word n false e = let even : word % 2 ≡ 0 = omega arith in rw even refl
+
+-- the place that the receiver takes from next
+next_place : (k : ℕ) (l : IndexLane) → Fits k l → take_place l.receiver ≡ (length l.traffic.freed + length l.traffic.emptying) % k
+next_place k l f =
+    let counts : l.receiver.freed + l.receiver.emptied ≡ length l.traffic.freed + length l.traffic.emptying = omega arith in
+    ap (λ c. (l.receiver.freed + l.receiver.emptied) % c) f.receiver_places ∙ ap (λ c. c % k) counts
+
+-- its slot has a message
+taken_from : (k : ℕ) (l : IndexLane) → Fits k l → MayFollow l Takes → (m : ℕ) × (l.traffic.slots (take_place l.receiver) ≡ Some m)
+taken_from k l f may = has_next k l.traffic f.holds (take_place l.receiver) (omega arith) (next_place k l f)
 
 first : (k : ℕ) → Fits k (new_lane k)
 first k = record {
@@ -94,19 +106,14 @@ kept k l Takes old may = record {
   put = old.put; taken = old.taken; sender_places = old.sender_places; receiver_places = old.receiver_places;
   published = old.published; filled = old.filled; freed = old.freed; emptied = in_hand; closed = old.closed;
   seen_freed = old.seen_freed; room = old.room; seen_published = old.seen_published; behind = omega arith;
-  holds = holds_taken k l.traffic old.holds (take_place l.receiver) some (omega arith) place;
+  holds = holds_taken k l.traffic old.holds (take_place l.receiver) some (omega arith) (next_place k l old);
 }
   where
     some : length l.traffic.freed + length l.traffic.emptying < length l.traffic.published
     some = omega arith
 
-    place : take_place l.receiver ≡ (length l.traffic.freed + length l.traffic.emptying) % k
-    place = let counts : l.receiver.freed + l.receiver.emptied ≡ length l.traffic.freed + length l.traffic.emptying = omega arith in
-        ap (λ c. (l.receiver.freed + l.receiver.emptied) % c) old.receiver_places ∙ ap (λ c. c % k) counts
-
     in_hand : l.receiver.emptied + 1 ≡ length (taken_out l.traffic (take_place l.receiver)).emptying
-    in_hand = let next = has_next k l.traffic old.holds (take_place l.receiver) some place in
-        rw (next.1) (omega arith)
+    in_hand = rw ((taken_from k l old may).1) (omega arith)
 kept k l Puts_back old may = record {
   put = old.put; taken = old.taken; sender_places = old.sender_places; receiver_places = old.receiver_places;
   published = on (λ t. l.sender.published ≡ length t.published) old.published (λ m ms. old.published);
@@ -211,3 +218,40 @@ message_exactly k h some run = (found_exactly k h run).0
 
 pub ended_exactly : (k : ℕ) (h : List Step) → 1 ≤ k → IsRun k h → receiver_finds k h ≡ Ended ↔ ((waiting (traffic_of k h) ≡ []) × ((traffic_of k h).closed ≡ true))
 ended_exactly k h some run = (found_exactly k h run).1
+
+-- A receiver or a sender that goes on alone.
+
+receiver_looks : (k : ℕ) (h : List Step) → IsRun k h → IsRun k (Receiver_loads ∷ h) × (traffic_of k (Receiver_loads ∷ h) ≡ traffic_of k h)
+receiver_looks k h run = ((tt, run), refl)
+
+receiver_takes : (k : ℕ) (h : List Step) → 1 ≤ k → IsRun k h → (traffic_of k h).emptying ≡ [] → 0 < length (waiting (traffic_of k h)) → IsRun k (Frees ∷ Takes ∷ Receiver_loads ∷ h) × ((m : ℕ) × Took (traffic_of k h) (traffic_of k (Frees ∷ Takes ∷ Receiver_loads ∷ h)) m)
+receiver_takes k h some run hand more =
+    let t = traffic_of k h in
+    let f = fits k h run in
+    let l = lane_after k h in
+    let count = half l.put l.sender.published l.sender.closed f.put in
+    let may : MayFollow (lane_after k (Receiver_loads ∷ h)) Takes = omega (arith, count, count_waiting t, ap length hand) in
+    let next = taken_from k (lane_after k (Receiver_loads ∷ h)) (fits k (Receiver_loads ∷ h) (tt, run)) may in
+    ((omega arith, (may, (tt, run))), (next.0, record {
+      freed = ap (λ (o : Option ℕ). t.freed ++ reverse (message_in o ++ t.emptying)) next.1 ∙ ap (λ ms. t.freed ++ reverse (next.0 ∷ ms)) hand;
+      published = refl; emptying = refl; closed = refl;
+    }))
+
+pub receiver_goes_on : ReceiverAlone IsRun traffic_of receiver_finds
+receiver_goes_on = receiver_alone IsRun traffic_of receiver_finds in_order (λ k h some run. found_exactly k h run) receiver_looks receiver_takes
+
+sender_looks : (k : ℕ) (h : List Step) → IsRun k h → IsRun k (Sender_loads ∷ h) × (traffic_of k (Sender_loads ∷ h) ≡ traffic_of k h)
+sender_looks k h run = ((tt, run), refl)
+
+sender_gives : (k : ℕ) (h : List Step) (m : ℕ) → 1 ≤ k → IsRun k h → (traffic_of k h).filling ≡ [] → (traffic_of k h).closed ≡ false → length (waiting (traffic_of k h)) < k → IsRun k (Publishes ∷ Fills m ∷ Sender_loads ∷ h) × Gave (traffic_of k h) (traffic_of k (Publishes ∷ Fills m ∷ Sender_loads ∷ h)) m
+sender_gives k h m some run hand opened less =
+    let t = traffic_of k h in
+    let f = fits k h run in
+    let fill : MayFollow (lane_after k (Sender_loads ∷ h)) (Fills m) = omega (arith, count_waiting t, ap length hand) in
+    (((f.closed ∙ opened, omega arith), (fill, (tt, run))), record {
+      published = ap (λ ms. t.published ++ (ms ++ m ∷ [])) hand;
+      freed = refl; filling = refl; closed = refl;
+    })
+
+pub sender_goes_on : SenderAlone IsRun traffic_of sender_finds
+sender_goes_on = sender_alone IsRun traffic_of sender_finds in_order bounded full_exactly sender_looks sender_gives

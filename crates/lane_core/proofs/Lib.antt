@@ -1,3 +1,4 @@
+pub mod Calls
 pub mod IndexRuns
 pub mod Passing
 pub mod Rings

@@ -11,8 +11,10 @@ use Rattle.lane_core.specs.declared.answers.Room.TheVariants.{Open, Full}
 use Rattle.lane_core.specs.declared.answers.Found.{Found}
 use Rattle.lane_core.specs.declared.answers.Found.TheVariants.{Message, Nothing, Ended}
 use Rattle.lane_core.specs.Steps.{Step, Sender_loads, Fills, Publishes, Closes, Receiver_loads, Takes, Puts_back, Frees}
-use Rattle.lane_core.specs.Traffic.{Traffic, with_at, put_in, published_all, closed_off, taken_out, back_in, freed_all, waiting}
+use Rattle.lane_core.specs.Traffic.{Traffic, message_in, with_at, put_in, published_all, closed_off, taken_out, back_in, freed_all, waiting}
 use Rattle.lane_core.specs.SlotWords.{SlotLane, new_lane, after, lane_after, IsRun, MayFollow, sender_place, receiver_place, sender_word, receiver_word, full_word, end_word, free_word, sender_finds, receiver_finds, SenderHas, ReceiverHas, takes_next, traffic_of}
+use Rattle.lane_core.specs.Alone.{ReceiverAlone, SenderAlone}
+use Rattle.lane_core.proofs.Calls.{Took, Gave, receiver_alone, sender_alone}
 use Rattle.lane_core.proofs.Rings.{other_place, set_there, set_other}
 use Rattle.lane_core.proofs.Passing.{Holds, IsFoundRightly, found_rightly, count_left, count_waiting, holds_first, holds_filled, holds_published, holds_closed, has_next, holds_taken, holds_back, holds_freed}
 
@@ -351,3 +353,48 @@ message_exactly k h some run = (found_exactly k h some run).0
 
 pub ended_exactly : (k : ℕ) (h : List Step) → 1 ≤ k → IsRun k h → receiver_finds k h ≡ Ended ↔ ((waiting (traffic_of k h) ≡ []) × ((traffic_of k h).closed ≡ true))
 ended_exactly k h some run = (found_exactly k h some run).1
+
+-- A receiver or a sender that goes on alone.
+
+no_hand : (flag : Bool) → bit flag ≡ 0 → flag ≡ false
+no_hand true e = absurd (omega arith)
+no_hand false e = refl
+
+receiver_looks : (k : ℕ) (h : List Step) → IsRun k h → IsRun k (Receiver_loads ∷ h) × (traffic_of k (Receiver_loads ∷ h) ≡ traffic_of k h)
+receiver_looks k h run = ((tt, run), refl)
+
+receiver_takes : (k : ℕ) (h : List Step) → 1 ≤ k → IsRun k h → (traffic_of k h).emptying ≡ [] → 0 < length (waiting (traffic_of k h)) → IsRun k (Frees ∷ Takes ∷ Receiver_loads ∷ h) × ((m : ℕ) × Took (traffic_of k h) (traffic_of k (Frees ∷ Takes ∷ Receiver_loads ∷ h)) m)
+receiver_takes k h some run hand more =
+    let t = traffic_of k h in
+    let l = lane_after k h in
+    let f = fits k h some run in
+    let claims : (receiver_word l).full ≡ true = word_waits k l some f ∙ lt-ltb l.receiver.taken l.sender.put (omega (arith, count_waiting t)) in
+    let fresh : l.receiver.emptied ≡ false = no_hand l.receiver.emptied (f.emptied ∙ ap length hand) in
+    let now = lane_after k (Receiver_loads ∷ h) in
+    let g = fits k (Receiver_loads ∷ h) some (tt, run) in
+    let next = has_next k t g.holds (receiver_place l.receiver) (next_there k now some g claims fresh) (next_place k now some g fresh) in
+    ((refl, ((claims, fresh), (tt, run))), (next.0, record {
+      freed = ap (λ (o : Option ℕ). t.freed ++ reverse (message_in o ++ t.emptying)) next.1 ∙ ap (λ ms. t.freed ++ reverse (next.0 ∷ ms)) hand;
+      published = refl; emptying = refl; closed = refl;
+    }))
+
+pub receiver_goes_on : ReceiverAlone IsRun traffic_of receiver_finds
+receiver_goes_on = receiver_alone IsRun traffic_of receiver_finds in_order found_exactly receiver_looks receiver_takes
+
+sender_looks : (k : ℕ) (h : List Step) → IsRun k h → IsRun k (Sender_loads ∷ h) × (traffic_of k (Sender_loads ∷ h) ≡ traffic_of k h)
+sender_looks k h run = ((tt, run), refl)
+
+sender_gives : (k : ℕ) (h : List Step) (m : ℕ) → 1 ≤ k → IsRun k h → (traffic_of k h).filling ≡ [] → (traffic_of k h).closed ≡ false → length (waiting (traffic_of k h)) < k → IsRun k (Publishes ∷ Fills m ∷ Sender_loads ∷ h) × Gave (traffic_of k h) (traffic_of k (Publishes ∷ Fills m ∷ Sender_loads ∷ h)) m
+sender_gives k h m some run hand opened less =
+    let t = traffic_of k h in
+    let l = lane_after k h in
+    let f = fits k h some run in
+    let claims : not (sender_word l).full ≡ true = ap not (word_open k l some f (omega (arith, count_waiting t))) in
+    let fresh : l.sender.filled ≡ false = no_hand l.sender.filled (f.filled ∙ ap length hand) in
+    (((f.closed ∙ opened, refl), ((claims, fresh), (tt, run))), record {
+      published = ap (λ ms. t.published ++ (ms ++ m ∷ [])) hand;
+      freed = refl; filling = refl; closed = refl;
+    })
+
+pub sender_goes_on : SenderAlone IsRun traffic_of sender_finds
+sender_goes_on = sender_alone IsRun traffic_of sender_finds in_order bounded full_exactly sender_looks sender_gives

@@ -1,3 +1,4 @@
+pub mod Alone
 pub mod IndexWords
 pub mod Laws
 pub mod SlotWords

@@ -1,5 +1,6 @@
 //! What holds of every run of the two ends of a lane, in any order of their steps: the contracts of functions that do
 //! nothing.
+ghost use Rattle.lane_core.specs.Alone.{ReceiverAlone, SenderAlone};
 ghost use Rattle.lane_core.specs.Laws.{FreedInOrder, AtMostCapacity, NoPlaceOfBoth, FillsOwnPlace, TakesOwnMessage, NothingAfterClose, FullExactly, MessageExactly, EndedExactly};
 ghost use Rattle.lane_core.specs.IndexWords.{IsRun as IsIndexRun, traffic_of as index_traffic, sender_finds as index_sender_finds, receiver_finds as index_receiver_finds, SenderHas as IndexSenderHas, ReceiverHas as IndexReceiverHas, fills_next as index_fills_next, takes_next as index_takes_next};
 ghost use Rattle.lane_core.specs.SlotWords.{IsRun as IsSlotRun, traffic_of as slot_traffic, sender_finds as slot_sender_finds, receiver_finds as slot_receiver_finds, SenderHas as SlotSenderHas, ReceiverHas as SlotReceiverHas, fills_next as slot_fills_next, takes_next as slot_takes_next};
@@ -28,4 +29,15 @@ pub fn every_run()
     ensures slot_full { FullExactly IsSlotRun slot_traffic slot_sender_finds }
     ensures slot_message { MessageExactly IsSlotRun slot_traffic slot_receiver_finds }
     ensures slot_ended { EndedExactly IsSlotRun slot_traffic slot_receiver_finds }
+{}
+
+/// Of every run, in either form and of any capacity, after which one end makes no step while the other, which stands
+/// between two calls, goes on alone. A receiver frees exactly the messages that wait, the next at each call; then every
+/// call finds nothing if the lane is open, and that it has ended if it is closed. A sender on an open lane publishes as
+/// many messages as there are free places, and then always finds the lane full. Each of these calls makes a load.
+pub fn every_stop()
+    ensures index_receiver { ReceiverAlone IsIndexRun index_traffic index_receiver_finds }
+    ensures index_sender { SenderAlone IsIndexRun index_traffic index_sender_finds }
+    ensures slot_receiver { ReceiverAlone IsSlotRun slot_traffic slot_receiver_finds }
+    ensures slot_sender { SenderAlone IsSlotRun slot_traffic slot_sender_finds }
 {}
