@@ -1,10 +1,13 @@
 //! The two ends over index words. The sender stores the word `put`: twice the count of the messages that it published, and
 //! one more when it has closed the lane. The receiver stores the word `taken`: the count of the messages that it freed.
 //! Each end loads the other's word, keeps what it loaded, and may go on by it.
-ghost use Rattle.std.specs.Prelude.{◌≡◌, ◌+◌, ◌*◌, ◌<◌, ◌≤◌, ◌^◌, false};
+ghost use Rattle.std.specs.Prelude.{IsTrue, ◌↔◌, ◌≡◌, ◌+◌, ◌*◌, ◌<◌, ◌≤◌, ◌^◌, false};
 ghost use Rattle.lane_core.specs.IndexWords.{new_sender, sender_loaded, room_of, fill_place, sender_filled, publish_word, sender_published, close_word, sender_closed, next_sender_step, MayFill, MayPublish, MayClose, MaySend, new_receiver, receiver_loaded, found_by, take_place, receiver_took, back_place, receiver_put_back, free_word, receiver_freed, next_receiver_step, MayTake, MayPutBack, MayFree, MayReceive, SenderFits, ReceiverFits};
 
 use crate::answers::{Found, ReceiverStep, Room, SenderStep};
+
+/// Counts are below this number: twice a count, and one more, is then a word.
+pub const LIMIT: u64 = 0x4000_0000_0000_0000;
 
 /// The sender of a lane. Its numbers are counts of messages since the lane began.
 #[derive(Clone, Copy, Debug, PartialEq, Eq)]
@@ -34,6 +37,45 @@ impl SenderEnd {
             freed: 0,
             closed: false,
         }
+    }
+
+    /// Whether it may load this word.
+    pub fn can_load(&self, taken: u64) -> bool
+        ensures { IsTrue result ↔ taken + self.now.capacity < 2 ^ 64 }
+    {
+        taken <= u64::MAX - self.capacity
+    }
+
+    /// Whether it has a place to fill, and numbers that fit.
+    pub fn can_fill(&self) -> bool
+        ensures { IsTrue result ↔ (SenderFits self.now × MayFill self.now) }
+    {
+        self.fits() && self.published + self.filled < self.freed + self.capacity
+    }
+
+    /// Whether it has something to publish on an open lane, and numbers that fit.
+    pub fn can_publish(&self) -> bool
+        ensures { IsTrue result ↔ (SenderFits self.now × MayPublish self.now) }
+    {
+        self.fits() && !self.closed && 0 < self.filled
+    }
+
+    /// Whether the lane is open, and its numbers fit.
+    pub fn can_close(&self) -> bool
+        ensures { IsTrue result ↔ (SenderFits self.now × MayClose self.now) }
+    {
+        self.fits() && !self.closed
+    }
+
+    /// Whether its numbers fit: they are below 2^62, and the lane has a place.
+    pub fn fits(&self) -> bool
+        ensures { IsTrue result ↔ SenderFits self.now }
+    {
+        0 < self.capacity
+            && self.published < LIMIT
+            && self.filled < LIMIT - self.published
+            && self.freed < LIMIT
+            && self.capacity < LIMIT - self.freed
     }
 
     /// The step that comes next where it has a message to send: what is filled is published, a place that it claims is
@@ -131,6 +173,34 @@ impl ReceiverEnd {
             published: 0,
             closed: false,
         }
+    }
+
+    /// Whether it has a place to take from, and numbers that fit.
+    pub fn can_take(&self) -> bool
+        ensures { IsTrue result ↔ (ReceiverFits self.now × MayTake self.now) }
+    {
+        self.fits() && self.freed + self.emptied < self.published
+    }
+
+    /// Whether it has something to put back, and numbers that fit.
+    pub fn can_put_back(&self) -> bool
+        ensures { IsTrue result ↔ (ReceiverFits self.now × MayPutBack self.now) }
+    {
+        self.fits() && 0 < self.emptied
+    }
+
+    /// Whether it has something to free, and numbers that fit.
+    pub fn can_free(&self) -> bool
+        ensures { IsTrue result ↔ (ReceiverFits self.now × MayFree self.now) }
+    {
+        self.fits() && 0 < self.emptied
+    }
+
+    /// Whether its numbers fit: they are below 2^62, and the lane has a place.
+    pub fn fits(&self) -> bool
+        ensures { IsTrue result ↔ ReceiverFits self.now }
+    {
+        0 < self.capacity && self.freed < LIMIT && self.emptied < LIMIT - self.freed
     }
 
     /// The step that comes next where it wants a message: what it took is freed, a place that it claims is taken from,

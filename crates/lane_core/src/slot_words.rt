@@ -1,9 +1,10 @@
 //! The two ends over slot words: each place has a word of two bits beside its slot. The sender sets them, the receiver
 //! clears the first; an end loads the word of its own next place alone.
-ghost use Rattle.std.specs.Prelude.{◌≡◌, ◌+◌, ◌<◌, ◌^◌, true, false};
+ghost use Rattle.std.specs.Prelude.{IsTrue, ◌↔◌, ◌≡◌, ◌+◌, ◌<◌, ◌^◌, true, false};
 ghost use Rattle.lane_core.specs.SlotWords.{new_word, new_sender, sender_place, sender_loaded, room_in, sender_filled, full_word, sender_published, end_word, sender_closed, next_sender_step, MayFill, MayPublish, MayClose, MaySend, SenderFits, new_receiver, receiver_place, receiver_loaded, found_in, receiver_took, receiver_put_back, free_word, receiver_freed, next_receiver_step, MayTake, MayPutBack, MayFree, MayReceive, ReceiverFits};
 
 use crate::answers::{Found, ReceiverStep, Room, SenderStep};
+use crate::index_words::LIMIT;
 
 /// The word of a place.
 #[derive(Clone, Copy, Debug, PartialEq, Eq)]
@@ -63,6 +64,34 @@ impl SenderEnd {
         ensures { result ≡ sender_place self.now }
     {
         self.put % self.capacity
+    }
+
+    /// Whether it has a place to fill.
+    pub fn can_fill(&self) -> bool
+        ensures { IsTrue result ↔ MayFill self.now }
+    {
+        self.claims && !self.filled
+    }
+
+    /// Whether it has something to publish on an open lane.
+    pub fn can_publish(&self) -> bool
+        ensures { IsTrue result ↔ MayPublish self.now }
+    {
+        !self.closed && self.filled
+    }
+
+    /// Whether the lane is open.
+    pub fn can_close(&self) -> bool
+        ensures { IsTrue result ↔ MayClose self.now }
+    {
+        !self.closed
+    }
+
+    /// Whether its count fits: it is below 2^62, and the lane has a place.
+    pub fn fits(&self) -> bool
+        ensures { IsTrue result ↔ SenderFits self.now }
+    {
+        0 < self.capacity && self.put < LIMIT
     }
 
     /// The step that comes next where it has a message to send: what is filled is published, a place that it claims is
@@ -163,6 +192,28 @@ impl ReceiverEnd {
         self.taken % self.capacity
     }
 
+    /// Whether it has a place to take from.
+    pub fn can_take(&self) -> bool
+        ensures { IsTrue result ↔ MayTake self.now }
+    {
+        self.claims && !self.emptied
+    }
+
+    /// Whether it has something to put back, or to free.
+    pub fn can_free(&self) -> bool
+        ensures back { IsTrue result ↔ MayPutBack self.now }
+        ensures free { IsTrue result ↔ MayFree self.now }
+    {
+        self.emptied
+    }
+
+    /// Whether its count fits: it is below 2^62, and the lane has a place.
+    pub fn fits(&self) -> bool
+        ensures { IsTrue result ↔ ReceiverFits self.now }
+    {
+        0 < self.capacity && self.taken < LIMIT
+    }
+
     /// The step that comes next where it wants a message: what it took is freed, a place that it claims is taken from,
     /// and else it loads.
     pub fn next(&self) -> ReceiverStep
@@ -185,12 +236,10 @@ impl ReceiverEnd {
         ensures found { result ≡ found_in word }
     {
         self.claims = word.full;
-        if word.full {
-            Found::Message
-        } else if word.end {
-            Found::Ended
-        } else {
-            Found::Nothing
+        match (word.full, word.end) {
+            (true, _) => Found::Message,
+            (false, true) => Found::Ended,
+            (false, false) => Found::Nothing,
         }
     }
 
