@@ -3,7 +3,7 @@ use Rattle.std.proofs.Common.{◌≡◌, ℕ, ◌+◌, ◌-◌, ◌%◌, ◌<◌
 use Rattle.std.specs.Prelude.{◌↔◌, not, reverse, nat_lt}
 use Rattle.std.proofs.Math.Nat.{add-mod_right}
 use Rattle.std.proofs.Math.Bool.{and-true}
-use Rattle.std.proofs.lemmas.Bool.{cases_eq, cases_lt, eqb-true, lt-ltb, ltb-true, ltb-false}
+use Rattle.std.proofs.lemmas.Bool.{cases_eq, cases_lt, eqb-true, lt-ltb, ltb-true, ltb-false, and_parts}
 use Rattle.std.proofs.lemmas.List.{append_assoc, length_push, length-append, length-reverse, nil_from_length}
 use Rattle.lane_core.specs.declared.slot_words.Word.{Word}
 use Rattle.lane_core.specs.declared.answers.Room.{Room}
@@ -12,7 +12,7 @@ use Rattle.lane_core.specs.declared.answers.Found.{Found}
 use Rattle.lane_core.specs.declared.answers.Found.TheVariants.{Message, Nothing, Ended}
 use Rattle.lane_core.specs.Steps.{Step, Sender_loads, Fills, Publishes, Closes, Receiver_loads, Takes, Puts_back, Frees}
 use Rattle.lane_core.specs.Traffic.{Traffic, message_in, with_at, put_in, published_all, closed_off, taken_out, back_in, freed_all, waiting}
-use Rattle.lane_core.specs.SlotWords.{SlotLane, new_lane, after, lane_after, IsRun, MayFollow, sender_place, receiver_place, sender_word, receiver_word, full_word, end_word, free_word, sender_finds, receiver_finds, SenderHas, ReceiverHas, takes_next, traffic_of}
+use Rattle.lane_core.specs.SlotWords.{SlotLane, new_lane, after, lane_after, IsRun, MayFollow, sender_place, receiver_place, sender_word, receiver_word, full_word, end_word, free_word, sender_finds, receiver_finds, sender_keeps, receiver_keeps, SenderHas, ReceiverHas, takes_next, traffic_of}
 use Rattle.lane_core.specs.Alone.{ReceiverAlone, SenderAlone}
 use Rattle.lane_core.proofs.Calls.{Took, Gave, receiver_alone, sender_alone}
 use Rattle.lane_core.proofs.Rings.{other_place, set_there, set_other}
@@ -363,38 +363,64 @@ no_hand false e = refl
 receiver_looks : (k : ℕ) (h : List Step) → IsRun k h → IsRun k (Receiver_loads ∷ h) × (traffic_of k (Receiver_loads ∷ h) ≡ traffic_of k h)
 receiver_looks k h run = ((tt, run), refl)
 
-receiver_takes : (k : ℕ) (h : List Step) → 1 ≤ k → IsRun k h → (traffic_of k h).emptying ≡ [] → 0 < length (waiting (traffic_of k h)) → IsRun k (Frees ∷ Takes ∷ Receiver_loads ∷ h) × ((m : ℕ) × Took (traffic_of k h) (traffic_of k (Frees ∷ Takes ∷ Receiver_loads ∷ h)) m)
-receiver_takes k h some run hand more =
+receiver_claimed : (k : ℕ) (h : List Step) → 1 ≤ k → IsRun k h → (traffic_of k h).emptying ≡ [] → receiver_keeps k h ≡ true → 0 < length (waiting (traffic_of k h))
+receiver_claimed k h some run hand e =
+    let f = fits k h some run in
+    let r = (lane_after k h).receiver in
+    omega (arith, count_waiting (traffic_of k h), f.receiver_claims (and_parts r.claims (not r.emptied) e).0)
+
+receiver_loaded_claims : (k : ℕ) (h : List Step) → 1 ≤ k → IsRun k h → (traffic_of k h).emptying ≡ [] → 0 < length (waiting (traffic_of k h)) → receiver_keeps k (Receiver_loads ∷ h) ≡ true
+receiver_loaded_claims k h some run hand more =
+    let l = lane_after k h in
+    let f = fits k h some run in
+    let claims : (receiver_word l).full ≡ true = word_waits k l some f ∙ lt-ltb l.receiver.taken l.sender.put (omega (arith, count_waiting (traffic_of k h))) in
+    let fresh : l.receiver.emptied ≡ false = no_hand l.receiver.emptied (f.emptied ∙ ap length hand) in
+    ap (λ b. b && not l.receiver.emptied) claims ∙ ap not fresh
+
+receiver_takes : (k : ℕ) (h : List Step) → 1 ≤ k → IsRun k h → (traffic_of k h).emptying ≡ [] → receiver_keeps k h ≡ true → IsRun k (Frees ∷ Takes ∷ h) × ((m : ℕ) × Took (traffic_of k h) (traffic_of k (Frees ∷ Takes ∷ h)) m)
+receiver_takes k h some run hand e =
     let t = traffic_of k h in
     let l = lane_after k h in
     let f = fits k h some run in
-    let claims : (receiver_word l).full ≡ true = word_waits k l some f ∙ lt-ltb l.receiver.taken l.sender.put (omega (arith, count_waiting t)) in
+    let claims : l.receiver.claims ≡ true = (and_parts l.receiver.claims (not l.receiver.emptied) e).0 in
     let fresh : l.receiver.emptied ≡ false = no_hand l.receiver.emptied (f.emptied ∙ ap length hand) in
-    let now = lane_after k (Receiver_loads ∷ h) in
-    let g = fits k (Receiver_loads ∷ h) some (tt, run) in
-    let next = has_next k t g.holds (receiver_place l.receiver) (next_there k now some g claims fresh) (next_place k now some g fresh) in
-    ((refl, ((claims, fresh), (tt, run))), (next.0, record {
+    let next = has_next k t f.holds (receiver_place l.receiver) (next_there k l some f claims fresh) (next_place k l some f fresh) in
+    ((refl, ((claims, fresh), run)), (next.0, record {
       freed = ap (λ (o : Option ℕ). t.freed ++ reverse (message_in o ++ t.emptying)) next.1 ∙ ap (λ ms. t.freed ++ reverse (next.0 ∷ ms)) hand;
       published = refl; emptying = refl; closed = refl;
     }))
 
-pub receiver_goes_on : ReceiverAlone IsRun traffic_of receiver_finds
-receiver_goes_on = receiver_alone IsRun traffic_of receiver_finds in_order found_exactly receiver_looks receiver_takes
+pub receiver_goes_on : ReceiverAlone IsRun traffic_of receiver_finds receiver_keeps
+receiver_goes_on = receiver_alone IsRun traffic_of receiver_finds receiver_keeps in_order found_exactly receiver_claimed receiver_looks receiver_loaded_claims receiver_takes
 
 sender_looks : (k : ℕ) (h : List Step) → IsRun k h → IsRun k (Sender_loads ∷ h) × (traffic_of k (Sender_loads ∷ h) ≡ traffic_of k h)
 sender_looks k h run = ((tt, run), refl)
 
-sender_gives : (k : ℕ) (h : List Step) (m : ℕ) → 1 ≤ k → IsRun k h → (traffic_of k h).filling ≡ [] → (traffic_of k h).closed ≡ false → length (waiting (traffic_of k h)) < k → IsRun k (Publishes ∷ Fills m ∷ Sender_loads ∷ h) × Gave (traffic_of k h) (traffic_of k (Publishes ∷ Fills m ∷ Sender_loads ∷ h)) m
-sender_gives k h m some run hand opened less =
+sender_claimed : (k : ℕ) (h : List Step) → 1 ≤ k → IsRun k h → (traffic_of k h).filling ≡ [] → sender_keeps k h ≡ true → length (waiting (traffic_of k h)) < k
+sender_claimed k h some run hand e =
+    let f = fits k h some run in
+    let s = (lane_after k h).sender in
+    omega (arith, count_waiting (traffic_of k h), f.sender_claims (and_parts s.claims (not s.filled) e).0)
+
+sender_loaded_claims : (k : ℕ) (h : List Step) → 1 ≤ k → IsRun k h → (traffic_of k h).filling ≡ [] → length (waiting (traffic_of k h)) < k → sender_keeps k (Sender_loads ∷ h) ≡ true
+sender_loaded_claims k h some run hand less =
+    let l = lane_after k h in
+    let f = fits k h some run in
+    let claims : not (sender_word l).full ≡ true = ap not (word_open k l some f (omega (arith, count_waiting (traffic_of k h)))) in
+    let fresh : l.sender.filled ≡ false = no_hand l.sender.filled (f.filled ∙ ap length hand) in
+    ap (λ b. b && not l.sender.filled) claims ∙ ap not fresh
+
+sender_gives : (k : ℕ) (h : List Step) (m : ℕ) → 1 ≤ k → IsRun k h → (traffic_of k h).filling ≡ [] → (traffic_of k h).closed ≡ false → sender_keeps k h ≡ true → IsRun k (Publishes ∷ Fills m ∷ h) × Gave (traffic_of k h) (traffic_of k (Publishes ∷ Fills m ∷ h)) m
+sender_gives k h m some run hand opened e =
     let t = traffic_of k h in
     let l = lane_after k h in
     let f = fits k h some run in
-    let claims : not (sender_word l).full ≡ true = ap not (word_open k l some f (omega (arith, count_waiting t))) in
+    let claims : l.sender.claims ≡ true = (and_parts l.sender.claims (not l.sender.filled) e).0 in
     let fresh : l.sender.filled ≡ false = no_hand l.sender.filled (f.filled ∙ ap length hand) in
-    (((f.closed ∙ opened, refl), ((claims, fresh), (tt, run))), record {
+    (((f.closed ∙ opened, refl), ((claims, fresh), run)), record {
       published = ap (λ ms. t.published ++ (ms ++ m ∷ [])) hand;
       freed = refl; filling = refl; closed = refl;
     })
 
-pub sender_goes_on : SenderAlone IsRun traffic_of sender_finds
-sender_goes_on = sender_alone IsRun traffic_of sender_finds in_order bounded full_exactly sender_looks sender_gives
+pub sender_goes_on : SenderAlone IsRun traffic_of sender_finds sender_keeps
+sender_goes_on = sender_alone IsRun traffic_of sender_finds sender_keeps in_order bounded full_exactly sender_claimed sender_looks sender_loaded_claims sender_gives

@@ -234,3 +234,11 @@ fills_next k h = fill_count (lane_after k h).sender
 -- the count whose place the receiver takes from next
 abbrev pub takes_next : ℕ → List Step → ℕ
 takes_next k h = take_count (lane_after k h).receiver
+
+-- the sender claims a place to fill, by what it loaded before
+abbrev pub sender_keeps : ℕ → List Step → Bool
+sender_keeps k h = let s = (lane_after k h).sender in nat_lt (fill_count s) (s.freed + s.capacity)
+
+-- the receiver claims a place to take from, by what it loaded before
+abbrev pub receiver_keeps : ℕ → List Step → Bool
+receiver_keeps k h = let r = (lane_after k h).receiver in nat_lt (take_count r) r.published

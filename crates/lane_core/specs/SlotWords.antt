@@ -1,6 +1,6 @@
 -- A lane over slot words: its two ends, and every run of their steps (this project's profile). A run is a list of steps,
 -- the newest first.
-use Rattle.std.specs.Prelude.{◌≡◌, ℕ, ◌+◌, ◌%◌, ◌<◌, ◌^◌, Bool, true, false, not, List, [], ◌∷◌, if◌then◌else◌}
+use Rattle.std.specs.Prelude.{◌≡◌, ℕ, ◌+◌, ◌%◌, ◌<◌, ◌^◌, Bool, true, false, not, ◌&&◌, List, [], ◌∷◌, if◌then◌else◌}
 use Rattle.lane_core.specs.declared.slot_words.Word.{Word}
 use Rattle.lane_core.specs.declared.slot_words.SenderEnd.{SenderEnd}
 use Rattle.lane_core.specs.declared.slot_words.ReceiverEnd.{ReceiverEnd}
@@ -234,3 +234,11 @@ fills_next k h = (lane_after k h).sender.put
 -- the count whose place the receiver takes from next
 abbrev pub takes_next : ℕ → List Step → ℕ
 takes_next k h = (lane_after k h).receiver.taken
+
+-- the sender claims a place to fill, by what it loaded before
+abbrev pub sender_keeps : ℕ → List Step → Bool
+sender_keeps k h = let s = (lane_after k h).sender in s.claims && not s.filled
+
+-- the receiver claims a place to take from, by what it loaded before
+abbrev pub receiver_keeps : ℕ → List Step → Bool
+receiver_keeps k h = let r = (lane_after k h).receiver in r.claims && not r.emptied
