@@ -43,12 +43,12 @@ both true b e = e
 both false b e = let no : true ≡ false = sym e in cc
 
 module _ (IsRun : ℕ → List Step → Type 0) (traffic_of : ℕ → List Step → Traffic) (finds : ℕ → List Step → Found) (claims : ℕ → List Step → Bool)
-  (order : FreedInOrder IsRun traffic_of)
-  (found : (k : ℕ) (h : List Step) → 1 ≤ k → IsRun k h → IsFoundRightly (traffic_of k h) (finds k h))
-  (claimed : (k : ℕ) (h : List Step) → 1 ≤ k → IsRun k h → (traffic_of k h).emptying ≡ [] → claims k h ≡ true → 0 < length (waiting (traffic_of k h)))
-  (looks : (k : ℕ) (h : List Step) → IsRun k h → IsRun k (Receiver_loads ∷ h) × (traffic_of k (Receiver_loads ∷ h) ≡ traffic_of k h))
-  (loaded : (k : ℕ) (h : List Step) → 1 ≤ k → IsRun k h → (traffic_of k h).emptying ≡ [] → 0 < length (waiting (traffic_of k h)) → claims k (Receiver_loads ∷ h) ≡ true)
-  (takes : (k : ℕ) (h : List Step) → 1 ≤ k → IsRun k h → (traffic_of k h).emptying ≡ [] → claims k h ≡ true → IsRun k (Frees ∷ Takes ∷ h) × ((m : ℕ) × Took (traffic_of k h) (traffic_of k (Frees ∷ Takes ∷ h)) m)) where
+    (order : FreedInOrder IsRun traffic_of)
+    (found : (k : ℕ) (h : List Step) → 1 ≤ k → IsRun k h → IsFoundRightly (traffic_of k h) (finds k h))
+    (claimed : (k : ℕ) (h : List Step) → 1 ≤ k → IsRun k h → (traffic_of k h).emptying ≡ [] → claims k h ≡ true → 0 < length (waiting (traffic_of k h)))
+    (looks : (k : ℕ) (h : List Step) → IsRun k h → IsRun k (Receiver_loads ∷ h) × (traffic_of k (Receiver_loads ∷ h) ≡ traffic_of k h))
+    (loaded : (k : ℕ) (h : List Step) → 1 ≤ k → IsRun k h → (traffic_of k h).emptying ≡ [] → 0 < length (waiting (traffic_of k h)) → claims k (Receiver_loads ∷ h) ≡ true)
+    (takes : (k : ℕ) (h : List Step) → 1 ≤ k → IsRun k h → (traffic_of k h).emptying ≡ [] → claims k h ≡ true → IsRun k (Frees ∷ Takes ∷ h) × ((m : ℕ) × Took (traffic_of k h) (traffic_of k (Frees ∷ Takes ∷ h)) m)) where
   -- what this many receives come to, from a traffic t
   abbrev Comes : ℕ → Traffic → ℕ → List Step → Type 0
   Comes k t n after =
@@ -98,11 +98,12 @@ module _ (IsRun : ℕ → List Step → Type 0) (traffic_of : ℕ → List Step 
           let look = looks k h run in
           let same : traffic_of k (Receiver_loads ∷ h) ≡ t = look.1 in
           let rest = further (Receiver_loads ∷ h) look.0 (ap (λ (u : Traffic). u.emptying) same ∙ hand) in
-          let empty = nothing (waiting t) none in
-          (rest.0,
-          rest.1 ∙ ap (λ (u : Traffic). u.freed ++ take (length calls) (waiting u)) same ∙ ap (λ ms. t.freed ++ take (length calls) ms) empty ∙ ap (λ ms. t.freed ++ ms) (take_none (length calls)) ∙ sym (ap (λ ms. t.freed ++ take (suc (length calls)) ms) empty),
-          (λ more. absurd (none (omega arith))),
-          (λ least. let last = rest.3 (omega (arith, ap (λ (u : Traffic). length (waiting u)) same, ap length empty)) in (last.0 ∙ ap (λ (u : Traffic). cond u.closed Ended Nothing) same, last.1)))
+          let empty = nothing (waiting t) none in (
+            rest.0,
+            rest.1 ∙ ap (λ (u : Traffic). u.freed ++ take (length calls) (waiting u)) same ∙ ap (λ ms. t.freed ++ take (length calls) ms) empty ∙ ap (λ ms. t.freed ++ ms) (take_none (length calls)) ∙ sym (ap (λ ms. t.freed ++ take (suc (length calls)) ms) empty),
+            (λ more. absurd (none (omega arith))),
+            (λ least. let last = rest.3 (omega (arith, ap (λ (u : Traffic). length (waiting u)) same, ap length empty)) in (last.0 ∙ ap (λ (u : Traffic). cond u.closed Ended Nothing) same, last.1)),
+          )
         where
           nothing : (ms : List ℕ) → (0 < length ms → ⊥) → ms ≡ []
           nothing [] none = refl
@@ -119,11 +120,12 @@ module _ (IsRun : ℕ → List Step → Type 0) (traffic_of : ℕ → List Step 
           let next = order k now some took.0 in
           let left : waiting u ≡ next.0 = goes_on u next.0 next.1 in
           let had : waiting t ≡ m ∷ next.0 = goes_on t (m ∷ next.0) (sym step.published ∙ next.1 ∙ ap (λ ms. ms ++ next.0) step.freed ∙ append_assoc t.freed (m ∷ []) next.0) in
-          let rest = further now took.0 step.emptying in
-          (rest.0,
-          rest.1 ∙ ap (λ ms. ms ++ take (length calls) (waiting u)) step.freed ∙ append_assoc t.freed (m ∷ []) (take (length calls) (waiting u)) ∙ ap (λ ms. t.freed ++ m ∷ take (length calls) ms) left ∙ sym (ap (λ ms. t.freed ++ take (suc (length calls)) ms) had),
-          (λ more. rest.2 (omega (arith, ap length left, ap length had))),
-          (λ least. let last = rest.3 (omega (arith, ap length left, ap length had)) in (last.0 ∙ ap (λ b. cond b Ended Nothing) step.closed, last.1)))
+          let rest = further now took.0 step.emptying in (
+            rest.0,
+            rest.1 ∙ ap (λ ms. ms ++ take (length calls) (waiting u)) step.freed ∙ append_assoc t.freed (m ∷ []) (take (length calls) (waiting u)) ∙ ap (λ ms. t.freed ++ m ∷ take (length calls) ms) left ∙ sym (ap (λ ms. t.freed ++ take (suc (length calls)) ms) had),
+            (λ more. rest.2 (omega (arith, ap length left, ap length had))),
+            (λ least. let last = rest.3 (omega (arith, ap length left, ap length had)) in (last.0 ∙ ap (λ b. cond b Ended Nothing) step.closed, last.1)),
+          )
 
       go : Further → (f : Found) → finds k h ≡ f → Comes k t (suc (length calls)) (receives finds claims k calls (receive_call f h))
       go further Message e =
@@ -137,13 +139,13 @@ module _ (IsRun : ℕ → List Step → Type 0) (traffic_of : ℕ → List Step 
       first further false e = go further (finds k h) refl
 
 module _ (IsRun : ℕ → List Step → Type 0) (traffic_of : ℕ → List Step → Traffic) (finds : ℕ → List Step → Room) (claims : ℕ → List Step → Bool)
-  (order : FreedInOrder IsRun traffic_of)
-  (bounded : AtMostCapacity IsRun traffic_of)
-  (full : FullExactly IsRun traffic_of finds)
-  (claimed : (k : ℕ) (h : List Step) → 1 ≤ k → IsRun k h → (traffic_of k h).filling ≡ [] → claims k h ≡ true → length (waiting (traffic_of k h)) < k)
-  (looks : (k : ℕ) (h : List Step) → IsRun k h → IsRun k (Sender_loads ∷ h) × (traffic_of k (Sender_loads ∷ h) ≡ traffic_of k h))
-  (loaded : (k : ℕ) (h : List Step) → 1 ≤ k → IsRun k h → (traffic_of k h).filling ≡ [] → length (waiting (traffic_of k h)) < k → claims k (Sender_loads ∷ h) ≡ true)
-  (gives : (k : ℕ) (h : List Step) (m : ℕ) → 1 ≤ k → IsRun k h → (traffic_of k h).filling ≡ [] → (traffic_of k h).closed ≡ false → claims k h ≡ true → IsRun k (Publishes ∷ Fills m ∷ h) × Gave (traffic_of k h) (traffic_of k (Publishes ∷ Fills m ∷ h)) m) where
+    (order : FreedInOrder IsRun traffic_of)
+    (bounded : AtMostCapacity IsRun traffic_of)
+    (full : FullExactly IsRun traffic_of finds)
+    (claimed : (k : ℕ) (h : List Step) → 1 ≤ k → IsRun k h → (traffic_of k h).filling ≡ [] → claims k h ≡ true → length (waiting (traffic_of k h)) < k)
+    (looks : (k : ℕ) (h : List Step) → IsRun k h → IsRun k (Sender_loads ∷ h) × (traffic_of k (Sender_loads ∷ h) ≡ traffic_of k h))
+    (loaded : (k : ℕ) (h : List Step) → 1 ≤ k → IsRun k h → (traffic_of k h).filling ≡ [] → length (waiting (traffic_of k h)) < k → claims k (Sender_loads ∷ h) ≡ true)
+    (gives : (k : ℕ) (h : List Step) (m : ℕ) → 1 ≤ k → IsRun k h → (traffic_of k h).filling ≡ [] → (traffic_of k h).closed ≡ false → claims k h ≡ true → IsRun k (Publishes ∷ Fills m ∷ h) × Gave (traffic_of k h) (traffic_of k (Publishes ∷ Fills m ∷ h)) m) where
   -- what these sends come to, from a traffic t
   abbrev Reaches : ℕ → Traffic → List SendCall → List Step → Type 0
   Reaches k t calls after =
@@ -173,9 +175,12 @@ module _ (IsRun : ℕ → List Step → Type 0) (traffic_of : ℕ → List Step 
   none_of n ms e = ap (λ c. take c ms) e
 
   pub sender_alone : SenderAlone IsRun traffic_of finds claims
-  sender_alone k h some run hand opened [] =
-      (run, sym (append-nil t.published) ∙ ap (λ ms. t.published ++ ms) (sym (take_none (k - length (waiting t)))), (λ less. found_room k h some run (omega arith)),
-      (λ more. let many : length (waiting t) ≡ k = omega (arith, bounded k h some run) in ((full k h some run).1 many, claims_full k h some run hand many)))
+  sender_alone k h some run hand opened [] = (
+    run,
+    sym (append-nil t.published) ∙ ap (λ ms. t.published ++ ms) (sym (take_none (k - length (waiting t)))),
+    (λ less. found_room k h some run (omega arith)),
+    (λ more. let many : length (waiting t) ≡ k = omega (arith, bounded k h some run) in ((full k h some run).1 many, claims_full k h some run hand many)),
+  )
     where
       t : Traffic
       t = traffic_of k h
@@ -203,11 +208,12 @@ module _ (IsRun : ℕ → List Step → Type 0) (traffic_of : ℕ → List Step 
           let step : Gave t u m = subst (λ (v : Traffic). Gave v u m) same gave.1 in
           let one : length (waiting u) ≡ length (waiting t) + 1 = omega (arith, count_waiting t, count_waiting u, ap length step.published, ap length step.freed, length_push t.published m, ap length (order k h some run).1, length-append t.freed (order k h some run).0) in
           let room : k - length (waiting t) ≡ suc (k - length (waiting u)) = omega (arith, one) in
-          let rest = further now gave.0 step.filling (step.closed ∙ opened) in
-          (rest.0,
-          rest.1 ∙ ap (λ xs. xs ++ take (k - length (waiting u)) (messages calls)) step.published ∙ append_assoc t.published (m ∷ []) (take (k - length (waiting u)) (messages calls)) ∙ sym (ap (λ n. t.published ++ take n (m ∷ messages calls)) room),
-          (λ few. rest.2 (omega (arith, room))),
-          (λ more. rest.3 (omega (arith, room))))
+          let rest = further now gave.0 step.filling (step.closed ∙ opened) in (
+            rest.0,
+            rest.1 ∙ ap (λ xs. xs ++ take (k - length (waiting u)) (messages calls)) step.published ∙ append_assoc t.published (m ∷ []) (take (k - length (waiting u)) (messages calls)) ∙ sym (ap (λ n. t.published ++ take n (m ∷ messages calls)) room),
+            (λ few. rest.2 (omega (arith, room))),
+            (λ more. rest.3 (omega (arith, room))),
+          )
 
       go : Further → (r : Room) → finds k h ≡ r → Reaches k t (call ∷ calls) (sends finds claims k calls (send_call r m h))
       go further Full e =
@@ -215,11 +221,12 @@ module _ (IsRun : ℕ → List Step → Type 0) (traffic_of : ℕ → List Step 
           let same : traffic_of k (Sender_loads ∷ h) ≡ t = look.1 in
           let rest = further (Sender_loads ∷ h) look.0 (ap (λ (u : Traffic). u.filling) same ∙ hand) (ap (λ (u : Traffic). u.closed) same ∙ opened) in
           let many : length (waiting t) ≡ k = (full k h some run).0 e in
-          let still = ap (λ (u : Traffic). length (waiting u)) same in
-          (rest.0,
-          rest.1 ∙ ap (λ (u : Traffic). u.published ++ take (k - length (waiting u)) (messages calls)) same ∙ ap (λ xs. t.published ++ xs) (none_of (k - length (waiting t)) (messages calls) (omega arith) ∙ sym (none_of (k - length (waiting t)) (m ∷ messages calls) (omega arith))),
-          (λ less. absurd (omega arith)),
-          (λ more. rest.3 (omega (arith, still))))
+          let still = ap (λ (u : Traffic). length (waiting u)) same in (
+            rest.0,
+            rest.1 ∙ ap (λ (u : Traffic). u.published ++ take (k - length (waiting u)) (messages calls)) same ∙ ap (λ xs. t.published ++ xs) (none_of (k - length (waiting t)) (messages calls) (omega arith) ∙ sym (none_of (k - length (waiting t)) (m ∷ messages calls) (omega arith))),
+            (λ less. absurd (omega arith)),
+            (λ more. rest.3 (omega (arith, still))),
+          )
       go further Open e =
           let look = looks k h run in
           onward further (Sender_loads ∷ h) look.0 look.1 (loaded k h some run hand (fewer (cases_lt (length (waiting t)) k)))

@@ -1,19 +1,17 @@
 -- What holds after every run over index words.
-use Rattle.std.proofs.Common.{◌≡◌, ℕ, ◌+◌, ◌-◌, ◌*◌, ◌/◌, ◌%◌, ◌<◌, ◌≤◌, ◌==◌, ◌⊎◌, Bool, true, false, cond, List, [], ◌∷◌, ◌++◌, length, drop, Option, None, Some, refl, sym, ap, ◌∙◌, subst, arith}
+use Rattle.std.proofs.Common.{◌≡◌, ℕ, ◌+◌, ◌-◌, ◌*◌, ◌/◌, ◌%◌, ◌<◌, ◌≤◌, ◌==◌, Bool, true, false, cond, List, [], ◌∷◌, ◌++◌, length, Option, Some, refl, sym, ap, ◌∙◌, arith}
 use Rattle.std.specs.Prelude.{◌↔◌, reverse, nat_lt}
 use Rattle.std.proofs.lemmas.Bool.{lt-ltb, ltb-true, ltb-false}
-use Rattle.std.proofs.lemmas.List.{append_assoc, append-nil, length_push, length-append, length-reverse, nil_from_length}
-use Rattle.lane_core.specs.declared.answers.Room.{Room}
+use Rattle.std.proofs.lemmas.List.{append_assoc, length_push, length-append, length-reverse}
 use Rattle.lane_core.specs.declared.answers.Room.TheVariants.{Open, Full}
-use Rattle.lane_core.specs.declared.answers.Found.{Found}
-use Rattle.lane_core.specs.declared.answers.Found.TheVariants.{Message, Nothing, Ended}
+use Rattle.lane_core.specs.declared.answers.Found.TheVariants.{Message, Ended}
 use Rattle.lane_core.specs.Steps.{Step, Sender_loads, Fills, Publishes, Closes, Receiver_loads, Takes, Puts_back, Frees}
-use Rattle.lane_core.specs.Traffic.{Traffic, message_in, put_in, published_all, closed_off, taken_out, back_in, freed_all, waiting}
-use Rattle.lane_core.specs.IndexWords.{IndexLane, new_lane, after, lane_after, IsRun, MayFollow, SenderClaims, ReceiverClaims, fill_place, take_place, back_place, take_count, sender_loaded, room_of, receiver_loaded, found_by, traffic_of, sender_finds, receiver_finds, sender_keeps, receiver_keeps, fill_count}
+use Rattle.lane_core.specs.Traffic.{Traffic, message_in, taken_out, back_in, waiting}
+use Rattle.lane_core.specs.IndexWords.{IndexLane, new_lane, after, lane_after, IsRun, MayFollow, SenderClaims, ReceiverClaims, fill_place, take_place, back_place, take_count, sender_loaded, room_of, traffic_of, sender_finds, receiver_finds, sender_keeps, receiver_keeps, fill_count}
 use Rattle.lane_core.specs.Alone.{ReceiverAlone, SenderAlone}
 use Rattle.lane_core.proofs.Calls.{Took, Gave, receiver_alone, sender_alone}
 use Rattle.lane_core.proofs.Rings.{other_place}
-use Rattle.lane_core.proofs.Passing.{Holds, IsFoundRightly, found_rightly, count_left, count_waiting, holds_first, holds_filled, holds_published, holds_closed, has_next, holds_taken, holds_back, holds_freed}
+use Rattle.lane_core.proofs.Passing.{Holds, IsFoundRightly, found_rightly, count_waiting, holds_first, holds_filled, holds_published, holds_closed, has_next, holds_taken, holds_back, holds_freed}
 
 -- the low bit of the word put
 abbrev bit : Bool → ℕ
@@ -60,52 +58,124 @@ taken_from k l f may = has_next k l.traffic f.holds (take_place l.receiver) (ome
 
 first : (k : ℕ) → Fits k (new_lane k)
 first k = record {
-  put = refl; taken = refl; sender_places = refl; receiver_places = refl; published = refl; filled = refl; freed = refl; emptied = refl; closed = refl;
-  seen_freed = omega arith; room = omega arith; seen_published = omega arith; behind = omega arith; holds = holds_first k;
+  put = refl;
+  taken = refl;
+  sender_places = refl;
+  receiver_places = refl;
+  published = refl;
+  filled = refl;
+  freed = refl;
+  emptied = refl;
+  closed = refl;
+  seen_freed = omega arith;
+  room = omega arith;
+  seen_published = omega arith;
+  behind = omega arith;
+  holds = holds_first k;
 }
 
 -- each step keeps it
 kept : (k : ℕ) (l : IndexLane) (e : Step) → Fits k l → MayFollow l e → Fits k (after l e)
 kept k l Sender_loads old may = record {
-  put = old.put; taken = old.taken; sender_places = old.sender_places; receiver_places = old.receiver_places;
-  published = old.published; filled = old.filled; freed = old.freed; emptied = old.emptied; closed = old.closed;
-  seen_freed = omega arith; room = omega arith; seen_published = old.seen_published; behind = old.behind; holds = old.holds;
+  put = old.put;
+  taken = old.taken;
+  sender_places = old.sender_places;
+  receiver_places = old.receiver_places;
+  published = old.published;
+  filled = old.filled;
+  freed = old.freed;
+  emptied = old.emptied;
+  closed = old.closed;
+  seen_freed = omega arith;
+  room = omega arith;
+  seen_published = old.seen_published;
+  behind = old.behind;
+  holds = old.holds;
 }
 kept k l (Fills m) old may = record {
-  put = old.put; taken = old.taken; sender_places = old.sender_places; receiver_places = old.receiver_places;
-  published = old.published; filled = omega (arith, length_push l.traffic.filling m, old.filled); freed = old.freed; emptied = old.emptied; closed = old.closed;
-  seen_freed = old.seen_freed; room = omega arith; seen_published = old.seen_published; behind = old.behind;
+  put = old.put;
+  taken = old.taken;
+  sender_places = old.sender_places;
+  receiver_places = old.receiver_places;
+  published = old.published;
+  filled = omega (arith, length_push l.traffic.filling m, old.filled);
+  freed = old.freed;
+  emptied = old.emptied;
+  closed = old.closed;
+  seen_freed = old.seen_freed;
+  room = omega arith;
+  seen_published = old.seen_published;
+  behind = old.behind;
   holds = holds_filled k l.traffic old.holds (fill_place l.sender) m (omega arith) (same_place old.sender_places (omega arith));
 }
   where
     same_place : l.sender.capacity ≡ k → l.sender.published + l.sender.filled ≡ length l.traffic.published + length l.traffic.filling → fill_place l.sender ≡ (length l.traffic.published + length l.traffic.filling) % k
     same_place = λ e f. ap (λ c. (l.sender.published + l.sender.filled) % c) e ∙ ap (λ c. c % k) f
 kept k l Publishes old may = record {
-  put = word l.sender.closed may.0; taken = old.taken; sender_places = old.sender_places; receiver_places = old.receiver_places;
-  published = omega (arith, length-append l.traffic.published l.traffic.filling); filled = refl; freed = old.freed; emptied = old.emptied; closed = old.closed;
-  seen_freed = old.seen_freed; room = omega arith; seen_published = omega arith; behind = old.behind;
+  put = word l.sender.closed may.0;
+  taken = old.taken;
+  sender_places = old.sender_places;
+  receiver_places = old.receiver_places;
+  published = omega (arith, length-append l.traffic.published l.traffic.filling);
+  filled = refl;
+  freed = old.freed;
+  emptied = old.emptied;
+  closed = old.closed;
+  seen_freed = old.seen_freed;
+  room = omega arith;
+  seen_published = omega arith;
+  behind = old.behind;
   holds = holds_published k l.traffic old.holds;
 }
   where
     word : (closed : Bool) → closed ≡ false → 2 * (l.sender.published + l.sender.filled) ≡ 2 * (l.sender.published + l.sender.filled) + bit closed
     word closed e = rw e (omega arith)
 kept k l Closes old may = record {
-  put = refl; taken = old.taken; sender_places = old.sender_places; receiver_places = old.receiver_places;
-  published = old.published; filled = refl; freed = old.freed; emptied = old.emptied; closed = refl;
-  seen_freed = old.seen_freed; room = omega arith; seen_published = old.seen_published; behind = old.behind;
+  put = refl;
+  taken = old.taken;
+  sender_places = old.sender_places;
+  receiver_places = old.receiver_places;
+  published = old.published;
+  filled = refl;
+  freed = old.freed;
+  emptied = old.emptied;
+  closed = refl;
+  seen_freed = old.seen_freed;
+  room = omega arith;
+  seen_published = old.seen_published;
+  behind = old.behind;
   holds = holds_closed k l.traffic old.holds;
 }
 kept k l Receiver_loads old may = record {
-  put = old.put; taken = old.taken; sender_places = old.sender_places; receiver_places = old.receiver_places;
-  published = old.published; filled = old.filled; freed = old.freed; emptied = old.emptied; closed = old.closed;
-  seen_freed = old.seen_freed; room = old.room;
+  put = old.put;
+  taken = old.taken;
+  sender_places = old.sender_places;
+  receiver_places = old.receiver_places;
+  published = old.published;
+  filled = old.filled;
+  freed = old.freed;
+  emptied = old.emptied;
+  closed = old.closed;
+  seen_freed = old.seen_freed;
+  room = old.room;
   seen_published = omega (arith, half l.put l.sender.published l.sender.closed old.put);
-  behind = omega (arith, half l.put l.sender.published l.sender.closed old.put); holds = old.holds;
+  behind = omega (arith, half l.put l.sender.published l.sender.closed old.put);
+  holds = old.holds;
 }
 kept k l Takes old may = record {
-  put = old.put; taken = old.taken; sender_places = old.sender_places; receiver_places = old.receiver_places;
-  published = old.published; filled = old.filled; freed = old.freed; emptied = in_hand; closed = old.closed;
-  seen_freed = old.seen_freed; room = old.room; seen_published = old.seen_published; behind = omega arith;
+  put = old.put;
+  taken = old.taken;
+  sender_places = old.sender_places;
+  receiver_places = old.receiver_places;
+  published = old.published;
+  filled = old.filled;
+  freed = old.freed;
+  emptied = in_hand;
+  closed = old.closed;
+  seen_freed = old.seen_freed;
+  room = old.room;
+  seen_published = old.seen_published;
+  behind = omega arith;
   holds = holds_taken k l.traffic old.holds (take_place l.receiver) some (omega arith) (next_place k l old);
 }
   where
@@ -115,13 +185,19 @@ kept k l Takes old may = record {
     in_hand : l.receiver.emptied + 1 ≡ length (taken_out l.traffic (take_place l.receiver)).emptying
     in_hand = rw ((taken_from k l old may).1) (omega arith)
 kept k l Puts_back old may = record {
-  put = old.put; taken = old.taken; sender_places = old.sender_places; receiver_places = old.receiver_places;
+  put = old.put;
+  taken = old.taken;
+  sender_places = old.sender_places;
+  receiver_places = old.receiver_places;
   published = on (λ t. l.sender.published ≡ length t.published) old.published (λ m ms. old.published);
   filled = on (λ t. l.sender.filled ≡ length t.filling) old.filled (λ m ms. old.filled);
   freed = on (λ t. l.receiver.freed ≡ length t.freed) old.freed (λ m ms. old.freed);
   emptied = in_hand l.traffic.emptying old.emptied;
   closed = on (λ t. l.sender.closed ≡ t.closed) old.closed (λ m ms. old.closed);
-  seen_freed = old.seen_freed; room = old.room; seen_published = old.seen_published; behind = omega arith;
+  seen_freed = old.seen_freed;
+  room = old.room;
+  seen_published = old.seen_published;
+  behind = omega arith;
   holds = holds_back k l.traffic old.holds (back_place l.receiver) (omega arith) (omega arith) place;
 }
   where
@@ -136,11 +212,19 @@ kept k l Puts_back old may = record {
     place = let counts : l.receiver.freed + (l.receiver.emptied - 1) ≡ length l.traffic.freed + (length l.traffic.emptying - 1) = omega arith in
         ap (λ c. (l.receiver.freed + (l.receiver.emptied - 1)) % c) old.receiver_places ∙ ap (λ c. c % k) counts
 kept k l Frees old may = record {
-  put = old.put; taken = refl; sender_places = old.sender_places; receiver_places = old.receiver_places;
-  published = old.published; filled = old.filled;
+  put = old.put;
+  taken = refl;
+  sender_places = old.sender_places;
+  receiver_places = old.receiver_places;
+  published = old.published;
+  filled = old.filled;
   freed = omega (arith, length-append l.traffic.freed (reverse l.traffic.emptying), length-reverse l.traffic.emptying);
-  emptied = refl; closed = old.closed;
-  seen_freed = omega arith; room = old.room; seen_published = old.seen_published; behind = omega arith;
+  emptied = refl;
+  closed = old.closed;
+  seen_freed = omega arith;
+  room = old.room;
+  seen_published = old.seen_published;
+  behind = omega arith;
   holds = holds_freed k l.traffic old.holds;
 }
 
@@ -240,11 +324,18 @@ receiver_takes : (k : ℕ) (h : List Step) → 1 ≤ k → IsRun k h → (traffi
 receiver_takes k h some run hand e =
     let t = traffic_of k h in
     let may : MayFollow (lane_after k h) Takes = ltb-true _ _ e in
-    let next = taken_from k (lane_after k h) (fits k h run) may in
-    ((omega arith, (may, run)), (next.0, record {
-      freed = ap (λ (o : Option ℕ). t.freed ++ reverse (message_in o ++ t.emptying)) next.1 ∙ ap (λ ms. t.freed ++ reverse (next.0 ∷ ms)) hand;
-      published = refl; emptying = refl; closed = refl;
-    }))
+    let next = taken_from k (lane_after k h) (fits k h run) may in (
+      (omega arith, (may, run)),
+      (
+        next.0,
+        record {
+          freed = ap (λ (o : Option ℕ). t.freed ++ reverse (message_in o ++ t.emptying)) next.1 ∙ ap (λ ms. t.freed ++ reverse (next.0 ∷ ms)) hand;
+          published = refl;
+          emptying = refl;
+          closed = refl;
+        },
+      ),
+    )
 
 pub receiver_goes_on : ReceiverAlone IsRun traffic_of receiver_finds receiver_keeps
 receiver_goes_on = receiver_alone IsRun traffic_of receiver_finds receiver_keeps in_order (λ k h some run. found_exactly k h run) receiver_claimed receiver_looks receiver_loaded_claims receiver_takes
@@ -269,11 +360,15 @@ sender_gives : (k : ℕ) (h : List Step) (m : ℕ) → 1 ≤ k → IsRun k h →
 sender_gives k h m some run hand opened e =
     let t = traffic_of k h in
     let f = fits k h run in
-    let fill : MayFollow (lane_after k h) (Fills m) = ltb-true _ _ e in
-    (((f.closed ∙ opened, omega arith), (fill, run)), record {
-      published = ap (λ ms. t.published ++ (ms ++ m ∷ [])) hand;
-      freed = refl; filling = refl; closed = refl;
-    })
+    let fill : MayFollow (lane_after k h) (Fills m) = ltb-true _ _ e in (
+      ((f.closed ∙ opened, omega arith), (fill, run)),
+      record {
+        published = ap (λ ms. t.published ++ (ms ++ m ∷ [])) hand;
+        freed = refl;
+        filling = refl;
+        closed = refl;
+      },
+    )
 
 pub sender_goes_on : SenderAlone IsRun traffic_of sender_finds sender_keeps
 sender_goes_on = sender_alone IsRun traffic_of sender_finds sender_keeps in_order bounded full_exactly sender_claimed sender_looks sender_loaded_claims sender_gives

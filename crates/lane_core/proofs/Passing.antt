@@ -1,11 +1,11 @@
 -- What the slots of a lane hold, and what was published and freed, at each touch and publish and free: the same in both
 -- forms.
-use Rattle.std.proofs.Common.{◌≡◌, ℕ, ◌+◌, ◌-◌, ◌%◌, ◌<◌, ◌≤◌, ◌==◌, ◌⊎◌, Bool, true, false, cond, List, [], ◌∷◌, ◌++◌, length, Option, None, Some, refl, sym, ap, ◌∙◌, subst, arith}
+use Rattle.std.proofs.Common.{◌≡◌, ℕ, ◌+◌, ◌-◌, ◌%◌, ◌<◌, ◌≤◌, Bool, true, false, cond, List, [], ◌∷◌, ◌++◌, length, Option, None, Some, refl, sym, ap, ◌∙◌, subst, arith}
 use Rattle.std.specs.Prelude.{◌↔◌, reverse, nat_lt}
 use Rattle.std.proofs.lemmas.Bool.{ltb-true, ltb-false}
 use Rattle.lane_core.specs.declared.answers.Found.{Found}
 use Rattle.lane_core.specs.declared.answers.Found.TheVariants.{Message, Nothing, Ended}
-use Rattle.std.proofs.lemmas.List.{append_assoc, append-nil, length_push, length-append, length-reverse, length-drop, nil_from_length}
+use Rattle.std.proofs.lemmas.List.{append_assoc, append-nil, length-append, length-reverse, length-drop, nil_from_length}
 use Rattle.std.proofs.lemmas.Grind.{reverse_onto}
 use Rattle.lane_core.specs.Traffic.{Traffic, no_traffic, with_at, message_in, put_in, published_all, closed_off, taken_out, back_in, freed_all, waiting}
 use Rattle.lane_core.proofs.Rings.{other_place, set_there, set_other}
@@ -18,9 +18,10 @@ HasSlots slots k n (m ∷ ms) = (slots (n % k) ≡ Some m) × HasSlots slots k (
 -- a slot is set that has none of these messages
 has_other : (slots : ℕ → Option ℕ) (k n : ℕ) (ms : List ℕ) (place : ℕ) (o : Option ℕ) → ((c : ℕ) → n ≤ c → c < n + length ms → c % k ≡ place → ⊥) → HasSlots slots k n ms → HasSlots (with_at slots place o) k n ms
 has_other slots k n [] place o other has = tt
-has_other slots k n (m ∷ ms) place o other has =
-    (set_other slots place (n % k) o (other n (omega arith) (omega arith)) ∙ has.0,
-    has_other slots k (n + 1) ms place o (λ c low high. other c (omega arith) (omega arith)) has.1)
+has_other slots k n (m ∷ ms) place o other has = (
+  set_other slots place (n % k) o (other n (omega arith) (omega arith)) ∙ has.0,
+  has_other slots k (n + 1) ms place o (λ c low high. other c (omega arith) (omega arith)) has.1,
+)
 
 -- one message more
 has_push : (slots : ℕ → Option ℕ) (k n : ℕ) (ms : List ℕ) (m : ℕ) → HasSlots slots k n ms → slots ((n + length ms) % k) ≡ Some m → HasSlots slots k n (ms ++ m ∷ [])

@@ -1,5 +1,5 @@
 -- What an end does that goes on alone: calls, one after another (this project's profile).
-use Rattle.std.specs.Prelude.{◌≡◌, ℕ, ◌+◌, ◌-◌, ◌<◌, ◌≤◌, Bool, false, ◌&&◌, List, [], ◌∷◌, ◌++◌, length, take, if◌then◌else◌}
+use Rattle.std.specs.Prelude.{◌≡◌, ℕ, ◌-◌, ◌<◌, ◌≤◌, Bool, false, ◌&&◌, List, [], ◌∷◌, ◌++◌, length, take, if◌then◌else◌}
 use Rattle.lane_core.specs.declared.answers.Room.{Room}
 use Rattle.lane_core.specs.declared.answers.Room.TheVariants.{Open, Full}
 use Rattle.lane_core.specs.declared.answers.Found.{Found}
@@ -44,17 +44,17 @@ sends finds claims k (call ∷ calls) h = sends finds claims k calls (if call.ke
 abbrev pub ReceiverAlone : (ℕ → List Step → Type 0) → (ℕ → List Step → Traffic) → (ℕ → List Step → Found) → (ℕ → List Step → Bool) → Type 0
 ReceiverAlone IsRun traffic_of finds claims =
     (k : ℕ) (h : List Step) → 1 ≤ k → IsRun k h → (traffic_of k h).emptying ≡ [] → (calls : List Bool)
-        → IsRun k (receives finds claims k calls h)
-        × ((traffic_of k (receives finds claims k calls h)).freed ≡ (traffic_of k h).freed ++ take (length calls) (waiting (traffic_of k h)))
-        × (length calls < length (waiting (traffic_of k h)) → finds k (receives finds claims k calls h) ≡ Message)
-        × (length (waiting (traffic_of k h)) ≤ length calls → (finds k (receives finds claims k calls h) ≡ (if (traffic_of k h).closed then Ended else Nothing)) × (claims k (receives finds claims k calls h) ≡ false))
+    → IsRun k (receives finds claims k calls h)
+    × ((traffic_of k (receives finds claims k calls h)).freed ≡ (traffic_of k h).freed ++ take (length calls) (waiting (traffic_of k h)))
+    × (length calls < length (waiting (traffic_of k h)) → finds k (receives finds claims k calls h) ≡ Message)
+    × (length (waiting (traffic_of k h)) ≤ length calls → (finds k (receives finds claims k calls h) ≡ (if (traffic_of k h).closed then Ended else Nothing)) × (claims k (receives finds claims k calls h) ≡ false))
 
 -- A sender between two calls that goes on alone, on an open lane: sends of these messages are steps that it may make, and
 -- publish the first of them up to the capacity; then a load finds room while that isn't reached, and else a full lane.
 abbrev pub SenderAlone : (ℕ → List Step → Type 0) → (ℕ → List Step → Traffic) → (ℕ → List Step → Room) → (ℕ → List Step → Bool) → Type 0
 SenderAlone IsRun traffic_of finds claims =
     (k : ℕ) (h : List Step) → 1 ≤ k → IsRun k h → (traffic_of k h).filling ≡ [] → (traffic_of k h).closed ≡ false → (calls : List SendCall)
-        → IsRun k (sends finds claims k calls h)
-        × ((traffic_of k (sends finds claims k calls h)).published ≡ (traffic_of k h).published ++ take (k - length (waiting (traffic_of k h))) (messages calls))
-        × (length calls < k - length (waiting (traffic_of k h)) → finds k (sends finds claims k calls h) ≡ Open)
-        × (k - length (waiting (traffic_of k h)) ≤ length calls → (finds k (sends finds claims k calls h) ≡ Full) × (claims k (sends finds claims k calls h) ≡ false))
+    → IsRun k (sends finds claims k calls h)
+    × ((traffic_of k (sends finds claims k calls h)).published ≡ (traffic_of k h).published ++ take (k - length (waiting (traffic_of k h))) (messages calls))
+    × (length calls < k - length (waiting (traffic_of k h)) → finds k (sends finds claims k calls h) ≡ Open)
+    × (k - length (waiting (traffic_of k h)) ≤ length calls → (finds k (sends finds claims k calls h) ≡ Full) × (claims k (sends finds claims k calls h) ≡ false))

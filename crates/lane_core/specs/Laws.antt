@@ -1,7 +1,7 @@
 -- What holds of every run of the two ends of a lane, in either form: statements that `every_run` and `every_stop` prove
 -- (this project's profile). A form gives which lists of steps are runs, what passed through the lane, and what its ends
 -- find by a load.
-use Rattle.std.specs.Prelude.{◌≡◌, ℕ, ◌+◌, ◌%◌, ◌<◌, ◌≤◌, ◌↔◌, Bool, true, List, [], ◌∷◌, ◌++◌, length, Some}
+use Rattle.std.specs.Prelude.{◌≡◌, ℕ, ◌%◌, ◌<◌, ◌≤◌, ◌↔◌, true, List, [], ◌∷◌, ◌++◌, length, Some}
 use Rattle.lane_core.specs.declared.answers.Room.{Room}
 use Rattle.lane_core.specs.declared.answers.Room.TheVariants.{Full}
 use Rattle.lane_core.specs.declared.answers.Found.{Found}

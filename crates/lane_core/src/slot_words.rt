@@ -132,7 +132,7 @@ impl SenderEnd {
     }
 
     /// Answers what its next place's word becomes as it publishes the message there: the full bit is set.
-    pub fn publish(&mut self, word: Word) -> Word
+    pub fn publish(&mut self, mut word: Word) -> Word
         requires fits { SenderFits self.old }
         requires allowed { MayPublish self.old }
         ensures after { self.new ≡ sender_published self.old }
@@ -141,11 +141,12 @@ impl SenderEnd {
         self.put += 1;
         self.claims = false;
         self.filled = false;
-        Word { full: true, end: word.end }
+        word.full = true;
+        word
     }
 
     /// Answers what its next place's word becomes as it closes the lane: the end bit is set, on a full word too.
-    pub fn close(&mut self, word: Word) -> Word
+    pub fn close(&mut self, mut word: Word) -> Word
         requires { MayClose self.old }
         ensures after { self.new ≡ sender_closed self.old }
         ensures word { result ≡ end_word word }
@@ -153,7 +154,8 @@ impl SenderEnd {
         self.claims = false;
         self.filled = false;
         self.closed = true;
-        Word { full: word.full, end: true }
+        word.end = true;
+        word
     }
 }
 
@@ -260,7 +262,7 @@ impl ReceiverEnd {
     }
 
     /// Answers what its next place's word becomes as it frees the place: the full bit alone is cleared.
-    pub fn free(&mut self, word: Word) -> Word
+    pub fn free(&mut self, mut word: Word) -> Word
         requires fits { ReceiverFits self.old }
         requires allowed { MayFree self.old }
         ensures after { self.new ≡ receiver_freed self.old }
@@ -269,6 +271,7 @@ impl ReceiverEnd {
         self.taken += 1;
         self.claims = false;
         self.emptied = false;
-        Word { full: false, end: word.end }
+        word.full = false;
+        word
     }
 }
