@@ -1,21 +1,19 @@
 -- The laws of runs over slot words.
-use Rattle.std.proofs.Common.{◌≡◌, ℕ, ◌+◌, ◌-◌, ◌%◌, ◌<◌, ◌≤◌, ◌==◌, ◌&&◌, ◌⊎◌, inl, inr, Bool, true, false, cond, List, [], ◌∷◌, ◌++◌, length, Option, Some, refl, sym, ap, ◌∙◌, eq-eqb, subst, arith}
+use Rattle.std.proofs.Common.{◌≡◌, ℕ, ◌+◌, ◌%◌, ◌<◌, ◌≤◌, ◌&&◌, ◌⊎◌, inl, inr, Bool, true, false, cond, List, [], ◌∷◌, ◌++◌, length, Option, Some, refl, sym, ap, ◌∙◌, eq-eqb, subst, arith}
 use Rattle.std.specs.Prelude.{◌↔◌, not, reverse, nat_lt}
-use Rattle.std.proofs.Math.Nat.{add-mod_right}
 use Rattle.std.proofs.Math.Bool.{and-true}
-use Rattle.std.proofs.lemmas.Bool.{cases_eq, cases_lt, eqb-true, lt-ltb, ltb-true, and_parts}
-use Rattle.std.proofs.lemmas.List.{append_assoc, length_push, length-append, length-reverse}
-use Rattle.lane_core.specs.declared.slot_words.Word.{Word}
+use Rattle.std.proofs.lemmas.Bool.{lt-ltb, and_parts}
+use Rattle.std.proofs.lemmas.List.{append_assoc}
 use Rattle.lane_core.specs.declared.answers.Room.TheVariants.{Open, Full}
 use Rattle.lane_core.specs.declared.answers.Found.TheVariants.{Message, Ended}
 use Rattle.lane_core.specs.Steps.{Step, Sender_loads, Fills, Publishes, Closes, Receiver_loads, Takes, Puts_back, Frees}
-use Rattle.lane_core.specs.Traffic.{Traffic, message_in, with_at, back_in, waiting}
-use Rattle.lane_core.specs.SlotWords.{SlotLane, new_lane, after, lane_after, IsRun, MayFollow, sender_place, receiver_place, sender_word, receiver_word, full_word, end_word, free_word, sender_finds, receiver_finds, sender_keeps, receiver_keeps, SenderHas, ReceiverHas, takes_next, traffic_of}
+use Rattle.lane_core.specs.Traffic.{message_in, back_in, waiting}
+use Rattle.lane_core.specs.SlotWords.{SlotLane, after, lane_after, IsRun, MayFollow, receiver_place, sender_word, receiver_word, sender_finds, receiver_finds, sender_keeps, receiver_keeps, SenderHas, ReceiverHas, takes_next, traffic_of}
 use Rattle.lane_core.specs.Alone.{ReceiverAlone, SenderAlone}
 use Rattle.lane_core.proofs.Calls.{Took, Gave, receiver_alone, sender_alone}
-use Rattle.lane_core.proofs.SlotRuns.{bit, Fits, fits, word_cases, word_open, word_full, word_waits, next_there, next_place, at_receiver, at_sender}
-use Rattle.lane_core.proofs.Rings.{other_place, set_there, set_other}
-use Rattle.lane_core.proofs.Passing.{Holds, IsFoundRightly, found_rightly, count_waiting, holds_first, holds_filled, holds_published, holds_closed, has_next, holds_taken, holds_back, holds_freed}
+use Rattle.lane_core.proofs.SlotRuns.{bit, Fits, fits, word_cases, word_open, word_full, word_waits, next_there, next_place, at_receiver}
+use Rattle.lane_core.proofs.Rings.{other_place}
+use Rattle.lane_core.proofs.Passing.{IsFoundRightly, found_rightly, count_waiting, has_next}
 
 -- The laws.
 
