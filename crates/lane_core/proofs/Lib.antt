@@ -1,0 +1,6 @@
+pub mod Calls
+pub mod IndexRuns
+pub mod Passing
+pub mod Rings
+pub mod SlotLaws
+pub mod SlotRuns

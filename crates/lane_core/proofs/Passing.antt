@@ -1,0 +1,171 @@
+-- What the slots of a lane hold, and what was published and freed, at each touch and publish and free: the same in both
+-- forms.
+use Rattle.std.proofs.Common.{◌≡◌, ℕ, ◌+◌, ◌-◌, ◌%◌, ◌<◌, ◌≤◌, Bool, true, false, cond, List, [], ◌∷◌, ◌++◌, length, Option, None, Some, refl, sym, ap, ◌∙◌, subst, arith}
+use Rattle.std.specs.Prelude.{◌↔◌, reverse, nat_lt}
+use Rattle.std.proofs.lemmas.Bool.{ltb-true, ltb-false}
+use Rattle.lane_core.specs.declared.answers.Found.{Found}
+use Rattle.lane_core.specs.declared.answers.Found.TheVariants.{Message, Nothing, Ended}
+use Rattle.std.proofs.lemmas.List.{append_assoc, append-nil, length-append, length-reverse, length-drop, nil_from_length}
+use Rattle.std.proofs.lemmas.Grind.{reverse_onto}
+use Rattle.lane_core.specs.Traffic.{Traffic, no_traffic, with_at, message_in, put_in, published_all, closed_off, taken_out, back_in, freed_all, waiting}
+use Rattle.lane_core.proofs.Rings.{other_place, set_there, set_other}
+
+-- from the place of this count on, the slots hold these messages
+abbrev pub HasSlots : (ℕ → Option ℕ) → ℕ → ℕ → List ℕ → Type 0
+HasSlots slots k n [] = Unit {0}
+HasSlots slots k n (m ∷ ms) = (slots (n % k) ≡ Some m) × HasSlots slots k (n + 1) ms
+
+-- a slot is set that has none of these messages
+has_other : (slots : ℕ → Option ℕ) (k n : ℕ) (ms : List ℕ) (place : ℕ) (o : Option ℕ) → ((c : ℕ) → n ≤ c → c < n + length ms → c % k ≡ place → ⊥) → HasSlots slots k n ms → HasSlots (with_at slots place o) k n ms
+has_other slots k n [] place o other has = tt
+has_other slots k n (m ∷ ms) place o other has = (
+  set_other slots place (n % k) o (other n (omega arith) (omega arith)) ∙ has.0,
+  has_other slots k (n + 1) ms place o (λ c low high. other c (omega arith) (omega arith)) has.1,
+)
+
+-- one message more
+has_push : (slots : ℕ → Option ℕ) (k n : ℕ) (ms : List ℕ) (m : ℕ) → HasSlots slots k n ms → slots ((n + length ms) % k) ≡ Some m → HasSlots slots k n (ms ++ m ∷ [])
+has_push slots k n [] m has last = (subst (λ c. slots (c % k) ≡ Some m) (omega arith) last, tt)
+has_push slots k n (x ∷ ms) m has last =
+    let shift : n + length (x ∷ ms) ≡ (n + 1) + length ms = omega arith in
+    (has.0, has_push slots k (n + 1) ms m has.1 (subst (λ c. slots (c % k) ≡ Some m) shift last))
+
+-- the first of these messages alone
+has_front : (slots : ℕ → Option ℕ) (k n : ℕ) (xs ys : List ℕ) → HasSlots slots k n (xs ++ ys) → HasSlots slots k n xs
+has_front slots k n [] ys has = tt
+has_front slots k n (x ∷ xs) ys has = (has.0, has_front slots k (n + 1) xs ys has.1)
+
+-- a message moves from the slots into the receiver's hand
+between : (freed emptying : List ℕ) (m : ℕ) (ms : List ℕ) → (freed ++ reverse emptying) ++ m ∷ ms ≡ (freed ++ reverse (m ∷ emptying)) ++ ms
+between freed emptying m ms = sym (ap (λ xs. (freed ++ xs) ++ ms) (reverse_onto emptying m []) ∙ ap (λ xs. xs ++ ms) (sym (append_assoc freed (reverse emptying) (m ∷ []))) ∙ append_assoc (freed ++ reverse emptying) (m ∷ []) ms)
+
+-- what was freed or is in the receiver's hand is a beginning of what was published, and the slots hold the rest, and then
+-- what the sender put in
+pub record Holds (k : ℕ) (t : Traffic) : Type 0 where
+  pub left : List ℕ
+  pub order : t.published ≡ (t.freed ++ reverse t.emptying) ++ left
+  pub slots : HasSlots t.slots k (length t.freed + length t.emptying) (left ++ t.filling)
+
+-- no more is published or put in than the lane has places
+abbrev pub HasRoom : ℕ → Traffic → Type 0
+HasRoom k t = length t.published + length t.filling ≤ length t.freed + k
+
+-- how much of what was published is left in the slots
+pub count_left : (k : ℕ) (t : Traffic) (h : Holds k t) → length t.published ≡ (length t.freed + length t.emptying) + length h.left
+count_left k t h = omega (arith, ap length h.order, length-append (t.freed ++ reverse t.emptying) h.left, length-append t.freed (reverse t.emptying), length-reverse t.emptying)
+
+-- before the first step
+pub holds_first : (k : ℕ) → Holds k no_traffic
+holds_first k = record { left = []; order = refl; slots = tt }
+
+module _ (k : ℕ) (t : Traffic) (h : Holds k t) where
+  -- the count of the next message that is taken
+  abbrev reached : ℕ
+  reached = length t.freed + length t.emptying
+
+  -- how far the messages in the slots reach
+  count_held : reached + length (h.left ++ t.filling) ≡ length t.published + length t.filling
+  count_held = omega (arith, length-append h.left t.filling, count_left k t h)
+
+  -- the sender puts a message into the slot of its next place, which is free
+  pub holds_filled : (place m : ℕ) → length t.published + length t.filling < length t.freed + k → place ≡ (length t.published + length t.filling) % k → Holds k (put_in t place m)
+  holds_filled place m room at = record {
+    left = h.left;
+    order = h.order;
+    slots = subst (HasSlots new k reached) (append_assoc h.left t.filling (m ∷ [])) (has_push new k reached (h.left ++ t.filling) m (has_other t.slots k reached (h.left ++ t.filling) place (Some m) other h.slots) (set_there t.slots place ((reached + length (h.left ++ t.filling)) % k) (Some m) (ap (λ c. c % k) count_held ∙ sym at)));
+  }
+    where
+      new : ℕ → Option ℕ
+      new = with_at t.slots place (Some m)
+
+      other : (c : ℕ) → reached ≤ c → c < reached + length (h.left ++ t.filling) → c % k ≡ place → ⊥
+      other c low high same = other_place k c (length t.published + length t.filling) (omega (arith, count_held)) (omega arith) (same ∙ at)
+
+  -- what was put in is published
+  pub holds_published : Holds k (published_all t)
+  holds_published = record {
+    left = h.left ++ t.filling;
+    order = ap (λ ms. ms ++ t.filling) h.order ∙ append_assoc (t.freed ++ reverse t.emptying) h.left t.filling;
+    slots = subst (HasSlots t.slots k reached) (sym (append-nil (h.left ++ t.filling))) h.slots;
+  }
+
+  -- the lane is closed
+  pub holds_closed : Holds k (closed_off t)
+  holds_closed = record {
+    left = h.left;
+    order = h.order;
+    slots = subst (HasSlots t.slots k reached) (sym (append-nil h.left)) (has_front t.slots k reached h.left t.filling h.slots);
+  }
+
+  -- the slot that is taken from next has a message
+  pub has_next : (place : ℕ) → reached < length t.published → place ≡ reached % k → (m : ℕ) × (t.slots place ≡ Some m)
+  has_next place some at = go h.left h.slots (omega (arith, count_left k t h))
+    where
+      go : (left : List ℕ) → HasSlots t.slots k reached (left ++ t.filling) → 0 < length left → (m : ℕ) × (t.slots place ≡ Some m)
+      go [] has more = absurd (omega arith)
+      go (m ∷ ms) has more = (m, ap t.slots at ∙ has.0)
+
+  -- the receiver takes it
+  pub holds_taken : (place : ℕ) → reached < length t.published → HasRoom k t → place ≡ reached % k → Holds k (taken_out t place)
+  holds_taken place some room at = go h.left h.order h.slots count_held (omega (arith, count_left k t h))
+    where
+      go : (left : List ℕ) → t.published ≡ (t.freed ++ reverse t.emptying) ++ left → HasSlots t.slots k reached (left ++ t.filling) → reached + length (left ++ t.filling) ≡ length t.published + length t.filling → 0 < length left → Holds k (taken_out t place)
+      go [] order has counted more = absurd (omega arith)
+      go (m ∷ ms) order has counted more =
+          let found : t.slots place ≡ Some m = ap t.slots at ∙ has.0 in
+          let shift : reached + 1 ≡ length t.freed + length (m ∷ t.emptying) = omega arith in
+          let kept : HasSlots (with_at t.slots place None) k (reached + 1) (ms ++ t.filling) = has_other t.slots k (reached + 1) (ms ++ t.filling) place None (λ c low high same. other_place k reached c (omega arith) (omega arith) (sym (same ∙ at))) has.1 in
+          let taken : Holds k (record t { slots = with_at t.slots place None; emptying = m ∷ t.emptying }) = record {
+            left = ms;
+            order = order ∙ between t.freed t.emptying m ms;
+            slots = subst (λ n. HasSlots (with_at t.slots place None) k n (ms ++ t.filling)) shift kept;
+          } in
+          subst (λ (o : Option ℕ). Holds k (record t { slots = with_at t.slots place None; emptying = message_in o ++ t.emptying })) (sym found) taken
+
+  -- the receiver puts back what it took last
+  pub holds_back : (place : ℕ) → 0 < length t.emptying → HasRoom k t → place ≡ (length t.freed + (length t.emptying - 1)) % k → Holds k (back_in t t.emptying place)
+  holds_back place some room at = go t.emptying refl
+    where
+      go : (emptying : List ℕ) → t.emptying ≡ emptying → Holds k (back_in t emptying place)
+      go [] e = absurd (omega (arith, ap length e))
+      go (m ∷ ms) e =
+          let n : ℕ = length t.freed + length ms in
+          let shift : reached ≡ n + 1 = omega (arith, ap length e) in
+          let there : (length t.freed + (length t.emptying - 1)) ≡ n = omega (arith, ap length e) in
+          let kept : HasSlots (with_at t.slots place (Some m)) k (n + 1) (h.left ++ t.filling) = has_other t.slots k (n + 1) (h.left ++ t.filling) place (Some m) (λ c low high same. other_place k n c (omega arith) (omega (arith, count_held)) (sym (same ∙ at ∙ ap (λ c. c % k) there))) (subst (λ c. HasSlots t.slots k c (h.left ++ t.filling)) shift h.slots) in
+          record {
+            left = m ∷ h.left;
+            order = h.order ∙ ap (λ ms. (t.freed ++ reverse ms) ++ h.left) e ∙ sym (between t.freed ms m h.left);
+            slots = (set_there t.slots place (n % k) (Some m) (sym (at ∙ ap (λ c. c % k) there)), kept);
+          }
+
+  -- what it took is freed
+  pub holds_freed : Holds k (freed_all t)
+  holds_freed = record {
+    left = h.left;
+    order = h.order ∙ ap (λ ms. ms ++ h.left) (sym (append-nil (t.freed ++ reverse t.emptying)));
+    slots = subst (λ n. HasSlots t.slots k n (h.left ++ t.filling)) (omega (arith, length-append t.freed (reverse t.emptying), length-reverse t.emptying)) h.slots;
+  }
+
+-- how many wait
+pub count_waiting : (t : Traffic) → length (waiting t) ≡ length t.published - length t.freed
+count_waiting t = length-drop (length t.freed) t.published
+
+-- a message is found exactly where one waits, and the end exactly where none waits and the lane is closed
+abbrev pub IsFoundRightly : Traffic → Found → Type 0
+IsFoundRightly t found = (found ≡ Message ↔ 0 < length (waiting t)) × (found ≡ Ended ↔ ((waiting t ≡ []) × (t.closed ≡ true)))
+
+-- an answer by two tests: whether one waits, and where none does whether the lane is closed
+pub found_rightly : (t : Traffic) (some ended : Bool) → some ≡ nat_lt (length t.freed) (length t.published) → (length t.published ≤ length t.freed → ended ≡ t.closed) → IsFoundRightly t (cond some Message (cond ended Ended Nothing))
+found_rightly t true ended e right =
+    let less : length t.freed < length t.published = ltb-true _ _ (sym e) in
+    let more : 0 < length (waiting t) = omega (arith, count_waiting t) in
+    (((λ yes. more), (λ more. refl)), ((λ (no : Message ≡ Ended). cc), (λ both. absurd (omega (arith, ap length both.0)))))
+found_rightly t false ended e right =
+    let least : length t.published ≤ length t.freed = ltb-false _ _ (sym e) in
+    let empty : waiting t ≡ [] = nil_from_length (waiting t) (omega (arith, count_waiting t)) in
+    subst (λ b. IsFoundRightly t (cond b Ended Nothing)) (sym (right least)) (none t.closed refl empty)
+  where
+    none : (closed : Bool) → t.closed ≡ closed → waiting t ≡ [] → IsFoundRightly t (cond closed Ended Nothing)
+    none true e empty = (((λ (no : Ended ≡ Message). cc), (λ more. absurd (omega (arith, ap length empty)))), ((λ yes. (empty, e)), (λ both. refl)))
+    none false e empty = (((λ (no : Nothing ≡ Message). cc), (λ more. absurd (omega (arith, ap length empty)))), ((λ (no : Nothing ≡ Ended). cc), (λ both. let no : true ≡ false = sym both.1 ∙ e in cc)))

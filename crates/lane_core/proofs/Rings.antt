@@ -1,0 +1,29 @@
+-- Places of a ring: counts that lie less than k apart have different ones among k; and what each place has, with one set.
+use Rattle.std.proofs.Common.{◌≡◌, ℕ, suc, ◌+◌, ◌*◌, ◌/◌, ◌%◌, ◌<◌, ◌≤◌, ◌==◌, ◌⊎◌, Bool, true, false, cond, inl, inr, refl, sym, eq-eqb, subst, arith}
+use Rattle.std.proofs.Math.Nat.{div-add-mod, mul-le-mul_left, mul-suc}
+use Rattle.std.proofs.lemmas.Bool.{cases_lt, eqb-true}
+use Rattle.lane_core.specs.Traffic.{with_at}
+
+-- a greater count, by less than k, has another place
+pub other_place : (k a b : ℕ) → a < b → b < a + k → a % k ≡ b % k → ⊥
+other_place k a b less near same = go (cases_lt (a / k) (b / k))
+  where
+    go : (a / k < b / k) ⊎ (b / k ≤ a / k) → ⊥
+    go (inl below) =
+        let more : k * suc (a / k) ≤ k * (b / k) = mul-le-mul_left k (omega (arith, below)) in
+        omega (arith, more, mul-suc k (a / k), div-add-mod a k, div-add-mod b k)
+    go (inr above) =
+        let more : k * (b / k) ≤ k * (a / k) = mul-le-mul_left k above in
+        omega (arith, more, div-add-mod a k, div-add-mod b k)
+
+-- the place that was set
+pub set_there : {A : Type 0} → (at : ℕ → A) (place i : ℕ) (a : A) → i ≡ place → with_at at place a i ≡ a
+set_there {A} at place i a same = subst (λ (b : Bool). cond b a (at i) ≡ a) (sym (eq-eqb i place same)) refl
+
+-- any other place
+pub set_other : {A : Type 0} → (at : ℕ → A) (place i : ℕ) (a : A) → (i ≡ place → ⊥) → with_at at place a i ≡ at i
+set_other {A} at place i a other = go (i == place) refl
+  where
+    go : (its : Bool) → (i == place) ≡ its → cond its a (at i) ≡ at i
+    go true e = absurd (other (eqb-true i place e))
+    go false e = refl

@@ -1,0 +1,244 @@
+-- A lane over index words: its two ends, and every run of their steps (this project's profile). A run is a list of steps,
+-- the newest first.
+use Rattle.std.specs.Prelude.{◌≡◌, ℕ, ◌+◌, ◌-◌, ◌*◌, ◌/◌, ◌%◌, ◌<◌, ◌≤◌, ◌^◌, ◌==◌, nat_lt, Bool, true, false, List, [], ◌∷◌, if◌then◌else◌}
+use Rattle.lane_core.specs.declared.index_words.SenderEnd.{SenderEnd}
+use Rattle.lane_core.specs.declared.index_words.ReceiverEnd.{ReceiverEnd}
+use Rattle.lane_core.specs.declared.answers.Room.{Room}
+use Rattle.lane_core.specs.declared.answers.Room.TheVariants.{Open, Full}
+use Rattle.lane_core.specs.declared.answers.Found.{Found}
+use Rattle.lane_core.specs.declared.answers.Found.TheVariants.{Message, Nothing, Ended}
+use Rattle.lane_core.specs.declared.answers.SenderStep.{SenderStep}
+use Rattle.lane_core.specs.declared.answers.SenderStep.TheVariants.{Load, Fill, Publish}
+use Rattle.lane_core.specs.declared.answers.ReceiverStep.{ReceiverStep}
+use Rattle.lane_core.specs.declared.answers.ReceiverStep.TheVariants.{Look, Take, Free}
+use Rattle.lane_core.specs.Steps.{Step, Sender_loads, Fills, Publishes, Closes, Receiver_loads, Takes, Puts_back, Frees}
+use Rattle.lane_core.specs.Traffic.{Traffic, no_traffic, put_in, published_all, closed_off, taken_out, back_in, freed_all}
+
+-- The sender.
+
+-- the sender of a new lane
+abbrev pub new_sender : ℕ → SenderEnd
+new_sender k = record { capacity = k; published = 0; filled = 0; freed = 0; closed = false }
+
+-- its numbers are small enough for words of 64 bits
+abbrev pub SenderFits : SenderEnd → Type 0
+SenderFits s = (0 < s.capacity) × (s.published + s.filled < 2 ^ 62) × (s.freed + s.capacity < 2 ^ 62)
+
+-- after it loaded this word
+abbrev pub sender_loaded : SenderEnd → ℕ → SenderEnd
+sender_loaded s word = record s { freed = word }
+
+-- it claims the place of this count: from its count of published messages up to the last loaded one with the capacity
+abbrev pub SenderClaims : SenderEnd → ℕ → Type 0
+SenderClaims s count = (s.published ≤ count) × (count < s.freed + s.capacity)
+
+-- what it found by its last load: room where it claims a place
+abbrev pub room_of : SenderEnd → Room
+room_of s = if nat_lt s.published (s.freed + s.capacity) then Open else Full
+
+-- the count of the next message
+abbrev pub fill_count : SenderEnd → ℕ
+fill_count s = s.published + s.filled
+
+-- the place of that count
+abbrev pub fill_place : SenderEnd → ℕ
+fill_place s = fill_count s % s.capacity
+
+-- it may fill: the place of the next message is one that it claims
+abbrev pub MayFill : SenderEnd → Type 0
+MayFill s = fill_count s < s.freed + s.capacity
+
+-- after it filled one more
+abbrev pub sender_filled : SenderEnd → SenderEnd
+sender_filled s = record s { filled = s.filled + 1 }
+
+-- it may publish: something is filled, and the lane is open
+abbrev pub MayPublish : SenderEnd → Type 0
+MayPublish s = (s.closed ≡ false) × (0 < s.filled)
+
+-- the word by which it publishes what is filled
+abbrev pub publish_word : SenderEnd → ℕ
+publish_word s = 2 * (s.published + s.filled)
+
+-- after it published that
+abbrev pub sender_published : SenderEnd → SenderEnd
+sender_published s = record s { published = s.published + s.filled; filled = 0 }
+
+-- it may close: the lane is open
+abbrev pub MayClose : SenderEnd → Type 0
+MayClose s = s.closed ≡ false
+
+-- the word by which it closes
+abbrev pub close_word : SenderEnd → ℕ
+close_word s = 2 * s.published + 1
+
+-- after it closed
+abbrev pub sender_closed : SenderEnd → SenderEnd
+sender_closed s = record s { filled = 0; closed = true }
+
+-- what comes next in a send
+abbrev pub next_sender_step : SenderEnd → SenderStep
+next_sender_step s = if nat_lt 0 s.filled then Publish else (if nat_lt (fill_count s) (s.freed + s.capacity) then Fill else Load)
+
+-- the sender may make this step
+abbrev pub MaySend : SenderEnd → SenderStep → Type 0
+MaySend s Load = Unit {0}
+MaySend s Fill = MayFill s
+MaySend s Publish = MayPublish s
+
+-- The receiver.
+
+-- the receiver of a new lane
+abbrev pub new_receiver : ℕ → ReceiverEnd
+new_receiver k = record { capacity = k; freed = 0; emptied = 0; published = 0; closed = false }
+
+-- its numbers are small enough for words of 64 bits
+abbrev pub ReceiverFits : ReceiverEnd → Type 0
+ReceiverFits r = (0 < r.capacity) × (r.freed + r.emptied < 2 ^ 62)
+
+-- after it loaded this word: the count in it, and whether its low bit says closed
+abbrev pub receiver_loaded : ReceiverEnd → ℕ → ReceiverEnd
+receiver_loaded r word = record r { published = word / 2; closed = word % 2 == 1 }
+
+-- it claims the place of this count: from its count of freed messages up to the last loaded one
+abbrev pub ReceiverClaims : ReceiverEnd → ℕ → Type 0
+ReceiverClaims r count = (r.freed ≤ count) × (count < r.published)
+
+-- what it found by its last load: a message where it claims a place, and else whether the lane is closed
+abbrev pub found_by : ReceiverEnd → Found
+found_by r = if nat_lt r.freed r.published then Message else (if r.closed then Ended else Nothing)
+
+-- the count of the next message that it takes
+abbrev pub take_count : ReceiverEnd → ℕ
+take_count r = r.freed + r.emptied
+
+-- the place of that count
+abbrev pub take_place : ReceiverEnd → ℕ
+take_place r = take_count r % r.capacity
+
+-- it may take: the place of the next message is one that it claims
+abbrev pub MayTake : ReceiverEnd → Type 0
+MayTake r = take_count r < r.published
+
+-- after it took one more
+abbrev pub receiver_took : ReceiverEnd → ReceiverEnd
+receiver_took r = record r { emptied = r.emptied + 1 }
+
+-- it may put back: it has taken something that it has neither freed nor put back
+abbrev pub MayPutBack : ReceiverEnd → Type 0
+MayPutBack r = 0 < r.emptied
+
+-- the place of what it took last
+abbrev pub back_place : ReceiverEnd → ℕ
+back_place r = (r.freed + (r.emptied - 1)) % r.capacity
+
+-- after it put that back
+abbrev pub receiver_put_back : ReceiverEnd → ReceiverEnd
+receiver_put_back r = record r { emptied = r.emptied - 1 }
+
+-- it may free: it has taken something that it has neither freed nor put back
+abbrev pub MayFree : ReceiverEnd → Type 0
+MayFree r = 0 < r.emptied
+
+-- the word by which it frees what it took
+abbrev pub free_word : ReceiverEnd → ℕ
+free_word r = r.freed + r.emptied
+
+-- after it freed that
+abbrev pub receiver_freed : ReceiverEnd → ReceiverEnd
+receiver_freed r = record r { freed = r.freed + r.emptied; emptied = 0 }
+
+-- what comes next in a receive
+abbrev pub next_receiver_step : ReceiverEnd → ReceiverStep
+next_receiver_step r = if nat_lt 0 r.emptied then Free else (if nat_lt (take_count r) r.published then Take else Look)
+
+-- the receiver may make this step
+abbrev pub MayReceive : ReceiverEnd → ReceiverStep → Type 0
+MayReceive r Look = Unit {0}
+MayReceive r Take = MayTake r
+MayReceive r Free = MayFree r
+
+-- The lane.
+
+pub record IndexLane : Type 0 where
+  -- the two words
+  pub put : ℕ
+  pub taken : ℕ
+  pub sender : SenderEnd
+  pub receiver : ReceiverEnd
+  -- slots, hands and content
+  pub traffic : Traffic
+
+-- a new lane
+abbrev pub new_lane : ℕ → IndexLane
+new_lane k = record { put = 0; taken = 0; sender = new_sender k; receiver = new_receiver k; traffic = no_traffic }
+
+-- after one step: an end's step reads its own numbers, and a load the other's word; each end stores its own word alone
+abbrev pub after : IndexLane → Step → IndexLane
+after l Sender_loads = record l { sender = sender_loaded l.sender l.taken }
+after l (Fills m) = record l { sender = sender_filled l.sender; traffic = put_in l.traffic (fill_place l.sender) m }
+after l Publishes = record l { put = publish_word l.sender; sender = sender_published l.sender; traffic = published_all l.traffic }
+after l Closes = record l { put = close_word l.sender; sender = sender_closed l.sender; traffic = closed_off l.traffic }
+after l Receiver_loads = record l { receiver = receiver_loaded l.receiver l.put }
+after l Takes = record l { receiver = receiver_took l.receiver; traffic = taken_out l.traffic (take_place l.receiver) }
+after l Puts_back = record l { receiver = receiver_put_back l.receiver; traffic = back_in l.traffic l.traffic.emptying (back_place l.receiver) }
+after l Frees = record l { taken = free_word l.receiver; receiver = receiver_freed l.receiver; traffic = freed_all l.traffic }
+
+-- the step is allowed, by its end's own numbers
+abbrev pub MayFollow : IndexLane → Step → Type 0
+MayFollow l Sender_loads = Unit {0}
+MayFollow l (Fills m) = MayFill l.sender
+MayFollow l Publishes = MayPublish l.sender
+MayFollow l Closes = MayClose l.sender
+MayFollow l Receiver_loads = Unit {0}
+MayFollow l Takes = MayTake l.receiver
+MayFollow l Puts_back = MayPutBack l.receiver
+MayFollow l Frees = MayFree l.receiver
+
+-- the lane of k places after these steps
+abbrev pub lane_after : ℕ → List Step → IndexLane
+lane_after k [] = new_lane k
+lane_after k (e ∷ h) = after (lane_after k h) e
+
+-- each step was allowed when it was made
+abbrev pub IsRun : ℕ → List Step → Type 0
+IsRun k [] = Unit {0}
+IsRun k (e ∷ h) = MayFollow (lane_after k h) e × IsRun k h
+
+-- What the laws of runs speak of.
+
+-- what passed through the lane in these steps
+abbrev pub traffic_of : ℕ → List Step → Traffic
+traffic_of k h = (lane_after k h).traffic
+
+-- what the sender would find by a load now
+abbrev pub sender_finds : ℕ → List Step → Room
+sender_finds k h = room_of (sender_loaded (lane_after k h).sender (lane_after k h).taken)
+
+-- what the receiver would find by a load now
+abbrev pub receiver_finds : ℕ → List Step → Found
+receiver_finds k h = found_by (receiver_loaded (lane_after k h).receiver (lane_after k h).put)
+
+-- the sender claims the place of this count
+abbrev pub SenderHas : ℕ → List Step → ℕ → Type 0
+SenderHas k h count = SenderClaims (lane_after k h).sender count
+
+-- the receiver claims the place of this count
+abbrev pub ReceiverHas : ℕ → List Step → ℕ → Type 0
+ReceiverHas k h count = ReceiverClaims (lane_after k h).receiver count
+
+-- the count whose place the sender fills next
+abbrev pub fills_next : ℕ → List Step → ℕ
+fills_next k h = fill_count (lane_after k h).sender
+
+-- the count whose place the receiver takes from next
+abbrev pub takes_next : ℕ → List Step → ℕ
+takes_next k h = take_count (lane_after k h).receiver
+
+-- the sender claims a place to fill, by what it loaded before
+abbrev pub sender_keeps : ℕ → List Step → Bool
+sender_keeps k h = let s = (lane_after k h).sender in nat_lt (fill_count s) (s.freed + s.capacity)
+
+-- the receiver claims a place to take from, by what it loaded before
+abbrev pub receiver_keeps : ℕ → List Step → Bool
+receiver_keeps k h = let r = (lane_after k h).receiver in nat_lt (take_count r) r.published

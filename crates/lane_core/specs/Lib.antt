@@ -1,0 +1,6 @@
+pub mod Alone
+pub mod IndexWords
+pub mod Laws
+pub mod SlotWords
+pub mod Steps
+pub mod Traffic

@@ -1,0 +1,43 @@
+//! What an end finds by a load, and which step an end makes next.
+
+/// What a sender finds by a load.
+#[derive(Clone, Copy, Debug, PartialEq, Eq)]
+pub enum Room {
+    /// It claims at least one place.
+    Open,
+    /// Each place has a message that waits.
+    Full,
+}
+
+/// What a receiver finds by a load.
+#[derive(Clone, Copy, Debug, PartialEq, Eq)]
+pub enum Found {
+    /// At least one message waits.
+    Message,
+    /// No message waits, and the lane is open.
+    Nothing,
+    /// No message waits, and the lane is closed.
+    Ended,
+}
+
+/// The next step of a sender that has a message to send.
+#[derive(Clone, Copy, Debug, PartialEq, Eq)]
+pub enum SenderStep {
+    /// It loads a word.
+    Load,
+    /// It puts the message into the slot of the next place.
+    Fill,
+    /// It publishes what it has put into slots.
+    Publish,
+}
+
+/// The next step of a receiver that wants a message.
+#[derive(Clone, Copy, Debug, PartialEq, Eq)]
+pub enum ReceiverStep {
+    /// It loads a word.
+    Look,
+    /// It takes the message out of the slot of the next place.
+    Take,
+    /// It frees the places that it has taken from.
+    Free,
+}
