@@ -2,6 +2,7 @@
 
 mod charts;
 mod drawn;
+mod failures;
 mod refusals;
 mod schedules;
 

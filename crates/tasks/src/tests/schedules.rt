@@ -68,6 +68,14 @@ fn coregion_notes(rt: HostRuntime) {
 }
 
 #[test]
+fn open_within_a_coregion(rt: HostRuntime) {
+    let schedule = b"instances a b\ncapacity 1\nb concurrent\nb concurrent\nb endconcurrent\n";
+    let written =
+        b"msc run;\ninstance a;\nendinstance;\ninstance b;\nendinstance;\nendmsc;\nnote 4 open\n";
+    replays(&rt, rt.alloc(), schedule, written, 0);
+}
+
+#[test]
 fn thirty_two_instances(rt: HostRuntime) {
     let schedule =
         b"instances n1 n2 n3 n4 n5 n6 n7 n8 n9 n10 n11 n12 n13 n14 n15 n16 n17 n18 n19 n20 n21 n22 n23 n24 n25 n26 n27 n28 n29 n30 n31 n32\ncapacity 64\n";
