@@ -152,7 +152,7 @@ fn refused_growths_of_a_draw(rt: HostRuntime) -> Result<(), Fail> {
             assert_eq!(rt; err.as_bytes(), b"refused: F6 Memory\n".as_slice());
             assert!(rt; out.as_bytes().is_empty());
         }
+        draws_closed(&rt, alloc, 0);
     }
-    draws_closed(&rt, alloc, 0);
     every_growth_was_refused(alloc)
 }
