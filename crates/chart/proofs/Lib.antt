@@ -6,6 +6,7 @@ pub mod Counts
 pub mod Cycles
 pub mod Existence
 pub mod Growing
+pub mod Histories
 pub mod InRegions
 pub mod Knowledge
 pub mod Lanes

@@ -1,4 +1,5 @@
 pub mod Carrying
 pub mod Charted
 pub mod EntryLemmas
+pub mod Recording
 pub mod SendsLemmas

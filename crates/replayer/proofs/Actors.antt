@@ -9,10 +9,11 @@ use Rattle.chart.specs.Histories.{waiting, is_closed, chart_of, IsLegal, Begins}
 use Rattle.line_recorder.specs.Carried.{knowledge_of, waiting_clocks}
 use Rattle.schedule.specs.Meaning.{Run}
 use Rattle.replayer.specs.Views.{LaneView, ActorView}
-use Rattle.replayer.specs.Agreement.{names_of, IsLane, AreLanes, IsRecorder, IsOwn}
+use Rattle.line_recorder.specs.Recording.{IsRecorder}
+use Rattle.replayer.specs.Agreement.{names_of, IsLane, AreLanes, IsOwn}
 use Rattle.replayer.proofs.Places.{each-set}
 use Rattle.chart.proofs.Regions.{greatest_region-push, may_be-small, may-again}
-use Rattle.replayer.proofs.Recorders.{IsRecorder-idle}
+use Rattle.line_recorder.proofs.Recording.{IsRecorder-idle}
 
 -- of n instances, p did nothing between two runs
 pub record IsIdle (n : ℕ) (r s : Run) (p : ℕ) : Type 0 where

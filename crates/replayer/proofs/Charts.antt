@@ -22,7 +22,7 @@ use Rattle.schedule.specs.Meaning.{Run}
 use Rattle.replayer.specs.Views.{ActorView, fresh_actor}
 use Rattle.replayer.specs.Agreement.{Agrees}
 use Rattle.replayer.specs.Outcomes.{lines_of}
-use Rattle.replayer.proofs.Histories.{partners-known}
+use Rattle.chart.proofs.Histories.{partners-known}
 
 -- a line of a history's chart
 abbrev pub line_of : List Event → ℕ → LineView

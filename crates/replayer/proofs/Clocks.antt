@@ -8,7 +8,7 @@ use Rattle.chart.specs.Histories.{is_lane, received, chart_of, IsLegal}
 use Rattle.clock.specs.Clocks.{with_entry}
 use Rattle.line_recorder.specs.Carried.{knowledge_of, clocks_of, waiting_clocks}
 use Rattle.line_recorder.proofs.Carrying.{clocks_many}
-use Rattle.replayer.proofs.Histories.{is_lane-same, received-le}
+use Rattle.chart.proofs.Histories.{is_lane-same, received-le}
 
 -- the clock of a message that is sent waits behind the others
 pub waiting_clocks-send : (n k : ℕ) (h : List Event) → IsLegal n k h → (p q : ℕ) (m : Content) → waiting_clocks n (Send p q m ∷ h) p q ≡ waiting_clocks n h p q ++ with_entry (knowledge_of n h p) p (length (chart_of h p) + 1) ∷ []

@@ -17,12 +17,15 @@ use Rattle.line_recorder.specs.Carried.{waiting_clocks}
 use Rattle.line_recorder.specs.Recorders.{send_clock, after_send, after_receive, IsReportOf}
 use Rattle.schedule.specs.Meaning.{Run, changed, happens}
 use Rattle.replayer.specs.Views.{LaneView, ActorView, popped, after_receipt}
-use Rattle.replayer.specs.Agreement.{names_of, IsLane, IsRecorder, IsOwn, IsActor, Agrees}
+use Rattle.line_recorder.specs.Recording.{IsRecorder}
+use Rattle.replayer.specs.Agreement.{names_of, IsLane, IsOwn, IsActor, Agrees}
 use Rattle.replayer.proofs.Actors.{IsIdle, AreIdle, IsOwn-idle, AreLanes-idle, AreLanes-set, IsOwn-push}
 use Rattle.replayer.proofs.Clocks.{waiting_clocks-send, waiting_clocks-send_other, waiting_clocks-receive, waiting_clocks-receive_other}
-use Rattle.replayer.proofs.Histories.{is_lane-from, is_lane-to, received-le, waiting-send, waiting-send_other, waiting-receive, waiting-receive_other, is_closed-close, is_closed-close_other, chart_of-send, chart_of-receive, chart_of-close}
+use Rattle.chart.proofs.Histories.{is_lane-from, is_lane-to, received-le, waiting-send, waiting-send_other, waiting-receive, waiting-receive_other, is_closed-close, is_closed-close_other}
+use Rattle.chart.proofs.Sends.{line_after_send, line_after_receive}
+use Rattle.chart.proofs.Steps.{line_after_close}
 use Rattle.replayer.proofs.Places.{each-set}
-use Rattle.replayer.proofs.Recorders.{knowledge_of-other, send_clock-is, IsRecorder-send, IsRecorder-receive}
+use Rattle.line_recorder.proofs.Recording.{knowledge_of-other, send_clock-is, IsRecorder-send, IsRecorder-receive}
 use Rattle.replayer.proofs.Words.{received, message, names-many}
 
 -- two places are two instances
@@ -105,7 +108,7 @@ module _ (n k : ℕ) (r : Run) (actors : List ActorView) (agrees : Agrees n k r 
         lanes = AreLanes-idle n h s.history (suc l) x.lanes (idle (suc l) (λ same. other (omega arith))) old.lanes;
       })
       (record {
-        own = IsOwn-push n r s p a _ (send_mark q name) mine.own (IsRecorder-send n k h p q m a.recorder agrees.legal mine.own.recorder) (chart_of-send h p q m) refl (sym none) few mine.own.last mine.own.known refl (omega arith);
+        own = IsOwn-push n r s p a _ (send_mark q name) mine.own (IsRecorder-send n k h p q m a.recorder agrees.legal mine.own.recorder) (line_after_send h p q m) refl (sym none) few mine.own.last mine.own.known refl (omega arith);
         lanes = AreLanes-idle n h s.history p a.lanes (idle p (λ same. ne (omega arith))) mine.lanes;
       })
       (record {
@@ -137,7 +140,7 @@ module _ (n k : ℕ) (r : Run) (actors : List ActorView) (agrees : Agrees n k r 
       let j_within : j < n = omega (arith, agrees.many) in
       let clocked : waiting_clocks n h q p ≡ clock ∷ clocks = sym here.clocks ∙ stamp in
       let grown : chart_of s.history p ≡ chart_of h p ++ receive_mark q name a.region ∷ [] =
-      chart_of-receive h p q c first.0 first.1 first.2 ∙ ap (λ w. chart_of h p ++ receive_mark q w c ∷ []) first.3 ∙ ap (λ x. chart_of h p ++ receive_mark q name x ∷ []) (sym mine.own.region) in
+      line_after_receive h p q c first.0 first.1 first.2 ∙ ap (λ w. chart_of h p ++ receive_mark q w c ∷ []) first.3 ∙ ap (λ x. chart_of h p ++ receive_mark q name x ∷ []) (sym mine.own.region) in
       let recorded = IsRecorder-receive n k h p q c first.0 first.1 clock clocks a.recorder report agrees.legal (omega arith) (omega arith) first.2 clocked (subst (λ x. IsReportOf a.recorder q x clock report) mine.own.region made) mine.own.recorder in
       let recorder : IsRecorder n s.history p (after_receive a.recorder q name a.region clock report) = subst₂ (λ (w : List ℕ) (x : ℕ). IsRecorder n s.history p (after_receive a.recorder q w x clock report)) first.3 (sym mine.own.region) recorded in
       let last : q ≡ s.last p = sym (changed-same r.last p q) in
@@ -175,7 +178,7 @@ module _ (n k : ℕ) (r : Run) (actors : List ActorView) (agrees : Agrees n k r 
       let here : IsLane n h p q lane = its.lanes.each i lane at_lane in
       let i_within : i < n = omega (arith, agrees.many) in
       let j_within : j < n = omega (arith, slice_get_within actors j b at_b, agrees.many) in
-      let idle : (l : ℕ) → IsIdle n r s l = λ l. record { begins = (e ∷ [], refl); line = chart_of-close h p q l; knowledge = refl; last = refl; region = refl } in
+      let idle : (l : ℕ) → IsIdle n r s l = λ l. record { begins = (e ∷ [], refl); line = line_after_close h p q l; knowledge = refl; last = refl; region = refl } in
       Agrees-set n k r s actors j _ agrees
       ((two-places n i j i_within j_within ne, sym here.closed ∙ opened), agrees.legal)
       (λ l x past old. record {

@@ -2,13 +2,11 @@ pub mod Actors
 pub mod Charts
 pub mod Clocks
 pub mod Commands
-pub mod Histories
 pub mod Kept
 pub mod Lanes
 pub mod Outcomes
 pub mod Performed
 pub mod Places
-pub mod Recorders
 pub mod Scans
 pub mod Starts
 pub mod Words

@@ -1,13 +1,12 @@
 -- What a replay holds of the history so far.
-use Rattle.std.specs.Prelude.{◌≡◌, ℕ, suc, ◌≤◌, List, length, map, slice_get, All, Option, None, Some, Result, Ok, Err}
+use Rattle.std.specs.Prelude.{◌≡◌, ℕ, suc, ◌≤◌, List, length, map, slice_get, Option, None, Some, Result, Ok, Err}
 use Rattle.chart.specs.declared.history.Event.{Event}
 use Rattle.chart.specs.declared.line.TheConstants.{MAX_EVENTS}
 use Rattle.chart.specs.Marks.{greatest_region, MayHaveRegion}
 use Rattle.chart.specs.Messages.{Content}
 use Rattle.chart.specs.Histories.{waiting, is_closed, chart_of, IsLegal}
-use Rattle.chart.specs.Reports.{IsReportIn, receives_of}
-use Rattle.line_recorder.specs.Carried.{knowledge_of, waiting_clocks}
-use Rattle.line_recorder.specs.Recorders.{RecorderView}
+use Rattle.line_recorder.specs.Carried.{waiting_clocks}
+use Rattle.line_recorder.specs.Recording.{IsRecorder}
 use Rattle.schedule.specs.declared.command.Word.{Word}
 use Rattle.schedule.specs.Meaning.{Run}
 use Rattle.replayer.specs.declared.error.ReplayError.{ReplayError}
@@ -27,13 +26,6 @@ pub record IsLane (n : ℕ) (h : List Event) (q p : ℕ) (lane : LaneView) : Typ
 pub record AreLanes (n : ℕ) (h : List Event) (p : ℕ) (lanes : List LaneView) : Type 0 where
   pub many : length lanes ≡ n
   pub each : (j : ℕ) (lane : LaneView) → slice_get lanes j ≡ Some lane → IsLane n h (suc j) p lane
-
--- the instance's recorder has p's line in the chart of the history, what p knows, and the reports of its receives
-pub record IsRecorder (n : ℕ) (h : List Event) (p : ℕ) (recorder : RecorderView) : Type 0 where
-  pub line : recorder.line ≡ record { instance = p; events = chart_of h p }
-  pub knowledge : recorder.knowledge ≡ knowledge_of n h p
-  pub receives : map (λ report. report.receive) recorder.reports ≡ receives_of recorder.line
-  pub reports : All (IsReportIn (chart_of h)) recorder.reports
 
 -- what the instance p of n has done is as far as the run
 pub record IsOwn (n : ℕ) (r : Run) (p : ℕ) (a : ActorView) : Type 0 where

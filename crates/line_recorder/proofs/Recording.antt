@@ -18,8 +18,8 @@ use Rattle.clock.specs.Clocks.{with_entry, merged}
 use Rattle.line_recorder.specs.Carried.{first_clock, knowledge_of, waiting_clocks}
 use Rattle.line_recorder.specs.Recorders.{RecorderView, send_clock, after_send, after_receive, IsReportOf}
 use Rattle.line_recorder.proofs.Carrying.{carried_report}
-use Rattle.replayer.specs.Agreement.{IsRecorder}
-use Rattle.replayer.proofs.Histories.{chart_of-send, chart_of-receive}
+use Rattle.line_recorder.specs.Recording.{IsRecorder}
+use Rattle.chart.proofs.Sends.{line_after_send, line_after_receive}
 
 -- an event of another instance leaves what an instance knows
 pub knowledge_of-other : (n : ℕ) (h : List Event) (e : Event) (p : ℕ) → p ≢ by e → knowledge_of n (e ∷ h) p ≡ knowledge_of n h p
@@ -43,7 +43,7 @@ IsRecorder-idle n k h g p r legal begins same knows old = record {
 -- one that recorded a send
 pub IsRecorder-send : (n k : ℕ) (h : List Event) (p q : ℕ) (m : Content) (r : RecorderView) → IsLegal n k h → IsRecorder n h p r → IsRecorder n (Send p q m ∷ h) p (after_send r q m.name)
 IsRecorder-send n k h p q m r legal old = record {
-  line = rw (chart_of-send h p q m) (ap (λ (l : LineView). record l { events = l.events ++ send_mark q m.name ∷ [] }) old.line);
+  line = rw (line_after_send h p q m) (ap (λ (l : LineView). record l { events = l.events ++ send_mark q m.name ∷ [] }) old.line);
   knowledge = rw (eq-eqb p p refl) (send_clock-is n h p r old);
   receives = old.receives ∙ sym (receives-send r.line.instance 1 r.line.events q m.name);
   reports = reports_begun n k h (Send p q m ∷ h) legal (Send p q m ∷ [], refl) p r.reports (old.receives ∙ ap receives_of old.line) old.reports;
@@ -62,7 +62,7 @@ IsRecorder-receive n k h p q c m rest clock clocks r report legal low high first
       line = subst (λ (e : EventNo). All (λ race. race.instance ≡ e.instance) report.earlier) (sym receive) made.own;
     } in
     record {
-      line = rw (chart_of-receive h p q c m rest first) (ap (λ (l : LineView). record l { events = l.events ++ receive_mark q m.name c ∷ [] }) old.line);
+      line = rw (line_after_receive h p q c m rest first) (ap (λ (l : LineView). record l { events = l.events ++ receive_mark q m.name c ∷ [] }) old.line);
       knowledge = rw (eq-eqb p p refl) (ap₂ (λ ours theirs. merged ours theirs) old.knowledge (sym (ap first_clock stamp)));
       receives = map-append (λ (x : ReportView). x.receive) r.reports (report ∷ []) ∙ ap₂ (λ xs ys. xs ++ ys ∷ []) old.receives receive ∙ sym (receives-receive r.line.instance 1 r.line.events q m.name c);
       reports = All-push (IsReportIn (chart_of (Receive p q c ∷ h))) r.reports report (reports_begun n k h (Receive p q c ∷ h) legal (Receive p q c ∷ [], refl) p r.reports (old.receives ∙ ap receives_of old.line) old.reports) its;

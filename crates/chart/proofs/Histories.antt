@@ -1,4 +1,4 @@
--- Histories that grow by an event.
+-- The lanes of histories that grow by an event.
 use Rattle.std.proofs.Common.{◌≡◌, ◌≢◌, ℕ, ◌+◌, ◌<◌, ◌≤◌, ◌==◌, Bool, true, false, cond, List, [], ◌∷◌, ◌++◌, length, drop, refl, sym, ap, ◌∙◌, subst, arith, append-nil, length-drop}
 use Rattle.std.specs.Prelude.{All}
 use Rattle.std.proofs.lemmas.Bool.{eqb-true, eq-eqb, ne_eqb, and_parts, and_from, and_left, and_right}
@@ -64,26 +64,6 @@ is_closed-close h p q = rw (is_lane-same p q)
 -- the others stay as they were
 pub is_closed-close_other : (h : List Event) (p q a b : ℕ) → is_lane p q a b ≡ false → is_closed (Close p q ∷ h) a b ≡ is_closed h a b
 is_closed-close_other h p q a b e = rw e
-
--- a send goes to the end of the sender's line
-pub chart_of-send : (h : List Event) (p q : ℕ) (m : Content) → chart_of (Send p q m ∷ h) p ≡ chart_of h p ++ send_mark q m.name ∷ []
-chart_of-send h p q m = rw (eq-eqb p p refl)
-
--- the other lines stay
-pub chart_of-send_other : (h : List Event) (p q s : ℕ) (m : Content) → s ≢ p → chart_of (Send p q m ∷ h) s ≡ chart_of h s
-chart_of-send_other h p q s m ne = rw (ne_eqb p s (λ e. ne (sym e))) (append-nil (chart_of h s))
-
--- a receive goes to the end of the receiver's line, by the name of the first message that waits
-pub chart_of-receive : (h : List Event) (p q c : ℕ) (m : Content) (ms : List Content) → waiting h q p ≡ m ∷ ms → chart_of (Receive p q c ∷ h) p ≡ chart_of h p ++ receive_mark q m.name c ∷ []
-chart_of-receive h p q c m ms first = rw (eq-eqb p p refl) (ap (λ x. chart_of h p ++ receive_of x q c) first)
-
--- the other lines stay
-pub chart_of-receive_other : (h : List Event) (p q c s : ℕ) → s ≢ p → chart_of (Receive p q c ∷ h) s ≡ chart_of h s
-chart_of-receive_other h p q c s ne = rw (ne_eqb p s (λ e. ne (sym e))) (append-nil (chart_of h s))
-
--- a close is on no line
-pub chart_of-close : (h : List Event) (p q s : ℕ) → chart_of (Close p q ∷ h) s ≡ chart_of h s
-chart_of-close h p q s = append-nil (chart_of h s)
 
 -- the partner of each event of a legal history's chart is one of the instances
 pub partners-known : (n k : ℕ) (h : List Event) → IsLegal n k h → (p : ℕ) → All (λ m. partner_of m ≤ n) (chart_of h p)
