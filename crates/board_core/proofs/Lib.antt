@@ -1,0 +1,4 @@
+pub mod Along
+pub mod GoodsLemmas
+pub mod Several
+pub mod Standing

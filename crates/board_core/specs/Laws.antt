@@ -1,0 +1,79 @@
+-- What holds of every run on a board, and what a later history leaves as it was: statements that `laws` proves. That a clock
+-- has what its send knows is vector time (Fidge 1988, Mattern 1989); the others are this project's profile.
+use Rattle.std.specs.Prelude.{◌≡◌, ℕ, ◌+◌, ◌≤◌, List, [], ◌∷◌, ◌++◌, length, map, take, slice_get, Some, All}
+use Rattle.chart.specs.declared.history.Event.{Event}
+use Rattle.chart.specs.Charts.{at, mark_at, LineView}
+use Rattle.chart.specs.Marks.{send_mark}
+use Rattle.chart.specs.Histories.{own, sent, received, is_closed, chart_of, IsLegal, Begins}
+use Rattle.chart.specs.Places.{IsEvent, IsSendAfter}
+use Rattle.chart.specs.Reports.{ReportView, IsReportIn, receives_of}
+use Rattle.lane_core.specs.Traffic.{Traffic}
+use Rattle.line_recorder.specs.Carried.{clocks_of}
+use Rattle.line_recorder.specs.Laws.{IsClockOf}
+use Rattle.line_recorder.specs.Recording.{IsRecorder}
+use Rattle.board_core.specs.Parcels.{Parcel, next_clock, goods}
+use Rattle.board_core.specs.Steps.{Step}
+use Rattle.board_core.specs.World.{World}
+use Rattle.board_core.specs.Runs.{IsRun, world_after, history_of, reports_of}
+
+-- what passed through the lane from q to p in these steps
+abbrev pub traffic_of : ℕ → ℕ → List Step → ℕ → ℕ → Traffic Parcel
+traffic_of n k steps q p = ((world_after n k steps).lanes q p).traffic
+
+-- Of every run.
+
+-- its history is legal
+abbrev pub LegalLaw : Type 0
+LegalLaw = (n k : ℕ) (steps : List Step) → IsRun n k steps → IsLegal n k (history_of n k steps)
+
+-- each lane has passed on what the history says: what was published, the first of these received, and whether it is closed
+abbrev pub LaneLaw : Type 0
+LaneLaw = (n k : ℕ) (steps : List Step) → IsRun n k steps → (q p : ℕ)
+    → ((traffic_of n k steps q p).published ≡ goods n (history_of n k steps) q p)
+    × ((traffic_of n k steps q p).freed ≡ take (received (history_of n k steps) q p) (goods n (history_of n k steps) q p))
+    × ((traffic_of n k steps q p).closed ≡ is_closed (history_of n k steps) q p)
+
+-- the send at this place is the i-th of the lane, of this parcel's message, and the parcel's clock is what it knows of each
+-- of n instances
+pub record IsSendOf (n : ℕ) (h : List Event) (q p i j : ℕ) (x : Parcel) : Type 0 where
+  pub send : IsSendAfter (chart_of h q) p i j
+  pub name : mark_at (chart_of h) (at q j) ≡ Some (send_mark p x.message.name)
+  pub entries : length x.clock ≡ n
+  pub clock : IsClockOf (chart_of h) (at q j) x.clock
+
+-- each published parcel has its send in the history's chart, and its clock is what that send knows
+abbrev pub ClockLaw : Type 0
+ClockLaw = (n k : ℕ) (steps : List Step) → IsRun n k steps → (q p i : ℕ) (x : Parcel) → slice_get (traffic_of n k steps q p).published i ≡ Some x → (j : ℕ) × IsSendOf n (history_of n k steps) q p i j x
+
+-- p's receives carry the reports of the receives of its line in the history's chart, in order
+abbrev pub ReportLaw : Type 0
+ReportLaw = (n k : ℕ) (steps : List Step) → IsRun n k steps → (p : ℕ) → 1 ≤ p → p ≤ n
+    → (map (λ (report : ReportView). report.receive) (reports_of p steps) ≡ receives_of (record { instance = p; events = chart_of (history_of n k steps) p }))
+    × All (IsReportIn (chart_of (history_of n k steps))) (reports_of p steps)
+
+-- each recorder has its instance's line of this chart, what the instance knows, and these reports
+abbrev pub RecorderLaw : Type 0
+RecorderLaw = (n k : ℕ) (steps : List Step) → IsRun n k steps → (p : ℕ) → 1 ≤ p → p ≤ n
+    → IsRecorder n (history_of n k steps) p ((world_after n k steps).recorders p) × (((world_after n k steps).recorders p).reports ≡ reports_of p steps)
+
+-- Of histories that begin with another.
+
+-- what a lane carries is the messages that were sent on it, with their clocks
+abbrev pub GoodsLaw : Type 0
+GoodsLaw = (n : ℕ) (h : List Event) (q p : ℕ) → (map (λ (x : Parcel). x.message) (goods n h q p) ≡ sent h q p) × (map (λ (x : Parcel). x.clock) (goods n h q p) ≡ clocks_of n h q p)
+
+-- it only grows
+abbrev pub GoodsGrowthLaw : Type 0
+GoodsGrowthLaw = (n : ℕ) (h g : List Event) → Begins h g → (q p : ℕ) → (more : List Parcel) × (goods n g q p ≡ goods n h q p ++ more)
+
+-- an instance's line and the clock of its next send stay, where the events that came are all of others
+abbrev pub OthersLaw : Type 0
+OthersLaw = (n : ℕ) (h g : List Event) → Begins h g → (p : ℕ) → own g p ≡ own h p → (chart_of g p ≡ chart_of h p) × (next_clock n g p ≡ next_clock n h p)
+
+-- a clock is still what its send knows
+abbrev pub ClockGrowthLaw : Type 0
+ClockGrowthLaw = (n k : ℕ) (h g : List Event) → IsLegal n k h → Begins h g → (q j : ℕ) (clock : List ℕ) → IsEvent (chart_of h) (at q j) → IsClockOf (chart_of h) (at q j) clock → IsClockOf (chart_of g) (at q j) clock
+
+-- a report is still that of its receive
+abbrev pub ReportGrowthLaw : Type 0
+ReportGrowthLaw = (n k : ℕ) (h g : List Event) → IsLegal n k h → Begins h g → (report : ReportView) → IsEvent (chart_of h) (at report.receive.instance report.receive.index) → IsReportIn (chart_of h) report → IsReportIn (chart_of g) report

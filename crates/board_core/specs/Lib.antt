@@ -1,0 +1,5 @@
+pub mod Laws
+pub mod Parcels
+pub mod Runs
+pub mod Steps
+pub mod World

@@ -1,0 +1,30 @@
+//! What holds of every run of all instances on a board, and of what their lanes carry: the contracts of functions that do
+//! nothing.
+ghost use Rattle.board_core.specs.Laws.{LegalLaw, LaneLaw, ClockLaw, ReportLaw, RecorderLaw, GoodsLaw, GoodsGrowthLaw, OthersLaw, ClockGrowthLaw, ReportGrowthLaw};
+
+/// Of every run, with any number of instances and lanes of any capacity, in any order of their steps: what was sent,
+/// received and closed is a legal history. Each lane has passed on what this history says; the clock of each published
+/// message is what its send knows in the history's chart (vector time, Fidge 1988, Mattern 1989); the reports of an
+/// instance's receives are those of the receives of its line in this chart, in order; and each recorder has its instance's
+/// line of the chart, what the instance knows, and these reports.
+pub fn every_run()
+    ensures legal { LegalLaw }
+    ensures lanes { LaneLaw }
+    ensures clocks { ClockLaw }
+    ensures reports { ReportLaw }
+    ensures recorders { RecorderLaw }
+{}
+
+/// What a lane carries by a history is the messages that were sent on it, each with the clock of its send.
+pub fn goods_law()
+    ensures { GoodsLaw }
+{}
+
+/// What a later history leaves as it was: what a lane carries only grows; an instance's line, and the clock that its next
+/// send will have, change by its own events alone; a clock is still what its send knows, and a report that of its receive.
+pub fn growth_law()
+    ensures goods { GoodsGrowthLaw }
+    ensures others { OthersLaw }
+    ensures clocks { ClockGrowthLaw }
+    ensures reports { ReportGrowthLaw }
+{}
