@@ -1,7 +1,6 @@
 -- An end that goes on alone, in either form.
-use Rattle.std.proofs.Common.{◌≡◌, ℕ, suc, zero, ◌+◌, ◌-◌, ◌<◌, ◌≤◌, ◌&&◌, ◌⊎◌, inl, inr, Bool, true, false, cond, List, [], ◌∷◌, ◌++◌, length, drop, take, refl, sym, ap, ◌∙◌, subst, arith}
+use Rattle.std.proofs.Common.{◌≡◌, ℕ, suc, zero, ◌+◌, ◌-◌, ◌<◌, ◌≤◌, ◌&&◌, ◌⊎◌, inl, inr, Bool, true, false, cond, List, [], ◌∷◌, ◌++◌, length, take, refl, sym, ap, ◌∙◌, subst, arith}
 use Rattle.std.specs.Prelude.{◌↔◌}
-use Rattle.std.proofs.Math.Seq.{drop-append_seam}
 use Rattle.std.proofs.lemmas.Bool.{cases_lt}
 use Rattle.std.proofs.lemmas.List.{append_assoc, append-nil, length_push, length-append}
 use Rattle.lane_core.specs.declared.answers.Room.{Room}
@@ -12,45 +11,41 @@ use Rattle.lane_core.specs.Steps.{Step, Sender_loads, Fills, Publishes, Receiver
 use Rattle.lane_core.specs.Traffic.{Traffic, waiting}
 use Rattle.lane_core.specs.Laws.{FreedInOrder, AtMostCapacity, FullExactly}
 use Rattle.lane_core.specs.Alone.{receive_call, receives, SendCall, messages, send_call, sends, ReceiverAlone, SenderAlone}
-use Rattle.lane_core.proofs.Passing.{IsFoundRightly, count_waiting}
+use Rattle.lane_core.proofs.Passing.{IsFoundRightly, count_waiting, goes_on}
 
 -- one message was received
-pub record Took (t u : Traffic) (m : ℕ) : Type 0 where
+pub record Took {M : Type 0} (t u : Traffic M) (m : M) : Type 0 where
   pub freed : u.freed ≡ t.freed ++ m ∷ []
   pub published : u.published ≡ t.published
   pub emptying : u.emptying ≡ []
   pub closed : u.closed ≡ t.closed
 
 -- one message was sent
-pub record Gave (t u : Traffic) (m : ℕ) : Type 0 where
+pub record Gave {M : Type 0} (t u : Traffic M) (m : M) : Type 0 where
   pub published : u.published ≡ t.published ++ m ∷ []
   pub freed : u.freed ≡ t.freed
   pub filling : u.filling ≡ []
   pub closed : u.closed ≡ t.closed
 
 -- nothing is taken of nothing
-take_none : (n : ℕ) → take {A = ℕ} n [] ≡ []
+take_none : {A : Type 0} (n : ℕ) → take {A = A} n [] ≡ []
 take_none zero = refl
 take_none (suc n) = refl
-
--- what is published goes on with what waits
-goes_on : (t : Traffic) (rest : List ℕ) → t.published ≡ t.freed ++ rest → waiting t ≡ rest
-goes_on t rest order = ap (drop (length t.freed)) order ∙ drop-append_seam t.freed rest
 
 -- both of two tests hold
 both : (a b : Bool) → (a && b) ≡ true → b ≡ true
 both true b e = e
 both false b e = let no : true ≡ false = sym e in cc
 
-module _ (IsRun : ℕ → List Step → Type 0) (traffic_of : ℕ → List Step → Traffic) (finds : ℕ → List Step → Found) (claims : ℕ → List Step → Bool)
-    (order : FreedInOrder IsRun traffic_of)
-    (found : (k : ℕ) (h : List Step) → 1 ≤ k → IsRun k h → IsFoundRightly (traffic_of k h) (finds k h))
-    (claimed : (k : ℕ) (h : List Step) → 1 ≤ k → IsRun k h → (traffic_of k h).emptying ≡ [] → claims k h ≡ true → 0 < length (waiting (traffic_of k h)))
-    (looks : (k : ℕ) (h : List Step) → IsRun k h → IsRun k (Receiver_loads ∷ h) × (traffic_of k (Receiver_loads ∷ h) ≡ traffic_of k h))
-    (loaded : (k : ℕ) (h : List Step) → 1 ≤ k → IsRun k h → (traffic_of k h).emptying ≡ [] → 0 < length (waiting (traffic_of k h)) → claims k (Receiver_loads ∷ h) ≡ true)
-    (takes : (k : ℕ) (h : List Step) → 1 ≤ k → IsRun k h → (traffic_of k h).emptying ≡ [] → claims k h ≡ true → IsRun k (Frees ∷ Takes ∷ h) × ((m : ℕ) × Took (traffic_of k h) (traffic_of k (Frees ∷ Takes ∷ h)) m)) where
+module _ {M : Type 0} (IsRun : ℕ → List (Step M) → Type 0) (traffic_of : ℕ → List (Step M) → Traffic M) (finds : ℕ → List (Step M) → Found) (claims : ℕ → List (Step M) → Bool)
+    (order : FreedInOrder M IsRun traffic_of)
+    (found : (k : ℕ) (h : List (Step M)) → 1 ≤ k → IsRun k h → IsFoundRightly (traffic_of k h) (finds k h))
+    (claimed : (k : ℕ) (h : List (Step M)) → 1 ≤ k → IsRun k h → (traffic_of k h).emptying ≡ [] → claims k h ≡ true → 0 < length (waiting (traffic_of k h)))
+    (looks : (k : ℕ) (h : List (Step M)) → IsRun k h → IsRun k (Receiver_loads ∷ h) × (traffic_of k (Receiver_loads ∷ h) ≡ traffic_of k h))
+    (loaded : (k : ℕ) (h : List (Step M)) → 1 ≤ k → IsRun k h → (traffic_of k h).emptying ≡ [] → 0 < length (waiting (traffic_of k h)) → claims k (Receiver_loads ∷ h) ≡ true)
+    (takes : (k : ℕ) (h : List (Step M)) → 1 ≤ k → IsRun k h → (traffic_of k h).emptying ≡ [] → claims k h ≡ true → IsRun k (Frees ∷ Takes ∷ h) × ((m : M) × Took (traffic_of k h) (traffic_of k (Frees ∷ Takes ∷ h)) m)) where
   -- what this many receives come to, from a traffic t
-  abbrev Comes : ℕ → Traffic → ℕ → List Step → Type 0
+  abbrev Comes : ℕ → Traffic M → ℕ → List (Step M) → Type 0
   Comes k t n after =
       IsRun k after
       × ((traffic_of k after).freed ≡ t.freed ++ take n (waiting t))
@@ -58,7 +53,7 @@ module _ (IsRun : ℕ → List Step → Type 0) (traffic_of : ℕ → List Step 
       × (length (waiting t) ≤ n → (finds k after ≡ cond t.closed Ended Nothing) × (claims k after ≡ false))
 
   -- what is found where none waits
-  found_none : (k : ℕ) (h : List Step) → 1 ≤ k → IsRun k h → length (waiting (traffic_of k h)) ≤ 0 → finds k h ≡ cond (traffic_of k h).closed Ended Nothing
+  found_none : (k : ℕ) (h : List (Step M)) → 1 ≤ k → IsRun k h → length (waiting (traffic_of k h)) ≤ 0 → finds k h ≡ cond (traffic_of k h).closed Ended Nothing
   found_none k h some run none = go (finds k h) (traffic_of k h).closed (found k h some run) refl
     where
       go : (f : Found) (closed : Bool) → (f ≡ Message ↔ 0 < length (waiting (traffic_of k h))) × (f ≡ Ended ↔ ((waiting (traffic_of k h) ≡ []) × ((traffic_of k h).closed ≡ true))) → (traffic_of k h).closed ≡ closed → f ≡ cond closed Ended Nothing
@@ -68,55 +63,55 @@ module _ (IsRun : ℕ → List Step → Type 0) (traffic_of : ℕ → List Step 
       go Nothing false right e = refl
       go Nothing true right e = right.1.1 (empty (waiting (traffic_of k h)) none, e)
         where
-          empty : (ms : List ℕ) → length ms ≤ 0 → ms ≡ []
+          empty : (ms : List M) → length ms ≤ 0 → ms ≡ []
           empty [] none = refl
           empty (m ∷ ms) none = absurd (omega arith)
 
   -- none is claimed where none waits
-  claims_none : (k : ℕ) (h : List Step) → 1 ≤ k → IsRun k h → (traffic_of k h).emptying ≡ [] → length (waiting (traffic_of k h)) ≤ 0 → claims k h ≡ false
+  claims_none : (k : ℕ) (h : List (Step M)) → 1 ≤ k → IsRun k h → (traffic_of k h).emptying ≡ [] → length (waiting (traffic_of k h)) ≤ 0 → claims k h ≡ false
   claims_none k h some run hand none = go (claims k h) (λ e. claimed k h some run hand e)
     where
       go : (b : Bool) → (b ≡ true → 0 < length (waiting (traffic_of k h))) → b ≡ false
       go true more = absurd (let many = more refl in omega arith)
       go false more = refl
 
-  pub receiver_alone : ReceiverAlone IsRun traffic_of finds claims
+  pub receiver_alone : ReceiverAlone M IsRun traffic_of finds claims
   receiver_alone k h some run hand [] =
       (run, sym (append-nil (traffic_of k h).freed), (λ more. (found k h some run).0.1 more), (λ none. (found_none k h some run none, claims_none k h some run hand none)))
   receiver_alone k h some run hand (keeps ∷ calls) = first (λ g goes empty. receiver_alone k g some goes empty calls) (keeps && claims k h) refl
     where
-      t : Traffic
+      t : Traffic M
       t = traffic_of k h
 
       -- what the further calls come to, from any run
       Further : Type 0
-      Further = (g : List Step) → IsRun k g → (traffic_of k g).emptying ≡ [] → Comes k (traffic_of k g) (length calls) (receives finds claims k calls g)
+      Further = (g : List (Step M)) → IsRun k g → (traffic_of k g).emptying ≡ [] → Comes k (traffic_of k g) (length calls) (receives finds claims k calls g)
 
       -- none waits: the call loads alone
       idle : Further → (0 < length (waiting t) → ⊥) → Comes k t (suc (length calls)) (receives finds claims k calls (Receiver_loads ∷ h))
       idle further none =
           let look = looks k h run in
           let same : traffic_of k (Receiver_loads ∷ h) ≡ t = look.1 in
-          let rest = further (Receiver_loads ∷ h) look.0 (ap (λ (u : Traffic). u.emptying) same ∙ hand) in
+          let rest = further (Receiver_loads ∷ h) look.0 (ap (λ (u : Traffic M). u.emptying) same ∙ hand) in
           let empty = nothing (waiting t) none in (
             rest.0,
-            rest.1 ∙ ap (λ (u : Traffic). u.freed ++ take (length calls) (waiting u)) same ∙ ap (λ ms. t.freed ++ take (length calls) ms) empty ∙ ap (λ ms. t.freed ++ ms) (take_none (length calls)) ∙ sym (ap (λ ms. t.freed ++ take (suc (length calls)) ms) empty),
+            rest.1 ∙ ap (λ (u : Traffic M). u.freed ++ take (length calls) (waiting u)) same ∙ ap (λ ms. t.freed ++ take (length calls) ms) empty ∙ ap (λ ms. t.freed ++ ms) (take_none (length calls)) ∙ sym (ap (λ ms. t.freed ++ take (suc (length calls)) ms) empty),
             (λ more. absurd (none (omega arith))),
-            (λ least. let last = rest.3 (omega (arith, ap (λ (u : Traffic). length (waiting u)) same, ap length empty)) in (last.0 ∙ ap (λ (u : Traffic). cond u.closed Ended Nothing) same, last.1)),
+            (λ least. let last = rest.3 (omega (arith, ap (λ (u : Traffic M). length (waiting u)) same, ap length empty)) in (last.0 ∙ ap (λ (u : Traffic M). cond u.closed Ended Nothing) same, last.1)),
           )
         where
-          nothing : (ms : List ℕ) → (0 < length ms → ⊥) → ms ≡ []
+          nothing : (ms : List M) → (0 < length ms → ⊥) → ms ≡ []
           nothing [] none = refl
           nothing (m ∷ ms) none = absurd (none (omega arith))
 
       -- one was received, from a run g with the same traffic
-      onward : Further → (g : List Step) → IsRun k g → traffic_of k g ≡ t → claims k g ≡ true → Comes k t (suc (length calls)) (receives finds claims k calls (Frees ∷ Takes ∷ g))
+      onward : Further → (g : List (Step M)) → IsRun k g → traffic_of k g ≡ t → claims k g ≡ true → Comes k t (suc (length calls)) (receives finds claims k calls (Frees ∷ Takes ∷ g))
       onward further g goes same claim =
-          let took = takes k g some goes (ap (λ (u : Traffic). u.emptying) same ∙ hand) claim in
-          let now : List Step = Frees ∷ Takes ∷ g in
-          let u : Traffic = traffic_of k now in
+          let took = takes k g some goes (ap (λ (u : Traffic M). u.emptying) same ∙ hand) claim in
+          let now : List (Step M) = Frees ∷ Takes ∷ g in
+          let u : Traffic M = traffic_of k now in
           let m = took.1.0 in
-          let step : Took t u m = subst (λ (v : Traffic). Took v u m) same took.1.1 in
+          let step : Took t u m = subst (λ (v : Traffic M). Took v u m) same took.1.1 in
           let next = order k now some took.0 in
           let left : waiting u ≡ next.0 = goes_on u next.0 next.1 in
           let had : waiting t ≡ m ∷ next.0 = goes_on t (m ∷ next.0) (sym step.published ∙ next.1 ∙ ap (λ ms. ms ++ next.0) step.freed ∙ append_assoc t.freed (m ∷ []) next.0) in
@@ -138,16 +133,16 @@ module _ (IsRun : ℕ → List Step → Type 0) (traffic_of : ℕ → List Step 
       first further true e = onward further h run refl (both keeps (claims k h) e)
       first further false e = go further (finds k h) refl
 
-module _ (IsRun : ℕ → List Step → Type 0) (traffic_of : ℕ → List Step → Traffic) (finds : ℕ → List Step → Room) (claims : ℕ → List Step → Bool)
-    (order : FreedInOrder IsRun traffic_of)
-    (bounded : AtMostCapacity IsRun traffic_of)
-    (full : FullExactly IsRun traffic_of finds)
-    (claimed : (k : ℕ) (h : List Step) → 1 ≤ k → IsRun k h → (traffic_of k h).filling ≡ [] → claims k h ≡ true → length (waiting (traffic_of k h)) < k)
-    (looks : (k : ℕ) (h : List Step) → IsRun k h → IsRun k (Sender_loads ∷ h) × (traffic_of k (Sender_loads ∷ h) ≡ traffic_of k h))
-    (loaded : (k : ℕ) (h : List Step) → 1 ≤ k → IsRun k h → (traffic_of k h).filling ≡ [] → length (waiting (traffic_of k h)) < k → claims k (Sender_loads ∷ h) ≡ true)
-    (gives : (k : ℕ) (h : List Step) (m : ℕ) → 1 ≤ k → IsRun k h → (traffic_of k h).filling ≡ [] → (traffic_of k h).closed ≡ false → claims k h ≡ true → IsRun k (Publishes ∷ Fills m ∷ h) × Gave (traffic_of k h) (traffic_of k (Publishes ∷ Fills m ∷ h)) m) where
+module _ {M : Type 0} (IsRun : ℕ → List (Step M) → Type 0) (traffic_of : ℕ → List (Step M) → Traffic M) (finds : ℕ → List (Step M) → Room) (claims : ℕ → List (Step M) → Bool)
+    (order : FreedInOrder M IsRun traffic_of)
+    (bounded : AtMostCapacity M IsRun traffic_of)
+    (full : FullExactly M IsRun traffic_of finds)
+    (claimed : (k : ℕ) (h : List (Step M)) → 1 ≤ k → IsRun k h → (traffic_of k h).filling ≡ [] → claims k h ≡ true → length (waiting (traffic_of k h)) < k)
+    (looks : (k : ℕ) (h : List (Step M)) → IsRun k h → IsRun k (Sender_loads ∷ h) × (traffic_of k (Sender_loads ∷ h) ≡ traffic_of k h))
+    (loaded : (k : ℕ) (h : List (Step M)) → 1 ≤ k → IsRun k h → (traffic_of k h).filling ≡ [] → length (waiting (traffic_of k h)) < k → claims k (Sender_loads ∷ h) ≡ true)
+    (gives : (k : ℕ) (h : List (Step M)) (m : M) → 1 ≤ k → IsRun k h → (traffic_of k h).filling ≡ [] → (traffic_of k h).closed ≡ false → claims k h ≡ true → IsRun k (Publishes ∷ Fills m ∷ h) × Gave (traffic_of k h) (traffic_of k (Publishes ∷ Fills m ∷ h)) m) where
   -- what these sends come to, from a traffic t
-  abbrev Reaches : ℕ → Traffic → List SendCall → List Step → Type 0
+  abbrev Reaches : ℕ → Traffic M → List (SendCall M) → List (Step M) → Type 0
   Reaches k t calls after =
       IsRun k after
       × ((traffic_of k after).published ≡ t.published ++ take (k - length (waiting t)) (messages calls))
@@ -155,7 +150,7 @@ module _ (IsRun : ℕ → List Step → Type 0) (traffic_of : ℕ → List Step 
       × (k - length (waiting t) ≤ length calls → (finds k after ≡ Full) × (claims k after ≡ false))
 
   -- there is room where fewer wait
-  found_room : (k : ℕ) (h : List Step) → 1 ≤ k → IsRun k h → length (waiting (traffic_of k h)) < k → finds k h ≡ Open
+  found_room : (k : ℕ) (h : List (Step M)) → 1 ≤ k → IsRun k h → length (waiting (traffic_of k h)) < k → finds k h ≡ Open
   found_room k h some run less = go (finds k h) (λ e. (full k h some run).0 e)
     where
       go : (r : Room) → (r ≡ Full → length (waiting (traffic_of k h)) ≡ k) → r ≡ Open
@@ -163,7 +158,7 @@ module _ (IsRun : ℕ → List Step → Type 0) (traffic_of : ℕ → List Step 
       go Full right = absurd (let many = right refl in omega arith)
 
   -- no place is claimed where as many wait
-  claims_full : (k : ℕ) (h : List Step) → 1 ≤ k → IsRun k h → (traffic_of k h).filling ≡ [] → length (waiting (traffic_of k h)) ≡ k → claims k h ≡ false
+  claims_full : (k : ℕ) (h : List (Step M)) → 1 ≤ k → IsRun k h → (traffic_of k h).filling ≡ [] → length (waiting (traffic_of k h)) ≡ k → claims k h ≡ false
   claims_full k h some run hand many = go (claims k h) (λ e. claimed k h some run hand e)
     where
       go : (b : Bool) → (b ≡ true → length (waiting (traffic_of k h)) < k) → b ≡ false
@@ -171,10 +166,10 @@ module _ (IsRun : ℕ → List Step → Type 0) (traffic_of : ℕ → List Step 
       go false less = refl
 
   -- nothing is taken of a list
-  none_of : (n : ℕ) (ms : List ℕ) → n ≡ 0 → take n ms ≡ []
+  none_of : (n : ℕ) (ms : List M) → n ≡ 0 → take n ms ≡ []
   none_of n ms e = ap (λ c. take c ms) e
 
-  pub sender_alone : SenderAlone IsRun traffic_of finds claims
+  pub sender_alone : SenderAlone M IsRun traffic_of finds claims
   sender_alone k h some run hand opened [] = (
     run,
     sym (append-nil t.published) ∙ ap (λ ms. t.published ++ ms) (sym (take_none (k - length (waiting t)))),
@@ -182,30 +177,30 @@ module _ (IsRun : ℕ → List Step → Type 0) (traffic_of : ℕ → List Step 
     (λ more. let many : length (waiting t) ≡ k = omega (arith, bounded k h some run) in ((full k h some run).1 many, claims_full k h some run hand many)),
   )
     where
-      t : Traffic
+      t : Traffic M
       t = traffic_of k h
   sender_alone k h some run hand opened (call ∷ calls) = first (λ g goes empty still. sender_alone k g some goes empty still calls) (call.keeps && claims k h) refl
     where
-      t : Traffic
+      t : Traffic M
       t = traffic_of k h
 
-      m : ℕ
+      m : M
       m = call.message
 
       -- what the further sends come to, from any run
       Further : Type 0
-      Further = (g : List Step) → IsRun k g → (traffic_of k g).filling ≡ [] → (traffic_of k g).closed ≡ false → Reaches k (traffic_of k g) calls (sends finds claims k calls g)
+      Further = (g : List (Step M)) → IsRun k g → (traffic_of k g).filling ≡ [] → (traffic_of k g).closed ≡ false → Reaches k (traffic_of k g) calls (sends finds claims k calls g)
 
       -- one was sent, from a run g with the same traffic
-      onward : Further → (g : List Step) → IsRun k g → traffic_of k g ≡ t → claims k g ≡ true → Reaches k t (call ∷ calls) (sends finds claims k calls (Publishes ∷ Fills m ∷ g))
+      onward : Further → (g : List (Step M)) → IsRun k g → traffic_of k g ≡ t → claims k g ≡ true → Reaches k t (call ∷ calls) (sends finds claims k calls (Publishes ∷ Fills m ∷ g))
       onward further g goes same claim =
-          let hand_of_g = ap (λ (u : Traffic). u.filling) same ∙ hand in
+          let hand_of_g = ap (λ (u : Traffic M). u.filling) same ∙ hand in
           let few = claimed k g some goes hand_of_g claim in
-          let less : length (waiting t) < k = subst (λ (u : Traffic). length (waiting u) < k) same few in
-          let gave = gives k g m some goes hand_of_g (ap (λ (u : Traffic). u.closed) same ∙ opened) claim in
-          let now : List Step = Publishes ∷ Fills m ∷ g in
-          let u : Traffic = traffic_of k now in
-          let step : Gave t u m = subst (λ (v : Traffic). Gave v u m) same gave.1 in
+          let less : length (waiting t) < k = subst (λ (u : Traffic M). length (waiting u) < k) same few in
+          let gave = gives k g m some goes hand_of_g (ap (λ (u : Traffic M). u.closed) same ∙ opened) claim in
+          let now : List (Step M) = Publishes ∷ Fills m ∷ g in
+          let u : Traffic M = traffic_of k now in
+          let step : Gave t u m = subst (λ (v : Traffic M). Gave v u m) same gave.1 in
           let one : length (waiting u) ≡ length (waiting t) + 1 = omega (arith, count_waiting t, count_waiting u, ap length step.published, ap length step.freed, length_push t.published m, ap length (order k h some run).1, length-append t.freed (order k h some run).0) in
           let room : k - length (waiting t) ≡ suc (k - length (waiting u)) = omega (arith, one) in
           let rest = further now gave.0 step.filling (step.closed ∙ opened) in (
@@ -219,11 +214,11 @@ module _ (IsRun : ℕ → List Step → Type 0) (traffic_of : ℕ → List Step 
       go further Full e =
           let look = looks k h run in
           let same : traffic_of k (Sender_loads ∷ h) ≡ t = look.1 in
-          let rest = further (Sender_loads ∷ h) look.0 (ap (λ (u : Traffic). u.filling) same ∙ hand) (ap (λ (u : Traffic). u.closed) same ∙ opened) in
+          let rest = further (Sender_loads ∷ h) look.0 (ap (λ (u : Traffic M). u.filling) same ∙ hand) (ap (λ (u : Traffic M). u.closed) same ∙ opened) in
           let many : length (waiting t) ≡ k = (full k h some run).0 e in
-          let still = ap (λ (u : Traffic). length (waiting u)) same in (
+          let still = ap (λ (u : Traffic M). length (waiting u)) same in (
             rest.0,
-            rest.1 ∙ ap (λ (u : Traffic). u.published ++ take (k - length (waiting u)) (messages calls)) same ∙ ap (λ xs. t.published ++ xs) (none_of (k - length (waiting t)) (messages calls) (omega arith) ∙ sym (none_of (k - length (waiting t)) (m ∷ messages calls) (omega arith))),
+            rest.1 ∙ ap (λ (u : Traffic M). u.published ++ take (k - length (waiting u)) (messages calls)) same ∙ ap (λ xs. t.published ++ xs) (none_of (k - length (waiting t)) (messages calls) (omega arith) ∙ sym (none_of (k - length (waiting t)) (m ∷ messages calls) (omega arith))),
             (λ less. absurd (omega arith)),
             (λ more. rest.3 (omega (arith, still))),
           )

@@ -1,26 +1,24 @@
 -- What holds after every run over index words.
-use Rattle.std.proofs.Common.{◌≡◌, ℕ, ◌+◌, ◌-◌, ◌*◌, ◌/◌, ◌%◌, ◌<◌, ◌≤◌, ◌==◌, Bool, true, false, cond, List, [], ◌∷◌, ◌++◌, length, Option, Some, refl, sym, ap, ◌∙◌, arith}
+use Rattle.std.proofs.Common.{◌≡◌, ℕ, ◌+◌, ◌-◌, ◌*◌, ◌/◌, ◌%◌, ◌<◌, ◌≤◌, ◌==◌, Bool, true, false, cond, List, [], ◌∷◌, ◌++◌, length, Some, refl, sym, ap, ◌∙◌, arith}
 use Rattle.std.specs.Prelude.{◌↔◌, reverse, nat_lt}
-use Rattle.std.proofs.lemmas.Bool.{lt-ltb, ltb-true, ltb-false}
+use Rattle.std.proofs.lemmas.Bool.{ltb-true, ltb-false}
 use Rattle.std.proofs.lemmas.List.{append_assoc, length_push, length-append, length-reverse}
 use Rattle.lane_core.specs.declared.answers.Room.TheVariants.{Open, Full}
 use Rattle.lane_core.specs.declared.answers.Found.TheVariants.{Message, Ended}
 use Rattle.lane_core.specs.Steps.{Step, Sender_loads, Fills, Publishes, Closes, Receiver_loads, Takes, Puts_back, Frees}
-use Rattle.lane_core.specs.Traffic.{Traffic, message_in, taken_out, back_in, waiting}
-use Rattle.lane_core.specs.IndexWords.{IndexLane, new_lane, after, lane_after, IsRun, MayFollow, SenderClaims, ReceiverClaims, fill_place, take_place, back_place, take_count, sender_loaded, room_of, traffic_of, sender_finds, receiver_finds, sender_keeps, receiver_keeps, fill_count}
-use Rattle.lane_core.specs.Alone.{ReceiverAlone, SenderAlone}
-use Rattle.lane_core.proofs.Calls.{Took, Gave, receiver_alone, sender_alone}
+use Rattle.lane_core.specs.Traffic.{Traffic, taken_out, back_in, waiting}
+use Rattle.lane_core.specs.IndexWords.{IndexLane, new_lane, after, lane_after, IsRun, MayFollow, SenderClaims, ReceiverClaims, fill_place, take_place, back_place, take_count, sender_loaded, room_of, traffic_of, receiver_finds}
 use Rattle.lane_core.proofs.Rings.{other_place}
-use Rattle.lane_core.proofs.Passing.{Holds, IsFoundRightly, found_rightly, count_waiting, holds_first, holds_filled, holds_published, holds_closed, has_next, holds_taken, holds_back, holds_freed}
+use Rattle.lane_core.proofs.Passing.{Holds, IsFoundRightly, found_rightly, count_waiting, goes_on, holds_first, holds_filled, holds_published, holds_closed, has_next, holds_taken, holds_back, holds_freed}
 
 -- the low bit of the word put
-abbrev bit : Bool → ℕ
+abbrev pub bit : Bool → ℕ
 bit true = 1
 bit false = 0
 
 -- words, ends and traffic fit together: each count is that of the content, and what an end last loaded is no more than what
 -- has come since
-pub record Fits (k : ℕ) (l : IndexLane) : Type 0 where
+pub record Fits {M : Type 0} (k : ℕ) (l : IndexLane M) : Type 0 where
   pub put : l.put ≡ 2 * l.sender.published + bit l.sender.closed
   pub taken : l.taken ≡ l.receiver.freed
   pub sender_places : l.sender.capacity ≡ k
@@ -37,7 +35,7 @@ pub record Fits (k : ℕ) (l : IndexLane) : Type 0 where
   pub holds : Holds k l.traffic
 
 -- half of the word put is the count
-half : (word n : ℕ) (closed : Bool) → word ≡ 2 * n + bit closed → word / 2 ≡ n
+pub half : (word n : ℕ) (closed : Bool) → word ≡ 2 * n + bit closed → word / 2 ≡ n
 half word n true e = omega arith
 half word n false e = omega arith
 
@@ -47,16 +45,16 @@ low word n true e = let odd : word % 2 ≡ 1 = omega arith in rw odd refl
 low word n false e = let even : word % 2 ≡ 0 = omega arith in rw even refl
 
 -- the place that the receiver takes from next
-next_place : (k : ℕ) (l : IndexLane) → Fits k l → take_place l.receiver ≡ (length l.traffic.freed + length l.traffic.emptying) % k
+next_place : {M : Type 0} (k : ℕ) (l : IndexLane M) → Fits k l → take_place l.receiver ≡ (length l.traffic.freed + length l.traffic.emptying) % k
 next_place k l f =
     let counts : l.receiver.freed + l.receiver.emptied ≡ length l.traffic.freed + length l.traffic.emptying = omega arith in
     ap (λ c. (l.receiver.freed + l.receiver.emptied) % c) f.receiver_places ∙ ap (λ c. c % k) counts
 
 -- its slot has a message
-taken_from : (k : ℕ) (l : IndexLane) → Fits k l → MayFollow l Takes → (m : ℕ) × (l.traffic.slots (take_place l.receiver) ≡ Some m)
+pub taken_from : {M : Type 0} (k : ℕ) (l : IndexLane M) → Fits k l → MayFollow l Takes → (m : M) × (l.traffic.slots (take_place l.receiver) ≡ Some m)
 taken_from k l f may = has_next k l.traffic f.holds (take_place l.receiver) (omega arith) (next_place k l f)
 
-first : (k : ℕ) → Fits k (new_lane k)
+first : {M : Type 0} (k : ℕ) → Fits k (new_lane {M = M} k)
 first k = record {
   put = refl;
   taken = refl;
@@ -75,7 +73,7 @@ first k = record {
 }
 
 -- each step keeps it
-kept : (k : ℕ) (l : IndexLane) (e : Step) → Fits k l → MayFollow l e → Fits k (after l e)
+kept : {M : Type 0} (k : ℕ) (l : IndexLane M) (e : Step M) → Fits k l → MayFollow l e → Fits k (after l e)
 kept k l Sender_loads old may = record {
   put = old.put;
   taken = old.taken;
@@ -184,7 +182,7 @@ kept k l Takes old may = record {
 
     in_hand : l.receiver.emptied + 1 ≡ length (taken_out l.traffic (take_place l.receiver)).emptying
     in_hand = rw ((taken_from k l old may).1) (omega arith)
-kept k l Puts_back old may = record {
+kept {M} k l Puts_back old may = record {
   put = old.put;
   taken = old.taken;
   sender_places = old.sender_places;
@@ -201,10 +199,10 @@ kept k l Puts_back old may = record {
   holds = holds_back k l.traffic old.holds (back_place l.receiver) (omega arith) (omega arith) place;
 }
   where
-    on : (P : Traffic → Type 0) → P l.traffic → ((m : ℕ) (ms : List ℕ) → P (back_in l.traffic (m ∷ ms) (back_place l.receiver))) → P (back_in l.traffic l.traffic.emptying (back_place l.receiver))
+    on : (P : Traffic M → Type 0) → P l.traffic → ((m : M) (ms : List M) → P (back_in l.traffic (m ∷ ms) (back_place l.receiver))) → P (back_in l.traffic l.traffic.emptying (back_place l.receiver))
     on P same back = elim l.traffic.emptying as (λ ms. P (back_in l.traffic ms (back_place l.receiver))) [ [] ↦ same | m ∷ ms ↦ back m ms ]
 
-    in_hand : (ms : List ℕ) → l.receiver.emptied ≡ length ms → l.receiver.emptied - 1 ≡ length (back_in l.traffic ms (back_place l.receiver)).emptying
+    in_hand : (ms : List M) → l.receiver.emptied ≡ length ms → l.receiver.emptied - 1 ≡ length (back_in l.traffic ms (back_place l.receiver)).emptying
     in_hand [] e = absurd (omega arith)
     in_hand (m ∷ ms) e = omega arith
 
@@ -229,25 +227,29 @@ kept k l Frees old may = record {
 }
 
 -- after every run
-pub fits : (k : ℕ) (h : List Step) → IsRun k h → Fits k (lane_after k h)
+pub fits : {M : Type 0} (k : ℕ) (h : List (Step M)) → IsRun k h → Fits k (lane_after k h)
 fits k [] run = first k
 fits k (e ∷ h) run = kept k (lane_after k h) e (fits k h run.1) run.0
 
 -- The laws.
 
-pub in_order : (k : ℕ) (h : List Step) → 1 ≤ k → IsRun k h → (rest : List ℕ) × ((traffic_of k h).published ≡ (traffic_of k h).freed ++ rest)
+-- what was freed is a beginning of what was published
+pub in_order : {M : Type 0} (k : ℕ) (h : List (Step M)) → 1 ≤ k → IsRun k h → (rest : List M) × ((traffic_of k h).published ≡ (traffic_of k h).freed ++ rest)
 in_order k h some run =
     let t = traffic_of k h in
     let held = (fits k h run).holds in
     (reverse t.emptying ++ held.left, held.order ∙ append_assoc t.freed (reverse t.emptying) held.left)
 
-pub bounded : (k : ℕ) (h : List Step) → 1 ≤ k → IsRun k h → length (waiting (traffic_of k h)) ≤ k
+-- at most as many messages wait as there are places
+pub bounded : {M : Type 0} (k : ℕ) (h : List (Step M)) → 1 ≤ k → IsRun k h → length (waiting (traffic_of k h)) ≤ k
 bounded k h some run = let f = fits k h run in omega (arith, count_waiting (traffic_of k h))
 
-pub apart : (k : ℕ) (h : List Step) → 1 ≤ k → IsRun k h → (c d : ℕ) → SenderClaims (lane_after k h).sender c → ReceiverClaims (lane_after k h).receiver d → c % k ≡ d % k → ⊥
+-- no place is claimed by both ends
+pub apart : {M : Type 0} (k : ℕ) (h : List (Step M)) → 1 ≤ k → IsRun k h → (c d : ℕ) → SenderClaims (lane_after k h).sender c → ReceiverClaims (lane_after k h).receiver d → c % k ≡ d % k → ⊥
 apart k h some run c d sends receives same = let f = fits k h run in other_place k d c (omega arith) (omega arith) (sym same)
 
-pub takes_message : (k : ℕ) (h : List Step) → 1 ≤ k → IsRun k (Takes ∷ h) → ReceiverClaims (lane_after k h).receiver (take_count (lane_after k h).receiver) × ((m : ℕ) × ((traffic_of k h).slots (take_count (lane_after k h).receiver % k) ≡ Some m))
+-- the receiver takes from a place that it claims, and there is a message
+pub takes_message : {M : Type 0} (k : ℕ) (h : List (Step M)) → 1 ≤ k → IsRun k (Takes ∷ h) → ReceiverClaims (lane_after k h).receiver (take_count (lane_after k h).receiver) × ((m : M) × ((traffic_of k h).slots (take_count (lane_after k h).receiver % k) ≡ Some m))
 takes_message k h some run =
     let l = lane_after k h in
     let f = fits k h run.1 in
@@ -256,7 +258,7 @@ takes_message k h some run =
     ((omega arith, may), has_next k l.traffic f.holds (take_count l.receiver % k) (omega arith) (ap (λ c. c % k) counts))
 
 -- no step publishes on a closed lane, or opens it
-after_closed : (k : ℕ) (l : IndexLane) (e : Step) → Fits k l → MayFollow l e → l.traffic.closed ≡ true → ((after l e).traffic.published ≡ l.traffic.published) × ((after l e).traffic.closed ≡ true)
+after_closed : {M : Type 0} (k : ℕ) (l : IndexLane M) (e : Step M) → Fits k l → MayFollow l e → l.traffic.closed ≡ true → ((after l e).traffic.published ≡ l.traffic.published) × ((after l e).traffic.closed ≡ true)
 after_closed k l Sender_loads f may closed = (refl, closed)
 after_closed k l (Fills m) f may closed = (refl, closed)
 after_closed k l Publishes f may closed = let no : true ≡ false = sym closed ∙ sym f.closed ∙ may.0 in cc
@@ -267,17 +269,19 @@ after_closed k l Puts_back f may closed =
     elim l.traffic.emptying as (λ ms. ((back_in l.traffic ms (back_place l.receiver)).published ≡ l.traffic.published) × ((back_in l.traffic ms (back_place l.receiver)).closed ≡ true)) [ [] ↦ (refl, closed) | m ∷ ms ↦ (refl, closed) ]
 after_closed k l Frees f may closed = (refl, closed)
 
-pub nothing_after_close : (k : ℕ) (h more : List Step) → 1 ≤ k → IsRun k (more ++ h) → (traffic_of k h).closed ≡ true → ((traffic_of k (more ++ h)).published ≡ (traffic_of k h).published) × ((traffic_of k (more ++ h)).closed ≡ true)
+-- what is published stays the same from the close on
+pub nothing_after_close : {M : Type 0} (k : ℕ) (h more : List (Step M)) → 1 ≤ k → IsRun k (more ++ h) → (traffic_of k h).closed ≡ true → ((traffic_of k (more ++ h)).published ≡ (traffic_of k h).published) × ((traffic_of k (more ++ h)).closed ≡ true)
 nothing_after_close k h [] some run closed = (refl, closed)
 nothing_after_close k h (e ∷ more) some run closed =
     let before = nothing_after_close k h more some run.1 closed in
     let now = after_closed k (lane_after k (more ++ h)) e (fits k (more ++ h) run.1) run.0 before.1 in
     (now.0 ∙ before.0, now.1)
 
-pub full_exactly : (k : ℕ) (h : List Step) → 1 ≤ k → IsRun k h → room_of (sender_loaded (lane_after k h).sender (lane_after k h).taken) ≡ Full ↔ length (waiting (traffic_of k h)) ≡ k
-full_exactly k h some run = go (nat_lt l.sender.published (l.taken + l.sender.capacity)) refl (fits k h run)
+-- a load of the sender finds no free place exactly where k messages wait
+pub full_exactly : {M : Type 0} (k : ℕ) (h : List (Step M)) → 1 ≤ k → IsRun k h → room_of (sender_loaded (lane_after k h).sender (lane_after k h).taken) ≡ Full ↔ length (waiting (traffic_of k h)) ≡ k
+full_exactly {M} k h some run = go (nat_lt l.sender.published (l.taken + l.sender.capacity)) refl (fits k h run)
   where
-    l : IndexLane
+    l : IndexLane M
     l = lane_after k h
 
     go : (b : Bool) → nat_lt l.sender.published (l.taken + l.sender.capacity) ≡ b → Fits k l → cond b Open Full ≡ Full ↔ length (waiting l.traffic) ≡ k
@@ -285,10 +289,10 @@ full_exactly k h some run = go (nat_lt l.sender.published (l.taken + l.sender.ca
     go false e f = let more : l.taken + l.sender.capacity ≤ l.sender.published = ltb-false _ _ e in ((λ yes. omega (arith, count_waiting l.traffic)), (λ many. refl))
 
 -- what a load of the receiver finds
-found_exactly : (k : ℕ) (h : List Step) → IsRun k h → IsFoundRightly (traffic_of k h) (receiver_finds k h)
-found_exactly k h run = go (fits k h run)
+pub found_exactly : {M : Type 0} (k : ℕ) (h : List (Step M)) → IsRun k h → IsFoundRightly (traffic_of k h) (receiver_finds k h)
+found_exactly {M} k h run = go (fits k h run)
   where
-    l : IndexLane
+    l : IndexLane M
     l = lane_after k h
 
     go : Fits k l → IsFoundRightly l.traffic (receiver_finds k h)
@@ -297,78 +301,31 @@ found_exactly k h run = go (fits k h run)
         let more : nat_lt l.receiver.freed (l.put / 2) ≡ nat_lt (length l.traffic.freed) (length l.traffic.published) = ap (λ n. nat_lt l.receiver.freed n) (count ∙ f.published) ∙ ap (λ n. nat_lt n (length l.traffic.published)) f.freed in
         found_rightly l.traffic (nat_lt l.receiver.freed (l.put / 2)) (l.put % 2 == 1) more (λ none. low l.put l.sender.published l.sender.closed f.put ∙ f.closed)
 
-pub message_exactly : (k : ℕ) (h : List Step) → 1 ≤ k → IsRun k h → receiver_finds k h ≡ Message ↔ 0 < length (waiting (traffic_of k h))
+-- a load of the receiver finds a message exactly where one waits
+pub message_exactly : {M : Type 0} (k : ℕ) (h : List (Step M)) → 1 ≤ k → IsRun k h → receiver_finds k h ≡ Message ↔ 0 < length (waiting (traffic_of k h))
 message_exactly k h some run = (found_exactly k h run).0
 
-pub ended_exactly : (k : ℕ) (h : List Step) → 1 ≤ k → IsRun k h → receiver_finds k h ≡ Ended ↔ ((waiting (traffic_of k h) ≡ []) × ((traffic_of k h).closed ≡ true))
+-- it finds that the lane has ended exactly where none waits and the lane is closed
+pub ended_exactly : {M : Type 0} (k : ℕ) (h : List (Step M)) → 1 ≤ k → IsRun k h → receiver_finds k h ≡ Ended ↔ ((waiting (traffic_of k h) ≡ []) × ((traffic_of k h).closed ≡ true))
 ended_exactly k h some run = (found_exactly k h run).1
 
--- A receiver or a sender that goes on alone.
+-- What a crate above this one cites of its own runs.
 
-receiver_looks : (k : ℕ) (h : List Step) → IsRun k h → IsRun k (Receiver_loads ∷ h) × (traffic_of k (Receiver_loads ∷ h) ≡ traffic_of k h)
-receiver_looks k h run = ((tt, run), refl)
-
-receiver_claimed : (k : ℕ) (h : List Step) → 1 ≤ k → IsRun k h → (traffic_of k h).emptying ≡ [] → receiver_keeps k h ≡ true → 0 < length (waiting (traffic_of k h))
-receiver_claimed k h some run hand e =
-    let f = fits k h run in
-    let less : take_count (lane_after k h).receiver < (lane_after k h).receiver.published = ltb-true _ _ e in
-    omega (arith, count_waiting (traffic_of k h))
-
-receiver_loaded_claims : (k : ℕ) (h : List Step) → 1 ≤ k → IsRun k h → (traffic_of k h).emptying ≡ [] → 0 < length (waiting (traffic_of k h)) → receiver_keeps k (Receiver_loads ∷ h) ≡ true
-receiver_loaded_claims k h some run hand more =
-    let f = fits k h run in
-    let l = lane_after k h in
-    lt-ltb (take_count l.receiver) (l.put / 2) (omega (arith, half l.put l.sender.published l.sender.closed f.put, count_waiting (traffic_of k h), ap length hand))
-
-receiver_takes : (k : ℕ) (h : List Step) → 1 ≤ k → IsRun k h → (traffic_of k h).emptying ≡ [] → receiver_keeps k h ≡ true → IsRun k (Frees ∷ Takes ∷ h) × ((m : ℕ) × Took (traffic_of k h) (traffic_of k (Frees ∷ Takes ∷ h)) m)
-receiver_takes k h some run hand e =
+-- what the receiver has in its hand is the beginning of what waits
+pub hand_first : {M : Type 0} (k : ℕ) (h : List (Step M)) → IsRun k h → (rest : List M) × (waiting (traffic_of k h) ≡ reverse (traffic_of k h).emptying ++ rest)
+hand_first k h run =
     let t = traffic_of k h in
-    let may : MayFollow (lane_after k h) Takes = ltb-true _ _ e in
-    let next = taken_from k (lane_after k h) (fits k h run) may in (
-      (omega arith, (may, run)),
-      (
-        next.0,
-        record {
-          freed = ap (λ (o : Option ℕ). t.freed ++ reverse (message_in o ++ t.emptying)) next.1 ∙ ap (λ ms. t.freed ++ reverse (next.0 ∷ ms)) hand;
-          published = refl;
-          emptying = refl;
-          closed = refl;
-        },
-      ),
-    )
+    let held = (fits k h run).holds in
+    (held.left, goes_on t (reverse t.emptying ++ held.left) (held.order ∙ append_assoc t.freed (reverse t.emptying) held.left))
 
-pub receiver_goes_on : ReceiverAlone IsRun traffic_of receiver_finds receiver_keeps
-receiver_goes_on = receiver_alone IsRun traffic_of receiver_finds receiver_keeps in_order (λ k h some run. found_exactly k h run) receiver_claimed receiver_looks receiver_loaded_claims receiver_takes
+-- what waits and what is filled has places
+pub room_for_all : {M : Type 0} (k : ℕ) (h : List (Step M)) → IsRun k h → length (waiting (traffic_of k h)) + length (traffic_of k h).filling ≤ k
+room_for_all k h run = let f = fits k h run in omega (arith, count_waiting (traffic_of k h))
 
-sender_looks : (k : ℕ) (h : List Step) → IsRun k h → IsRun k (Sender_loads ∷ h) × (traffic_of k (Sender_loads ∷ h) ≡ traffic_of k h)
-sender_looks k h run = ((tt, run), refl)
+-- where the sender publishes, the lane is open and something is filled
+pub publishes_some : {M : Type 0} (k : ℕ) (h : List (Step M)) → IsRun k (Publishes ∷ h) → ((traffic_of k h).closed ≡ false) × (0 < length (traffic_of k h).filling)
+publishes_some k h run = let f = fits k h run.1 in (sym f.closed ∙ run.0.0, omega (arith, run.0.1))
 
-sender_claimed : (k : ℕ) (h : List Step) → 1 ≤ k → IsRun k h → (traffic_of k h).filling ≡ [] → sender_keeps k h ≡ true → length (waiting (traffic_of k h)) < k
-sender_claimed k h some run hand e =
-    let f = fits k h run in
-    let l = lane_after k h in
-    let less : fill_count l.sender < l.sender.freed + l.sender.capacity = ltb-true _ _ e in
-    omega (arith, count_waiting (traffic_of k h))
-
-sender_loaded_claims : (k : ℕ) (h : List Step) → 1 ≤ k → IsRun k h → (traffic_of k h).filling ≡ [] → length (waiting (traffic_of k h)) < k → sender_keeps k (Sender_loads ∷ h) ≡ true
-sender_loaded_claims k h some run hand less =
-    let f = fits k h run in
-    let l = lane_after k h in
-    lt-ltb (fill_count l.sender) (l.taken + l.sender.capacity) (omega (arith, count_waiting (traffic_of k h), ap length hand))
-
-sender_gives : (k : ℕ) (h : List Step) (m : ℕ) → 1 ≤ k → IsRun k h → (traffic_of k h).filling ≡ [] → (traffic_of k h).closed ≡ false → sender_keeps k h ≡ true → IsRun k (Publishes ∷ Fills m ∷ h) × Gave (traffic_of k h) (traffic_of k (Publishes ∷ Fills m ∷ h)) m
-sender_gives k h m some run hand opened e =
-    let t = traffic_of k h in
-    let f = fits k h run in
-    let fill : MayFollow (lane_after k h) (Fills m) = ltb-true _ _ e in (
-      ((f.closed ∙ opened, omega arith), (fill, run)),
-      record {
-        published = ap (λ ms. t.published ++ (ms ++ m ∷ [])) hand;
-        freed = refl;
-        filling = refl;
-        closed = refl;
-      },
-    )
-
-pub sender_goes_on : SenderAlone IsRun traffic_of sender_finds sender_keeps
-sender_goes_on = sender_alone IsRun traffic_of sender_finds sender_keeps in_order bounded full_exactly sender_claimed sender_looks sender_loaded_claims sender_gives
+-- where the receiver frees, it has something in its hand
+pub frees_some : {M : Type 0} (k : ℕ) (h : List (Step M)) → IsRun k (Frees ∷ h) → 0 < length (traffic_of k h).emptying
+frees_some k h run = let f = fits k h run.1 in omega (arith, run.0)

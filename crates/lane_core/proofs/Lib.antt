@@ -1,4 +1,5 @@
 pub mod Calls
+pub mod IndexAlone
 pub mod IndexRuns
 pub mod Passing
 pub mod Rings

@@ -1,7 +1,8 @@
 -- What the slots of a lane hold, and what was published and freed, at each touch and publish and free: the same in both
 -- forms.
-use Rattle.std.proofs.Common.{◌≡◌, ℕ, ◌+◌, ◌-◌, ◌%◌, ◌<◌, ◌≤◌, Bool, true, false, cond, List, [], ◌∷◌, ◌++◌, length, Option, None, Some, refl, sym, ap, ◌∙◌, subst, arith}
+use Rattle.std.proofs.Common.{◌≡◌, ℕ, ◌+◌, ◌-◌, ◌%◌, ◌<◌, ◌≤◌, Bool, true, false, cond, List, [], ◌∷◌, ◌++◌, length, drop, Option, None, Some, refl, sym, ap, ◌∙◌, subst, arith}
 use Rattle.std.specs.Prelude.{◌↔◌, reverse, nat_lt}
+use Rattle.std.proofs.Math.Seq.{drop-append_seam}
 use Rattle.std.proofs.lemmas.Bool.{ltb-true, ltb-false}
 use Rattle.lane_core.specs.declared.answers.Found.{Found}
 use Rattle.lane_core.specs.declared.answers.Found.TheVariants.{Message, Nothing, Ended}
@@ -11,12 +12,12 @@ use Rattle.lane_core.specs.Traffic.{Traffic, no_traffic, with_at, message_in, pu
 use Rattle.lane_core.proofs.Rings.{other_place, set_there, set_other}
 
 -- from the place of this count on, the slots hold these messages
-abbrev pub HasSlots : (ℕ → Option ℕ) → ℕ → ℕ → List ℕ → Type 0
+abbrev pub HasSlots : {M : Type 0} → (ℕ → Option M) → ℕ → ℕ → List M → Type 0
 HasSlots slots k n [] = Unit {0}
 HasSlots slots k n (m ∷ ms) = (slots (n % k) ≡ Some m) × HasSlots slots k (n + 1) ms
 
 -- a slot is set that has none of these messages
-has_other : (slots : ℕ → Option ℕ) (k n : ℕ) (ms : List ℕ) (place : ℕ) (o : Option ℕ) → ((c : ℕ) → n ≤ c → c < n + length ms → c % k ≡ place → ⊥) → HasSlots slots k n ms → HasSlots (with_at slots place o) k n ms
+has_other : {M : Type 0} (slots : ℕ → Option M) (k n : ℕ) (ms : List M) (place : ℕ) (o : Option M) → ((c : ℕ) → n ≤ c → c < n + length ms → c % k ≡ place → ⊥) → HasSlots slots k n ms → HasSlots (with_at slots place o) k n ms
 has_other slots k n [] place o other has = tt
 has_other slots k n (m ∷ ms) place o other has = (
   set_other slots place (n % k) o (other n (omega arith) (omega arith)) ∙ has.0,
@@ -24,41 +25,41 @@ has_other slots k n (m ∷ ms) place o other has = (
 )
 
 -- one message more
-has_push : (slots : ℕ → Option ℕ) (k n : ℕ) (ms : List ℕ) (m : ℕ) → HasSlots slots k n ms → slots ((n + length ms) % k) ≡ Some m → HasSlots slots k n (ms ++ m ∷ [])
+has_push : {M : Type 0} (slots : ℕ → Option M) (k n : ℕ) (ms : List M) (m : M) → HasSlots slots k n ms → slots ((n + length ms) % k) ≡ Some m → HasSlots slots k n (ms ++ m ∷ [])
 has_push slots k n [] m has last = (subst (λ c. slots (c % k) ≡ Some m) (omega arith) last, tt)
 has_push slots k n (x ∷ ms) m has last =
     let shift : n + length (x ∷ ms) ≡ (n + 1) + length ms = omega arith in
     (has.0, has_push slots k (n + 1) ms m has.1 (subst (λ c. slots (c % k) ≡ Some m) shift last))
 
 -- the first of these messages alone
-has_front : (slots : ℕ → Option ℕ) (k n : ℕ) (xs ys : List ℕ) → HasSlots slots k n (xs ++ ys) → HasSlots slots k n xs
+has_front : {M : Type 0} (slots : ℕ → Option M) (k n : ℕ) (xs ys : List M) → HasSlots slots k n (xs ++ ys) → HasSlots slots k n xs
 has_front slots k n [] ys has = tt
 has_front slots k n (x ∷ xs) ys has = (has.0, has_front slots k (n + 1) xs ys has.1)
 
 -- a message moves from the slots into the receiver's hand
-between : (freed emptying : List ℕ) (m : ℕ) (ms : List ℕ) → (freed ++ reverse emptying) ++ m ∷ ms ≡ (freed ++ reverse (m ∷ emptying)) ++ ms
+between : {M : Type 0} (freed emptying : List M) (m : M) (ms : List M) → (freed ++ reverse emptying) ++ m ∷ ms ≡ (freed ++ reverse (m ∷ emptying)) ++ ms
 between freed emptying m ms = sym (ap (λ xs. (freed ++ xs) ++ ms) (reverse_onto emptying m []) ∙ ap (λ xs. xs ++ ms) (sym (append_assoc freed (reverse emptying) (m ∷ []))) ∙ append_assoc (freed ++ reverse emptying) (m ∷ []) ms)
 
 -- what was freed or is in the receiver's hand is a beginning of what was published, and the slots hold the rest, and then
 -- what the sender put in
-pub record Holds (k : ℕ) (t : Traffic) : Type 0 where
-  pub left : List ℕ
+pub record Holds {M : Type 0} (k : ℕ) (t : Traffic M) : Type 0 where
+  pub left : List M
   pub order : t.published ≡ (t.freed ++ reverse t.emptying) ++ left
   pub slots : HasSlots t.slots k (length t.freed + length t.emptying) (left ++ t.filling)
 
 -- no more is published or put in than the lane has places
-abbrev pub HasRoom : ℕ → Traffic → Type 0
+abbrev pub HasRoom : {M : Type 0} → ℕ → Traffic M → Type 0
 HasRoom k t = length t.published + length t.filling ≤ length t.freed + k
 
 -- how much of what was published is left in the slots
-pub count_left : (k : ℕ) (t : Traffic) (h : Holds k t) → length t.published ≡ (length t.freed + length t.emptying) + length h.left
+pub count_left : {M : Type 0} (k : ℕ) (t : Traffic M) (h : Holds k t) → length t.published ≡ (length t.freed + length t.emptying) + length h.left
 count_left k t h = omega (arith, ap length h.order, length-append (t.freed ++ reverse t.emptying) h.left, length-append t.freed (reverse t.emptying), length-reverse t.emptying)
 
 -- before the first step
-pub holds_first : (k : ℕ) → Holds k no_traffic
+pub holds_first : {M : Type 0} (k : ℕ) → Holds k (no_traffic {M = M})
 holds_first k = record { left = []; order = refl; slots = tt }
 
-module _ (k : ℕ) (t : Traffic) (h : Holds k t) where
+module _ {M : Type 0} (k : ℕ) (t : Traffic M) (h : Holds k t) where
   -- the count of the next message that is taken
   abbrev reached : ℕ
   reached = length t.freed + length t.emptying
@@ -68,14 +69,14 @@ module _ (k : ℕ) (t : Traffic) (h : Holds k t) where
   count_held = omega (arith, length-append h.left t.filling, count_left k t h)
 
   -- the sender puts a message into the slot of its next place, which is free
-  pub holds_filled : (place m : ℕ) → length t.published + length t.filling < length t.freed + k → place ≡ (length t.published + length t.filling) % k → Holds k (put_in t place m)
+  pub holds_filled : (place : ℕ) (m : M) → length t.published + length t.filling < length t.freed + k → place ≡ (length t.published + length t.filling) % k → Holds k (put_in t place m)
   holds_filled place m room at = record {
     left = h.left;
     order = h.order;
     slots = subst (HasSlots new k reached) (append_assoc h.left t.filling (m ∷ [])) (has_push new k reached (h.left ++ t.filling) m (has_other t.slots k reached (h.left ++ t.filling) place (Some m) other h.slots) (set_there t.slots place ((reached + length (h.left ++ t.filling)) % k) (Some m) (ap (λ c. c % k) count_held ∙ sym at)));
   }
     where
-      new : ℕ → Option ℕ
+      new : ℕ → Option M
       new = with_at t.slots place (Some m)
 
       other : (c : ℕ) → reached ≤ c → c < reached + length (h.left ++ t.filling) → c % k ≡ place → ⊥
@@ -98,10 +99,10 @@ module _ (k : ℕ) (t : Traffic) (h : Holds k t) where
   }
 
   -- the slot that is taken from next has a message
-  pub has_next : (place : ℕ) → reached < length t.published → place ≡ reached % k → (m : ℕ) × (t.slots place ≡ Some m)
+  pub has_next : (place : ℕ) → reached < length t.published → place ≡ reached % k → (m : M) × (t.slots place ≡ Some m)
   has_next place some at = go h.left h.slots (omega (arith, count_left k t h))
     where
-      go : (left : List ℕ) → HasSlots t.slots k reached (left ++ t.filling) → 0 < length left → (m : ℕ) × (t.slots place ≡ Some m)
+      go : (left : List M) → HasSlots t.slots k reached (left ++ t.filling) → 0 < length left → (m : M) × (t.slots place ≡ Some m)
       go [] has more = absurd (omega arith)
       go (m ∷ ms) has more = (m, ap t.slots at ∙ has.0)
 
@@ -109,7 +110,7 @@ module _ (k : ℕ) (t : Traffic) (h : Holds k t) where
   pub holds_taken : (place : ℕ) → reached < length t.published → HasRoom k t → place ≡ reached % k → Holds k (taken_out t place)
   holds_taken place some room at = go h.left h.order h.slots count_held (omega (arith, count_left k t h))
     where
-      go : (left : List ℕ) → t.published ≡ (t.freed ++ reverse t.emptying) ++ left → HasSlots t.slots k reached (left ++ t.filling) → reached + length (left ++ t.filling) ≡ length t.published + length t.filling → 0 < length left → Holds k (taken_out t place)
+      go : (left : List M) → t.published ≡ (t.freed ++ reverse t.emptying) ++ left → HasSlots t.slots k reached (left ++ t.filling) → reached + length (left ++ t.filling) ≡ length t.published + length t.filling → 0 < length left → Holds k (taken_out t place)
       go [] order has counted more = absurd (omega arith)
       go (m ∷ ms) order has counted more =
           let found : t.slots place ≡ Some m = ap t.slots at ∙ has.0 in
@@ -120,13 +121,13 @@ module _ (k : ℕ) (t : Traffic) (h : Holds k t) where
             order = order ∙ between t.freed t.emptying m ms;
             slots = subst (λ n. HasSlots (with_at t.slots place None) k n (ms ++ t.filling)) shift kept;
           } in
-          subst (λ (o : Option ℕ). Holds k (record t { slots = with_at t.slots place None; emptying = message_in o ++ t.emptying })) (sym found) taken
+          subst (λ (o : Option M). Holds k (record t { slots = with_at t.slots place None; emptying = message_in o ++ t.emptying })) (sym found) taken
 
   -- the receiver puts back what it took last
   pub holds_back : (place : ℕ) → 0 < length t.emptying → HasRoom k t → place ≡ (length t.freed + (length t.emptying - 1)) % k → Holds k (back_in t t.emptying place)
   holds_back place some room at = go t.emptying refl
     where
-      go : (emptying : List ℕ) → t.emptying ≡ emptying → Holds k (back_in t emptying place)
+      go : (emptying : List M) → t.emptying ≡ emptying → Holds k (back_in t emptying place)
       go [] e = absurd (omega (arith, ap length e))
       go (m ∷ ms) e =
           let n : ℕ = length t.freed + length ms in
@@ -148,15 +149,19 @@ module _ (k : ℕ) (t : Traffic) (h : Holds k t) where
   }
 
 -- how many wait
-pub count_waiting : (t : Traffic) → length (waiting t) ≡ length t.published - length t.freed
+pub count_waiting : {M : Type 0} (t : Traffic M) → length (waiting t) ≡ length t.published - length t.freed
 count_waiting t = length-drop (length t.freed) t.published
 
+-- what is published goes on with what waits
+pub goes_on : {M : Type 0} (t : Traffic M) (rest : List M) → t.published ≡ t.freed ++ rest → waiting t ≡ rest
+goes_on t rest order = ap (drop (length t.freed)) order ∙ drop-append_seam t.freed rest
+
 -- a message is found exactly where one waits, and the end exactly where none waits and the lane is closed
-abbrev pub IsFoundRightly : Traffic → Found → Type 0
+abbrev pub IsFoundRightly : {M : Type 0} → Traffic M → Found → Type 0
 IsFoundRightly t found = (found ≡ Message ↔ 0 < length (waiting t)) × (found ≡ Ended ↔ ((waiting t ≡ []) × (t.closed ≡ true)))
 
 -- an answer by two tests: whether one waits, and where none does whether the lane is closed
-pub found_rightly : (t : Traffic) (some ended : Bool) → some ≡ nat_lt (length t.freed) (length t.published) → (length t.published ≤ length t.freed → ended ≡ t.closed) → IsFoundRightly t (cond some Message (cond ended Ended Nothing))
+pub found_rightly : {M : Type 0} (t : Traffic M) (some ended : Bool) → some ≡ nat_lt (length t.freed) (length t.published) → (length t.published ≤ length t.freed → ended ≡ t.closed) → IsFoundRightly t (cond some Message (cond ended Ended Nothing))
 found_rightly t true ended e right =
     let less : length t.freed < length t.published = ltb-true _ _ (sym e) in
     let more : 0 < length (waiting t) = omega (arith, count_waiting t) in

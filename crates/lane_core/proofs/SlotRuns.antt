@@ -18,7 +18,7 @@ bit false = 0
 
 -- words, ends and traffic fit together: between the two counts the places are full, and from the sender's on they are not;
 -- the end bit is set on the sender's place alone, once it has closed; and an end's claim is right
-pub record Fits (k : ℕ) (l : SlotLane) : Type 0 where
+pub record Fits {M : Type 0} (k : ℕ) (l : SlotLane M) : Type 0 where
   pub sender_places : l.sender.capacity ≡ k
   pub receiver_places : l.receiver.capacity ≡ k
   pub published : l.sender.put ≡ length l.traffic.published
@@ -73,7 +73,7 @@ bit_kept part words place i w same = go (cases_eq i place)
     go (inl e) = ap part (set_there words place i w e) ∙ same ∙ ap (λ j. part (words j)) (sym e)
     go (inr other) = ap part (set_other words place i w other)
 
-module _ (k : ℕ) (l : SlotLane) (some : 1 ≤ k) (f : Fits k l) where
+module _ {M : Type 0} (k : ℕ) (l : SlotLane M) (some : 1 ≤ k) (f : Fits k l) where
   -- the sender's place
   pub at_sender : sender_place l.sender ≡ l.sender.put % k
   at_sender = ap (λ c. l.sender.put % c) f.sender_places
@@ -158,7 +158,7 @@ module _ (k : ℕ) (l : SlotLane) (some : 1 ≤ k) (f : Fits k l) where
   pub next_place : l.receiver.emptied ≡ false → receiver_place l.receiver ≡ (length l.traffic.freed + length l.traffic.emptying) % k
   next_place fresh = let counts : l.receiver.taken ≡ length l.traffic.freed + length l.traffic.emptying = omega (arith, ap bit fresh) in at_receiver ∙ ap (λ c. c % k) counts
 
-first : (k : ℕ) → Fits k (new_lane k)
+first : {M : Type 0} (k : ℕ) → Fits k (new_lane {M = M} k)
 first k = record {
   sender_places = refl;
   receiver_places = refl;
@@ -177,7 +177,7 @@ first k = record {
 }
 
 -- each step keeps it
-kept : (k : ℕ) (l : SlotLane) (e : Step) → 1 ≤ k → Fits k l → MayFollow l e → Fits k (after l e)
+kept : {M : Type 0} (k : ℕ) (l : SlotLane M) (e : Step M) → 1 ≤ k → Fits k l → MayFollow l e → Fits k (after l e)
 kept k l Sender_loads some old may = record {
   sender_places = old.sender_places;
   receiver_places = old.receiver_places;
@@ -287,7 +287,7 @@ kept k l Takes some old may =
       ends = old.ends;
       holds = holds_taken k l.traffic old.holds (receiver_place l.receiver) there (omega arith) place;
     }
-kept k l Puts_back some old may = record {
+kept {M} k l Puts_back some old may = record {
   sender_places = old.sender_places;
   receiver_places = old.receiver_places;
   published = on (λ t. l.sender.put ≡ length t.published) old.published (λ m ms. old.published);
@@ -310,10 +310,10 @@ kept k l Puts_back some old may = record {
     counts : l.receiver.taken ≡ length l.traffic.freed + (length l.traffic.emptying - 1)
     counts = omega (arith, one)
 
-    on : (P : Traffic → Type 0) → P l.traffic → ((m : ℕ) (ms : List ℕ) → P (back_in l.traffic (m ∷ ms) (receiver_place l.receiver))) → P (back_in l.traffic l.traffic.emptying (receiver_place l.receiver))
+    on : (P : Traffic M → Type 0) → P l.traffic → ((m : M) (ms : List M) → P (back_in l.traffic (m ∷ ms) (receiver_place l.receiver))) → P (back_in l.traffic l.traffic.emptying (receiver_place l.receiver))
     on P same back = elim l.traffic.emptying as (λ ms. P (back_in l.traffic ms (receiver_place l.receiver))) [ [] ↦ same | m ∷ ms ↦ back m ms ]
 
-    in_hand : (ms : List ℕ) → 1 ≡ length ms → 0 ≡ length (back_in l.traffic ms (receiver_place l.receiver)).emptying
+    in_hand : (ms : List M) → 1 ≡ length ms → 0 ≡ length (back_in l.traffic ms (receiver_place l.receiver)).emptying
     in_hand [] e = absurd (omega arith)
     in_hand (m ∷ ms) e = omega arith
 kept k l Frees some old may =
@@ -336,6 +336,6 @@ kept k l Frees some old may =
     }
 
 -- after every run
-pub fits : (k : ℕ) (h : List Step) → 1 ≤ k → IsRun k h → Fits k (lane_after k h)
+pub fits : {M : Type 0} (k : ℕ) (h : List (Step M)) → 1 ≤ k → IsRun k h → Fits k (lane_after k h)
 fits k [] some run = first k
 fits k (e ∷ h) some run = kept k (lane_after k h) e some (fits k h some run.1) run.0

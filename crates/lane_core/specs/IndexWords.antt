@@ -160,21 +160,21 @@ MayReceive r Free = MayFree r
 
 -- The lane.
 
-pub record IndexLane : Type 0 where
+pub record IndexLane (M : Type 0) : Type 0 where
   -- the two words
   pub put : ℕ
   pub taken : ℕ
   pub sender : SenderEnd
   pub receiver : ReceiverEnd
   -- slots, hands and content
-  pub traffic : Traffic
+  pub traffic : Traffic M
 
 -- a new lane
-abbrev pub new_lane : ℕ → IndexLane
+abbrev pub new_lane : {M : Type 0} → ℕ → IndexLane M
 new_lane k = record { put = 0; taken = 0; sender = new_sender k; receiver = new_receiver k; traffic = no_traffic }
 
 -- after one step: an end's step reads its own numbers, and a load the other's word; each end stores its own word alone
-abbrev pub after : IndexLane → Step → IndexLane
+abbrev pub after : {M : Type 0} → IndexLane M → Step M → IndexLane M
 after l Sender_loads = record l { sender = sender_loaded l.sender l.taken }
 after l (Fills m) = record l { sender = sender_filled l.sender; traffic = put_in l.traffic (fill_place l.sender) m }
 after l Publishes = record l { put = publish_word l.sender; sender = sender_published l.sender; traffic = published_all l.traffic }
@@ -185,7 +185,7 @@ after l Puts_back = record l { receiver = receiver_put_back l.receiver; traffic 
 after l Frees = record l { taken = free_word l.receiver; receiver = receiver_freed l.receiver; traffic = freed_all l.traffic }
 
 -- the step is allowed, by its end's own numbers
-abbrev pub MayFollow : IndexLane → Step → Type 0
+abbrev pub MayFollow : {M : Type 0} → IndexLane M → Step M → Type 0
 MayFollow l Sender_loads = Unit {0}
 MayFollow l (Fills m) = MayFill l.sender
 MayFollow l Publishes = MayPublish l.sender
@@ -196,49 +196,49 @@ MayFollow l Puts_back = MayPutBack l.receiver
 MayFollow l Frees = MayFree l.receiver
 
 -- the lane of k places after these steps
-abbrev pub lane_after : ℕ → List Step → IndexLane
+abbrev pub lane_after : {M : Type 0} → ℕ → List (Step M) → IndexLane M
 lane_after k [] = new_lane k
 lane_after k (e ∷ h) = after (lane_after k h) e
 
 -- each step was allowed when it was made
-abbrev pub IsRun : ℕ → List Step → Type 0
+abbrev pub IsRun : {M : Type 0} → ℕ → List (Step M) → Type 0
 IsRun k [] = Unit {0}
 IsRun k (e ∷ h) = MayFollow (lane_after k h) e × IsRun k h
 
 -- What the laws of runs speak of.
 
 -- what passed through the lane in these steps
-abbrev pub traffic_of : ℕ → List Step → Traffic
+abbrev pub traffic_of : {M : Type 0} → ℕ → List (Step M) → Traffic M
 traffic_of k h = (lane_after k h).traffic
 
 -- what the sender would find by a load now
-abbrev pub sender_finds : ℕ → List Step → Room
+abbrev pub sender_finds : {M : Type 0} → ℕ → List (Step M) → Room
 sender_finds k h = room_of (sender_loaded (lane_after k h).sender (lane_after k h).taken)
 
 -- what the receiver would find by a load now
-abbrev pub receiver_finds : ℕ → List Step → Found
+abbrev pub receiver_finds : {M : Type 0} → ℕ → List (Step M) → Found
 receiver_finds k h = found_by (receiver_loaded (lane_after k h).receiver (lane_after k h).put)
 
 -- the sender claims the place of this count
-abbrev pub SenderHas : ℕ → List Step → ℕ → Type 0
+abbrev pub SenderHas : {M : Type 0} → ℕ → List (Step M) → ℕ → Type 0
 SenderHas k h count = SenderClaims (lane_after k h).sender count
 
 -- the receiver claims the place of this count
-abbrev pub ReceiverHas : ℕ → List Step → ℕ → Type 0
+abbrev pub ReceiverHas : {M : Type 0} → ℕ → List (Step M) → ℕ → Type 0
 ReceiverHas k h count = ReceiverClaims (lane_after k h).receiver count
 
 -- the count whose place the sender fills next
-abbrev pub fills_next : ℕ → List Step → ℕ
+abbrev pub fills_next : {M : Type 0} → ℕ → List (Step M) → ℕ
 fills_next k h = fill_count (lane_after k h).sender
 
 -- the count whose place the receiver takes from next
-abbrev pub takes_next : ℕ → List Step → ℕ
+abbrev pub takes_next : {M : Type 0} → ℕ → List (Step M) → ℕ
 takes_next k h = take_count (lane_after k h).receiver
 
 -- the sender claims a place to fill, by what it loaded before
-abbrev pub sender_keeps : ℕ → List Step → Bool
+abbrev pub sender_keeps : {M : Type 0} → ℕ → List (Step M) → Bool
 sender_keeps k h = let s = (lane_after k h).sender in nat_lt (fill_count s) (s.freed + s.capacity)
 
 -- the receiver claims a place to take from, by what it loaded before
-abbrev pub receiver_keeps : ℕ → List Step → Bool
+abbrev pub receiver_keeps : {M : Type 0} → ℕ → List (Step M) → Bool
 receiver_keeps k h = let r = (lane_after k h).receiver in nat_lt (take_count r) r.published

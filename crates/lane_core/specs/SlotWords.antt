@@ -153,28 +153,28 @@ MayReceive r Free = MayFree r
 
 -- The lane.
 
-pub record SlotLane : Type 0 where
+pub record SlotLane (M : Type 0) : Type 0 where
   -- the word of each place
   pub words : ℕ → Word
   pub sender : SenderEnd
   pub receiver : ReceiverEnd
   -- slots, hands and content
-  pub traffic : Traffic
+  pub traffic : Traffic M
 
 -- a new lane
-abbrev pub new_lane : ℕ → SlotLane
+abbrev pub new_lane : {M : Type 0} → ℕ → SlotLane M
 new_lane k = record { words = λ i. new_word; sender = new_sender k; receiver = new_receiver k; traffic = no_traffic }
 
 -- the word of the sender's next place
-abbrev pub sender_word : SlotLane → Word
+abbrev pub sender_word : {M : Type 0} → SlotLane M → Word
 sender_word l = l.words (sender_place l.sender)
 
 -- the word of the receiver's next place
-abbrev pub receiver_word : SlotLane → Word
+abbrev pub receiver_word : {M : Type 0} → SlotLane M → Word
 receiver_word l = l.words (receiver_place l.receiver)
 
 -- after one step: an end reads its own numbers and the word of its next place
-abbrev pub after : SlotLane → Step → SlotLane
+abbrev pub after : {M : Type 0} → SlotLane M → Step M → SlotLane M
 after l Sender_loads = record l { sender = sender_loaded l.sender (sender_word l) }
 after l (Fills m) = record l { sender = sender_filled l.sender; traffic = put_in l.traffic (sender_place l.sender) m }
 after l Publishes = record l { words = with_at l.words (sender_place l.sender) (full_word (sender_word l)); sender = sender_published l.sender; traffic = published_all l.traffic }
@@ -185,7 +185,7 @@ after l Puts_back = record l { receiver = receiver_put_back l.receiver; traffic 
 after l Frees = record l { words = with_at l.words (receiver_place l.receiver) (free_word (receiver_word l)); receiver = receiver_freed l.receiver; traffic = freed_all l.traffic }
 
 -- the step is allowed, by its end's own numbers and claim
-abbrev pub MayFollow : SlotLane → Step → Type 0
+abbrev pub MayFollow : {M : Type 0} → SlotLane M → Step M → Type 0
 MayFollow l Sender_loads = Unit {0}
 MayFollow l (Fills m) = MayFill l.sender
 MayFollow l Publishes = MayPublish l.sender
@@ -196,49 +196,49 @@ MayFollow l Puts_back = MayPutBack l.receiver
 MayFollow l Frees = MayFree l.receiver
 
 -- the lane of k places after these steps
-abbrev pub lane_after : ℕ → List Step → SlotLane
+abbrev pub lane_after : {M : Type 0} → ℕ → List (Step M) → SlotLane M
 lane_after k [] = new_lane k
 lane_after k (e ∷ h) = after (lane_after k h) e
 
 -- each step was allowed when it was made
-abbrev pub IsRun : ℕ → List Step → Type 0
+abbrev pub IsRun : {M : Type 0} → ℕ → List (Step M) → Type 0
 IsRun k [] = Unit {0}
 IsRun k (e ∷ h) = MayFollow (lane_after k h) e × IsRun k h
 
 -- What the laws of runs speak of.
 
 -- what passed through the lane in these steps
-abbrev pub traffic_of : ℕ → List Step → Traffic
+abbrev pub traffic_of : {M : Type 0} → ℕ → List (Step M) → Traffic M
 traffic_of k h = (lane_after k h).traffic
 
 -- what the sender would find by a load now
-abbrev pub sender_finds : ℕ → List Step → Room
+abbrev pub sender_finds : {M : Type 0} → ℕ → List (Step M) → Room
 sender_finds k h = room_in (sender_word (lane_after k h))
 
 -- what the receiver would find by a load now
-abbrev pub receiver_finds : ℕ → List Step → Found
+abbrev pub receiver_finds : {M : Type 0} → ℕ → List (Step M) → Found
 receiver_finds k h = found_in (receiver_word (lane_after k h))
 
 -- the sender claims the place of this count
-abbrev pub SenderHas : ℕ → List Step → ℕ → Type 0
+abbrev pub SenderHas : {M : Type 0} → ℕ → List (Step M) → ℕ → Type 0
 SenderHas k h count = SenderClaims (lane_after k h).sender count
 
 -- the receiver claims the place of this count
-abbrev pub ReceiverHas : ℕ → List Step → ℕ → Type 0
+abbrev pub ReceiverHas : {M : Type 0} → ℕ → List (Step M) → ℕ → Type 0
 ReceiverHas k h count = ReceiverClaims (lane_after k h).receiver count
 
 -- the count whose place the sender fills next
-abbrev pub fills_next : ℕ → List Step → ℕ
+abbrev pub fills_next : {M : Type 0} → ℕ → List (Step M) → ℕ
 fills_next k h = (lane_after k h).sender.put
 
 -- the count whose place the receiver takes from next
-abbrev pub takes_next : ℕ → List Step → ℕ
+abbrev pub takes_next : {M : Type 0} → ℕ → List (Step M) → ℕ
 takes_next k h = (lane_after k h).receiver.taken
 
 -- the sender claims a place to fill, by what it loaded before
-abbrev pub sender_keeps : ℕ → List Step → Bool
+abbrev pub sender_keeps : {M : Type 0} → ℕ → List (Step M) → Bool
 sender_keeps k h = let s = (lane_after k h).sender in s.claims && not s.filled
 
 -- the receiver claims a place to take from, by what it loaded before
-abbrev pub receiver_keeps : ℕ → List Step → Bool
+abbrev pub receiver_keeps : {M : Type 0} → ℕ → List (Step M) → Bool
 receiver_keeps k h = let r = (lane_after k h).receiver in r.claims && not r.emptied

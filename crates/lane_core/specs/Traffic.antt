@@ -1,23 +1,23 @@
--- What passes through a lane: the slots, the messages in the ends' hands, and the content of the run (this project's
--- profile). No end sees it: an end has its own numbers and the words that it loads.
+-- What passes through a lane whose messages are of the type M: the slots, the messages in the ends' hands, and the content
+-- of the run (this project's profile). No end sees it: an end has its own numbers and the words that it loads.
 use Rattle.std.specs.Prelude.{ℕ, ◌==◌, Bool, true, false, List, [], ◌∷◌, ◌++◌, length, drop, reverse, Option, None, Some, if◌then◌else◌}
 
-pub record Traffic : Type 0 where
+pub record Traffic (M : Type 0) : Type 0 where
   -- what the slot of each place holds
-  pub slots : ℕ → Option ℕ
+  pub slots : ℕ → Option M
   -- what the sender put into slots and has not published, in order
-  pub filling : List ℕ
+  pub filling : List M
   -- what the receiver took out of slots and has neither freed nor put back, the newest first
-  pub emptying : List ℕ
+  pub emptying : List M
   -- the messages published, in order
-  pub published : List ℕ
+  pub published : List M
   -- the messages freed, in order
-  pub freed : List ℕ
+  pub freed : List M
   -- whether the lane was closed
   pub closed : Bool
 
 -- before the first step
-abbrev pub no_traffic : Traffic
+abbrev pub no_traffic : {M : Type 0} → Traffic M
 no_traffic = record { slots = λ i. None; filling = []; emptying = []; published = []; freed = []; closed = false }
 
 -- what each place has, with this at one place
@@ -25,35 +25,35 @@ abbrev pub with_at : {A : Type 0} → (ℕ → A) → ℕ → A → ℕ → A
 with_at at place a i = if i == place then a else at i
 
 -- the message of a slot, if it has one
-abbrev pub message_in : Option ℕ → List ℕ
+abbrev pub message_in : {M : Type 0} → Option M → List M
 message_in None = []
 message_in (Some m) = m ∷ []
 
 -- the sender puts a message into the slot of a place
-abbrev pub put_in : Traffic → ℕ → ℕ → Traffic
+abbrev pub put_in : {M : Type 0} → Traffic M → ℕ → M → Traffic M
 put_in t place m = record t { slots = with_at t.slots place (Some m); filling = t.filling ++ m ∷ [] }
 
 -- what it put in is published
-abbrev pub published_all : Traffic → Traffic
+abbrev pub published_all : {M : Type 0} → Traffic M → Traffic M
 published_all t = record t { published = t.published ++ t.filling; filling = [] }
 
 -- the lane is closed, and what was put in and not published never is
-abbrev pub closed_off : Traffic → Traffic
+abbrev pub closed_off : {M : Type 0} → Traffic M → Traffic M
 closed_off t = record t { filling = []; closed = true }
 
 -- the receiver takes what the slot of a place holds
-abbrev pub taken_out : Traffic → ℕ → Traffic
+abbrev pub taken_out : {M : Type 0} → Traffic M → ℕ → Traffic M
 taken_out t place = record t { slots = with_at t.slots place None; emptying = message_in (t.slots place) ++ t.emptying }
 
 -- the receiver puts what it took last back into the slot of a place
-abbrev pub back_in : Traffic → List ℕ → ℕ → Traffic
+abbrev pub back_in : {M : Type 0} → Traffic M → List M → ℕ → Traffic M
 back_in t [] place = t
 back_in t (m ∷ ms) place = record t { slots = with_at t.slots place (Some m); emptying = ms }
 
 -- what it took is freed
-abbrev pub freed_all : Traffic → Traffic
+abbrev pub freed_all : {M : Type 0} → Traffic M → Traffic M
 freed_all t = record t { freed = t.freed ++ reverse t.emptying; emptying = [] }
 
 -- the messages that wait: those published without as many first ones as were freed
-abbrev pub waiting : Traffic → List ℕ
+abbrev pub waiting : {M : Type 0} → Traffic M → List M
 waiting t = drop (length t.freed) t.published
