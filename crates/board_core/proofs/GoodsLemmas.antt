@@ -90,13 +90,13 @@ own_grows (e ∷ more) h p = go (by e == p) (own_grows more h p)
 -- events of others leave its line and what it knows
 others_leave : (n : ℕ) (more h : List Event) (p : ℕ) → own (more ++ h) p ≡ own h p → (chart_of (more ++ h) p ≡ chart_of h p) × (knowledge_of n (more ++ h) p ≡ knowledge_of n h p)
 others_leave n [] h p same = (refl, refl)
-others_leave n (e ∷ more) h p same = go (by e == p) refl same
+others_leave n (e ∷ more) h p same = go (by e == p) refl same (λ i. others_leave n more h p i)
   where
-    go : (its : Bool) → (by e == p) ≡ its → cond its (e ∷ own (more ++ h) p) (own (more ++ h) p) ≡ own h p → (chart_of (e ∷ more ++ h) p ≡ chart_of h p) × (knowledge_of n (e ∷ more ++ h) p ≡ knowledge_of n h p)
-    go true i same = absurd (omega (arith, ap length same, own_grows more h p))
-    go false i same =
+    go : (its : Bool) → (by e == p) ≡ its → cond its (e ∷ own (more ++ h) p) (own (more ++ h) p) ≡ own h p → (own (more ++ h) p ≡ own h p → (chart_of (more ++ h) p ≡ chart_of h p) × (knowledge_of n (more ++ h) p ≡ knowledge_of n h p)) → (chart_of (e ∷ more ++ h) p ≡ chart_of h p) × (knowledge_of n (e ∷ more ++ h) p ≡ knowledge_of n h p)
+    go true i same rest = absurd (omega (arith, ap length same, own_grows more h p))
+    go false i same rest =
         let ne = eqb-false (by e) p i in
-        let before = others_leave n more h p same in
+        let before = rest same in
         (line_of_other (more ++ h) e p ne ∙ before.0, knowledge_of-other n (more ++ h) e p (λ c. ne (sym c)) ∙ before.1)
 
 pub others_law : OthersLaw

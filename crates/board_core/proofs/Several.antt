@@ -38,7 +38,7 @@ pub record AreSent (n k q p : ℕ) (h g : List Event) (xs : List Parcel) (r : Re
 
 pub several_sent : (n k q p : ℕ) (h : List Event) (r : RecorderView) (xs : List Parcel) → AreTwo n q p → IsLegal n k h → is_closed h q p ≡ false → IsRecorder n h q r → HaveClocks r p xs → length (goods n h q p) + length xs ≤ received h q p + k → length (chart_of h q) + length xs ≤ MAX_EVENTS
     → AreSent n k q p h (with_sends h q p xs) xs (after_sends r p (names xs))
-several_sent n k q p h r [] two legal open its clocks room short = record {
+several_sent n k q p h r [] two legal unclosed its clocks room short = record {
   legal = legal;
   recorder = its;
   here = sym (append-nil (goods n h q p));
@@ -47,14 +47,14 @@ several_sent n k q p h r [] two legal open its clocks room short = record {
   closed = λ a b. refl;
   others = λ s o region ne old. old;
 }
-several_sent n k q p h r (x ∷ xs) two legal open its (clock, clocks) room short =
+several_sent n k q p h r (x ∷ xs) two legal unclosed its (clock, clocks) room short =
     let e : Event = Send q p x.message in
     let many : length (goods n h q p) ≡ length (sent h q p) = sym (length-map (goods n h q p) (λ (y : Parcel). y.message)) ∙ ap length (goods_messages n h q p) in
     let free : length (waiting h q p) < k = omega (arith, many, length-drop (received h q p) (sent h q p), received-le n k h legal q p) in
-    let now : IsLegal n k (e ∷ h) = ((two, open, free, omega arith), legal) in
+    let now : IsLegal n k (e ∷ h) = ((two, unclosed, free, omega arith), legal) in
     let one : goods n (e ∷ h) q p ≡ goods n h q p ++ x ∷ [] = sent_one (clock ∙ send_clock-is n h q r its) in
     let line = ap length (line_after_send h q p x.message) ∙ length_push (chart_of h q) (send_mark p x.message.name) in
-    let done = several_sent n k q p (e ∷ h) (after_send r p x.message.name) xs two now open (IsRecorder-send n k h q p x.message r legal its) clocks (omega (arith, ap length one, length_push (goods n h q p) x)) (omega (arith, line)) in
+    let done = several_sent n k q p (e ∷ h) (after_send r p x.message.name) xs two now unclosed (IsRecorder-send n k h q p x.message r legal its) clocks (omega (arith, ap length one, length_push (goods n h q p) x)) (omega (arith, line)) in
     record {
       legal = done.legal;
       recorder = done.recorder;

@@ -81,7 +81,7 @@ history_of n k steps = (world_after n k steps).history
 -- the reports that the receives of p have, in order
 abbrev pub reports_of : ℕ → List Step → List ReportView
 reports_of p [] = []
-reports_of p (Frees a b reports ∷ steps) = if b == p then reports_of p steps ++ reports else reports_of p steps
+reports_of p (Frees a b reports ∷ steps) = if p == b then reports_of p steps ++ reports else reports_of p steps
 reports_of p (Sender_loads a b ∷ steps) = reports_of p steps
 reports_of p (Fills a b m ∷ steps) = reports_of p steps
 reports_of p (Publishes a b ∷ steps) = reports_of p steps

@@ -54,7 +54,7 @@ next_place k l f =
 pub taken_from : {M : Type 0} (k : ℕ) (l : IndexLane M) → Fits k l → MayFollow l Takes → (m : M) × (l.traffic.slots (take_place l.receiver) ≡ Some m)
 taken_from k l f may = has_next k l.traffic f.holds (take_place l.receiver) (omega arith) (next_place k l f)
 
-first : {M : Type 0} (k : ℕ) → Fits k (new_lane {M = M} k)
+pub first : {M : Type 0} (k : ℕ) → Fits k (new_lane {M = M} k)
 first k = record {
   put = refl;
   taken = refl;
@@ -73,7 +73,7 @@ first k = record {
 }
 
 -- each step keeps it
-kept : {M : Type 0} (k : ℕ) (l : IndexLane M) (e : Step M) → Fits k l → MayFollow l e → Fits k (after l e)
+pub kept : {M : Type 0} (k : ℕ) (l : IndexLane M) (e : Step M) → Fits k l → MayFollow l e → Fits k (after l e)
 kept k l Sender_loads old may = record {
   put = old.put;
   taken = old.taken;
