@@ -1,27 +1,26 @@
 -- What holds after every run on a board.
-use Rattle.std.proofs.Common.{◌≡◌, ◌≢◌, ℕ, ◌+◌, ◌<◌, ◌≤◌, ◌==◌, inl, inr, Bool, true, false, cond, List, [], ◌∷◌, ◌++◌, length, drop, map, take, Some, refl, sym, ap, ◌∙◌, subst, arith, append_assoc}
-use Rattle.std.specs.Prelude.{reverse, slice_get}
-use Rattle.std.proofs.lemmas.Bool.{ne_eqb}
-use Rattle.std.proofs.lemmas.List.{length-append, length-map}
-use Rattle.std.proofs.Math.Seq.{drop-append_seam, take-append_seam}
+use Rattle.std.proofs.Common.{◌≡◌, ℕ, ◌+◌, ◌≤◌, inl, inr, false, List, [], ◌∷◌, ◌++◌, length, drop, refl, sym, ap, ◌∙◌, subst, arith, append_assoc}
+use Rattle.std.specs.Prelude.{reverse}
+use Rattle.std.proofs.lemmas.List.{length-append}
+use Rattle.std.proofs.Math.Seq.{drop-append_seam}
 use Rattle.chart.specs.declared.history.Event.{Event}
 use Rattle.chart.specs.declared.history.Event.TheVariants as event
 use Rattle.chart.specs.Marks.{greatest_region, MayHaveRegion}
 use Rattle.chart.specs.Charts.{LineView}
-use Rattle.chart.specs.Histories.{is_lane, received, is_closed, chart_of, AreTwo, IsLegal}
+use Rattle.chart.specs.Histories.{received, is_closed, chart_of}
 use Rattle.chart.proofs.Histories.{is_closed-close, is_closed-close_other}
 use Rattle.chart.proofs.Steps.{line_after_close}
 use Rattle.lane_core.specs.Steps as lane
-use Rattle.lane_core.specs.Traffic.{Traffic, with_at}
+use Rattle.lane_core.specs.Traffic.{with_at}
 use Rattle.lane_core.specs.IndexWords.{IndexLane, after as lane_with}
 use Rattle.lane_core.proofs.IndexRuns.{Fits, kept}
-use Rattle.line_recorder.specs.Recorders.{RecorderView, after_sends}
+use Rattle.line_recorder.specs.Recorders.{after_sends}
 use Rattle.board_core.specs.Parcels.{Parcel, names, goods}
 use Rattle.board_core.specs.Steps.{Step, Sender_loads, Fills, Publishes, Closes, Receiver_loads, Takes, Puts_back, Frees, Opens, Shuts}
 use Rattle.board_core.specs.World.{World, after, filled, taken, after_receives, with_sends, with_receives, parcel_of}
-use Rattle.board_core.specs.Runs.{MayFollow, MaySend, MayReceive, IsRun, world_after}
-use Rattle.board_core.proofs.Standing.{HaveClocks, have_clocks_push, IsLane, IsInstance, Stands, stands_first, with_lane-each, with_at-each, other_receiver, clocks_beside, IsQuiet, back_quiet, back_filling, stands_quiet, stands_idle}
-use Rattle.board_core.proofs.Several.{AreSent, several_sent, AreReceived, several_received}
+use Rattle.board_core.specs.Runs.{MayFollow, IsRun, world_after}
+use Rattle.board_core.proofs.Standing.{HaveClocks, have_clocks_push, IsLane, IsInstance, Stands, stands_first, with_lane-each, with_at-each, other_receiver, clocks_beside, back_quiet, back_filling, stands_quiet, stands_idle}
+use Rattle.board_core.proofs.Several.{several_sent, several_received}
 
 -- what is freed and what is in the receiver's hands are the first of what was published
 in_hands : {k : ℕ} (l : IndexLane Parcel) → Fits k l → (left : List Parcel) × (drop (length l.traffic.freed) l.traffic.published ≡ reverse l.traffic.emptying ++ left)

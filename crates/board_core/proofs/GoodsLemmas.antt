@@ -1,21 +1,15 @@
 -- What lanes carry along a history, and what an instance's next send carries.
-use Rattle.std.proofs.Common.{◌≡◌, ℕ, suc, ◌+◌, ◌≤◌, ◌==◌, Bool, true, false, cond, List, [], ◌∷◌, ◌++◌, length, drop, map, Some, refl, sym, ap, ap₂, ◌∙◌, subst, arith, append-nil, append_assoc}
-use Rattle.std.specs.Prelude.{slice_get}
+use Rattle.std.proofs.Common.{◌≡◌, ℕ, ◌+◌, ◌≤◌, ◌==◌, Bool, true, false, cond, List, [], ◌∷◌, ◌++◌, length, drop, map, refl, sym, ap, ap₂, ◌∙◌, subst, arith, append-nil, append_assoc}
 use Rattle.std.proofs.lemmas.Bool.{eqb-true, eqb-false, and_parts}
 use Rattle.std.proofs.lemmas.List.{map-append, drop-map}
-use Rattle.std.proofs.lemmas.Option.{slice_get-map}
 use Rattle.chart.specs.declared.history.Event.{Event}
 use Rattle.chart.specs.declared.history.Event.TheVariants.{Send, Receive, Close}
-use Rattle.chart.specs.Messages.{Content}
-use Rattle.chart.specs.Histories.{by, own, is_lane, sent, received, waiting, chart_of, IsLegal, Begins}
+use Rattle.chart.specs.Histories.{by, own, is_lane, sent, received, waiting, chart_of}
 use Rattle.chart.specs.Charts.{at}
-use Rattle.chart.specs.Places.{IsEvent}
-use Rattle.chart.specs.Reports.{ReportView, IsReportIn}
 use Rattle.chart.proofs.Begun.{known_begun, report_begun}
 use Rattle.chart.proofs.Steps.{line_of_other}
 use Rattle.clock.specs.Clocks.{entry_of, with_entry}
 use Rattle.line_recorder.specs.Carried.{knowledge_of, clocks_of, waiting_clocks}
-use Rattle.line_recorder.specs.Laws.{IsClockOf}
 use Rattle.line_recorder.proofs.Recording.{knowledge_of-other}
 use Rattle.board_core.specs.Parcels.{Parcel, next_clock, goods}
 use Rattle.board_core.specs.Laws.{GoodsLaw, GoodsGrowthLaw, OthersLaw, ClockGrowthLaw, ReportGrowthLaw}
@@ -38,6 +32,7 @@ goods_clocks n (Send a b m ∷ h) q p = go (is_lane a b q p) refl (goods_clocks 
   where
     clock : ℕ → List ℕ
     clock = λ x. with_entry (knowledge_of n h x) x (length (chart_of h a) + 1)
+
     go : (its : Bool) → is_lane a b q p ≡ its → map (λ (x : Parcel). x.clock) (goods n h q p) ≡ clocks_of n h q p → map (λ (x : Parcel). x.clock) (cond its (goods n h q p ++ record { message = m; clock = next_clock n h a } ∷ []) (goods n h q p)) ≡ cond its (clocks_of n h q p ++ clock q ∷ []) (clocks_of n h q p)
     go true e before = map-append (λ (x : Parcel). x.clock) (goods n h q p) (record { message = m; clock = next_clock n h a } ∷ []) ∙ ap₂ (λ xs x. xs ++ clock x ∷ []) before (eqb-true a q (and_parts (a == q) (b == p) e).0)
     go false e before = before
@@ -61,6 +56,7 @@ goods_more n h (Send a b m) q p = go (is_lane a b q p)
   where
     x : Parcel
     x = record { message = m; clock = next_clock n h a }
+
     go : (its : Bool) → (more : List Parcel) × (cond its (goods n h q p ++ x ∷ []) (goods n h q p) ≡ goods n h q p ++ more)
     go true = (x ∷ [], refl)
     go false = ([], sym (append-nil (goods n h q p)))

@@ -1,5 +1,9 @@
 pub mod Along
 pub mod GoodsLemmas
+pub mod Reaching
+pub mod ReceiveCall
+pub mod Resting
+pub mod SendCall
 pub mod Several
 pub mod Standing
 pub mod Told

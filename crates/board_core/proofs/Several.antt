@@ -1,11 +1,10 @@
 -- Several sends or receives of a lane, one directly after another.
-use Rattle.std.proofs.Common.{◌≡◌, ◌≢◌, ℕ, ◌+◌, ◌<◌, ◌≤◌, Bool, true, false, cond, List, [], ◌∷◌, ◌++◌, length, drop, map, refl, sym, ap, ◌∙◌, subst, arith, append-nil, append_assoc}
+use Rattle.std.proofs.Common.{◌≡◌, ◌≢◌, ℕ, ◌+◌, ◌<◌, ◌≤◌, false, List, [], ◌∷◌, ◌++◌, length, drop, map, refl, sym, ap, ◌∙◌, subst, arith, append-nil, append_assoc}
 use Rattle.std.proofs.lemmas.List.{length-map, length-drop, length_push, drop-drop}
 use Rattle.chart.specs.declared.history.Event.{Event}
 use Rattle.chart.specs.declared.history.Event.TheVariants.{Send, Receive}
 use Rattle.chart.specs.declared.line.TheConstants.{MAX_EVENTS}
 use Rattle.chart.specs.Marks.{MayHaveRegion, send_mark, receive_mark}
-use Rattle.chart.specs.Messages.{Content}
 use Rattle.chart.specs.Histories.{by, is_lane, sent, received, waiting, is_closed, chart_of, AreTwo, IsLegal}
 use Rattle.chart.specs.Reports.{ReportView}
 use Rattle.chart.proofs.Histories.{is_lane-same, received-le}
@@ -67,6 +66,7 @@ several_sent n k q p h r (x ∷ xs) two legal unclosed its (clock, clocks) room 
   where
     sent_one : x.clock ≡ next_clock n h q → goods n (Send q p x.message ∷ h) q p ≡ goods n h q p ++ x ∷ []
     sent_one same = rw (is_lane-same q p) (ap (λ c. goods n h q p ++ record { message = x.message; clock = c } ∷ []) (sym same))
+
     beside_lane : (a b : ℕ) → is_lane q p a b ≡ false → goods n (Send q p x.message ∷ h) a b ≡ goods n h a b
     beside_lane a b other = rw other
 
@@ -118,5 +118,6 @@ several_received n k q p region h r (x ∷ xs) rest (report ∷ reports) two leg
   where
     received_one : received (Receive p q region ∷ h) q p ≡ received h q p + 1
     received_one = rw (is_lane-same q p)
+
     beside_lane : (a b : ℕ) → is_lane q p a b ≡ false → received (Receive p q region ∷ h) a b ≡ received h a b
     beside_lane a b other = rw other

@@ -1,25 +1,20 @@
 -- What every run on a board comes to, by its history.
-use Rattle.std.proofs.Common.{◌≡◌, ◌≢◌, ℕ, ◌+◌, ◌<◌, ◌≤◌, ◌==◌, Bool, true, false, cond, List, [], ◌∷◌, ◌++◌, length, drop, map, take, Some, option_map, refl, sym, ap, ◌∙◌, subst, arith, append_assoc, append-nil}
+use Rattle.std.proofs.Common.{◌≡◌, ℕ, ◌==◌, Bool, true, false, cond, List, [], ◌∷◌, ◌++◌, length, map, take, option_map, refl, sym, ap, ◌∙◌, subst, append_assoc, append-nil}
 use Rattle.std.specs.Prelude.{reverse, slice_get, All}
 use Rattle.std.proofs.lemmas.Bool.{eqb-true}
 use Rattle.std.proofs.lemmas.Option.{slice_get-map}
 use Rattle.std.proofs.Math.Seq.{take-append_seam}
-use Rattle.chart.specs.Charts.{at}
-use Rattle.chart.specs.Histories.{received, sent, chart_of}
+use Rattle.chart.specs.Histories.{received, chart_of}
 use Rattle.chart.specs.Reports.{ReportView, IsReportIn, receives_of}
 use Rattle.chart.proofs.Lanes.{send_of_message}
-use Rattle.line_recorder.specs.Carried.{clocks_of}
 use Rattle.line_recorder.specs.Recorders.{RecorderView, after_send, after_sends, after_receive}
-use Rattle.line_recorder.specs.Recording.{IsRecorder}
 use Rattle.line_recorder.proofs.Carrying.{carried_clock, carried_entries}
-use Rattle.lane_core.specs.Traffic.{with_at}
 use Rattle.board_core.specs.Parcels.{Parcel, names, goods}
 use Rattle.board_core.specs.Steps.{Step, Sender_loads, Fills, Publishes, Closes, Receiver_loads, Takes, Puts_back, Frees, Opens, Shuts}
 use Rattle.board_core.specs.World.{World, filled, taken, after_receives}
 use Rattle.board_core.specs.Runs.{AreAnswers, IsRun, world_after, history_of, reports_of}
-use Rattle.board_core.specs.Laws.{IsSendOf, LegalLaw, LaneLaw, ClockLaw, ReportLaw, RecorderLaw}
+use Rattle.board_core.specs.Laws.{LegalLaw, LaneLaw, ClockLaw, ReportLaw, RecorderLaw}
 use Rattle.board_core.proofs.GoodsLemmas.{goods_messages, goods_clocks}
-use Rattle.board_core.proofs.Standing.{Stands}
 use Rattle.board_core.proofs.Along.{stands}
 
 pub legal : LegalLaw
@@ -41,13 +36,15 @@ clocks n k steps run q p i x at_i =
     let there = ap (λ xs. slice_get xs i) (sym (s.lanes q p).published) ∙ at_i in
     let message = ap (λ ms. slice_get ms i) (sym (goods_messages n h q p)) ∙ slice_get-map (λ (y : Parcel). y.message) (goods n h q p) i ∙ ap (option_map (λ (y : Parcel). y.message)) there in
     let clock = ap (λ cs. slice_get cs i) (sym (goods_clocks n h q p)) ∙ slice_get-map (λ (y : Parcel). y.clock) (goods n h q p) i ∙ ap (option_map (λ (y : Parcel). y.clock)) there in
-    let send = send_of_message h q p i x.message message in
-    (send.0, record {
-      send = send.1;
-      name = send.2;
-      entries = carried_entries n k h s.legal q p i x.clock clock;
-      clock = carried_clock n k h s.legal q p i send.0 x.clock clock send.1;
-    })
+    let send = send_of_message h q p i x.message message in (
+      send.0,
+      record {
+        send = send.1;
+        name = send.2;
+        entries = carried_entries n k h s.legal q p i x.clock clock;
+        clock = carried_clock n k h s.legal q p i send.0 x.clock clock send.1;
+      },
+    )
 
 -- sends leave a recorder's reports
 reports_sent : (r : RecorderView) (to : ℕ) (words : List (List ℕ)) → (after_sends r to words).reports ≡ r.reports
@@ -70,8 +67,10 @@ kept_reports n k (Publishes a b ∷ steps) run p = go (p == a) refl (kept_report
   where
     w : World
     w = world_after n k steps
+
     new : RecorderView
     new = after_sends (w.recorders a) b (names (filled w a b))
+
     go : (its : Bool) → (p == a) ≡ its → (w.recorders p).reports ≡ reports_of p steps → (cond its new (w.recorders p)).reports ≡ reports_of p steps
     go true e before = reports_sent (w.recorders a) b (names (filled w a b)) ∙ ap (λ x. (w.recorders x).reports) (sym (eqb-true p a e)) ∙ before
     go false e before = before
@@ -83,8 +82,10 @@ kept_reports n k (Frees a b reports ∷ steps) run p = go (p == b) refl (kept_re
   where
     w : World
     w = world_after n k steps
+
     new : RecorderView
     new = after_receives (w.recorders b) a (w.regions b) (taken w a b) reports
+
     go : (its : Bool) → (p == b) ≡ its → (w.recorders p).reports ≡ reports_of p steps → (cond its new (w.recorders p)).reports ≡ cond its (reports_of p steps ++ reports) (reports_of p steps)
     go true e before = reports_received (w.recorders b) a (w.regions b) (taken w a b) reports run.0.2 ∙ ap (λ x. (w.recorders x).reports ++ reports) (sym (eqb-true p b e)) ∙ ap (λ xs. xs ++ reports) before
     go false e before = before

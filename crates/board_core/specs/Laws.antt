@@ -1,8 +1,8 @@
 -- What holds of every run on a board, and what a later history leaves as it was: statements that `laws` proves. That a clock
 -- has what its send knows is vector time (Fidge 1988, Mattern 1989); the others are this project's profile.
-use Rattle.std.specs.Prelude.{◌≡◌, ℕ, ◌+◌, ◌≤◌, List, [], ◌∷◌, ◌++◌, length, map, take, slice_get, Some, All}
+use Rattle.std.specs.Prelude.{◌≡◌, ℕ, ◌≤◌, List, ◌++◌, length, map, take, slice_get, Some, All}
 use Rattle.chart.specs.declared.history.Event.{Event}
-use Rattle.chart.specs.Charts.{at, mark_at, LineView}
+use Rattle.chart.specs.Charts.{at, mark_at}
 use Rattle.chart.specs.Marks.{send_mark}
 use Rattle.chart.specs.Histories.{own, sent, received, is_closed, chart_of, IsLegal, Begins}
 use Rattle.chart.specs.Places.{IsEvent, IsSendAfter}
@@ -13,7 +13,6 @@ use Rattle.line_recorder.specs.Laws.{IsClockOf}
 use Rattle.line_recorder.specs.Recording.{IsRecorder}
 use Rattle.board_core.specs.Parcels.{Parcel, next_clock, goods}
 use Rattle.board_core.specs.Steps.{Step}
-use Rattle.board_core.specs.World.{World}
 use Rattle.board_core.specs.Runs.{IsRun, world_after, history_of, reports_of}
 
 -- what passed through the lane from q to p in these steps
@@ -77,3 +76,7 @@ ClockGrowthLaw = (n k : ℕ) (h g : List Event) → IsLegal n k h → Begins h g
 -- a report is still that of its receive
 abbrev pub ReportGrowthLaw : Type 0
 ReportGrowthLaw = (n k : ℕ) (h g : List Event) → IsLegal n k h → Begins h g → (report : ReportView) → IsEvent (chart_of h) (at report.receive.instance report.receive.index) → IsReportIn (chart_of h) report → IsReportIn (chart_of g) report
+
+-- every legal history is that of a run
+abbrev pub HistoryLaw : Type 0
+HistoryLaw = (n k : ℕ) (h : List Event) → IsLegal n k h → (steps : List Step) × IsRun n k steps × (history_of n k steps ≡ h)

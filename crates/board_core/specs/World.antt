@@ -1,6 +1,6 @@
 -- A board as a pure machine: the lanes of all ordered pairs of instances, a recorder for each instance, its open coregion,
 -- and the history of what was sent, received and closed (this project's profile).
-use Rattle.std.specs.Prelude.{◌≡◌, ℕ, ◌+◌, ◌≤◌, Bool, List, [], ◌∷◌, ◌++◌, length, reverse, if◌then◌else◌}
+use Rattle.std.specs.Prelude.{ℕ, ◌+◌, List, [], ◌∷◌, reverse, if◌then◌else◌}
 use Rattle.chart.specs.declared.history.Event.{Event}
 use Rattle.chart.specs.declared.history.Event.TheVariants.{Send, Receive, Close}
 use Rattle.chart.specs.Marks.{greatest_region}

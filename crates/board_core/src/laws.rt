@@ -1,6 +1,6 @@
 //! What holds of every run of all instances on a board, and of what their lanes carry: the contracts of functions that do
 //! nothing.
-ghost use Rattle.board_core.specs.Laws.{LegalLaw, LaneLaw, ClockLaw, ReportLaw, RecorderLaw, GoodsLaw, GoodsGrowthLaw, OthersLaw, ClockGrowthLaw, ReportGrowthLaw};
+ghost use Rattle.board_core.specs.Laws.{LegalLaw, LaneLaw, ClockLaw, ReportLaw, RecorderLaw, GoodsLaw, GoodsGrowthLaw, OthersLaw, ClockGrowthLaw, ReportGrowthLaw, HistoryLaw};
 
 /// Of every run, with any number of instances and lanes of any capacity, in any order of their steps: what was sent,
 /// received and closed is a legal history. Each lane has passed on what this history says; the clock of each published
@@ -27,4 +27,9 @@ pub fn growth_law()
     ensures others { OthersLaw }
     ensures clocks { ClockGrowthLaw }
     ensures reports { ReportGrowthLaw }
+{}
+
+/// Every legal history is that of some run: on a board at rest the steps of each call that a history allows can be made.
+pub fn every_history()
+    ensures { HistoryLaw }
 {}
