@@ -1,7 +1,7 @@
 -- What a report is to a contract, a receive with its races (after Alur, Holzmann and Peled 1996), and what the reports of a
 -- chart are (reports one by one are this project's profile).
-use Rattle.std.specs.Prelude.{◌≡◌, ℕ, ◌+◌, List, [], ◌∷◌, map, All}
-use Rattle.std.specs.List.{flat_map}
+use Rattle.std.specs.Prelude.{◌≡◌, ℕ, ◌+◌, Bool, List, [], ◌∷◌, length, map, All, nat_lt}
+use Rattle.std.specs.List.{flat_map, list_any}
 use Rattle.chart.specs.declared.event.Event.{Event as Mark}
 use Rattle.chart.specs.declared.event.Event.TheVariants.{Send, Receive}
 use Rattle.chart.specs.declared.instance.EventNo.{EventNo}
@@ -12,6 +12,10 @@ use Rattle.chart.specs.Order.{IsReport}
 pub record ReportView : Type 0 where
   pub receive : EventNo
   pub earlier : List EventNo
+
+-- some of these reports has a race
+abbrev pub has_races : List ReportView → Bool
+has_races reports = list_any (λ report. nat_lt 0 (length report.earlier)) reports
 
 -- the receives among these events of p's line, the first of which is the i-th
 abbrev pub receives_from : ℕ → ℕ → List Mark → List EventNo

@@ -22,7 +22,7 @@ pub use line::{Line, LineError, MAX_EVENTS};
 pub use message::{MAX_BODY, Message};
 pub use name::{MAX_NAME, Name, NameError};
 pub use names::{Names, NamesError};
-pub use report::Report;
+pub use report::{Report, has_races};
 
 #[cfg(test)]
 mod tests;

@@ -1,5 +1,6 @@
 //! Reports of races.
 ghost use Rattle.std.specs.Prelude.{◌≡◌};
+ghost use Rattle.chart.specs.Reports.{has_races};
 
 use crate::instance::EventNo;
 use std::marker::Model;
@@ -39,4 +40,11 @@ impl Report {
     {
         self.earlier.as_slice()
     }
+}
+
+/// Whether some of these reports has a race.
+pub fn has_races(reports: &[Report]) -> bool
+    ensures { result ≡ has_races reports.now }
+{
+    reports.iter().any(|report| !report.earlier().is_empty())
 }

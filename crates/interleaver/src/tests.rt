@@ -95,7 +95,9 @@ fn draws_or_refuses(
         Err(Memory) => draws(alloc, &schedule, 0, lines)?,
     };
     assert!(rt; holds);
-    every_growth_was_refused(alloc)
+    // A last growth, whose refusal tells that each one before it was refused in an earlier run of the test.
+    Vec::<u8>::with_capacity(alloc, 1).map_err(|_| "every growth was refused")?;
+    Ok(())
 }
 
 #[test]
@@ -127,12 +129,4 @@ fn refused_growths_in_turns(rt: HostRuntime) -> Result<(), Fail> {
 fn refused_growths_of_nine(rt: HostRuntime) -> Result<(), Fail> {
     let text = b"instances a b c d e f g h i\ncapacity 1\ni send a x\nh send a y\na any\na any\n";
     draws_or_refuses(&rt, rt.alloc(), text, &[4, 3, 5, 6])
-}
-
-/// A last growth, whose refusal tells that each one before it was refused in an earlier run of the test.
-fn every_growth_was_refused(alloc: Global) -> Result<(), Fail> {
-    match Vec::<u8>::with_capacity(alloc, 1) {
-        Ok(_) => Ok(()),
-        Err(_) => Err(Fail::from("every growth was refused")),
-    }
 }

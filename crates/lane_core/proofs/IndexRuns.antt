@@ -40,7 +40,7 @@ half word n true e = omega arith
 half word n false e = omega arith
 
 -- its low bit says whether the lane is closed
-low : (word n : ℕ) (closed : Bool) → word ≡ 2 * n + bit closed → (word % 2 == 1) ≡ closed
+pub low : (word n : ℕ) (closed : Bool) → word ≡ 2 * n + bit closed → (word % 2 == 1) ≡ closed
 low word n true e = let odd : word % 2 ≡ 1 = omega arith in rw odd refl
 low word n false e = let even : word % 2 ≡ 0 = omega arith in rw even refl
 

@@ -1,5 +1,5 @@
 -- What recorders know along a legal history, and the clocks that its messages carry.
-use Rattle.std.proofs.Common.{◌≡◌, ℕ, suc, ◌+◌, ◌<◌, ◌≤◌, ◌==◌, ◌⊎◌, inl, inr, Bool, true, false, cond, max, List, [], ◌∷◌, ◌++◌, length, drop, map, replicate, get_or, Some, refl, sym, ap, ◌∙◌, subst, subst₂, arith}
+use Rattle.std.proofs.Common.{◌≡◌, ℕ, suc, ◌+◌, ◌<◌, ◌≤◌, ◌==◌, inl, inr, Bool, true, false, cond, max, List, [], ◌∷◌, ◌++◌, length, map, get_or, Some, refl, sym, ap, ◌∙◌, subst, subst₂, arith}
 use Rattle.std.specs.Prelude.{slice_get}
 use Rattle.std.proofs.lemmas.Bool.{cases_eq, eqb-true, eqb-false, and_parts}
 use Rattle.std.proofs.lemmas.Option.{slice_get_within, slice_get-get_or}
@@ -24,7 +24,7 @@ use Rattle.chart.proofs.Steps.{line_of_other, line_after_close, new_send_knows_o
 use Rattle.chart.proofs.Tally.{ith_at_drop, ith_nil}
 use Rattle.clock.specs.Clocks.{entry_of, with_entry, merged}
 use Rattle.clock.proofs.ClockLemmas.{length-merged}
-use Rattle.line_recorder.specs.Carried.{Carried, first_clock, carried, knowledge_of, clocks_of, waiting_clocks}
+use Rattle.line_recorder.specs.Carried.{first_clock, knowledge_of, clocks_of, waiting_clocks}
 use Rattle.line_recorder.specs.Recorders.{RecorderView, IsReportOf}
 use Rattle.line_recorder.specs.Laws.{next_place, IsClockOf}
 use Rattle.line_recorder.proofs.EntryLemmas.{entry_of-with_entry, entry_of-with_entry_other, length-with_entry, entry_of-merged, entry_of-zeros}

@@ -1,6 +1,6 @@
 -- What a schedule comes to.
-use Rattle.std.specs.Prelude.{◌≡◌, ℕ, Bool, List, length, map, nat_lt}
-use Rattle.std.specs.List.{range_with_len, list_any}
+use Rattle.std.specs.Prelude.{◌≡◌, ℕ, List, length, map}
+use Rattle.std.specs.List.{range_with_len}
 use Rattle.chart.specs.declared.history.Event.{Event}
 use Rattle.chart.specs.Charts.{LineView}
 use Rattle.chart.specs.Histories.{chart_of}
@@ -27,10 +27,6 @@ pub record IsOutcome (plan : Plan) (o : OutcomeView) : Type 0 where
   pub chart : o.chart ≡ lines_of (length plan.names) (meaning plan).run.history
   pub reports : AreReports o.chart o.reports
   pub notes : o.notes ≡ (meaning plan).notes
-
--- some receive has a race
-abbrev pub has_races : OutcomeView → Bool
-has_races o = list_any (λ report. nat_lt 0 (length report.earlier)) o.reports
 
 -- a plan comes to one outcome
 abbrev pub OneOutcomeLaw : Type 0

@@ -1,8 +1,9 @@
 //! What a replay gives.
 ghost use Rattle.std.specs.Prelude.{◌≡◌, length};
-ghost use Rattle.replayer.specs.Outcomes.{OneOutcomeLaw, has_races};
+ghost use Rattle.chart.specs.Reports.{has_races};
+ghost use Rattle.replayer.specs.Outcomes.{OneOutcomeLaw};
 
-use chart::{Chart, Names, Report};
+use chart::{Chart, Names, Report, has_races};
 use schedule::Note;
 use std::marker::Model;
 
@@ -70,11 +71,9 @@ impl<'a> Outcome<'a> {
 
     /// Whether some receive has a race.
     pub fn has_races(&self) -> bool
-        ensures { result ≡ has_races self.now }
+        ensures { result ≡ has_races self.now.reports }
     {
-        self.reports()
-            .iter()
-            .any(|report| !report.earlier().is_empty())
+        has_races(self.reports())
     }
 
     /// The notes, in the order of the commands that left them.

@@ -271,13 +271,7 @@ fn refused_growths(rt: HostRuntime) -> Result<(), Fail> {
         Err(_) => comes_to(rt.alloc(), &schedule)?,
     };
     assert!(rt; holds);
-    every_growth_was_refused(rt.alloc())
-}
-
-/// A last growth, whose refusal tells that each one before it was refused in an earlier run of the test.
-fn every_growth_was_refused(alloc: Global) -> Result<(), Fail> {
-    match Vec::<u8>::with_capacity(alloc, 1) {
-        Ok(_) => Ok(()),
-        Err(_) => Err(Fail::from("every growth was refused")),
-    }
+    // A last growth, whose refusal tells that each one before it was refused in an earlier run of the test.
+    Vec::<u8>::with_capacity(rt.alloc(), 1).map_err(|_| "every growth was refused")?;
+    Ok(())
 }

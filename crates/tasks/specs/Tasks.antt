@@ -1,8 +1,7 @@
 -- What the program does with the bytes of a file.
-use Rattle.std.specs.Prelude.{◌≡◌, ℕ, ◌⊎◌, Bool, List, length, Option, Result, Ok, Err, nat_lt, if◌then◌else◌}
-use Rattle.std.specs.List.{list_any}
+use Rattle.std.specs.Prelude.{◌≡◌, ℕ, ◌⊎◌, List, length, Option, Result, Ok, Err, if◌then◌else◌}
 use Rattle.chart.specs.Charts.{LineView, chart_lines, IsPossible}
-use Rattle.chart.specs.Reports.{ReportView, AreReports}
+use Rattle.chart.specs.Reports.{ReportView, AreReports, has_races}
 use Rattle.closure.specs.Faults.{Refuses}
 use Rattle.closure.specs.declared.error.ChartError.TheVariants as faults
 use Rattle.msc_reader.specs.Reading.{chart_of}
@@ -27,10 +26,6 @@ Reads (Ok read) said = said ≡ Ok read
 Reads (Err errors.Memory) said = Unit {0}
 Reads (Err (errors.Text fault)) said = said ≡ Err fault
 Reads (Err _) said = ⊥
-
--- some report has a race
-abbrev pub has_races : List ReportView → Bool
-has_races reports = list_any (λ report. nat_lt 0 (length report.earlier)) reports
 
 -- the exit status: 1 where there are races, and 0 where there are none
 abbrev pub status_of : List ReportView → ℕ

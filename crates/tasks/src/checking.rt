@@ -7,10 +7,10 @@ ghost use Rattle.msc_reader.specs.Reading.{chart_of};
 ghost use Rattle.msc_text.specs.ChartText.{name_at};
 ghost use Rattle.msc_text.specs.RaceText.{races_text};
 ghost use Rattle.msc_text.specs.Writing.{Wrote};
-ghost use Rattle.tasks.specs.Tasks.{Reads, IsRefused, has_races, Checks};
+ghost use Rattle.tasks.specs.Tasks.{Reads, IsRefused, Checks};
 
 use crate::error::ProgramError;
-use chart::{Chart, InstanceNo, Name, Names, Report};
+use chart::{Chart, InstanceNo, Name, Names, Report, has_races};
 use closure::{ChartError, Closure};
 use msc_reader::read;
 use msc_text::{Gathering, Out, TextError, WriteError, add_races};
@@ -37,13 +37,6 @@ fn write<W: Out>(names: &Names, reports: &[Report], out: &mut W) -> Result<(), W
     let mut gathering = Gathering::new();
     add_races(&mut gathering, out, names, reports)?;
     gathering.finish(out)
-}
-
-/// Whether a report has a race.
-fn has_races(reports: &[Report]) -> bool
-    ensures { result ≡ has_races reports.now }
-{
-    reports.iter().any(|report| !report.earlier().is_empty())
 }
 
 /// The name of the instance, which has one.

@@ -100,8 +100,6 @@ fn refused_growths(rt: HostRuntime) -> Result<(), Fail> {
 
 /// A last growth, whose refusal tells that each one before it was refused in an earlier run of the test.
 fn every_growth_was_refused(alloc: Global) -> Result<(), Fail> {
-    match Vec::<u8>::with_capacity(alloc, 1) {
-        Ok(_) => Ok(()),
-        Err(_) => Err(Fail::from("every growth was refused")),
-    }
+    Vec::<u8>::with_capacity(alloc, 1).map_err(|_| "every growth was refused")?;
+    Ok(())
 }
