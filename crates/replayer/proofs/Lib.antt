@@ -1,4 +1,5 @@
 pub mod Actors
+pub mod ByLine
 pub mod Charts
 pub mod Clocks
 pub mod Commands

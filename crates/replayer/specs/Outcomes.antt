@@ -1,5 +1,5 @@
 -- What a schedule comes to.
-use Rattle.std.specs.Prelude.{◌≡◌, ℕ, List, length, map}
+use Rattle.std.specs.Prelude.{◌≡◌, ℕ, ◌≤◌, ◌==◌, List, length, map, filter, AllPairs}
 use Rattle.std.specs.List.{range_with_len}
 use Rattle.chart.specs.declared.history.Event.{Event}
 use Rattle.chart.specs.Charts.{LineView}
@@ -9,7 +9,7 @@ use Rattle.schedule.specs.declared.command.Note.{Note}
 use Rattle.schedule.specs.Plans.{Plan}
 use Rattle.schedule.specs.Meaning.{meaning}
 
--- the instances' names, the chart's lines, the reports of its receives, and the notes in the order of their commands
+-- the instances' names, the chart's lines, the reports of its receives, and the notes
 pub record OutcomeView : Type 0 where
   pub names : List (List ℕ)
   pub chart : List LineView
@@ -20,13 +20,18 @@ pub record OutcomeView : Type 0 where
 abbrev pub lines_of : ℕ → List Event → List LineView
 lines_of n h = map (λ p. record { instance = p; events = chart_of h p }) (range_with_len 1 n)
 
+-- the notes that came, now by line: those of each line as they came
+pub record AreByLine (came listed : List Note) : Type 0 where
+  pub rising : AllPairs (λ a b. a.line ≤ b.line) listed
+  pub same : (line : ℕ) → filter (λ note. note.line == line) listed ≡ filter (λ note. note.line == line) came
+
 -- what a schedule comes to: the chart of the history that its commands make, each of its receives with its report, and the
--- notes
+-- notes by line
 pub record IsOutcome (plan : Plan) (o : OutcomeView) : Type 0 where
   pub names : o.names ≡ plan.names
   pub chart : o.chart ≡ lines_of (length plan.names) (meaning plan).run.history
   pub reports : AreReports o.chart o.reports
-  pub notes : o.notes ≡ (meaning plan).notes
+  pub notes : AreByLine (meaning plan).notes o.notes
 
 -- a plan comes to one outcome
 abbrev pub OneOutcomeLaw : Type 0

@@ -4,6 +4,7 @@
 mod actor;
 mod error;
 mod lane;
+mod notes;
 mod outcome;
 mod run;
 mod steps;

@@ -11,6 +11,7 @@ ghost use Rattle.replayer.specs.Outcomes.{lines_of, IsOutcome};
 
 use crate::actor::Actor;
 use crate::error::ReplayError;
+use crate::notes::put_by_line;
 use crate::outcome::Outcome;
 use crate::steps::act;
 use chart::{Chart, InstanceNo, Line, Report};
@@ -31,7 +32,7 @@ fn fresh_actors(alloc: Global, instances: usize) -> Result<Vec<Actor>, ReplayErr
     Ok(actors)
 }
 
-/// Does the commands one after the other, and answers their notes.
+/// Does the commands one after the other, and answers their notes as they come.
 fn perform(
     alloc: Global,
     actors: &mut [Actor],
@@ -81,7 +82,7 @@ fn chart(lines: Vec<Line>) -> Chart
     }
 }
 
-/// The instances after the schedule's commands, and the notes.
+/// The instances after the schedule's commands, and the notes as they came.
 fn played(alloc: Global, schedule: &Schedule) -> Result<(Vec<Actor>, Vec<Note>), ReplayError>
     ensures agrees { IfOk result (λ played. Agrees (length schedule.now.names) schedule.now.capacity (meaning schedule.now).run played.0.items) }
     ensures notes { IfOk result (λ played. played.1.items ≡ (meaning schedule.now).notes) }
@@ -96,7 +97,8 @@ fn played(alloc: Global, schedule: &Schedule) -> Result<(Vec<Actor>, Vec<Note>),
 pub fn replay<'a>(alloc: Global, schedule: &'a Schedule) -> Result<Outcome<'a>, ReplayError>
     ensures { IfOk result (IsOutcome schedule.now) }
 {
-    let (actors, notes) = played(alloc, schedule)?;
+    let (actors, mut notes) = played(alloc, schedule)?;
+    put_by_line(&mut notes)?;
     let (lines, reports) = parts(alloc, actors)?;
     Ok(Outcome::new(schedule.names(), chart(lines), reports, notes))
 }

@@ -45,6 +45,21 @@ fn drawn_greatest_seed(rt: HostRuntime) {
     draws_closed(&rt, rt.alloc(), 18446744073709551615);
 }
 
+/// Line 5 is drawn before line 4, and both leave a note.
+#[test]
+fn drawn_notes_stand_by_line(rt: HostRuntime) {
+    let alloc = rt.alloc();
+    let schedule =
+        b"instances a b\ncapacity 1\na receive b\na receive b\nb receive a\nb send a x\n";
+    let written =
+        b"msc run;\ninstance a;\nin x from b;\nendinstance;\ninstance b;\nout x to a;\nendinstance;\nendmsc;\nnote 4 nothing\nnote 5 nothing\n";
+    let mut out = MemoryOut::new(alloc);
+    let mut err = MemoryOut::new(alloc);
+    let task = Task::Random { seed: 0 };
+    assert_eq!(rt; perform(alloc, &task, schedule, &mut out, &mut err), 0);
+    assert_eq!(rt; out.as_bytes(), written.as_slice());
+}
+
 /// Whether the instance makes the same commands in the same order.
 fn makes_its_own(drawn: &Schedule, schedule: &Schedule, instance: InstanceNo) -> bool {
     let after = drawn

@@ -1,7 +1,7 @@
 use Rattle.std.proofs.Common.{length, sym, ap, ◌∙◌, subst}
 use Rattle.chart.specs.Reports.{AreReports}
 use Rattle.schedule.specs.Meaning.{meaning}
-use Rattle.replayer.specs.Outcomes.{IsOutcome}
+use Rattle.replayer.specs.Outcomes.{AreByLine, IsOutcome}
 use Rattle.replayer.proofs.Charts.{lines-are, reports-are, length-lines_of}
 use Rattle.replayer.proofs.run.replay.Goals as goal
 
@@ -26,4 +26,5 @@ returns c =
     let agrees = c.in_ok-actors.ensures.agrees in
     let lines = c.chart.ensures ∙ c.in_ok-lines.ensures.lines ∙ lines-are n plan.capacity (meaning plan).run c.in_ok-actors.actors.items agrees in
     let reports = subst (AreReports c.chart.result) (sym c.in_ok-lines.ensures.reports) (rw lines (reports-are n plan.capacity (meaning plan).run c.in_ok-actors.actors.items agrees)) in
-    subst (IsOutcome plan) (sym c.new.ensures) (record { names = c.names.ensures.value; chart = lines; reports = reports; notes = c.in_ok-actors.ensures.notes })
+    let notes = subst (λ came. AreByLine came c.put_by_line.new.notes.items) c.in_ok-actors.ensures.notes c.in_ok-put_by_line.ensures in
+    subst (IsOutcome plan) (sym c.new.ensures) (record { names = c.names.ensures.value; chart = lines; reports = reports; notes = notes })
