@@ -3,7 +3,7 @@ use Rattle.std.specs.Prelude.{◌≡◌, ℕ, zero, suc, List, [], ◌∷◌, �
 use Rattle.chart.specs.declared.event.Event.{Event as Mark}
 use Rattle.chart.specs.declared.event.Event.TheVariants.{Send, Receive}
 use Rattle.chart.specs.declared.instance.EventNo.{EventNo}
-use Rattle.chart.specs.Charts.{Chart, at, mark_at, LineView, chart_lines}
+use Rattle.chart.specs.Charts.{Chart, at, mark_at, LineView}
 use Rattle.chart.specs.Reports.{ReportView, IsReportIn}
 
 -- the event at i of p's line, if it is a receive
