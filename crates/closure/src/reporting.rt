@@ -2,7 +2,7 @@
 ghost use Rattle.std.specs.Prelude.{◌≡◌, ◌≢◌, ◌<◌, ◌++◌, ◌∷◌, [], suc, length, IfOk, OnOk};
 ghost use Rattle.chart.specs.declared.line.TheConstants.{MAX_EVENTS};
 ghost use Rattle.chart.specs.Marks.{partner_of, region_of, MayHaveRegion};
-ghost use Rattle.chart.specs.Charts.{chart_lines};
+ghost use Rattle.chart.specs.Charts.{at, chart_lines};
 ghost use Rattle.closure.specs.Rows.{AreRows};
 ghost use Rattle.closure.specs.Closures.{AreLinked};
 ghost use Rattle.closure.specs.Searches.{IsKnowledge};
@@ -33,7 +33,7 @@ fn report_at(
     requires line { line < length lines.now }
     requires place { place < length (chart_lines lines.now (suc line)) }
     requires above { above.now ≡ line_above (chart_lines lines.now) (suc line) place }
-    ensures { IfOk result (IsReportAt (chart_lines lines.now) (suc line) (suc place)) }
+    ensures { IfOk result (IsReportAt (chart_lines lines.now) (at (suc line) (suc place))) }
 {
     let Partner::Sender {
         line: sender,
@@ -78,8 +78,8 @@ fn add_reports(
     requires linked { AreLinked lines.now partners.now }
     requires known { AreRows (IsKnowledge (chart_lines lines.now)) (chart_lines lines.now) (length lines.now) known.now }
     requires line { line < length lines.now }
-    requires reports { HaveReported (chart_lines lines.now) line 0 reports.old.items }
-    ensures { OnOk result (HaveReported (chart_lines lines.now) (suc line) 0 reports.new.items) }
+    requires reports { HaveReported lines.now line 0 reports.old.items }
+    ensures { OnOk result (HaveReported lines.now (suc line) 0 reports.new.items) }
 {
     let mut above = Line::new(alloc, InstanceNo::at_place(line));
     for place in 0..len_of(lines, line) {

@@ -1,8 +1,8 @@
-use Rattle.std.proofs.Common.{◌≡◌, ◌∷◌, [], suc, map, take, All, sym, ap, ◌∙◌, subst, add-one}
+use Rattle.std.proofs.Common.{◌≡◌, suc, map, take, All, ap, subst, add-one}
 use Rattle.chart.specs.Charts.{at, LineView, chart_lines}
 use Rattle.chart.specs.Order.{IsRaces}
 use Rattle.closure.proofs.KnowLemmas.{known_entry}
-use Rattle.closure.proofs.ReportLemmas.{receive_at-receive, IsReportIn-from_races}
+use Rattle.closure.proofs.ReportLemmas.{IsReportIn-from_races}
 use Rattle.closure.proofs.reporting.report_at.Goals as goal
 
 pub returns : goal.returns
@@ -14,6 +14,7 @@ returns c =
     let races = subst (λ q. IsRaces (take c.args.place (chart_lines c.args.lines.now (suc c.args.line))) c.value_at-entry.result q c.region-region.result xs) c.at_place.ensures in_line in
     let own = subst (λ (x : LineView). All (λ e. e.instance ≡ x.instance) c.in_ok-earlier.earlier.items) c.requires.above c.in_ok-earlier.ensures.own in
     rw (c.new.ensures, c.at_place-2.ensures) (
-      receive_at-receive (chart_lines c.args.lines.now) (suc c.in-Sender.sender) (suc c.args.line) (suc c.args.place) c.in-Sender.ensures.1.received ∙ ap (λ i. record { instance = suc c.args.line; index = i } ∷ []) (sym (add-one c.args.place)),
+      (suc c.in-Sender.sender, c.in-Sender.ensures.1.received),
+      ap (λ i. record { instance = suc c.args.line; index = i }) (add-one c.args.place),
       IsReportIn-from_races (chart_lines c.args.lines.now) s (suc c.args.line) c.args.place c.value_at-entry.result c.region-region.result c.event_at.result c.in_ok-earlier.earlier.items c.in-Sender.ensures.1 c.event_at.ensures c.region-region.ensures known races own,
     )
