@@ -6,9 +6,9 @@ ghost use Rattle.closure.specs.Closures.{AreLinked};
 
 use crate::row::{Row, value_at};
 use chart::Line;
+use std::mem::size_of;
 
-/// The other end of an event's message. It takes 4 bytes, so that the partners of a chart's events stay in the cache
-/// while they are searched.
+/// The other end of an event's message.
 #[derive(Clone, Copy)]
 pub enum Partner {
     /// The event is a send, to the line at this place.
@@ -16,6 +16,9 @@ pub enum Partner {
     /// The event is a receive, of the send at this index, from 1, of the line at this place.
     Sender { line: u8, index: u16 },
 }
+
+// So small that the partners of a chart's events stay in the cache while they are searched.
+const _: () = prove!(size_of::<Partner>() == 4);
 
 /// The other end of the message of the event at a place of a line. It reads the table alone.
 pub fn partner_of(lines: &[Line], partners: &[Row<Partner>], line: usize, place: usize) -> Partner
