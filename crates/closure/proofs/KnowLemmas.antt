@@ -1,13 +1,14 @@
 -- What the sends of a line know, found by one search.
-use Rattle.std.proofs.Common.{◌≡◌, ℕ, suc, ◌-◌, ◌<◌, List, length, replicate, refl, sym, subst, arith}
+use Rattle.std.proofs.Common.{◌≡◌, ℕ, suc, ◌-◌, ◌<◌, List, length, replicate, Some, refl, sym, subst, arith}
 use Rattle.std.specs.Prelude.{slice_index}
 use Rattle.chart.specs.Marks.{is_send_to}
 use Rattle.chart.specs.Charts.{Chart, Place, at, LineView, IsSendTo, BelongsTo, chart_lines}
 use Rattle.chart.specs.Knowing.{IsUpTo, IsKnown}
 use Rattle.chart.proofs.Belongs.{IsEvent-from_passes, not_both, one_receiver}
 use Rattle.chart.proofs.Counts.{count_from_front}
-use Rattle.closure.specs.Rows.{entry, number_at, AreRows}
+use Rattle.closure.specs.Rows.{entry, value_at, AreRows}
 use Rattle.closure.specs.Searches.{IsReached, IsSearch, IsSearchAfter, IsKnowledge}
+use Rattle.closure.proofs.RowLemmas.{AreRows-at}
 use Rattle.closure.proofs.SearchLemmas.{IsSearch-none, IsSearch-later, front_within}
 
 -- a search that has reached nothing serves each send
@@ -36,9 +37,9 @@ pub IsKnowledge-receive : (c : Chart) (s r : Place) (k : ℕ) → BelongsTo c s 
 IsKnowledge-receive c s r k belongs q sends = absurd (not_both c q s.instance r sends belongs.received)
 
 -- what the send of a receive knows of the receive's line
-pub known_entry : (lines : List LineView) (rows : List (List ℕ)) → AreRows (IsKnowledge (chart_lines lines)) (chart_lines lines) (length lines) rows → (q j : ℕ) (r : Place) → q < length lines → BelongsTo (chart_lines lines) (at (suc q) j) r → IsKnown (chart_lines lines) (at (suc q) j) r.instance (number_at rows q (j - 1))
-known_entry lines rows known q j r q_in belongs =
+pub known_entry : (lines : List LineView) (rows : List (List ℕ)) → AreRows (IsKnowledge (chart_lines lines)) (chart_lines lines) (length lines) rows → (q j : ℕ) (r : Place) (k : ℕ) → q < length lines → BelongsTo (chart_lines lines) (at (suc q) j) r → value_at rows q (j - 1) ≡ Some k → IsKnown (chart_lines lines) (at (suc q) j) r.instance k
+known_entry lines rows known q j r k q_in belongs is =
     let event = IsEvent-from_passes (chart_lines lines) (is_send_to r.instance) (at (suc q) j) belongs.sent in
-    let e : suc (j - 1) ≡ j = omega arith in
-    let right = (known.each q q_in).right (j - 1) (omega arith) in
-    subst (λ i. IsKnowledge (chart_lines lines) (at (suc q) i) (number_at rows q (j - 1))) e right r.instance belongs.sent
+    let e : suc (j - 1) ≡ j = omega (arith, event.0) in
+    let right = AreRows-at (IsKnowledge (chart_lines lines)) (chart_lines lines) (length lines) rows q (j - 1) k known q_in is in
+    subst (λ i. IsKnowledge (chart_lines lines) (at (suc q) i) k) e right r.instance belongs.sent

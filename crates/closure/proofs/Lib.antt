@@ -6,5 +6,6 @@ pub mod LinkLemmas
 pub mod OneList
 pub mod ReadLemmas
 pub mod ReportLemmas
+pub mod RowLemmas
 pub mod RunLemmas
 pub mod SearchLemmas

@@ -1,16 +1,12 @@
 -- A chart has one list of reports.
-use Rattle.std.proofs.Common.{◌≡◌, ℕ, ◌⊎◌, inl, inr, List, [], ◌∷◌, length, map, All, refl, sym, ap, ap₂, ◌∙◌, subst}
+use Rattle.std.proofs.Common.{◌≡◌, ◌⊎◌, inl, inr, List, length, sym, ap, ◌∙◌}
 use Rattle.std.specs.Prelude.{slice_get}
-use Rattle.std.proofs.lemmas.List.Elements.{All-head, All-tail}
-use Rattle.chart.specs.declared.instance.EventNo.{EventNo}
-use Rattle.chart.specs.Charts.{Chart, LineView, IsPossible, chart_lines}
-use Rattle.chart.specs.Order.{IsReport}
+use Rattle.chart.specs.Charts.{LineView, IsPossible, chart_lines}
 use Rattle.chart.specs.Reports.{ReportView, AreReports}
 use Rattle.chart.proofs.ReportLists.{same_reports}
 use Rattle.closure.specs.declared.error.ChartError.TheVariants.{Memory}
 use Rattle.closure.specs.declared.error.AuditError.{AuditError}
 use Rattle.closure.specs.declared.error.AuditError.TheVariants.{Chart as OfChart, WrongReport}
-use Rattle.closure.specs.Faults.{place_of}
 use Rattle.closure.specs.Audits.{RefusesReports}
 use Rattle.closure.proofs.Impossible.{impossible}
 

@@ -2,8 +2,7 @@
 use Rattle.std.proofs.Common.{◌≡◌, ◌≢◌, ℕ, zero, suc, ◌+◌, ◌-◌, ◌<◌, ◌≤◌, ◌⊎◌, inl, inr, Bool, true, false, List, [], ◌∷◌, ◌++◌, length, set, take, drop, count_by, Some, refl, sym, ap, ap₂, ◌∙◌, subst, arith, eqb-true, take_all, take-append-drop}
 use Rattle.std.specs.Prelude.{slice_index, MatchBool}
 use Rattle.std.proofs.lemmas.Bool.{cases_lt, cases_eq, false≢true}
-use Rattle.std.proofs.lemmas.Option.{get_or_from_slice_get}
-use Rattle.std.proofs.lemmas.List.{length-drop, get_or-set_same, get_or-set_other, get_or-replicate, get_or_past, length-replicate, take_more}
+use Rattle.std.proofs.lemmas.List.{length-drop, get_or-set_same, get_or-set_other, get_or-replicate, get_or_past, length-replicate}
 use Rattle.std.proofs.Common.{length-take, replicate}
 use Rattle.std.proofs.lemmas.List.Sums.{count_by-le-length}
 use Rattle.chart.specs.declared.history.Event.{Event}
@@ -26,7 +25,7 @@ use Rattle.chart.proofs.Steps.{line_of_other}
 use Rattle.closure.specs.Rows.{entry}
 use Rattle.closure.specs.Links.{HasSameName}
 use Rattle.closure.specs.Runs.{next_of, IsReady, IsStopped, AreStopped}
-use Rattle.closure.proofs.ReadLemmas.{empty_line, line_short, partner_other}
+use Rattle.closure.proofs.ReadLemmas.{empty_line, front_next, line_short, partner_other}
 use Rattle.closure.proofs.LinkLemmas.{tally_pass}
 use Rattle.closure.proofs.Circles.{circle, HasCircle}
 
@@ -109,10 +108,6 @@ module _ (lines : List LineView) (made : List ℕ) (p : ℕ) (chart : IsChart li
   room : length (chart_of old.history (suc p)) < MAX_EVENTS
   room = let most = line_short lines p chart inside in omega (arith, ap length (old.chart (suc p)), length-take k (c (suc p)))
 
-  -- the line with the event
-  line_made : (m : Mark) → mark_at c (next_of made p) ≡ Some m → take (k + 1) (c (suc p)) ≡ take k (c (suc p)) ++ m ∷ []
-  line_made m is = take_more (c (suc p)) k m within ∙ ap (λ x. take k (c (suc p)) ++ x ∷ []) (get_or_from_slice_get (c (suc p)) k m m is)
-
   -- an event of the line that has this mark was made
   IsMade-by : (e : Event) (m : Mark) → by e ≡ suc p → mark_at c (next_of made p) ≡ Some m → MayFollow n MAX_EVENTS old.history e → ((a b : ℕ) → is_closed (e ∷ old.history) a b ≡ false) → chart_of (e ∷ old.history) (suc p) ≡ chart_of old.history (suc p) ++ m ∷ [] → IsMade n c (set made p (k + 1))
   IsMade-by e m its is follows never line = record {
@@ -122,7 +117,7 @@ module _ (lines : List LineView) (made : List ℕ) (p : ℕ) (chart : IsChart li
     chart = λ r. elim (cases_eq r (suc p)) [
       | inl here ↦
           subst (λ x. chart_of (e ∷ old.history) x ≡ take (entry (set made p (k + 1)) x) (c x)) (sym here)
-          (line ∙ ap (λ xs. xs ++ m ∷ []) (old.chart (suc p)) ∙ sym (line_made m is) ∙ ap (λ i. take i (c (suc p))) (sym (get_or-set_same made p (k + 1) 0 (omega arith))))
+          (line ∙ ap (λ xs. xs ++ m ∷ []) (old.chart (suc p)) ∙ sym (front_next (c (suc p)) k m is) ∙ ap (λ i. take i (c (suc p))) (sym (get_or-set_same made p (k + 1) 0 (omega arith))))
       | inr other ↦ line_of_other old.history e r (λ x. other (sym x ∙ its)) ∙ old.chart r ∙ ap (λ i. take i (c r)) (sym (entry-raised made p (k + 1) r other))
     ];
   }

@@ -1,23 +1,26 @@
--- Which send each receive belongs to, and how the sends of a lane are passed along the sender's line (lanes are first in,
+-- The other end of each event's message, and how the sends of a lane are passed along the sender's line (lanes are first in,
 -- first out, as Alur, Holzmann and Peled 1996 have them).
 use Rattle.std.specs.Prelude.{◌≡◌, ℕ, suc, ◌+◌, ◌<◌, ◌≤◌, true, List, length, slice_index, Some}
 use Rattle.chart.specs.declared.event.Event.{Event as Mark}
 use Rattle.chart.specs.declared.instance.EventNo.{EventNo}
 use Rattle.chart.specs.Marks.{ith, tally, is_send_to, is_receive_from, name_of}
-use Rattle.chart.specs.Charts.{Chart, Place, at, mark_at, IsReceiveFrom, BelongsTo, HasNoSend, HasOtherName}
+use Rattle.chart.specs.Charts.{Chart, Place, at, mark_at, LineView, IsSendTo, BelongsTo, HasNoSend, HasOtherName, chart_lines}
 use Rattle.closure.specs.declared.error.ChartError.{ChartError}
 use Rattle.closure.specs.declared.error.ChartError.TheVariants.{ReceiveWithoutSend, NameMismatch, Cyclic, Memory}
 use Rattle.closure.specs.declared.linking.Fault.{Fault}
 use Rattle.closure.specs.declared.linking.Fault.TheVariants.{NoSend, OtherName}
+use Rattle.closure.specs.declared.partner.Partner.{Partner}
+use Rattle.closure.specs.declared.partner.Partner.TheVariants.{Receiver, Sender}
 use Rattle.closure.specs.Faults.{place_of, IsFaulty}
 
 -- the events at s and at r have one name
 abbrev pub HasSameName : Chart → Place → Place → Type 0
 HasSameName c s r = (a b : Mark) → mark_at c s ≡ Some a → mark_at c r ≡ Some b → name_of a ≡ name_of b
 
--- where r is a receive, it belongs to the send of this index on its sender's line, with its name
-abbrev pub IsLink : Chart → Place → ℕ → Type 0
-IsLink c r j = (q : ℕ) → IsReceiveFrom c q r → BelongsTo c (at q j) r × HasSameName c (at q j) r
+-- the event at r is a send to this line, or a receive that belongs to the send at this index of that line, with its name
+abbrev pub IsPartner : List LineView → Place → Partner → Type 0
+IsPartner lines r (Receiver line) = (line < length lines) × IsSendTo (chart_lines lines) (suc line) r
+IsPartner lines r (Sender line index) = (line < length lines) × BelongsTo (chart_lines lines) (at (suc line) index) r × HasSameName (chart_lines lines) (at (suc line) index) r
 
 -- at j is the next send to q after the first `passed` events
 pub record IsNextSend (line : List Mark) (q passed j : ℕ) : Type 0 where

@@ -1,5 +1,5 @@
--- Numbers that are kept for the events of each line (this project's own).
-use Rattle.std.specs.Prelude.{◌≡◌, ℕ, zero, suc, ◌<◌, List, [], length, slice_index, slice_index_or}
+-- Tables with a value for each event of each line (this project's own).
+use Rattle.std.specs.Prelude.{◌≡◌, ℕ, zero, suc, ◌<◌, List, [], length, Option, Some, slice_get, slice_index, slice_index_or}
 use Rattle.chart.specs.Charts.{Chart, Place, at}
 
 -- the number that a list has for an instance, 0 where it has none
@@ -7,16 +7,16 @@ abbrev pub entry : List ℕ → ℕ → ℕ
 entry xs zero = 0
 entry xs (suc p) = slice_index xs p
 
--- the number that rows have for the event at k of the line at p, both from 0
-abbrev pub number_at : List (List ℕ) → ℕ → ℕ → ℕ
-number_at rows p k = slice_index (slice_index_or rows p []) k
+-- the value that rows have for the event at k of the line at p, both from 0
+abbrev pub value_at : {X : Type 0} → List (List X) → ℕ → ℕ → Option X
+value_at rows p k = slice_get (slice_index_or rows p []) k
 
--- for each of the first m events of p's line the number is right
-pub record IsRow (IsRight : Place → ℕ → Type 0) (p m : ℕ) (row : List ℕ) : Type 0 where
+-- for each of the first m events of p's line the value is right
+pub record IsRow {X : Type 0} (IsRight : Place → X → Type 0) (p m : ℕ) (row : List X) : Type 0 where
   pub whole : length row ≡ m
-  pub right : (k : ℕ) → k < m → IsRight (at p (suc k)) (slice_index row k)
+  pub right : (k : ℕ) (x : X) → slice_get row k ≡ Some x → IsRight (at p (suc k)) x
 
--- for each event of the first n lines the number is right
-pub record AreRows (IsRight : Place → ℕ → Type 0) (c : Chart) (n : ℕ) (rows : List (List ℕ)) : Type 0 where
+-- for each event of the first n lines the value is right
+pub record AreRows {X : Type 0} (IsRight : Place → X → Type 0) (c : Chart) (n : ℕ) (rows : List (List X)) : Type 0 where
   pub whole : length rows ≡ n
   pub each : (p : ℕ) → p < n → IsRow IsRight (suc p) (length (c (suc p))) (slice_index_or rows p [])

@@ -6,22 +6,23 @@ ghost use Rattle.closure.specs.Faults.{place_of, Refuses};
 ghost use Rattle.chart.specs.Reports.{AreReports};
 
 use crate::error::ChartError;
-use crate::linking::links_of;
-use crate::numbers::Numbers;
+use crate::linking::partners_of;
 use crate::order::is_before;
+use crate::partner::Partner;
 use crate::reporting::reports_of;
+use crate::row::Row;
 use crate::running::runs;
 use chart::{Chart, EventNo, Line, Report};
 use std::alloc::{AllocError, Global};
 use std::marker::Model;
 
-/// A possible chart, with the send of each receive: it answers what the enforced order puts before what. A contract
+/// A possible chart, with the partner of each event: it answers what the enforced order puts before what. A contract
 /// sees the chart's lines.
 #[derive(Drop)]
 pub struct Closure<'a> {
     alloc: Global,
     lines: &'a [Line],
-    links: Vec<Numbers>,
+    partners: Vec<Row<Partner>>,
 }
 
 impl<'a> Model for Closure<'a> {
@@ -33,7 +34,7 @@ impl<'a> Model for Closure<'a> {
 
     ghost view = { λ c. c.lines.now };
 
-    ghost invariant = { λ c. IsClosure c.lines.now c.links.items };
+    ghost invariant = { λ c. IsClosure c.lines.now c.partners.items };
 }
 
 impl<'a> Closure<'a> {
@@ -50,17 +51,17 @@ impl<'a> Closure<'a> {
             (λ e. (e ≡ ChartError.Memory) ⊎ (IsPossible (length chart.now) (chart_lines chart.now) → ⊥)) }
     {
         let lines = chart.lines();
-        let links = match links_of(alloc, lines) {
-            Ok(links) => links,
+        let partners = match partners_of(alloc, lines) {
+            Ok(partners) => partners,
             Err(error) => return Err(error),
         };
-        if !runs(alloc, lines, links.as_slice())? {
+        if !runs(alloc, lines, partners.as_slice())? {
             return Err(ChartError::Cyclic);
         }
         Ok(Closure {
             alloc,
             lines,
-            links,
+            partners,
         })
     }
 
@@ -74,7 +75,7 @@ impl<'a> Closure<'a> {
         is_before(
             self.alloc,
             self.lines,
-            self.links.as_slice(),
+            self.partners.as_slice(),
             &earlier,
             later.instance.place(),
             later.index as usize,
@@ -88,6 +89,6 @@ impl<'a> Closure<'a> {
     pub fn races(&self) -> Result<Vec<Report>, AllocError>
         ensures { IfOk result (λ reports. AreReports self.now reports.items) }
     {
-        reports_of(self.alloc, self.lines, self.links.as_slice())
+        reports_of(self.alloc, self.lines, self.partners.as_slice())
     }
 }

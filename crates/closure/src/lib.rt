@@ -13,6 +13,7 @@ mod order;
 mod partner;
 mod reading;
 mod reporting;
+mod row;
 mod running;
 mod search;
 

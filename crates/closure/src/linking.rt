@@ -1,14 +1,16 @@
-//! The send of each receive: the n-th receive on a lane is of the n-th send.
+//! The partner of each event: the n-th receive on a lane is of the n-th send.
 ghost use Rattle.std.specs.Prelude.{◌≡◌, ◌<◌, ◌≤◌, ◌↔◌, suc, length, count_by, IsTrue, MatchOption, IfOk, OnOk, IfErr};
 ghost use Rattle.chart.specs.Marks.{is_send_to, tally};
 ghost use Rattle.chart.specs.Charts.{at, chart_lines, IsChart};
 ghost use Rattle.closure.specs.Faults.{Refuses};
 ghost use Rattle.closure.specs.Rows.{IsRow, AreRows};
-ghost use Rattle.closure.specs.Links.{IsLink, IsNextSend, HasPassed, IsFaultOf, refusal_of, RefusesLine};
+ghost use Rattle.closure.specs.Links.{IsPartner, IsNextSend, HasPassed, IsFaultOf, refusal_of, RefusesLine};
 
 use crate::error::ChartError;
 use crate::numbers::Numbers;
+use crate::partner::Partner;
 use crate::reading::{event_at, events_of, len_of};
+use crate::row::Row;
 use chart::{Event, EventNo, InstanceNo, Line, Name};
 use std::alloc::Global;
 
@@ -52,26 +54,30 @@ fn next_send(events: &[Event], passed: usize, receiver: InstanceNo) -> Option<us
     None
 }
 
-/// The index of the send of the event at this place, if it is a receive. Of each sender's line `passed` tells how many
-/// events were looked at, up to the send of the last receive.
+/// The other end of the message of the event at this place. Of each sender's line `passed` tells how many events were
+/// looked at, up to the send of the last receive.
 fn link_event(
     lines: &[Line],
     passed: &mut Numbers,
     line: usize,
     place: usize,
-) -> Result<usize, Fault>
+) -> Result<Partner, Fault>
     requires chart { IsChart lines.now }
     requires line { line < length lines.now }
     requires place { place < length (chart_lines lines.now (suc line)) }
     requires passed { HasPassed (chart_lines lines.now) (length lines.now) line place passed.old }
-    ensures ok { IfOk result (IsLink (chart_lines lines.now) (at (suc line) (suc place))) }
+    ensures ok { IfOk result (IsPartner lines.now (at (suc line) (suc place))) }
     ensures next { OnOk result (HasPassed (chart_lines lines.now) (length lines.now) line (suc place) passed.new) }
     ensures fault { IfErr result (IsFaultOf (chart_lines lines.now) (at (suc line) (suc place))) }
 {
-    let Event::Receive { from, name, .. } = event_at(lines, line, place) else {
-        return Ok(0);
+    let (sender, name) = match event_at(lines, line, place) {
+        Event::Send { to, .. } => {
+            return Ok(Partner::Receiver {
+                line: to.place() as u8,
+            });
+        }
+        Event::Receive { from, name, .. } => (from.place(), name),
     };
-    let sender = from.place();
     let events = events_of(lines, sender);
     let Some(index) = next_send(events, passed.at(sender), InstanceNo::at_place(line)) else {
         return Err(Fault::NoSend);
@@ -80,7 +86,10 @@ fn link_event(
         return Err(Fault::OtherName);
     }
     passed.set(sender, index);
-    Ok(index)
+    Ok(Partner::Sender {
+        line: sender as u8,
+        index: index as u16,
+    })
 }
 
 /// The refusal of a chart whose receive of this number has the fault.
@@ -93,19 +102,19 @@ fn refusal(fault: Fault, receive: EventNo) -> ChartError
     }
 }
 
-/// The send of each receive of a line.
-fn link_line(alloc: Global, lines: &[Line], line: usize) -> Result<Numbers, ChartError>
+/// The partner of each event of a line.
+fn link_line(alloc: Global, lines: &[Line], line: usize) -> Result<Row<Partner>, ChartError>
     requires chart { IsChart lines.now }
     requires line { line < length lines.now }
     ensures ok { IfOk result
-        (IsRow (IsLink (chart_lines lines.now)) (suc line) (length (chart_lines lines.now (suc line)))) }
+        (IsRow (IsPartner lines.now) (suc line) (length (chart_lines lines.now (suc line)))) }
     ensures err { IfErr result (RefusesLine (chart_lines lines.now) (suc line)) }
 {
     let mut passed = Numbers::zeros(alloc, lines.len())?;
-    let mut row = Numbers::new(alloc);
+    let mut row = Row::new(alloc);
     for place in 0..len_of(lines, line) {
         match link_event(lines, &mut passed, line, place) {
-            Ok(index) => row.push(index)?,
+            Ok(partner) => row.push(partner)?,
             Err(fault) => {
                 let receive = EventNo {
                     instance: InstanceNo::at_place(line),
@@ -118,20 +127,20 @@ fn link_line(alloc: Global, lines: &[Line], line: usize) -> Result<Numbers, Char
     Ok(row)
 }
 
-/// The send of each receive: for each line a row with the index of the send of each of its receives, on the line of its
-/// sender. The first receive without one, or with another name, is refused.
-pub fn links_of(alloc: Global, lines: &[Line]) -> Result<Vec<Numbers>, ChartError>
+/// The partner of each event: for each line a row with those of its events. The first receive without a send, or with
+/// another name than its send, is refused.
+pub fn partners_of(alloc: Global, lines: &[Line]) -> Result<Vec<Row<Partner>>, ChartError>
     requires { IsChart lines.now }
     ensures ok { IfOk result
-        (λ links. AreRows (IsLink (chart_lines lines.now)) (chart_lines lines.now) (length lines.now) links.items) }
+        (λ partners. AreRows (IsPartner lines.now) (chart_lines lines.now) (length lines.now) partners.items) }
     ensures err { IfErr result (Refuses (chart_lines lines.now)) }
 {
-    let mut links = Vec::new(alloc);
+    let mut partners = Vec::new(alloc);
     for line in 0..lines.len() {
         match link_line(alloc, lines, line) {
-            Ok(row) => links.push(row)?,
+            Ok(row) => partners.push(row)?,
             Err(error) => return Err(error),
         }
     }
-    Ok(links)
+    Ok(partners)
 }

@@ -1,10 +1,10 @@
 //! Lists of numbers.
-ghost use Rattle.std.specs.Prelude.{◌≡◌, ◌<◌, ◌++◌, ◌∷◌, [], length, replicate, slice_index, slice_set, IfOk, OnOk};
+ghost use Rattle.std.specs.Prelude.{◌≡◌, ◌<◌, length, replicate, slice_index, slice_set, IfOk};
 
 use std::alloc::{AllocError, Global};
 use std::marker::Model;
 
-/// A list of numbers, one for each line or for each event of a line. A contract sees the list.
+/// A list of numbers, one for each line. A contract sees the list.
 #[derive(Drop)]
 pub struct Numbers {
     numbers: Vec<usize>,
@@ -19,15 +19,6 @@ impl Model for Numbers {
 }
 
 impl Numbers {
-    /// No numbers. It takes no memory.
-    pub fn new(alloc: Global) -> Numbers
-        ensures { result ≡ [] }
-    {
-        Numbers {
-            numbers: Vec::new(alloc),
-        }
-    }
-
     /// So many zeros.
     pub fn zeros(alloc: Global, count: usize) -> Result<Numbers, AllocError>
         ensures { IfOk result (λ zeros. zeros ≡ replicate count 0) }
@@ -57,13 +48,5 @@ impl Numbers {
         ensures { self.new ≡ slice_set self.old place number }
     {
         self.numbers[place] = number;
-    }
-
-    /// Adds a number at the end.
-    pub fn push(&mut self, number: usize) -> Result<(), AllocError>
-        ensures { OnOk result (self.new ≡ self.old ++ number ∷ []) }
-    {
-        self.numbers.push(number)?;
-        Ok(())
     }
 }

@@ -6,9 +6,9 @@ ghost use Rattle.closure.specs.Faults.{place_of};
 ghost use Rattle.closure.specs.Closures.{IsClosure};
 ghost use Rattle.closure.specs.Searches.{IsReceiveAbove};
 
-use crate::numbers::Numbers;
 use crate::partner::{Partner, partner_of};
 use crate::reading::{event_at, len_of};
+use crate::row::Row;
 use crate::search::is_up_to;
 use chart::{EventNo, InstanceNo, Line};
 use std::alloc::{AllocError, Global};
@@ -52,12 +52,12 @@ fn is_receive_above(
 pub fn is_before(
     alloc: Global,
     lines: &[Line],
-    links: &[Numbers],
+    partners: &[Row<Partner>],
     earlier: &EventNo,
     line: usize,
     index: usize,
 ) -> Result<bool, AllocError>
-    requires { IsClosure lines.now links.now }
+    requires { IsClosure lines.now partners.now }
     ensures { IfOk result (λ before. IsTrue before ↔ Before (chart_lines lines.now) (place_of earlier.now) (at (suc line) index)) }
 {
     if line >= lines.len() {
@@ -69,21 +69,22 @@ pub fn is_before(
     if index > len_of(lines, line) {
         return Ok(false);
     }
-    match partner_of(lines, links, line, index - 1) {
+    match partner_of(lines, partners, line, index - 1) {
         Partner::Receiver { .. } => {
             if is_at(earlier, line, index) {
                 return Ok(false);
             }
-            is_up_to(alloc, lines, links, earlier, line, index)
+            is_up_to(alloc, lines, partners, earlier, line, index)
         }
         Partner::Sender {
             line: sender,
             index: sent,
         } => {
+            let sender = sender as usize;
             if is_receive_above(lines, earlier, line, index, InstanceNo::at_place(sender)) {
                 return Ok(true);
             }
-            is_up_to(alloc, lines, links, earlier, sender, sent)
+            is_up_to(alloc, lines, partners, earlier, sender, sent as usize)
         }
     }
 }

@@ -1,10 +1,8 @@
-//! Lines, events and rows of numbers, by places that begin at 0.
-ghost use Rattle.std.specs.Prelude.{◌≡◌, ◌<◌, ◌≤◌, suc, length, Some, [], slice_index_or};
+//! Lines and their events, by places that begin at 0.
+ghost use Rattle.std.specs.Prelude.{◌≡◌, ◌<◌, ◌≤◌, suc, length, Some};
 ghost use Rattle.chart.specs.declared.line.TheConstants.{MAX_EVENTS};
 ghost use Rattle.chart.specs.Charts.{at, mark_at, chart_lines};
-ghost use Rattle.closure.specs.Rows.{number_at};
 
-use crate::numbers::Numbers;
 use chart::{Event, Line, MAX_EVENTS};
 
 /// How many events a line has.
@@ -31,13 +29,4 @@ pub fn event_at(lines: &[Line], line: usize, place: usize) -> Event
     ensures { mark_at (chart_lines lines.now) (at (suc line) (suc place)) ≡ Some result }
 {
     events_of(lines, line)[place]
-}
-
-/// The number that rows have for the event at a place of a line.
-pub fn number_at(rows: &[Numbers], line: usize, place: usize) -> usize
-    requires line { line < length rows.now }
-    requires place { place < length (slice_index_or rows.now line []) }
-    ensures { result ≡ number_at rows.now line place }
-{
-    rows[line].at(place)
 }

@@ -2,7 +2,7 @@
 ghost use Rattle.std.specs.Prelude.{◌≡◌, ◌≢◌, ◌<◌, ◌++◌, ◌∷◌, [], suc, length, IfOk, OnOk};
 ghost use Rattle.chart.specs.declared.line.TheConstants.{MAX_EVENTS};
 ghost use Rattle.chart.specs.Marks.{partner_of, region_of, MayHaveRegion};
-ghost use Rattle.chart.specs.Charts.{chart_lines};
+ghost use Rattle.chart.specs.Charts.{at, chart_lines};
 ghost use Rattle.closure.specs.Rows.{AreRows};
 ghost use Rattle.closure.specs.Closures.{AreLinked};
 ghost use Rattle.closure.specs.Searches.{IsKnowledge};
@@ -10,9 +10,9 @@ ghost use Rattle.chart.specs.Reports.{AreReports};
 ghost use Rattle.closure.specs.Reported.{HaveReported, IsReportAt, line_above};
 
 use crate::knowing::knowledge;
-use crate::numbers::Numbers;
 use crate::partner::{Partner, partner_of};
-use crate::reading::{event_at, len_of, number_at};
+use crate::reading::{event_at, len_of};
+use crate::row::{Row, value_at};
 use chart::{Event, EventNo, InstanceNo, Line, Report};
 use online_races::races;
 use std::alloc::{AllocError, Global};
@@ -22,28 +22,29 @@ use std::alloc::{AllocError, Global};
 fn report_at(
     alloc: Global,
     lines: &[Line],
-    links: &[Numbers],
-    known: &[Numbers],
+    partners: &[Row<Partner>],
+    known: &[Row<u32>],
     above: &Line,
     line: usize,
     place: usize,
 ) -> Result<Option<Report>, AllocError>
-    requires linked { AreLinked lines.now links.now }
+    requires linked { AreLinked lines.now partners.now }
     requires known { AreRows (IsKnowledge (chart_lines lines.now)) (chart_lines lines.now) (length lines.now) known.now }
     requires line { line < length lines.now }
     requires place { place < length (chart_lines lines.now (suc line)) }
     requires above { above.now ≡ line_above (chart_lines lines.now) (suc line) place }
-    ensures { IfOk result (IsReportAt (chart_lines lines.now) (suc line) (suc place)) }
+    ensures { IfOk result (IsReportAt (chart_lines lines.now) (at (suc line) (suc place))) }
 {
     let Partner::Sender {
         line: sender,
         index,
-    } = partner_of(lines, links, line, place)
+    } = partner_of(lines, partners, line, place)
     else {
         return Ok(None);
     };
+    let sender = sender as usize;
     let region = event_at(lines, line, place).region();
-    let entry = number_at(known, sender, index - 1) as u32;
+    let entry = value_at(known, sender, index as usize - 1);
     let earlier = races(alloc, above, entry, InstanceNo::at_place(sender), region)?;
     let receive = EventNo {
         instance: InstanceNo::at_place(line),
@@ -69,20 +70,20 @@ fn add(line: &mut Line, event: Event) -> Result<(), AllocError>
 fn add_reports(
     alloc: Global,
     lines: &[Line],
-    links: &[Numbers],
-    known: &[Numbers],
+    partners: &[Row<Partner>],
+    known: &[Row<u32>],
     line: usize,
     reports: &mut Vec<Report>,
 ) -> Result<(), AllocError>
-    requires linked { AreLinked lines.now links.now }
+    requires linked { AreLinked lines.now partners.now }
     requires known { AreRows (IsKnowledge (chart_lines lines.now)) (chart_lines lines.now) (length lines.now) known.now }
     requires line { line < length lines.now }
-    requires reports { HaveReported (chart_lines lines.now) line 0 reports.old.items }
-    ensures { OnOk result (HaveReported (chart_lines lines.now) (suc line) 0 reports.new.items) }
+    requires reports { HaveReported lines.now line 0 reports.old.items }
+    ensures { OnOk result (HaveReported lines.now (suc line) 0 reports.new.items) }
 {
     let mut above = Line::new(alloc, InstanceNo::at_place(line));
     for place in 0..len_of(lines, line) {
-        match report_at(alloc, lines, links, known, &above, line, place)? {
+        match report_at(alloc, lines, partners, known, &above, line, place)? {
             None => {}
             Some(report) => reports.push(report)?,
         }
@@ -95,15 +96,15 @@ fn add_reports(
 pub fn reports_of(
     alloc: Global,
     lines: &[Line],
-    links: &[Numbers],
+    partners: &[Row<Partner>],
 ) -> Result<Vec<Report>, AllocError>
-    requires { AreLinked lines.now links.now }
+    requires { AreLinked lines.now partners.now }
     ensures { IfOk result (λ reports. AreReports lines.now reports.items) }
 {
-    let known = knowledge(alloc, lines, links)?;
+    let known = knowledge(alloc, lines, partners)?;
     let mut reports = Vec::new(alloc);
     for line in 0..lines.len() {
-        add_reports(alloc, lines, links, known.as_slice(), line, &mut reports)?;
+        add_reports(alloc, lines, partners, known.as_slice(), line, &mut reports)?;
     }
     Ok(reports)
 }

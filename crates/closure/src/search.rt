@@ -12,6 +12,7 @@ ghost use Rattle.closure.specs.Searches.{IsSend, IsReached, IsSearch, AreSeen, H
 
 use crate::numbers::Numbers;
 use crate::partner::{Partner, partner_of};
+use crate::row::Row;
 use chart::{EventNo, Line};
 use std::alloc::{AllocError, Global};
 
@@ -76,8 +77,8 @@ impl Search {
 }
 
 /// Follows the next event of a line that was reached, and answers the line where the search may go on.
-fn follow(lines: &[Line], links: &[Numbers], search: &mut Search, line: usize) -> usize
-    requires linked { AreLinked lines.now links.now }
+fn follow(lines: &[Line], partners: &[Row<Partner>], search: &mut Search, line: usize) -> usize
+    requires linked { AreLinked lines.now partners.now }
     requires line { line < length lines.now }
     requires fronts { length search.old.fronts ≡ length lines.now }
     requires seen { length search.old.seen ≡ length lines.now }
@@ -91,13 +92,14 @@ fn follow(lines: &[Line], links: &[Numbers], search: &mut Search, line: usize) -
 {
     let place = search.seen.at(line);
     search.seen.set(line, place + 1);
-    match partner_of(lines, links, line, place) {
+    match partner_of(lines, partners, line, place) {
         Partner::Receiver { .. } => line,
         Partner::Sender {
             line: sender,
             index,
         } => {
-            search.raise(sender, index);
+            let sender = sender as usize;
+            search.raise(sender, index as usize);
             sender
         }
     }
@@ -105,8 +107,14 @@ fn follow(lines: &[Line], links: &[Numbers], search: &mut Search, line: usize) -
 
 /// Goes on to the send of this index of a line, and all that is before it. What was reached before is it or before it, as
 /// where it was searched for earlier sends of this line.
-pub fn reach(lines: &[Line], links: &[Numbers], search: &mut Search, line: usize, index: usize)
-    requires linked { AreLinked lines.now links.now }
+pub fn reach(
+    lines: &[Line],
+    partners: &[Row<Partner>],
+    search: &mut Search,
+    line: usize,
+    index: usize,
+)
+    requires linked { AreLinked lines.now partners.now }
     requires line { line < length lines.now }
     requires send { IsSend (chart_lines lines.now) (at (suc line) index) }
     requires search { IsSearch (chart_lines lines.now) (length lines.now) (at (suc line) index) search.old.fronts search.old.seen }
@@ -116,7 +124,7 @@ pub fn reach(lines: &[Line], links: &[Numbers], search: &mut Search, line: usize
     search.raise(line, index);
     let mut next = line;
     while let Some(pending) = search.pending(next) {
-        next = follow(lines, links, search, pending);
+        next = follow(lines, partners, search, pending);
     }
 }
 
@@ -124,12 +132,12 @@ pub fn reach(lines: &[Line], links: &[Numbers], search: &mut Search, line: usize
 pub fn is_up_to(
     alloc: Global,
     lines: &[Line],
-    links: &[Numbers],
+    partners: &[Row<Partner>],
     event: &EventNo,
     line: usize,
     index: usize,
 ) -> Result<bool, AllocError>
-    requires linked { AreLinked lines.now links.now }
+    requires linked { AreLinked lines.now partners.now }
     requires line { line < length lines.now }
     requires send { IsSend (chart_lines lines.now) (at (suc line) index) }
     ensures { IfOk result (λ up_to. IsTrue up_to ↔ IsUpTo (chart_lines lines.now) (at (suc line) index) (place_of event.now)) }
@@ -142,6 +150,6 @@ pub fn is_up_to(
         return Ok(false);
     }
     let mut search = Search::new(alloc, lines.len())?;
-    reach(lines, links, &mut search, line, index);
+    reach(lines, partners, &mut search, line, index);
     Ok(event.index as usize <= search.fronts.at(place))
 }

@@ -1,7 +1,7 @@
-//! Calls whose growth is refused: each is made once more, and then answers in full. What was lent is as before.
+//! Calls whose growth is refused: each is made once more, and then answers in full. What was lent is as before. A test
+//! ends with a growth of its own, whose refusal tells that each one before it was refused in an earlier run of the test.
 
 use super::{A, B, audited, before, closure_of, races, report, reports, turns};
-use std::alloc::Global;
 use std::test::Fail;
 
 #[test]
@@ -10,7 +10,8 @@ fn refused_growths_of_closures(rt: HostRuntime) -> Result<(), Fail> {
     let chart = turns(&rt, alloc);
     let closure = closure_of(&rt, alloc, &chart);
     before(&rt, &closure, (A, 1), (4, 1), false);
-    every_growth_was_refused(alloc)
+    Vec::<u8>::with_capacity(alloc, 1).map_err(|_| "every growth was refused")?;
+    Ok(())
 }
 
 #[test]
@@ -20,7 +21,8 @@ fn refused_growths_before(rt: HostRuntime) -> Result<(), Fail> {
     let closure = closure_of(&rt, alloc, &chart);
     before(&rt, &closure, (A, 1), (B, 3), true);
     before(&rt, &closure, (B, 2), (B, 3), false);
-    every_growth_was_refused(alloc)
+    Vec::<u8>::with_capacity(alloc, 1).map_err(|_| "every growth was refused")?;
+    Ok(())
 }
 
 #[test]
@@ -32,7 +34,8 @@ fn refused_growths_of_reports(rt: HostRuntime) -> Result<(), Fail> {
     assert_eq!(rt; found.len(), 3);
     reports(&rt, found.as_slice(), 1, (B, 2), &[1]);
     reports(&rt, found.as_slice(), 2, (B, 3), &[2]);
-    every_growth_was_refused(alloc)
+    Vec::<u8>::with_capacity(alloc, 1).map_err(|_| "every growth was refused")?;
+    Ok(())
 }
 
 #[test]
@@ -46,13 +49,6 @@ fn refused_growths_of_audits(rt: HostRuntime) -> Result<(), Fail> {
     ];
     let right = right.as_slice();
     assert_eq!(rt; audited(&rt, alloc, &chart, right), Ok(()));
-    every_growth_was_refused(alloc)
-}
-
-/// A last growth, whose refusal tells that each one before it was refused in an earlier run of the test.
-fn every_growth_was_refused(alloc: Global) -> Result<(), Fail> {
-    match Vec::<u8>::with_capacity(alloc, 1) {
-        Ok(_) => Ok(()),
-        Err(_) => Err(Fail::from("every growth was refused")),
-    }
+    Vec::<u8>::with_capacity(alloc, 1).map_err(|_| "every growth was refused")?;
+    Ok(())
 }

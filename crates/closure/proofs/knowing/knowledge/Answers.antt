@@ -1,6 +1,6 @@
 use Rattle.chart.specs.Charts.{chart_lines}
 use Rattle.closure.specs.Searches.{IsKnowledge}
-use Rattle.closure.proofs.LinkLemmas.{AreRows-push}
+use Rattle.closure.proofs.RowLemmas.{AreRows-push}
 use Rattle.closure.proofs.knowing.knowledge.Goals as goal
 
 pub loop-line-preserved : goal.loop-line-preserved

@@ -2,7 +2,7 @@ use Rattle.std.proofs.Common.{suc, length, sym, subst, arith, add-one}
 use Rattle.chart.specs.Charts.{chart_lines}
 use Rattle.closure.specs.Rows.{IsRow}
 use Rattle.closure.specs.Searches.{IsSearchAfter, IsKnowledge}
-use Rattle.closure.proofs.LinkLemmas.{IsRow-push}
+use Rattle.closure.proofs.RowLemmas.{IsRow-push}
 use Rattle.closure.proofs.knowing.known_on.Goals as goal
 
 pub loop-place-preserved : goal.loop-place-preserved

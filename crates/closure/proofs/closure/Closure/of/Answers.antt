@@ -20,7 +20,7 @@ pub returns-then-not-branch-clause-refused : goal.returns-then-not-branch-clause
 returns-then-not-branch-clause-refused c =
     let cyclic = subst (λ b. MatchBool b (IsPossible (length c.lines-lines.result.now) (chart_lines c.lines-lines.result.now)) (IsCyclic (chart_lines c.lines-lines.result.now))) c.if-not-branch.true c.in_ok-runs.ensures in
     subst (λ (x : List LineView). IsCyclic (chart_lines x) × ((r : Place) → IsFaulty (chart_lines x) r → ⊥)) c.lines-lines.ensures.value
-    (cyclic, none_faulty c.lines-lines.result.now c.in-Ok.links.items c.in-Ok.ensures.ok)
+    (cyclic, none_faulty c.lines-lines.result.now c.in-Ok.partners.items c.in-Ok.ensures.ok)
 
 pub returns-then-not-branch-clause-impossible : goal.returns-then-not-branch-clause-impossible
 returns-then-not-branch-clause-impossible c =
