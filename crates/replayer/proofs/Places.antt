@@ -1,9 +1,9 @@
 -- The elements of a list, by their places, where one is replaced.
-use Rattle.std.proofs.Common.{◌≡◌, ◌≢◌, ℕ, zero, suc, ◌<◌, ◌≤◌, List, [], ◌∷◌, ◌++◌, length, set, get_or, Some, sym, refl, ap, ◌∙◌, subst, arith, inl, inr}
+use Rattle.std.proofs.Common.{◌≡◌, ◌≢◌, ℕ, zero, suc, ◌<◌, List, [], ◌∷◌, length, set, get_or, Some, sym, refl, ap, ◌∙◌, subst, arith, inl, inr}
 use Rattle.std.specs.Prelude.{slice_get}
 use Rattle.std.proofs.lemmas.Option.{slice_get_within, slice_get-get_or, same_Some}
-use Rattle.std.proofs.lemmas.List.{length-set, length-append}
-use Rattle.std.proofs.lemmas.Bool.{cases_eq, cases_lt}
+use Rattle.std.proofs.lemmas.List.{length-set}
+use Rattle.std.proofs.lemmas.Bool.{cases_eq}
 
 -- the replaced element is the new one
 pub slice_get-set_same : {X : Type 0} → (xs : List X) (i : ℕ) (y : X) → i < length xs → slice_get (set xs i y) i ≡ Some y
@@ -40,29 +40,3 @@ each-set P xs i y old new j x e = elim (cases_eq j i) [
         let inside : i < length xs = omega (arith, slice_get_within (set xs i y) j x e, length-set xs i y) in
         let there : Some y ≡ Some x = sym (slice_get-set_same xs i y inside) ∙ ap (slice_get (set xs i y)) (sym same) ∙ e in
         subst (P j) (same_Some y x there) (subst (λ k. P k y) (sym same) new)
-
--- what stands before the end stays where it is
-pub slice_get-append : {X : Type 0} → (xs ys : List X) (i : ℕ) → i < length xs → slice_get (xs ++ ys) i ≡ slice_get xs i
-slice_get-append [] ys i h = absurd (omega (arith, h))
-slice_get-append (x ∷ xs) ys zero h = refl
-slice_get-append (x ∷ xs) ys (suc i) h = slice_get-append xs ys i (omega (arith, h))
-
--- what is added stands behind
-pub slice_get-append_last : {X : Type 0} → (xs : List X) (x : X) → slice_get (xs ++ x ∷ []) (length xs) ≡ Some x
-slice_get-append_last [] x = refl
-slice_get-append_last (y ∷ xs) x = slice_get-append_last xs x
-
--- what holds of each element and of one more holds of each of the longer list
-pub each-push : {X : Type 0} → (P : ℕ → X → Type 0) (xs : List X) (x : X) → ((i : ℕ) (y : X) → slice_get xs i ≡ Some y → P i y) → P (length xs) x
-    → (i : ℕ) (y : X) → slice_get (xs ++ x ∷ []) i ≡ Some y → P i y
-each-push P xs x old newest i y e = elim (cases_lt i (length xs)) [
-  | inl inside ↦ old i y (sym (slice_get-append xs (x ∷ []) i inside) ∙ e)
-  | inr past ↦ at_end past
-]
-  where
-    at_end : length xs ≤ i → P i y
-    at_end past =
-        let inside = slice_get_within (xs ++ x ∷ []) i y e in
-        let place : length xs ≡ i = omega (arith, inside, length-append xs (x ∷ [])) in
-        let there : Some x ≡ Some y = sym (slice_get-append_last xs x) ∙ ap (slice_get (xs ++ x ∷ [])) place ∙ e in
-        subst (λ k. P k y) place (subst (P (length xs)) (same_Some x y there) newest)

@@ -1,7 +1,7 @@
 use Rattle.std.proofs.Common.{◌≡◌, suc, ◌+◌, length, arith, sym, ap, ◌∙◌}
 use Rattle.std.proofs.lemmas.List.{length_push}
 use Rattle.replayer.specs.Views.{fresh_actor}
-use Rattle.replayer.proofs.Places.{each-push}
+use Rattle.chart.proofs.Places.{each-push}
 use Rattle.replayer.proofs.Starts.{Agrees-start}
 use Rattle.replayer.proofs.run.fresh_actors.Goals as goal
 
