@@ -1,13 +1,11 @@
 //! What no contract says: examples from outside, reads with ample memory, and reads whose growth is refused.
 
-ghost use Rattle.std.specs.Prelude.{◌≡◌};
-
 mod charts;
 mod refusals;
 
 use crate::read;
 use chart::Event;
-use msc_text::{Cause, Fault, MemoryOut, Out, OutFault, StreamOut, TextError, write};
+use msc_text::{Cause, Fault, MemoryOut, StreamOut, TextError, write};
 use std::alloc::Global;
 use std::process::Abort;
 use std::test::Fail;
@@ -134,50 +132,16 @@ fn coregions_that_touch_are_two(rt: HostRuntime) -> Result<(), Fail> {
     is_written_back(&rt, alloc, text.as_slice())
 }
 
-/// Takes one byte a call, and fails once `left` are taken.
-#[derive(Drop)]
-struct Slow {
-    taken: Vec<u8>,
-    left: usize,
-    failures: u64,
-}
-
-impl Out for Slow {
-    ghost failures = { λ out. out.failures };
-
-    fn put(&mut self, bytes: &[u8]) -> Result<usize, OutFault> {
-        if bytes.is_empty() {
-            return Ok(0);
-        }
-        if self.left == 0 || self.taken.push(bytes[0]).is_err() {
-            self.failures += 1;
-            return Err(OutFault::Failed);
-        }
-        self.left -= 1;
-        Ok(1)
-    }
-}
-
-fn failing_after(alloc: Global, left: usize) -> Slow
-    ensures { result.failures ≡ 0 }
-{
-    Slow {
-        taken: Vec::new(alloc),
-        left,
-        failures: 0,
-    }
-}
-
 #[test]
-fn writing_fails_at_each_put(rt: HostRuntime) -> Result<(), Fail> {
+fn writing_is_cut_at_each_byte(rt: HostRuntime) -> Result<(), Fail> {
     let (names, chart) = read(rt.alloc(), THREE_INSTANCES)?;
     for left in 0..=THREE_INSTANCES.len() {
-        let mut out = failing_after(rt.alloc(), left);
+        let mut place = [0; 1024];
+        let mut out = StreamOut::new(&mut place[..left]);
         let result = write(&names, &chart, &mut out);
-        let whole = left == THREE_INSTANCES.len();
-        assert_eq!(rt; result.is_ok(), whole, "at {left}");
-        assert_eq!(rt; out.failures, u64::from(!whole), "at {left}");
-        assert_eq!(rt; out.taken.as_slice(), &THREE_INSTANCES[..left], "at {left}");
+        drop(out);
+        assert_eq!(rt; result.is_ok(), left == THREE_INSTANCES.len(), "at {left}");
+        assert_eq!(rt; &place[..left], &THREE_INSTANCES[..left], "at {left}");
     }
     Ok(())
 }

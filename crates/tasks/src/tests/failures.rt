@@ -1,9 +1,8 @@
-//! Worked schedules with each growth of memory refused in turn, and the text of an outcome with each put refused in turn.
-ghost use Rattle.std.specs.Prelude.{◌≡◌};
+//! Worked schedules with each growth of memory refused in turn, and the text of an outcome that is cut at each byte.
 
 use super::every_growth_was_refused;
 use crate::{Task, perform};
-use msc_text::{MemoryOut, Out, OutFault};
+use msc_text::{MemoryOut, StreamOut};
 use replayer::replay;
 use schedule::Schedule;
 use std::alloc::Global;
@@ -68,42 +67,8 @@ fn refused_growths_of_nine_instances(rt: HostRuntime) -> Result<(), Fail> {
     every_growth_was_refused(alloc)
 }
 
-/// Takes one byte a call, and fails once `left` are taken.
-#[derive(Drop)]
-struct Slow {
-    taken: Vec<u8>,
-    left: usize,
-    failures: u64,
-}
-
-impl Out for Slow {
-    ghost failures = { λ out. out.failures };
-
-    fn put(&mut self, bytes: &[u8]) -> Result<usize, OutFault> {
-        if bytes.is_empty() {
-            return Ok(0);
-        }
-        if self.left == 0 || self.taken.push(bytes[0]).is_err() {
-            self.failures += 1;
-            return Err(OutFault::Failed);
-        }
-        self.left -= 1;
-        Ok(1)
-    }
-}
-
-fn failing_after(alloc: Global, left: usize) -> Slow
-    ensures { result.failures ≡ 0 }
-{
-    Slow {
-        taken: Vec::new(alloc),
-        left,
-        failures: 0,
-    }
-}
-
 #[test]
-fn outcome_fails_at_each_put(rt: HostRuntime) -> Result<(), Fail> {
+fn outcome_is_cut_at_each_byte(rt: HostRuntime) -> Result<(), Fail> {
     let text =
         b"instances a b\ncapacity 1\na send b q\nb send a p\na receive b\nb receive a\nb any\n";
     let written: &[u8] =
@@ -111,12 +76,12 @@ fn outcome_fails_at_each_put(rt: HostRuntime) -> Result<(), Fail> {
     let schedule = Schedule::read(rt.alloc(), text)?;
     let outcome = replay(rt.alloc(), &schedule)?;
     for left in 0..=written.len() {
-        let mut out = failing_after(rt.alloc(), left);
+        let mut place = [0; 256];
+        let mut out = StreamOut::new(&mut place[..left]);
         let result = outcome.write(&mut out);
-        let whole = left == written.len();
-        assert_eq!(rt; result.is_ok(), whole, "at {left}");
-        assert_eq!(rt; out.failures, u64::from(!whole), "at {left}");
-        assert_eq!(rt; out.taken.as_slice(), &written[..left], "at {left}");
+        drop(out);
+        assert_eq!(rt; result.is_ok(), left == written.len(), "at {left}");
+        assert_eq!(rt; &place[..left], &written[..left], "at {left}");
     }
     Ok(())
 }
