@@ -1,7 +1,7 @@
 -- What lanes carry along a history, and what an instance's next send carries.
 use Rattle.std.proofs.Common.{◌≡◌, ℕ, ◌+◌, ◌≤◌, ◌==◌, Bool, true, false, cond, List, [], ◌∷◌, ◌++◌, length, drop, map, refl, sym, ap, ap₂, ◌∙◌, subst, arith, append-nil, append_assoc}
 use Rattle.std.proofs.lemmas.Bool.{eqb-true, eqb-false, and_parts}
-use Rattle.std.proofs.lemmas.List.{map-append, drop-map}
+use Rattle.std.proofs.lemmas.List.{length-map, map-append, drop-map}
 use Rattle.chart.specs.declared.history.Event.{Event}
 use Rattle.chart.specs.declared.history.Event.TheVariants.{Send, Receive, Close}
 use Rattle.chart.specs.Histories.{by, own, is_lane, sent, received, waiting, chart_of}
@@ -24,6 +24,10 @@ goods_messages n (Send a b m ∷ h) q p = go (is_lane a b q p) (goods_messages n
     go false before = before
 goods_messages n (Receive a b c ∷ h) q p = goods_messages n h q p
 goods_messages n (Close a b ∷ h) q p = goods_messages n h q p
+
+-- as many as were sent
+pub goods_many : (n : ℕ) (h : List Event) (q p : ℕ) → length (goods n h q p) ≡ length (sent h q p)
+goods_many n h q p = sym (length-map (goods n h q p) (λ (x : Parcel). x.message)) ∙ ap length (goods_messages n h q p)
 
 -- and their clocks
 pub goods_clocks : (n : ℕ) (h : List Event) (q p : ℕ) → map (λ (x : Parcel). x.clock) (goods n h q p) ≡ clocks_of n h q p

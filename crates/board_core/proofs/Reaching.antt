@@ -1,17 +1,17 @@
 -- A run for each legal history: for each event the steps of one call.
-use Rattle.std.proofs.Common.{◌≡◌, ◌≢◌, ℕ, zero, suc, ◌+◌, ◌<◌, ◌≤◌, ◌==◌, inl, inr, Bool, true, false, List, [], ◌∷◌, length, refl, sym, ap, ◌∙◌, subst, arith}
+use Rattle.std.proofs.Common.{◌≡◌, ◌≢◌, ℕ, zero, suc, ◌+◌, ◌≤◌, ◌==◌, inl, inr, Bool, true, false, List, [], ◌∷◌, refl, sym, ap, ◌∙◌, subst, arith}
 use Rattle.std.proofs.lemmas.Bool.{ne_eqb, eq-eqb, eqb-true, eqb-false}
 use Rattle.chart.specs.declared.history.Event.{Event}
 use Rattle.chart.specs.declared.history.Event.TheVariants as event
 use Rattle.chart.specs.Charts.{LineView}
 use Rattle.chart.specs.Marks.{greatest_region, last_region, MayHaveRegion, send_mark, receive_mark}
-use Rattle.chart.specs.Messages.{Content}
 use Rattle.chart.specs.Histories.{by, waiting, is_closed, chart_of, MayFollow as MayHappen, IsLegal}
 use Rattle.chart.proofs.Regions.{last_region-push}
 use Rattle.chart.proofs.Sends.{line_after_send, line_after_receive}
 use Rattle.chart.proofs.Steps.{line_of_other, line_after_close}
 use Rattle.lane_core.specs.Steps as lane
 use Rattle.lane_core.specs.IndexWords.{after as lane_with}
+use Rattle.line_recorder.proofs.Carrying.{first_message}
 use Rattle.board_core.specs.Steps.{Step, Sender_loads, Fills, Publishes, Closes, Receiver_loads, Takes, Frees, Opens, Shuts}
 use Rattle.board_core.specs.Runs.{IsRun, world_after, history_of}
 use Rattle.board_core.specs.Laws.{HistoryLaw}
@@ -19,11 +19,6 @@ use Rattle.board_core.proofs.Along.{stands}
 use Rattle.board_core.proofs.Resting.{AreAtRest, sends_alone, is_idle, rest_with}
 use Rattle.board_core.proofs.SendCall.{send_looks, send_fills, send_publishes, passed_history, passed_rest}
 use Rattle.board_core.proofs.ReceiveCall.{report, receive_looks, receive_takes, receive_frees, received_history, received_rest}
-
--- the first of these messages
-waits : (ms : List Content) → 0 < length ms → (m : Content) × (rest : List Content) × (ms ≡ m ∷ rest)
-waits [] some = absurd (omega (arith, some))
-waits (m ∷ ms) some = (m, ms, refl)
 
 -- The runs.
 
@@ -108,7 +103,7 @@ reach_more n k h (event.Receive p q region) steps may old =
     let stand = stands n k ready.0 its.run in
     let now : MayHappen n k w.history (event.Receive p q region) = subst (λ x. MayHappen n k x (event.Receive p q region)) (sym its.history) may in
     let report = (report n k w q p region stand its.rest its.here now).0 in
-    let first = waits (waiting h q p) may.1 in
+    let first = first_message (waiting h q p) may.1 in
     let mark = receive_mark q first.0.name region in (
       Frees q p (report ∷ []) ∷ Takes q p ∷ Receiver_loads q p ∷ ready.0,
       record {

@@ -1,7 +1,7 @@
 -- The steps of a receive on a board at rest, where its event may come.
 use Rattle.std.proofs.Common.{◌≡◌, ◌≢◌, ℕ, ◌+◌, List, [], ◌∷◌, ◌++◌, length, map, refl, sym, ap, ap₂, ◌∙◌, subst, arith}
 use Rattle.std.specs.Prelude.{reverse, All}
-use Rattle.std.proofs.lemmas.List.{length-map, length-drop}
+use Rattle.std.proofs.lemmas.List.{length-drop}
 use Rattle.std.proofs.lemmas.List.Elements.{All-nil, All-cons}
 use Rattle.chart.specs.declared.history.Event.TheVariants as event
 use Rattle.chart.specs.declared.instance.EventNo.{EventNo}
@@ -16,11 +16,11 @@ use Rattle.lane_core.specs.Traffic.{message_in}
 use Rattle.lane_core.specs.IndexWords.{IndexLane, after as lane_with, MayFollow as MayBeOnLane}
 use Rattle.lane_core.proofs.IndexRuns.{kept, half, taken_from}
 use Rattle.line_recorder.specs.Recorders.{RecorderView, IsReportOf}
-use Rattle.board_core.specs.Parcels.{Parcel, goods}
+use Rattle.board_core.specs.Parcels.{Parcel}
 use Rattle.board_core.specs.Steps.{Receiver_loads, Takes, Frees}
 use Rattle.board_core.specs.World.{World, after, taken, with_receives}
 use Rattle.board_core.specs.Runs.{MayFollow, AreAnswers}
-use Rattle.board_core.proofs.GoodsLemmas.{goods_messages}
+use Rattle.board_core.proofs.GoodsLemmas.{goods_many}
 use Rattle.board_core.proofs.Standing.{Stands, with_lane-each}
 use Rattle.board_core.proofs.Resting.{IsAtRest, AreAtRest, receives_alone, lane_here, lane_there, rest_with, receives_alone_with}
 
@@ -73,7 +73,7 @@ module _ (n k : ℕ) (w : World) (q p region : ℕ) (stands : Stands n k w) (res
   has_message : MayBeOnLane l lane.Takes
   has_message =
       let its = stands.lanes q p in
-      let many : length (goods n w.history q p) ≡ length (sent w.history q p) = sym (length-map (goods n w.history q p) (λ (y : Parcel). y.message)) ∙ ap length (goods_messages n w.history q p) in
+      let many = goods_many n w.history q p in
       omega (arith, many, length-drop (received w.history q p) (sent w.history q p), may.1, ap length its.published, its.freed, its.fits.published, its.fits.freed, its.fits.emptied, half (w.lanes q p).put (w.lanes q p).sender.published (w.lanes q p).sender.closed its.fits.put, ap length (rest q p).taken)
 
   pub receive_takes : MayFollow n found (Takes q p)

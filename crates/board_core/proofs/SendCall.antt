@@ -1,6 +1,6 @@
 -- The steps of a send on a board at rest, where its event may come.
 use Rattle.std.proofs.Common.{◌≡◌, ℕ, false, [], ◌∷◌, ◌++◌, length, refl, sym, ap, ◌∙◌, subst, arith}
-use Rattle.std.proofs.lemmas.List.{length-map, length-drop}
+use Rattle.std.proofs.lemmas.List.{length-drop}
 use Rattle.chart.specs.declared.history.Event.TheVariants as event
 use Rattle.chart.specs.Charts.{LineView}
 use Rattle.chart.specs.Messages.{Content}
@@ -8,11 +8,11 @@ use Rattle.chart.specs.Histories.{sent, received, MayFollow as MayHappen}
 use Rattle.chart.proofs.Histories.{received-le}
 use Rattle.lane_core.specs.Steps as lane
 use Rattle.lane_core.specs.IndexWords.{IndexLane, after as lane_with, MayFollow as MayBeOnLane}
-use Rattle.board_core.specs.Parcels.{Parcel, goods}
+use Rattle.board_core.specs.Parcels.{Parcel}
 use Rattle.board_core.specs.Steps.{Sender_loads, Fills, Publishes}
 use Rattle.board_core.specs.World.{World, after, filled, parcel_of, with_sends}
 use Rattle.board_core.specs.Runs.{MayFollow}
-use Rattle.board_core.proofs.GoodsLemmas.{goods_messages}
+use Rattle.board_core.proofs.GoodsLemmas.{goods_many}
 use Rattle.board_core.proofs.Standing.{Stands, with_lane-each}
 use Rattle.board_core.proofs.Resting.{IsAtRest, AreAtRest, sends_alone, lane_here, lane_there, rest_with, sends_alone_with}
 
@@ -47,7 +47,7 @@ module _ (n k : ℕ) (w : World) (q p : ℕ) (m : Content) (stands : Stands n k 
   has_room : MayBeOnLane l (lane.Fills x)
   has_room =
       let its = stands.lanes q p in
-      let many : length (goods n w.history q p) ≡ length (sent w.history q p) = sym (length-map (goods n w.history q p) (λ (y : Parcel). y.message)) ∙ ap length (goods_messages n w.history q p) in
+      let many = goods_many n w.history q p in
       omega (arith, many, length-drop (received w.history q p) (sent w.history q p), received-le n k w.history stands.legal q p, may.2, ap length its.published, its.freed, its.fits.published, its.fits.filled, its.fits.freed, its.fits.taken, its.fits.sender_places, ap length (rest q p).filled)
 
   pub send_fills : MayFollow n looked (Fills q p m)

@@ -1,6 +1,6 @@
 -- Several sends or receives of a lane, one directly after another.
 use Rattle.std.proofs.Common.{◌≡◌, ◌≢◌, ℕ, ◌+◌, ◌<◌, ◌≤◌, false, List, [], ◌∷◌, ◌++◌, length, drop, map, refl, sym, ap, ◌∙◌, subst, arith, append-nil, append_assoc}
-use Rattle.std.proofs.lemmas.List.{length-map, length-drop, length_push, drop-drop}
+use Rattle.std.proofs.lemmas.List.{length-drop, length_push, drop-drop}
 use Rattle.chart.specs.declared.history.Event.{Event}
 use Rattle.chart.specs.declared.history.Event.TheVariants.{Send, Receive}
 use Rattle.chart.specs.declared.line.TheConstants.{MAX_EVENTS}
@@ -18,7 +18,7 @@ use Rattle.line_recorder.proofs.Recording.{knowledge_of-other, send_clock-is, Is
 use Rattle.board_core.specs.Parcels.{Parcel, names, goods, next_clock}
 use Rattle.board_core.specs.World.{with_sends, with_receives, after_receives}
 use Rattle.board_core.specs.Runs.{AreAnswers}
-use Rattle.board_core.proofs.GoodsLemmas.{goods_messages, waiting_goods, waiting_goods_clocks}
+use Rattle.board_core.proofs.GoodsLemmas.{goods_many, waiting_goods, waiting_goods_clocks}
 use Rattle.board_core.proofs.Standing.{HaveClocks, IsInstance, stands_idle}
 
 -- another instance, when an event came that isn't its own
@@ -48,7 +48,7 @@ several_sent n k q p h r [] two legal unclosed its clocks room short = record {
 }
 several_sent n k q p h r (x ∷ xs) two legal unclosed its (clock, clocks) room short =
     let e : Event = Send q p x.message in
-    let many : length (goods n h q p) ≡ length (sent h q p) = sym (length-map (goods n h q p) (λ (y : Parcel). y.message)) ∙ ap length (goods_messages n h q p) in
+    let many = goods_many n h q p in
     let free : length (waiting h q p) < k = omega (arith, many, length-drop (received h q p) (sent h q p), received-le n k h legal q p) in
     let now : IsLegal n k (e ∷ h) = ((two, unclosed, free, omega arith), legal) in
     let one : goods n (e ∷ h) q p ≡ goods n h q p ++ x ∷ [] = sent_one (clock ∙ send_clock-is n h q r its) in

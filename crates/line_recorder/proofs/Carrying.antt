@@ -52,7 +52,7 @@ first_waits n h q p some = go (waiting_clocks n h q p) refl (omega (arith, lengt
     go (clock ∷ rest) e some = ith_at_drop (received h q p) (clocks_of n h q p) clock rest e
 
 -- the message that waits first
-first_message : (ms : List Content) → 0 < length ms → (m : Content) × (rest : List Content) × (ms ≡ m ∷ rest)
+pub first_message : (ms : List Content) → 0 < length ms → (m : Content) × (rest : List Content) × (ms ≡ m ∷ rest)
 first_message [] some = absurd (omega arith)
 first_message (m ∷ rest) some = (m, rest, refl)
 
