@@ -3,9 +3,9 @@ use Rattle.std.proofs.Common.{◌≡◌, ℕ, ◌+◌, ◌≤◌, inl, inr, fals
 use Rattle.std.specs.Prelude.{reverse}
 use Rattle.std.proofs.lemmas.List.{length-append}
 use Rattle.std.proofs.Math.Seq.{drop-append_seam}
-use Rattle.chart.specs.declared.history.Event.{Event}
-use Rattle.chart.specs.declared.history.Event.TheVariants as event
-use Rattle.chart.specs.Marks.{greatest_region, MayHaveRegion}
+use Rattle.chart.specs.declared.history.Occurrence.{Occurrence}
+use Rattle.chart.specs.declared.history.Occurrence.TheVariants as event
+use Rattle.chart.specs.Events.{greatest_region, MayHaveRegion}
 use Rattle.chart.specs.Charts.{LineView}
 use Rattle.chart.specs.Histories.{received, is_closed, chart_of}
 use Rattle.chart.proofs.Histories.{is_closed-close, is_closed-close_other}
@@ -69,7 +69,7 @@ stands_closed n k w q p stands may =
     let l = w.lanes q p in
     let old = stands.lanes q p in
     let unclosed : is_closed h q p ≡ false = sym old.closed ∙ sym old.fits.closed ∙ may.end in
-    let e : Event = event.Close q p in
+    let e : Occurrence = event.Close q p in
     record {
       legal = ((may.two, unclosed), stands.legal);
       lanes = with_lane-each (λ a b x. IsLane n k (e ∷ h) (w.recorders a) a b x) w.lanes q p (lane_with l lane.Closes) (record {

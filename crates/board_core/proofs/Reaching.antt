@@ -1,10 +1,10 @@
 -- A run for each legal history: for each event the steps of one call.
 use Rattle.std.proofs.Common.{◌≡◌, ◌≢◌, ℕ, zero, suc, ◌+◌, ◌≤◌, ◌==◌, inl, inr, Bool, true, false, List, [], ◌∷◌, refl, sym, ap, ◌∙◌, subst, arith}
 use Rattle.std.proofs.lemmas.Bool.{ne_eqb, eq-eqb, eqb-true, eqb-false}
-use Rattle.chart.specs.declared.history.Event.{Event}
-use Rattle.chart.specs.declared.history.Event.TheVariants as event
+use Rattle.chart.specs.declared.history.Occurrence.{Occurrence}
+use Rattle.chart.specs.declared.history.Occurrence.TheVariants as event
 use Rattle.chart.specs.Charts.{LineView}
-use Rattle.chart.specs.Marks.{greatest_region, last_region, MayHaveRegion, send_mark, receive_mark}
+use Rattle.chart.specs.Events.{greatest_region, last_region, MayHaveRegion, send_event, receive_event}
 use Rattle.chart.specs.Histories.{by, waiting, is_closed, chart_of, MayFollow as MayHappen, IsLegal}
 use Rattle.chart.proofs.Regions.{last_region-push}
 use Rattle.chart.proofs.Sends.{line_after_send, line_after_receive}
@@ -23,14 +23,14 @@ use Rattle.board_core.proofs.ReceiveCall.{report, receive_looks, receive_takes, 
 -- The runs.
 
 -- a run that comes to this history, on a board at rest, where each instance's open coregion is that of its last event
-pub record Reaches (n k : ℕ) (h : List Event) (steps : List Step) : Type 0 where
+pub record Reaches (n k : ℕ) (h : List Occurrence) (steps : List Step) : Type 0 where
   pub run : IsRun n k steps
   pub history : history_of n k steps ≡ h
   pub rest : AreAtRest (world_after n k steps)
   pub regions : (p : ℕ) → (world_after n k steps).regions p ≡ last_region (chart_of h p)
 
 -- the same, but that this is p's open coregion
-record IsReady (n k : ℕ) (h : List Event) (p region : ℕ) (steps : List Step) : Type 0 where
+record IsReady (n k : ℕ) (h : List Occurrence) (p region : ℕ) (steps : List Step) : Type 0 where
   run : IsRun n k steps
   history : history_of n k steps ≡ h
   rest : AreAtRest (world_after n k steps)
@@ -38,7 +38,7 @@ record IsReady (n k : ℕ) (h : List Event) (p region : ℕ) (steps : List Step)
   there : (s : ℕ) → s ≢ p → (world_after n k steps).regions s ≡ last_region (chart_of h s)
 
 -- p's coregion is shut, where one is open
-shutting : (n k : ℕ) (h : List Event) (p : ℕ) (steps : List Step) → 1 ≤ p → p ≤ n → Reaches n k h steps → (more : List Step) × IsReady n k h p 0 more
+shutting : (n k : ℕ) (h : List Occurrence) (p : ℕ) (steps : List Step) → 1 ≤ p → p ≤ n → Reaches n k h steps → (more : List Step) × IsReady n k h p 0 more
 shutting n k h p steps low high old = go ((world_after n k steps).regions p) refl
   where
     go : (c : ℕ) → (world_after n k steps).regions p ≡ c → (more : List Step) × IsReady n k h p 0 more
@@ -55,7 +55,7 @@ shutting n k h p steps low high old = go ((world_after n k steps).regions p) ref
     )
 
 -- p's coregion is made one that its next event may have
-readying : (n k : ℕ) (h : List Event) (p region : ℕ) (steps : List Step) → 1 ≤ p → p ≤ n → Reaches n k h steps → MayHaveRegion (chart_of h p) region → (more : List Step) × IsReady n k h p region more
+readying : (n k : ℕ) (h : List Occurrence) (p region : ℕ) (steps : List Step) → 1 ≤ p → p ≤ n → Reaches n k h steps → MayHaveRegion (chart_of h p) region → (more : List Step) × IsReady n k h p region more
 readying n k h p region steps low high old (inl none) = subst (λ c. (more : List Step) × IsReady n k h p c more) (sym none) (shutting n k h p steps low high old)
 readying n k h p region steps low high old (inr (inl next)) =
     let w = shutting n k h p steps low high old in
@@ -73,7 +73,7 @@ readying n k h p region steps low high old (inr (inl next)) =
 readying n k h p region steps low high old (inr (inr same)) = (steps, record { run = old.run; history = old.history; rest = old.rest; here = old.regions p ∙ sym same.2; there = λ s ne. old.regions s })
 
 -- the coregions are those of the last events, where an event came whose coregion its instance has
-regions_after : (h : List Event) (e : Event) (regions : ℕ → ℕ) (region : ℕ) → last_region (chart_of (e ∷ h) (by e)) ≡ region → regions (by e) ≡ region → ((s : ℕ) → s ≢ by e → regions s ≡ last_region (chart_of h s)) → (s : ℕ) → regions s ≡ last_region (chart_of (e ∷ h) s)
+regions_after : (h : List Occurrence) (e : Occurrence) (regions : ℕ → ℕ) (region : ℕ) → last_region (chart_of (e ∷ h) (by e)) ≡ region → regions (by e) ≡ region → ((s : ℕ) → s ≢ by e → regions s ≡ last_region (chart_of h s)) → (s : ℕ) → regions s ≡ last_region (chart_of (e ∷ h) s)
 regions_after h e regions region last here there s = go (s == by e) refl
   where
     go : (its : Bool) → (s == by e) ≡ its → regions s ≡ last_region (chart_of (e ∷ h) s)
@@ -81,7 +81,7 @@ regions_after h e regions region last here there s = go (s == by e) refl
     go false i = there s (eqb-false s (by e) i) ∙ ap last_region (sym (line_of_other h e s (λ same. eqb-false s (by e) i (sym same))))
 
 -- a run to a legal history with one event more
-reach_more : (n k : ℕ) (h : List Event) (e : Event) (steps : List Step) → MayHappen n k h e → Reaches n k h steps → (more : List Step) × Reaches n k (e ∷ h) more
+reach_more : (n k : ℕ) (h : List Occurrence) (e : Occurrence) (steps : List Step) → MayHappen n k h e → Reaches n k h steps → (more : List Step) × Reaches n k (e ∷ h) more
 reach_more n k h (event.Send p q m) steps may old =
     let ready = shutting n k h p steps may.0.0 may.0.1 old in
     let w = world_after n k ready.0 in
@@ -93,7 +93,7 @@ reach_more n k h (event.Send p q m) steps may old =
         run = (send_publishes n k w p q m stand its.rest its.here now, (send_fills n k w p q m stand its.rest its.here now, (send_looks n k w p q m stand its.rest its.here now, its.run)));
         history = passed_history n k w p q m stand its.rest its.here now ∙ ap (λ x. event.Send p q m ∷ x) its.history;
         rest = passed_rest n k w p q m stand its.rest its.here now;
-        regions = regions_after h (event.Send p q m) w.regions 0 (ap last_region (line_after_send h p q m) ∙ last_region-push (chart_of h p) (send_mark q m.name)) its.here its.there;
+        regions = regions_after h (event.Send p q m) w.regions 0 (ap last_region (line_after_send h p q m) ∙ last_region-push (chart_of h p) (send_event q m.name)) its.here its.there;
       },
     )
 reach_more n k h (event.Receive p q region) steps may old =
@@ -104,13 +104,13 @@ reach_more n k h (event.Receive p q region) steps may old =
     let now : MayHappen n k w.history (event.Receive p q region) = subst (λ x. MayHappen n k x (event.Receive p q region)) (sym its.history) may in
     let report = (report n k w q p region stand its.rest its.here now).0 in
     let first = first_message (waiting h q p) may.1 in
-    let mark = receive_mark q first.0.name region in (
+    let line_event = receive_event q first.0.name region in (
       Frees q p (report ∷ []) ∷ Takes q p ∷ Receiver_loads q p ∷ ready.0,
       record {
         run = (receive_frees n k w q p region stand its.rest its.here now, (receive_takes n k w q p region stand its.rest its.here now, (receive_looks n k w q p region stand its.rest its.here now, its.run)));
         history = received_history n k w q p region stand its.rest its.here now ∙ ap (λ x. event.Receive p q region ∷ x) its.history;
         rest = received_rest n k w q p region stand its.rest its.here now;
-        regions = regions_after h (event.Receive p q region) w.regions region (ap last_region (line_after_receive h p q region first.0 first.1 first.2) ∙ last_region-push (chart_of h p) mark) its.here its.there;
+        regions = regions_after h (event.Receive p q region) w.regions region (ap last_region (line_after_receive h p q region first.0 first.1 first.2) ∙ last_region-push (chart_of h p) line_event) its.here its.there;
       },
     )
 reach_more n k h (event.Close p q) steps may old =
@@ -127,7 +127,7 @@ reach_more n k h (event.Close p q) steps may old =
       },
     )
 
-reach : (n k : ℕ) (h : List Event) → IsLegal n k h → (steps : List Step) × Reaches n k h steps
+reach : (n k : ℕ) (h : List Occurrence) → IsLegal n k h → (steps : List Step) × Reaches n k h steps
 reach n k [] legal = ([], record { run = tt; history = refl; rest = λ q p. record { filled = refl; taken = refl }; regions = λ p. refl })
 reach n k (e ∷ h) legal = let before = reach n k h legal.1 in reach_more n k h e before.0 legal.0 before.1
 

@@ -3,7 +3,7 @@ use Rattle.std.proofs.Common.{◌≡◌, ◌≢◌, ℕ, ◌+◌, List, [], ◌�
 use Rattle.std.specs.Prelude.{reverse, All}
 use Rattle.std.proofs.lemmas.List.{length-drop}
 use Rattle.std.proofs.lemmas.List.Elements.{All-nil, All-cons}
-use Rattle.chart.specs.declared.history.Event.TheVariants as event
+use Rattle.chart.specs.declared.history.Occurrence.TheVariants as event
 use Rattle.chart.specs.declared.instance.EventNo.{EventNo}
 use Rattle.chart.specs.Charts.{LineView}
 use Rattle.chart.specs.Histories.{sent, received, AreTwo, MayFollow as MayHappen}

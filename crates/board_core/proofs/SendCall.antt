@@ -1,7 +1,7 @@
 -- The steps of a send on a board at rest, where its event may come.
 use Rattle.std.proofs.Common.{◌≡◌, ℕ, false, [], ◌∷◌, ◌++◌, length, refl, sym, ap, ◌∙◌, subst, arith}
 use Rattle.std.proofs.lemmas.List.{length-drop}
-use Rattle.chart.specs.declared.history.Event.TheVariants as event
+use Rattle.chart.specs.declared.history.Occurrence.TheVariants as event
 use Rattle.chart.specs.Charts.{LineView}
 use Rattle.chart.specs.Messages.{Content}
 use Rattle.chart.specs.Histories.{sent, received, MayFollow as MayHappen}

@@ -1,10 +1,10 @@
 -- Several sends or receives of a lane, one directly after another.
 use Rattle.std.proofs.Common.{◌≡◌, ◌≢◌, ℕ, ◌+◌, ◌<◌, ◌≤◌, false, List, [], ◌∷◌, ◌++◌, length, drop, map, refl, sym, ap, ◌∙◌, subst, arith, append-nil, append_assoc}
 use Rattle.std.proofs.lemmas.List.{length-drop, length_push, drop-drop}
-use Rattle.chart.specs.declared.history.Event.{Event}
-use Rattle.chart.specs.declared.history.Event.TheVariants.{Send, Receive}
+use Rattle.chart.specs.declared.history.Occurrence.{Occurrence}
+use Rattle.chart.specs.declared.history.Occurrence.TheVariants.{Send, Receive}
 use Rattle.chart.specs.declared.line.TheConstants.{MAX_EVENTS}
-use Rattle.chart.specs.Marks.{MayHaveRegion, send_mark, receive_mark}
+use Rattle.chart.specs.Events.{MayHaveRegion, send_event, receive_event}
 use Rattle.chart.specs.Histories.{by, is_lane, sent, received, waiting, is_closed, chart_of, AreTwo, IsLegal}
 use Rattle.chart.specs.Reports.{ReportView}
 use Rattle.chart.proofs.Histories.{is_lane-same, received-le}
@@ -22,11 +22,11 @@ use Rattle.board_core.proofs.GoodsLemmas.{goods_many, waiting_goods, waiting_goo
 use Rattle.board_core.proofs.Standing.{HaveClocks, IsInstance, stands_idle}
 
 -- another instance, when an event came that isn't its own
-beside : (n k : ℕ) (h : List Event) (e : Event) (s : ℕ) (r : RecorderView) (region : ℕ) → IsLegal n k h → s ≢ by e → IsInstance n h s r region → IsInstance n (e ∷ h) s r region
+beside : (n k : ℕ) (h : List Occurrence) (e : Occurrence) (s : ℕ) (r : RecorderView) (region : ℕ) → IsLegal n k h → s ≢ by e → IsInstance n h s r region → IsInstance n (e ∷ h) s r region
 beside n k h e s r region legal ne old = stands_idle n k h (e ∷ h) s r region legal (e ∷ [], refl) (line_of_other h e s (λ same. ne (sym same))) (knowledge_of-other n h e s ne) old
 
 -- what q's sends of these parcels to p make of a history, where its recorder is this one afterwards
-pub record AreSent (n k q p : ℕ) (h g : List Event) (xs : List Parcel) (r : RecorderView) : Type 0 where
+pub record AreSent (n k q p : ℕ) (h g : List Occurrence) (xs : List Parcel) (r : RecorderView) : Type 0 where
   pub legal : IsLegal n k g
   pub recorder : IsRecorder n g q r
   pub here : goods n g q p ≡ goods n h q p ++ xs
@@ -35,7 +35,7 @@ pub record AreSent (n k q p : ℕ) (h g : List Event) (xs : List Parcel) (r : Re
   pub closed : (a b : ℕ) → is_closed g a b ≡ is_closed h a b
   pub others : (s : ℕ) (o : RecorderView) (region : ℕ) → s ≢ q → IsInstance n h s o region → IsInstance n g s o region
 
-pub several_sent : (n k q p : ℕ) (h : List Event) (r : RecorderView) (xs : List Parcel) → AreTwo n q p → IsLegal n k h → is_closed h q p ≡ false → IsRecorder n h q r → HaveClocks r p xs → length (goods n h q p) + length xs ≤ received h q p + k → length (chart_of h q) + length xs ≤ MAX_EVENTS
+pub several_sent : (n k q p : ℕ) (h : List Occurrence) (r : RecorderView) (xs : List Parcel) → AreTwo n q p → IsLegal n k h → is_closed h q p ≡ false → IsRecorder n h q r → HaveClocks r p xs → length (goods n h q p) + length xs ≤ received h q p + k → length (chart_of h q) + length xs ≤ MAX_EVENTS
     → AreSent n k q p h (with_sends h q p xs) xs (after_sends r p (names xs))
 several_sent n k q p h r [] two legal unclosed its clocks room short = record {
   legal = legal;
@@ -47,12 +47,12 @@ several_sent n k q p h r [] two legal unclosed its clocks room short = record {
   others = λ s o region ne old. old;
 }
 several_sent n k q p h r (x ∷ xs) two legal unclosed its (clock, clocks) room short =
-    let e : Event = Send q p x.message in
+    let e : Occurrence = Send q p x.message in
     let many = goods_many n h q p in
     let free : length (waiting h q p) < k = omega (arith, many, length-drop (received h q p) (sent h q p), received-le n k h legal q p) in
     let now : IsLegal n k (e ∷ h) = ((two, unclosed, free, omega arith), legal) in
     let one : goods n (e ∷ h) q p ≡ goods n h q p ++ x ∷ [] = sent_one (clock ∙ send_clock-is n h q r its) in
-    let line = ap length (line_after_send h q p x.message) ∙ length_push (chart_of h q) (send_mark p x.message.name) in
+    let line = ap length (line_after_send h q p x.message) ∙ length_push (chart_of h q) (send_event p x.message.name) in
     let done = several_sent n k q p (e ∷ h) (after_send r p x.message.name) xs two now unclosed (IsRecorder-send n k h q p x.message r legal its) clocks (omega (arith, ap length one, length_push (goods n h q p) x)) (omega (arith, line)) in
     record {
       legal = done.legal;
@@ -71,7 +71,7 @@ several_sent n k q p h r (x ∷ xs) two legal unclosed its (clock, clocks) room 
     beside_lane a b other = rw other
 
 -- what p's receives of so many parcels from q make of a history, where its recorder is this one afterwards
-pub record AreReceived (n k q p region many : ℕ) (h g : List Event) (r : RecorderView) : Type 0 where
+pub record AreReceived (n k q p region many : ℕ) (h g : List Occurrence) (r : RecorderView) : Type 0 where
   pub legal : IsLegal n k g
   pub own : IsInstance n g p r region
   pub goods : (a b : ℕ) → goods n g a b ≡ goods n h a b
@@ -80,7 +80,7 @@ pub record AreReceived (n k q p region many : ℕ) (h g : List Event) (r : Recor
   pub closed : (a b : ℕ) → is_closed g a b ≡ is_closed h a b
   pub others : (s : ℕ) (o : RecorderView) (c : ℕ) → s ≢ p → IsInstance n h s o c → IsInstance n g s o c
 
-pub several_received : (n k q p region : ℕ) (h : List Event) (r : RecorderView) (xs rest : List Parcel) (reports : List ReportView) → AreTwo n p q → IsLegal n k h → IsInstance n h p r region → AreAnswers r q region xs reports → drop (received h q p) (goods n h q p) ≡ xs ++ rest → length (chart_of h p) + length xs ≤ MAX_EVENTS
+pub several_received : (n k q p region : ℕ) (h : List Occurrence) (r : RecorderView) (xs rest : List Parcel) (reports : List ReportView) → AreTwo n p q → IsLegal n k h → IsInstance n h p r region → AreAnswers r q region xs reports → drop (received h q p) (goods n h q p) ≡ xs ++ rest → length (chart_of h p) + length xs ≤ MAX_EVENTS
     → AreReceived n k q p region (length xs) h (with_receives h p q region xs) (after_receives r q region xs reports)
 several_received n k q p region h r [] rest reports two legal its answers next short = record {
   legal = legal;
@@ -93,19 +93,19 @@ several_received n k q p region h r [] rest reports two legal its answers next s
 }
 several_received n k q p region h r (x ∷ xs) rest [] two legal its answers next short = absurd answers
 several_received n k q p region h r (x ∷ xs) rest (report ∷ reports) two legal its (answer, answers) next short =
-    let e : Event = Receive p q region in
+    let e : Occurrence = Receive p q region in
     let messages = map (λ (y : Parcel). y.message) (xs ++ rest) in
     let first : waiting h q p ≡ x.message ∷ messages = waiting_goods n h q p (x ∷ xs ++ rest) next in
     let stamp : waiting_clocks n h q p ≡ x.clock ∷ map (λ (y : Parcel). y.clock) (xs ++ rest) = waiting_goods_clocks n h q p (x ∷ xs ++ rest) next in
     let some : 0 < length (waiting h q p) = omega (arith, ap length first) in
     let now : IsLegal n k (e ∷ h) = ((two, some, omega arith, its.may), legal) in
     let line = line_after_receive h p q region x.message messages first in
-    let mark = receive_mark q x.message.name region in
+    let line_event = receive_event q x.message.name region in
     let recorded = IsRecorder-receive n k h p q region x.message messages x.clock (map (λ (y : Parcel). y.clock) (xs ++ rest)) r report legal two.0 two.1 first stamp answer its.recorder in
-    let own : IsInstance n (e ∷ h) p (after_receive r q x.message.name region x.clock report) region = record { recorder = recorded; may = subst (λ l. MayHaveRegion l region) (sym line) (may-again (chart_of h p) mark its.may) } in
+    let own : IsInstance n (e ∷ h) p (after_receive r q x.message.name region x.clock report) region = record { recorder = recorded; may = subst (λ l. MayHaveRegion l region) (sym line) (may-again (chart_of h p) line_event its.may) } in
     let one : received (e ∷ h) q p ≡ received h q p + 1 = received_one in
     let onward : drop (received (e ∷ h) q p) (goods n (e ∷ h) q p) ≡ xs ++ rest = ap (λ i. drop i (goods n h q p)) one ∙ sym (drop-drop 1 (received h q p) (goods n h q p)) ∙ ap (drop 1) next in
-    let done = several_received n k q p region (e ∷ h) (after_receive r q x.message.name region x.clock report) xs rest reports two now own answers onward (omega (arith, ap length line, length_push (chart_of h p) mark)) in
+    let done = several_received n k q p region (e ∷ h) (after_receive r q x.message.name region x.clock report) xs rest reports two now own answers onward (omega (arith, ap length line, length_push (chart_of h p) line_event)) in
     record {
       legal = done.legal;
       own = done.own;

@@ -2,8 +2,8 @@
 use Rattle.std.proofs.Common.{◌≡◌, ◌≢◌, ℕ, ◌≤◌, ◌==◌, inl, Bool, true, false, cond, List, [], ◌∷◌, ◌++◌, length, refl, sym, ap, ◌∙◌, subst}
 use Rattle.std.proofs.lemmas.Bool.{eqb-true, eqb-false, and_parts, and_from, eq-eqb, false≢true}
 use Rattle.std.proofs.lemmas.List.Elements.{All-nil}
-use Rattle.chart.specs.declared.history.Event.{Event}
-use Rattle.chart.specs.Marks.{MayHaveRegion}
+use Rattle.chart.specs.declared.history.Occurrence.{Occurrence}
+use Rattle.chart.specs.Events.{MayHaveRegion}
 use Rattle.chart.specs.Histories.{is_lane, received, is_closed, chart_of, IsLegal, Begins}
 use Rattle.chart.specs.Reports.{IsReportIn}
 use Rattle.lane_core.specs.Steps as lane
@@ -28,7 +28,7 @@ have_clocks_push r p [] x have its = (its, tt)
 have_clocks_push r p (y ∷ ys) x have its = (have.0, have_clocks_push (after_send r p y.message.name) p ys x have.1 its)
 
 -- the lane from q to p is as the history and its sender's recorder have it
-pub record IsLane (n k : ℕ) (h : List Event) (r : RecorderView) (q p : ℕ) (l : IndexLane Parcel) : Type 0 where
+pub record IsLane (n k : ℕ) (h : List Occurrence) (r : RecorderView) (q p : ℕ) (l : IndexLane Parcel) : Type 0 where
   pub fits : Fits k l
   pub published : l.traffic.published ≡ goods n h q p
   pub freed : length l.traffic.freed ≡ received h q p
@@ -36,7 +36,7 @@ pub record IsLane (n k : ℕ) (h : List Event) (r : RecorderView) (q p : ℕ) (l
   pub clocks : HaveClocks r p l.traffic.filling
 
 -- the recorder of p and its open coregion are as the history has them
-pub record IsInstance (n : ℕ) (h : List Event) (p : ℕ) (r : RecorderView) (region : ℕ) : Type 0 where
+pub record IsInstance (n : ℕ) (h : List Occurrence) (p : ℕ) (r : RecorderView) (region : ℕ) : Type 0 where
   pub recorder : IsRecorder n h p r
   pub may : MayHaveRegion (chart_of h p) region
 
@@ -121,7 +121,7 @@ stands_quiet n k w q p step stands may quiet clocks =
     }
 
 -- an instance of which nothing was heard or done
-pub stands_idle : (n k : ℕ) (h g : List Event) (p : ℕ) (r : RecorderView) (region : ℕ) → IsLegal n k h → Begins h g → chart_of g p ≡ chart_of h p → knowledge_of n g p ≡ knowledge_of n h p → IsInstance n h p r region → IsInstance n g p r region
+pub stands_idle : (n k : ℕ) (h g : List Occurrence) (p : ℕ) (r : RecorderView) (region : ℕ) → IsLegal n k h → Begins h g → chart_of g p ≡ chart_of h p → knowledge_of n g p ≡ knowledge_of n h p → IsInstance n h p r region → IsInstance n g p r region
 stands_idle n k h g p r region legal begins line knows old = record {
   recorder = IsRecorder-idle n k h g p r legal begins line knows old.recorder;
   may = subst (λ l. MayHaveRegion l region) (sym line) old.may;

@@ -1,9 +1,9 @@
 -- What holds of every run on a board, and what a later history leaves as it was: statements that `laws` proves. That a clock
 -- has what its send knows is vector time (Fidge 1988, Mattern 1989); the others are this project's profile.
 use Rattle.std.specs.Prelude.{◌≡◌, ℕ, ◌≤◌, List, ◌++◌, length, map, take, slice_get, Some, All}
-use Rattle.chart.specs.declared.history.Event.{Event}
-use Rattle.chart.specs.Charts.{at, mark_at}
-use Rattle.chart.specs.Marks.{send_mark}
+use Rattle.chart.specs.declared.history.Occurrence.{Occurrence}
+use Rattle.chart.specs.Charts.{at, chart_event}
+use Rattle.chart.specs.Events.{send_event}
 use Rattle.chart.specs.Histories.{own, sent, received, is_closed, chart_of, IsLegal, Begins}
 use Rattle.chart.specs.Places.{IsEvent, IsSendAfter}
 use Rattle.chart.specs.Reports.{ReportView, IsReportIn, receives_of}
@@ -34,9 +34,9 @@ LaneLaw = (n k : ℕ) (steps : List Step) → IsRun n k steps → (q p : ℕ)
 
 -- the send at this place is the i-th of the lane, of this parcel's message, and the parcel's clock is what it knows of each
 -- of n instances
-pub record IsSendOf (n : ℕ) (h : List Event) (q p i j : ℕ) (x : Parcel) : Type 0 where
+pub record IsSendOf (n : ℕ) (h : List Occurrence) (q p i j : ℕ) (x : Parcel) : Type 0 where
   pub send : IsSendAfter (chart_of h q) p i j
-  pub name : mark_at (chart_of h) (at q j) ≡ Some (send_mark p x.message.name)
+  pub name : chart_event (chart_of h) (at q j) ≡ Some (send_event p x.message.name)
   pub entries : length x.clock ≡ n
   pub clock : IsClockOf (chart_of h) (at q j) x.clock
 
@@ -59,24 +59,24 @@ RecorderLaw = (n k : ℕ) (steps : List Step) → IsRun n k steps → (p : ℕ) 
 
 -- what a lane carries is the messages that were sent on it, with their clocks
 abbrev pub GoodsLaw : Type 0
-GoodsLaw = (n : ℕ) (h : List Event) (q p : ℕ) → (map (λ (x : Parcel). x.message) (goods n h q p) ≡ sent h q p) × (map (λ (x : Parcel). x.clock) (goods n h q p) ≡ clocks_of n h q p)
+GoodsLaw = (n : ℕ) (h : List Occurrence) (q p : ℕ) → (map (λ (x : Parcel). x.message) (goods n h q p) ≡ sent h q p) × (map (λ (x : Parcel). x.clock) (goods n h q p) ≡ clocks_of n h q p)
 
 -- it only grows
 abbrev pub GoodsGrowthLaw : Type 0
-GoodsGrowthLaw = (n : ℕ) (h g : List Event) → Begins h g → (q p : ℕ) → (more : List Parcel) × (goods n g q p ≡ goods n h q p ++ more)
+GoodsGrowthLaw = (n : ℕ) (h g : List Occurrence) → Begins h g → (q p : ℕ) → (more : List Parcel) × (goods n g q p ≡ goods n h q p ++ more)
 
 -- an instance's line and the clock of its next send stay, where the events that came are all of others
 abbrev pub OthersLaw : Type 0
-OthersLaw = (n : ℕ) (h g : List Event) → Begins h g → (p : ℕ) → own g p ≡ own h p → (chart_of g p ≡ chart_of h p) × (next_clock n g p ≡ next_clock n h p)
+OthersLaw = (n : ℕ) (h g : List Occurrence) → Begins h g → (p : ℕ) → own g p ≡ own h p → (chart_of g p ≡ chart_of h p) × (next_clock n g p ≡ next_clock n h p)
 
 -- a clock is still what its send knows
 abbrev pub ClockGrowthLaw : Type 0
-ClockGrowthLaw = (n k : ℕ) (h g : List Event) → IsLegal n k h → Begins h g → (q j : ℕ) (clock : List ℕ) → IsEvent (chart_of h) (at q j) → IsClockOf (chart_of h) (at q j) clock → IsClockOf (chart_of g) (at q j) clock
+ClockGrowthLaw = (n k : ℕ) (h g : List Occurrence) → IsLegal n k h → Begins h g → (q j : ℕ) (clock : List ℕ) → IsEvent (chart_of h) (at q j) → IsClockOf (chart_of h) (at q j) clock → IsClockOf (chart_of g) (at q j) clock
 
 -- a report is still that of its receive
 abbrev pub ReportGrowthLaw : Type 0
-ReportGrowthLaw = (n k : ℕ) (h g : List Event) → IsLegal n k h → Begins h g → (report : ReportView) → IsEvent (chart_of h) (at report.receive.instance report.receive.index) → IsReportIn (chart_of h) report → IsReportIn (chart_of g) report
+ReportGrowthLaw = (n k : ℕ) (h g : List Occurrence) → IsLegal n k h → Begins h g → (report : ReportView) → IsEvent (chart_of h) (at report.receive.instance report.receive.index) → IsReportIn (chart_of h) report → IsReportIn (chart_of g) report
 
 -- every legal history is that of a run
 abbrev pub HistoryLaw : Type 0
-HistoryLaw = (n k : ℕ) (h : List Event) → IsLegal n k h → (steps : List Step) × IsRun n k steps × (history_of n k steps ≡ h)
+HistoryLaw = (n k : ℕ) (h : List Occurrence) → IsLegal n k h → (steps : List Step) × IsRun n k steps × (history_of n k steps ≡ h)

@@ -1,8 +1,8 @@
 -- What passes through the lanes of a board: messages, each with the clock of its send (vector time as Fidge 1988 and Mattern
 -- 1989 have it). What the lanes carry is a function of the history (this project's profile).
 use Rattle.std.specs.Prelude.{ℕ, ◌+◌, List, [], ◌∷◌, ◌++◌, length, map, if◌then◌else◌}
-use Rattle.chart.specs.declared.history.Event.{Event}
-use Rattle.chart.specs.declared.history.Event.TheVariants.{Send, Receive, Close}
+use Rattle.chart.specs.declared.history.Occurrence.{Occurrence}
+use Rattle.chart.specs.declared.history.Occurrence.TheVariants.{Send, Receive, Close}
 use Rattle.chart.specs.Messages.{Content}
 use Rattle.chart.specs.Histories.{is_lane, chart_of}
 use Rattle.clock.specs.Clocks.{with_entry}
@@ -18,11 +18,11 @@ abbrev pub names : List Parcel → List (List ℕ)
 names parcels = map (λ (x : Parcel). x.message.name) parcels
 
 -- the clock of p's next event, if that is a send: what p knows then, with this event itself
-abbrev pub next_clock : ℕ → List Event → ℕ → List ℕ
+abbrev pub next_clock : ℕ → List Occurrence → ℕ → List ℕ
 next_clock n h p = with_entry (knowledge_of n h p) p (length (chart_of h p) + 1)
 
 -- the parcels that q sent to p, in order
-abbrev pub goods : ℕ → List Event → ℕ → ℕ → List Parcel
+abbrev pub goods : ℕ → List Occurrence → ℕ → ℕ → List Parcel
 goods n [] q p = []
 goods n (Send a b m ∷ h) q p = if is_lane a b q p then goods n h q p ++ record { message = m; clock = next_clock n h a } ∷ [] else goods n h q p
 goods n (Receive a b c ∷ h) q p = goods n h q p

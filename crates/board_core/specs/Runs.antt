@@ -1,7 +1,7 @@
 -- Which steps a board's instances may make, and its runs: any such steps of all of them, in any order (this project's
 -- profile). A run is a list of steps, the newest first.
 use Rattle.std.specs.Prelude.{◌≡◌, ◌≢◌, ℕ, ◌+◌, ◌<◌, ◌≤◌, List, [], ◌∷◌, ◌++◌, length, if◌then◌else◌, ◌==◌}
-use Rattle.chart.specs.declared.history.Event.{Event}
+use Rattle.chart.specs.declared.history.Occurrence.{Occurrence}
 use Rattle.chart.specs.declared.line.TheConstants.{MAX_EVENTS}
 use Rattle.chart.specs.Histories.{AreTwo}
 use Rattle.chart.specs.Reports.{ReportView}
@@ -75,7 +75,7 @@ IsRun n k (step ∷ steps) = MayFollow n (world_after n k steps) step × IsRun n
 -- What the laws of runs speak of.
 
 -- the sends, receives and closes of these steps, in their order, the newest first
-abbrev pub history_of : ℕ → ℕ → List Step → List Event
+abbrev pub history_of : ℕ → ℕ → List Step → List Occurrence
 history_of n k steps = (world_after n k steps).history
 
 -- the reports that the receives of p have, in order

@@ -1,9 +1,9 @@
 -- A board as a pure machine: the lanes of all ordered pairs of instances, a recorder for each instance, its open coregion,
 -- and the history of what was sent, received and closed (this project's profile).
 use Rattle.std.specs.Prelude.{ℕ, ◌+◌, List, [], ◌∷◌, reverse, if◌then◌else◌}
-use Rattle.chart.specs.declared.history.Event.{Event}
-use Rattle.chart.specs.declared.history.Event.TheVariants.{Send, Receive, Close}
-use Rattle.chart.specs.Marks.{greatest_region}
+use Rattle.chart.specs.declared.history.Occurrence.{Occurrence}
+use Rattle.chart.specs.declared.history.Occurrence.TheVariants.{Send, Receive, Close}
+use Rattle.chart.specs.Events.{greatest_region}
 use Rattle.chart.specs.Messages.{Content}
 use Rattle.chart.specs.Histories.{is_lane}
 use Rattle.chart.specs.Reports.{ReportView}
@@ -21,7 +21,7 @@ pub record World : Type 0 where
   -- each instance's open coregion, 0 for none
   pub regions : ℕ → ℕ
   -- the newest event first
-  pub history : List Event
+  pub history : List Occurrence
 
 -- n instances that did nothing yet, with lanes of k places
 abbrev pub new_world : ℕ → ℕ → World
@@ -50,12 +50,12 @@ abbrev pub parcel_of : World → ℕ → ℕ → Content → Parcel
 parcel_of w q p m = record { message = m; clock = send_clock (after_sends (w.recorders q) p (names (filled w q p))) }
 
 -- the history after q's sends of these to p, one directly after another
-abbrev pub with_sends : List Event → ℕ → ℕ → List Parcel → List Event
+abbrev pub with_sends : List Occurrence → ℕ → ℕ → List Parcel → List Occurrence
 with_sends h q p [] = h
 with_sends h q p (x ∷ xs) = with_sends (Send q p x.message ∷ h) q p xs
 
 -- the history after p's receives of these from q, one directly after another
-abbrev pub with_receives : List Event → ℕ → ℕ → ℕ → List Parcel → List Event
+abbrev pub with_receives : List Occurrence → ℕ → ℕ → ℕ → List Parcel → List Occurrence
 with_receives h p q c [] = h
 with_receives h p q c (x ∷ xs) = with_receives (Receive p q c ∷ h) p q c xs
 

@@ -2,10 +2,10 @@
 use Rattle.std.proofs.Common.{◌≡◌, ℕ, Bool, true, Some, refl, sym, ap, ◌∙◌, subst, arith, eqb-true}
 use Rattle.std.proofs.lemmas.Option.{same_Some}
 use Rattle.std.proofs.lemmas.Bool.{false≢true}
-use Rattle.chart.specs.declared.event.Event.{Event as Mark}
+use Rattle.chart.specs.declared.event.Event.{Event}
 use Rattle.chart.specs.declared.event.Event.TheVariants.{Send, Receive}
-use Rattle.chart.specs.Marks.{is_send_to, is_receive_from, tally}
-use Rattle.chart.specs.Charts.{Chart, Place, at, mark_at, IsSendTo, IsReceiveFrom, BelongsTo}
+use Rattle.chart.specs.Events.{is_send_to, is_receive_from, tally}
+use Rattle.chart.specs.Charts.{Chart, Place, at, chart_event, IsSendTo, IsReceiveFrom, BelongsTo}
 use Rattle.chart.specs.Places.{IsEvent}
 use Rattle.chart.specs.Order.{IsEarlier}
 use Rattle.chart.proofs.Tally.{Passes, ith_within, tally-lt, same_from_tally, tally_reached}
@@ -14,27 +14,27 @@ use Rattle.chart.proofs.Tally.{Passes, ith_within, tally-lt, same_from_tally, ta
 pub same_place : (e f : Place) → e.instance ≡ f.instance → e.index ≡ f.index → e ≡ f
 same_place e f p q = ap (λ x. at x e.index) p ∙ ap (λ x. at f.instance x) q
 
--- where there is a mark there is an event
-pub IsEvent-from_mark : (c : Chart) (e : Place) (m : Mark) → mark_at c e ≡ Some m → IsEvent c e
-IsEvent-from_mark c e m h = ith_within (c e.instance) e.index m h
+-- a place with an event at it is one of the chart
+pub IsEvent-from_event : (c : Chart) (e : Place) (m : Event) → chart_event c e ≡ Some m → IsEvent c e
+IsEvent-from_event c e m h = ith_within (c e.instance) e.index m h
 
 -- where an event passes a test there is an event
-pub IsEvent-from_passes : (c : Chart) (test : Mark → Bool) (e : Place) → Passes test (c e.instance) e.index → IsEvent c e
+pub IsEvent-from_passes : (c : Chart) (test : Event → Bool) (e : Place) → Passes test (c e.instance) e.index → IsEvent c e
 IsEvent-from_passes c test e (m, h, t) = ith_within (c e.instance) e.index m h
 
 -- no event is a send and a receive
 pub not_both : (c : Chart) (q a : ℕ) (e : Place) → IsSendTo c q e → IsReceiveFrom c a e → ⊥
-not_both c q a e (m, h, s) (n, g, r) = mark_not_both n (subst (λ x. is_send_to q x ≡ true) (same_Some m n (sym h ∙ g)) s) r
+not_both c q a e (m, h, s) (n, g, r) = event_not_both n (subst (λ x. is_send_to q x ≡ true) (same_Some m n (sym h ∙ g)) s) r
   where
-    mark_not_both : (x : Mark) → is_send_to q x ≡ true → is_receive_from a x ≡ true → ⊥
-    mark_not_both (Send to name) yes' no' = false≢true no'
-    mark_not_both (Receive from name region) yes' no' = false≢true yes'
+    event_not_both : (x : Event) → is_send_to q x ≡ true → is_receive_from a x ≡ true → ⊥
+    event_not_both (Send to name) yes' no' = false≢true no'
+    event_not_both (Receive from name region) yes' no' = false≢true yes'
 
 -- a receive is from one sender
 pub one_sender : (c : Chart) (a b : ℕ) (e : Place) → IsReceiveFrom c a e → IsReceiveFrom c b e → a ≡ b
 one_sender c a b e (m, h, s) (n, g, r) = sender n (subst (λ x. is_receive_from a x ≡ true) (same_Some m n (sym h ∙ g)) s) r
   where
-    sender : (x : Mark) → is_receive_from a x ≡ true → is_receive_from b x ≡ true → a ≡ b
+    sender : (x : Event) → is_receive_from a x ≡ true → is_receive_from b x ≡ true → a ≡ b
     sender (Send to name) from_a from_b = absurd (false≢true from_a)
     sender (Receive from name region) from_a from_b = sym (eqb-true from a from_a) ∙ eqb-true from b from_b
 
@@ -42,7 +42,7 @@ one_sender c a b e (m, h, s) (n, g, r) = sender n (subst (λ x. is_receive_from 
 pub one_receiver : (c : Chart) (a b : ℕ) (e : Place) → IsSendTo c a e → IsSendTo c b e → a ≡ b
 one_receiver c a b e (m, h, s) (n, g, r) = receiver n (subst (λ x. is_send_to a x ≡ true) (same_Some m n (sym h ∙ g)) s) r
   where
-    receiver : (x : Mark) → is_send_to a x ≡ true → is_send_to b x ≡ true → a ≡ b
+    receiver : (x : Event) → is_send_to a x ≡ true → is_send_to b x ≡ true → a ≡ b
     receiver (Send to name) to_a to_b = sym (eqb-true to a to_a) ∙ eqb-true to b to_b
     receiver (Receive from name region) to_a to_b = absurd (false≢true to_a)
 

@@ -1,6 +1,6 @@
 -- The enforced order as chains of direct steps, taken apart at the last step.
 use Rattle.std.proofs.Common.{◌≡◌, ℕ, ◌≤◌, ◌⊎◌, inl, inr, refl, sym, ◌∙◌, subst, arith}
-use Rattle.chart.specs.Marks.{is_send_to, is_receive_from}
+use Rattle.chart.specs.Events.{is_send_to, is_receive_from}
 use Rattle.chart.specs.Charts.{Chart, Place, at, IsSendTo, IsReceiveFrom, BelongsTo}
 use Rattle.chart.specs.Order.{IsEarlier, Direct, Before}
 use Rattle.chart.specs.Order.Direct.{message, to_send, same_sender}

@@ -1,15 +1,15 @@
 -- What later events leave as it is: places, belonging, the enforced order, what is known, reports and what is heard.
 use Rattle.std.proofs.Common.{◌≡◌, ℕ, ◌≤◌, inl, inr, Bool, false, List, ◌++◌, length, sym, ap, ◌∙◌, subst, arith, length-append}
-use Rattle.chart.specs.declared.event.Event.{Event as Mark}
-use Rattle.chart.specs.Marks.{ith, tally, is_send_to, is_receive_from, is_in}
-use Rattle.chart.specs.Charts.{Chart, Place, at, mark_at, IsReceiveFrom, BelongsTo}
+use Rattle.chart.specs.declared.event.Event.{Event}
+use Rattle.chart.specs.Events.{ith, tally, is_send_to, is_receive_from, is_in}
+use Rattle.chart.specs.Charts.{Chart, Place, at, chart_event, IsReceiveFrom, BelongsTo}
 use Rattle.chart.specs.Order.{IsEarlier, Direct, Before, IsReport, region_of_event}
 use Rattle.chart.specs.Order.Direct.{message, to_send, same_sender}
 use Rattle.chart.specs.Order.Before.{direct, through}
 use Rattle.chart.specs.Knowing.{IsUpTo, IsKnown, IsGreatestHeard}
 use Rattle.chart.proofs.Tally.{Passes, ith-append, tally-append}
 use Rattle.chart.specs.Places.{IsEvent}
-use Rattle.chart.proofs.Belongs.{IsEvent-from_mark, IsEvent-from_passes, same_send}
+use Rattle.chart.proofs.Belongs.{IsEvent-from_event, IsEvent-from_passes, same_send}
 use Rattle.chart.proofs.Chains.{Chain, chain_of, direct_events}
 use Rattle.chart.proofs.Chains.Chain.{only, then}
 use Rattle.chart.proofs.Counts.{count_agrees, count_further}
@@ -18,7 +18,7 @@ use Rattle.chart.proofs.Reports.{IsReported}
 
 -- each line of d is that of c, and what came after
 abbrev pub GrowsTo : Chart → Chart → Type 0
-GrowsTo c d = (p : ℕ) → (more : List Mark) × (d p ≡ c p ++ more)
+GrowsTo c d = (p : ℕ) → (more : List Event) × (d p ≡ c p ++ more)
 
 -- each receive has its send
 abbrev pub HasSends : Chart → Type 0
@@ -30,20 +30,20 @@ module _ (c d : Chart) (grows : GrowsTo c d) where
   length_grown p = let w = grows p in omega (arith, ap length w.1, length-append (c p) w.0)
 
   -- the events stay
-  pub mark_grown : (e : Place) → IsEvent c e → mark_at d e ≡ mark_at c e
-  mark_grown e here = let w = grows e.instance in ap (λ l. ith l e.index) w.1 ∙ ith-append (c e.instance) w.0 e.index here.1
+  pub chart_event_grown : (e : Place) → IsEvent c e → chart_event d e ≡ chart_event c e
+  chart_event_grown e here = let w = grows e.instance in ap (λ l. ith l e.index) w.1 ∙ ith-append (c e.instance) w.0 e.index here.1
 
   -- so do the counts up to them
-  pub tally_grown : (test : Mark → Bool) (e : Place) → IsEvent c e → tally test (d e.instance) e.index ≡ tally test (c e.instance) e.index
+  pub tally_grown : (test : Event → Bool) (e : Place) → IsEvent c e → tally test (d e.instance) e.index ≡ tally test (c e.instance) e.index
   tally_grown test e here = let w = grows e.instance in ap (λ l. tally test l e.index) w.1 ∙ tally-append test (c e.instance) w.0 e.index here.1
 
   -- an event that passes a test is one that did
-  pub passes_grown : (test : Mark → Bool) (e : Place) → Passes test (c e.instance) e.index → Passes test (d e.instance) e.index
-  passes_grown test e p = (p.0, mark_grown e (IsEvent-from_passes c test e p) ∙ p.1, p.2)
+  pub passes_grown : (test : Event → Bool) (e : Place) → Passes test (c e.instance) e.index → Passes test (d e.instance) e.index
+  passes_grown test e p = (p.0, chart_event_grown e (IsEvent-from_passes c test e p) ∙ p.1, p.2)
 
   -- and the other way round
-  pub passes_shrunk : (test : Mark → Bool) (e : Place) → IsEvent c e → Passes test (d e.instance) e.index → Passes test (c e.instance) e.index
-  passes_shrunk test e here p = (p.0, sym (mark_grown e here) ∙ p.1, p.2)
+  pub passes_shrunk : (test : Event → Bool) (e : Place) → IsEvent c e → Passes test (d e.instance) e.index → Passes test (c e.instance) e.index
+  passes_shrunk test e here p = (p.0, sym (chart_event_grown e here) ∙ p.1, p.2)
 
   -- a receive belongs to the send that it belonged to
   pub belongs_grown : (s r : Place) → BelongsTo c s r → BelongsTo d s r
@@ -120,13 +120,13 @@ module _ (c d : Chart) (grows : GrowsTo c d) where
       where
         forth : (j : ℕ) → IsReported c r j → IsReported d r j
         forth j (less, (m, at_j, outside), apart) =
-            let within = IsEvent-from_mark c (at r.instance j) m at_j in
-            (less, (m, mark_grown (at r.instance j) within ∙ at_j, subst (λ x. is_in (region_of_event x) m ≡ false) (sym (mark_grown r here)) outside), λ before. apart (before_shrunk (at r.instance j) r here before))
+            let within = IsEvent-from_event c (at r.instance j) m at_j in
+            (less, (m, chart_event_grown (at r.instance j) within ∙ at_j, subst (λ x. is_in (region_of_event x) m ≡ false) (sym (chart_event_grown r here)) outside), λ before. apart (before_shrunk (at r.instance j) r here before))
 
         back : (j : ℕ) → IsReported d r j → IsReported c r j
         back j (less, (m, at_j, outside), apart) =
-            let within : IsEvent c (at r.instance j) = ((IsEvent-from_mark d (at r.instance j) m at_j).0, omega (arith, here.1)) in
-            (less, (m, sym (mark_grown (at r.instance j) within) ∙ at_j, subst (λ x. is_in (region_of_event x) m ≡ false) (mark_grown r here) outside), λ before. apart (before_grown before))
+            let within : IsEvent c (at r.instance j) = ((IsEvent-from_event d (at r.instance j) m at_j).0, omega (arith, here.1)) in
+            (less, (m, sym (chart_event_grown (at r.instance j) within) ∙ at_j, subst (λ x. is_in (region_of_event x) m ≡ false) (chart_event_grown r here) outside), λ before. apart (before_grown before))
 
     -- what is heard up to an event stays what is heard
     pub heard_grown : (p n q k : ℕ) → n ≤ length (c p) → IsGreatestHeard c p n q k → IsGreatestHeard d p n q k

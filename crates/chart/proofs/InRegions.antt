@@ -2,15 +2,15 @@
 use Rattle.std.proofs.Common.{◌≡◌, ℕ, true, not, ◌==◌, sym, ap, ◌∙◌}
 use Rattle.std.specs.Cmp.{first_so, second_so}
 use Rattle.std.proofs.lemmas.Bool.{eqb-true, eq-eqb, false≢true}
-use Rattle.chart.specs.declared.event.Event.{Event as Mark}
-use Rattle.chart.specs.Marks.{region_of, is_in}
+use Rattle.chart.specs.declared.event.Event.{Event}
+use Rattle.chart.specs.Events.{region_of, is_in}
 
 -- what is in c has this region
-pub region_of-in : (c : ℕ) (m : Mark) → is_in c m ≡ true → region_of m ≡ c
+pub region_of-in : (c : ℕ) (m : Event) → is_in c m ≡ true → region_of m ≡ c
 region_of-in c m h = eqb-true (region_of m) c (first_so (region_of m == c) (not (c == 0)) h)
 
 -- what is outside is in none
-pub none_in : (c : ℕ) (m : Mark) → region_of m ≡ 0 → is_in c m ≡ true → ⊥
+pub none_in : (c : ℕ) (m : Event) → region_of m ≡ 0 → is_in c m ≡ true → ⊥
 none_in c m outside h =
     let zero_c : c ≡ 0 = sym (region_of-in c m h) ∙ outside in
     let inside : not (c == 0) ≡ true = second_so (region_of m == c) (not (c == 0)) h in

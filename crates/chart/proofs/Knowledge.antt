@@ -1,7 +1,7 @@
 -- What a send knows of a line are the first events of it.
 use Rattle.std.proofs.Common.{◌≡◌, ℕ, ◌+◌, ◌≤◌, ◌↔◌, ◌⊎◌, inl, inr, max, length, refl, sym, ap, subst, arith}
 use Rattle.std.proofs.lemmas.Bool.{cases_lt, cases_eq}
-use Rattle.chart.specs.Marks.{is_send_to, is_receive_from}
+use Rattle.chart.specs.Events.{is_send_to, is_receive_from}
 use Rattle.chart.specs.Charts.{Chart, Place, at, IsSendTo, IsReceiveFrom, BelongsTo}
 use Rattle.chart.specs.Order.{IsCyclic}
 use Rattle.chart.specs.Order.Direct.{to_send}

@@ -4,20 +4,20 @@ use Rattle.std.specs.Prelude.{slice_get}
 use Rattle.std.proofs.lemmas.Option.{slice_get_within}
 use Rattle.std.proofs.lemmas.List.{length-append, take-append-le}
 use Rattle.std.proofs.Math.Seq.{take-append_seam}
-use Rattle.chart.specs.declared.event.Event.{Event as Mark}
+use Rattle.chart.specs.declared.event.Event.{Event}
 use Rattle.chart.specs.declared.line.Before.{Before}
 use Rattle.chart.specs.declared.line.TheConstants.{MAX_EVENTS}
-use Rattle.chart.specs.Marks.{partner_of, region_of, MayHaveRegion, HasRegionsInOrder}
+use Rattle.chart.specs.Events.{partner_of, region_of, MayHaveRegion, HasRegionsInOrder}
 use Rattle.chart.specs.Charts.{IsLine}
 use Rattle.chart.specs.LineLayout.{IsBefore, IsLaidOut}
 use Rattle.chart.proofs.Places.{each-push}
 use Rattle.chart.proofs.Runs.{AreBefore-push}
 
 -- regions stay in order where the new event may have its region
-pub HasRegionsInOrder-push : (line : List Mark) (m : Mark) → HasRegionsInOrder line → MayHaveRegion line (region_of m) → HasRegionsInOrder (line ++ m ∷ [])
+pub HasRegionsInOrder-push : (line : List Event) (m : Event) → HasRegionsInOrder line → MayHaveRegion line (region_of m) → HasRegionsInOrder (line ++ m ∷ [])
 HasRegionsInOrder-push line m old may = each-push (λ i n. MayHaveRegion (take i (line ++ m ∷ [])) (region_of n)) line m earlier newest
   where
-    earlier : (i : ℕ) (n : Mark) → slice_get line i ≡ Some n → MayHaveRegion (take i (line ++ m ∷ [])) (region_of n)
+    earlier : (i : ℕ) (n : Event) → slice_get line i ≡ Some n → MayHaveRegion (take i (line ++ m ∷ [])) (region_of n)
     earlier i n e =
         let inside = slice_get_within line i n e in
         let front : take i (line ++ m ∷ []) ≡ take i line = take-append-le i line (m ∷ []) (omega arith) in
@@ -27,7 +27,7 @@ HasRegionsInOrder-push line m old may = each-push (λ i n. MayHaveRegion (take i
     newest = subst (λ xs. MayHaveRegion xs (region_of m)) (sym (take-append_seam line (m ∷ []))) may
 
 -- a line stays one
-pub IsLine-push : (p : ℕ) (line : List Mark) (m : Mark) → IsLine (record { instance = p; events = line }) → partner_of m ≢ p → length line < MAX_EVENTS → MayHaveRegion line (region_of m)
+pub IsLine-push : (p : ℕ) (line : List Event) (m : Event) → IsLine (record { instance = p; events = line }) → partner_of m ≢ p → length line < MAX_EVENTS → MayHaveRegion line (region_of m)
     → IsLine (record { instance = p; events = line ++ m ∷ [] })
 IsLine-push p line m old other short may = record {
   short = omega (arith, length-append line (m ∷ []));
@@ -36,7 +36,7 @@ IsLine-push p line m old other short may = record {
 }
 
 -- and so does what it keeps
-pub IsLaidOut-push : (p : ℕ) (line : List Mark) (kept : List Before) (m : Mark) (b : Before) → IsLaidOut p line kept → partner_of m ≢ p → length line < MAX_EVENTS → MayHaveRegion line (region_of m)
+pub IsLaidOut-push : (p : ℕ) (line : List Event) (kept : List Before) (m : Event) (b : Before) → IsLaidOut p line kept → partner_of m ≢ p → length line < MAX_EVENTS → MayHaveRegion line (region_of m)
     → IsBefore (line ++ m ∷ []) (length line + 1) b → IsLaidOut p (line ++ m ∷ []) (kept ++ b ∷ [])
 IsLaidOut-push p line kept m b old other short may next = record {
   line = IsLine-push p line m old.line other short may;

@@ -4,13 +4,13 @@ use Rattle.std.specs.Prelude.{All}
 use Rattle.std.proofs.lemmas.List.{length-map, map-append, get_or-map}
 use Rattle.std.proofs.lemmas.List.Concat.{flat_map-cons}
 use Rattle.std.proofs.lemmas.List.Elements.{All-nil, All-cons, All-append, All-head, All-tail, All-weaker}
-use Rattle.chart.specs.declared.history.Event.{Event}
-use Rattle.chart.specs.declared.event.Event.{Event as Mark}
-use Rattle.chart.specs.declared.event.Event.TheVariants as marks
+use Rattle.chart.specs.declared.history.Occurrence.{Occurrence}
+use Rattle.chart.specs.declared.event.Event.{Event}
+use Rattle.chart.specs.declared.event.Event.TheVariants as line_events
 use Rattle.chart.specs.declared.instance.EventNo.{EventNo}
 use Rattle.chart.specs.Charts.{Chart, at, LineView}
 use Rattle.chart.specs.Histories.{chart_of, IsLegal, Begins}
-use Rattle.chart.specs.Marks.{send_mark, receive_mark}
+use Rattle.chart.specs.Events.{send_event, receive_event}
 use Rattle.chart.specs.Order.{IsReport}
 use Rattle.chart.specs.Places.{IsEvent}
 use Rattle.chart.specs.Reports.{ReportView, IsReportIn, AreReportsOf, receives_from, receives_of}
@@ -18,34 +18,34 @@ use Rattle.chart.proofs.Begun.{report_begun}
 use Rattle.chart.proofs.Existence.{same_report}
 
 -- the receives of a line are events of it
-pub receives-within : (p i : ℕ) (line : List Mark) → All (λ (e : EventNo). (e.instance ≡ p) × (i ≤ e.index) × (e.index < i + length line)) (receives_from p i line)
+pub receives-within : (p i : ℕ) (line : List Event) → All (λ (e : EventNo). (e.instance ≡ p) × (i ≤ e.index) × (e.index < i + length line)) (receives_from p i line)
 receives-within p i [] = All-nil (λ (e : EventNo). (e.instance ≡ p) × (i ≤ e.index) × (e.index < i + 0))
-receives-within p i (marks.Send to name ∷ line) =
+receives-within p i (line_events.Send to name ∷ line) =
     All-weaker (λ (e : EventNo). (e.instance ≡ p) × (i + 1 ≤ e.index) × (e.index < i + 1 + length line)) (λ (e : EventNo). (e.instance ≡ p) × (i ≤ e.index) × (e.index < i + suc (length line)))
     (λ e w. (w.0, omega (arith, w.1), omega (arith, w.2))) (receives_from p (i + 1) line) (receives-within p (i + 1) line)
-receives-within p i (marks.Receive from name region ∷ line) =
+receives-within p i (line_events.Receive from name region ∷ line) =
     All-cons (λ (e : EventNo). (e.instance ≡ p) × (i ≤ e.index) × (e.index < i + suc (length line))) (record { instance = p; index = i }) (receives_from p (i + 1) line) (refl, omega arith, omega arith)
     (All-weaker (λ (e : EventNo). (e.instance ≡ p) × (i + 1 ≤ e.index) × (e.index < i + 1 + length line)) (λ (e : EventNo). (e.instance ≡ p) × (i ≤ e.index) × (e.index < i + suc (length line)))
     (λ e w. (w.0, omega (arith, w.1), omega (arith, w.2))) (receives_from p (i + 1) line) (receives-within p (i + 1) line))
 
 -- a send is no receive
-pub receives-send : (p i : ℕ) (line : List Mark) (to : ℕ) (name : List ℕ) → receives_from p i (line ++ send_mark to name ∷ []) ≡ receives_from p i line
+pub receives-send : (p i : ℕ) (line : List Event) (to : ℕ) (name : List ℕ) → receives_from p i (line ++ send_event to name ∷ []) ≡ receives_from p i line
 receives-send p i [] to name = refl
-receives-send p i (marks.Send a b ∷ line) to name = receives-send p (i + 1) line to name
-receives-send p i (marks.Receive a b c ∷ line) to name = ap (λ es. record { instance = p; index = i } ∷ es) (receives-send p (i + 1) line to name)
+receives-send p i (line_events.Send a b ∷ line) to name = receives-send p (i + 1) line to name
+receives-send p i (line_events.Receive a b c ∷ line) to name = ap (λ es. record { instance = p; index = i } ∷ es) (receives-send p (i + 1) line to name)
 
 -- a receive at the end is the last one
-pub receives-receive : (p i : ℕ) (line : List Mark) (from : ℕ) (name : List ℕ) (region : ℕ) → receives_from p i (line ++ receive_mark from name region ∷ []) ≡ receives_from p i line ++ record { instance = p; index = length line + i } ∷ []
+pub receives-receive : (p i : ℕ) (line : List Event) (from : ℕ) (name : List ℕ) (region : ℕ) → receives_from p i (line ++ receive_event from name region ∷ []) ≡ receives_from p i line ++ record { instance = p; index = length line + i } ∷ []
 receives-receive p i [] from name region = let e : i ≡ 0 + i = omega arith in ap (λ x. record { instance = p; index = x } ∷ []) e
-receives-receive p i (marks.Send a b ∷ line) from name region =
+receives-receive p i (line_events.Send a b ∷ line) from name region =
     let place : length line + (i + 1) ≡ suc (length line) + i = omega arith in
     receives-receive p (i + 1) line from name region ∙ ap (λ x. receives_from p (i + 1) line ++ record { instance = p; index = x } ∷ []) place
-receives-receive p i (marks.Receive a b c ∷ line) from name region =
+receives-receive p i (line_events.Receive a b c ∷ line) from name region =
     let place : length line + (i + 1) ≡ suc (length line) + i = omega arith in
     ap (λ es. record { instance = p; index = i } ∷ es) (receives-receive p (i + 1) line from name region ∙ ap (λ x. receives_from p (i + 1) line ++ record { instance = p; index = x } ∷ []) place)
 
 -- reports of events stay the chart's
-pub reports_begun : (n k : ℕ) (h g : List Event) → IsLegal n k h → Begins h g → (p : ℕ) (reports : List ReportView) → map (λ (report : ReportView). report.receive) reports ≡ receives_from p 1 (chart_of h p) → All (IsReportIn (chart_of h)) reports → All (IsReportIn (chart_of g)) reports
+pub reports_begun : (n k : ℕ) (h g : List Occurrence) → IsLegal n k h → Begins h g → (p : ℕ) (reports : List ReportView) → map (λ (report : ReportView). report.receive) reports ≡ receives_from p 1 (chart_of h p) → All (IsReportIn (chart_of h)) reports → All (IsReportIn (chart_of g)) reports
 reports_begun n k h g legal begins p reports receives old i d inside =
     let report = get_or reports i d in
     let long = length-map reports (λ (r : ReportView). r.receive) in

@@ -2,9 +2,9 @@
 use Rattle.std.proofs.Common.{◌≡◌, ℕ, ◌+◌, ◌<◌, ◌≤◌, ◌↔◌, ◌⊎◌, inl, inr, true, false, List, take, Some, refl, sym, ◌∙◌, subst, arith}
 use Rattle.std.proofs.lemmas.Bool.{cases_lt, false_from_ne_true, false≢true}
 use Rattle.std.proofs.lemmas.Option.{same_Some}
-use Rattle.chart.specs.declared.event.Event.{Event as Mark}
-use Rattle.chart.specs.Marks.{ith, is_receive_from, is_in}
-use Rattle.chart.specs.Charts.{Chart, Place, at, mark_at, IsReceiveFrom, BelongsTo}
+use Rattle.chart.specs.declared.event.Event.{Event}
+use Rattle.chart.specs.Events.{ith, is_receive_from, is_in}
+use Rattle.chart.specs.Charts.{Chart, Place, at, chart_event, IsReceiveFrom, BelongsTo}
 use Rattle.chart.specs.Order.{Before, IsReport, IsRaces, region_of_event}
 use Rattle.chart.specs.Order.Direct.{same_sender}
 use Rattle.chart.specs.Order.Before.{direct}
@@ -29,14 +29,14 @@ before_in_line c s p i j k b known low less =
 
 -- what the report of a receive has
 abbrev pub IsReported : Chart → Place → ℕ → Type 0
-IsReported c r j = (j < r.index) × ((m : Mark) × (mark_at c (at r.instance j) ≡ Some m) × (is_in (region_of_event (mark_at c r)) m ≡ false)) × (Before c (at r.instance j) r → ⊥)
+IsReported c r j = (j < r.index) × ((m : Event) × (chart_event c (at r.instance j) ≡ Some m) × (is_in (region_of_event (chart_event c r)) m ≡ false)) × (Before c (at r.instance j) r → ⊥)
 
 -- what the races of a line have
-abbrev pub IsRace : List Mark → ℕ → ℕ → ℕ → ℕ → Type 0
-IsRace line entry q region j = (entry < j) × ((m : Mark) × (ith line j ≡ Some m) × (is_receive_from q m ≡ false) × (is_in region m ≡ false))
+abbrev pub IsRace : List Event → ℕ → ℕ → ℕ → ℕ → Type 0
+IsRace line entry q region j = (entry < j) × ((m : Event) × (ith line j ≡ Some m) × (is_receive_from q m ≡ false) × (is_in region m ≡ false))
 
 -- the races of the line before the receive, above what its send knows, are its report
-pub report_from_races : (c : Chart) (s : Place) (p i k region : ℕ) (xs : List ℕ) → BelongsTo c s (at p (i + 1)) → region_of_event (mark_at c (at p (i + 1))) ≡ region → IsKnown c s p k → IsRaces (take i (c p)) k s.instance region xs → IsReport c (at p (i + 1)) xs
+pub report_from_races : (c : Chart) (s : Place) (p i k region : ℕ) (xs : List ℕ) → BelongsTo c s (at p (i + 1)) → region_of_event (chart_event c (at p (i + 1))) ≡ region → IsKnown c s p k → IsRaces (take i (c p)) k s.instance region xs → IsReport c (at p (i + 1)) xs
 report_from_races c s p i k region xs b of_region known races = record {
   rising = races.rising;
   exact = λ j. (λ here. to_report j ((races.exact j).0 here), λ w. (races.exact j).1 (to_races j w));

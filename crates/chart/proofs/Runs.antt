@@ -4,14 +4,14 @@ use Rattle.std.specs.Prelude.{slice_get}
 use Rattle.std.proofs.lemmas.Option.{slice_get_within}
 use Rattle.std.proofs.lemmas.Bool.{cases_lt}
 use Rattle.chart.proofs.Places.{ith-append, ith-append_last, each-push}
-use Rattle.chart.specs.declared.event.Event.{Event as Mark}
+use Rattle.chart.specs.declared.event.Event.{Event}
 use Rattle.chart.specs.declared.line.Before.{Before}
-use Rattle.chart.specs.Marks.{ith}
+use Rattle.chart.specs.Events.{ith}
 use Rattle.chart.specs.Runs.{IsRun, EndsWithRun, IsBeforeRun}
 use Rattle.chart.specs.LineLayout.{IsBefore, AreBefore}
 
 -- a run stays one when the line grows
-pub IsRun-append : {test : Mark → Bool} {line : List Mark} {before last : ℕ} → (m : Mark) → IsRun test line before last → last ≤ length line → IsRun test (line ++ m ∷ []) before last
+pub IsRun-append : {test : Event → Bool} {line : List Event} {before last : ℕ} → (m : Event) → IsRun test line before last → last ≤ length line → IsRun test (line ++ m ∷ []) before last
 IsRun-append {test} {line} {before} {last} m run within = record {
   begun = run.begun;
   passes = λ i n low high e. run.passes i n low high (sym (ith-append line (m ∷ []) i (omega (arith, high, within))) ∙ e);
@@ -19,7 +19,7 @@ IsRun-append {test} {line} {before} {last} m run within = record {
 }
 
 -- a run at the end goes on by an event that passes
-pub IsRun-ended : {test : Mark → Bool} {line : List Mark} {before : ℕ} → (m : Mark) → EndsWithRun test line before → test m ≡ true → IsRun test (line ++ m ∷ []) before (length line + 1)
+pub IsRun-ended : {test : Event → Bool} {line : List Event} {before : ℕ} → (m : Event) → EndsWithRun test line before → test m ≡ true → IsRun test (line ++ m ∷ []) before (length line + 1)
 IsRun-ended {test} {line} {before} m run pass = record {
   begun = omega (arith, run.within);
   passes = λ i n low high e. elim (cases_lt (length line) i) [
@@ -29,7 +29,7 @@ IsRun-ended {test} {line} {before} m run pass = record {
   whole = λ n e. run.whole n (sym (ith-append line (m ∷ []) before run.within) ∙ e);
 }
   where
-    is_last : (i : ℕ) (n : Mark) → length line < i → i ≤ length line + 1 → ith (line ++ m ∷ []) i ≡ Some n → test n ≡ true
+    is_last : (i : ℕ) (n : Event) → length line < i → i ≤ length line + 1 → ith (line ++ m ∷ []) i ≡ Some n → test n ≡ true
     is_last i n past high e =
         let at_end : i ≡ suc (length line) = omega arith in
         let there : Some m ≡ Some n = sym (ith-append_last line m) ∙ ap (ith (line ++ m ∷ [])) (sym at_end) ∙ e in
@@ -37,14 +37,14 @@ IsRun-ended {test} {line} {before} m run pass = record {
         subst (λ x. test x ≡ true) same pass
 
 -- the event at the end of a line that grew by it
-pub last_is : (line : List Mark) (m n : Mark) → ith (line ++ m ∷ []) (length line + 1) ≡ Some n → m ≡ n
+pub last_is : (line : List Event) (m n : Event) → ith (line ++ m ∷ []) (length line + 1) ≡ Some n → m ≡ n
 last_is line m n e =
     let at_end : length line + 1 ≡ suc (length line) = omega arith in
     let there : Some m ≡ Some n = sym (ith-append_last line m) ∙ ap (ith (line ++ m ∷ [])) (sym at_end) ∙ e in
     cc
 
 -- what stands before the run of an event that is added: what stands before the run at the end, where it goes on
-pub IsBeforeRun-push : (test : ℕ → Mark → Bool) (line : List Mark) (m : Mark) (before : ℕ) → before ≤ length line → ((x : ℕ) → test x m ≡ true → EndsWithRun (test x) line before)
+pub IsBeforeRun-push : (test : ℕ → Event → Bool) (line : List Event) (m : Event) (before : ℕ) → before ≤ length line → ((x : ℕ) → test x m ≡ true → EndsWithRun (test x) line before)
     → IsBeforeRun test (line ++ m ∷ []) (length line + 1) before
 IsBeforeRun-push test line m before within ends = record {
   less = omega arith;
@@ -54,14 +54,14 @@ IsBeforeRun-push test line m before within ends = record {
 }
 
 -- what stands before the runs of the earlier events stays right
-IsBeforeRun-append : (test : ℕ → Mark → Bool) (line : List Mark) (m : Mark) (index before : ℕ) → index ≤ length line → IsBeforeRun test line index before → IsBeforeRun test (line ++ m ∷ []) index before
+IsBeforeRun-append : (test : ℕ → Event → Bool) (line : List Event) (m : Event) (index before : ℕ) → index ≤ length line → IsBeforeRun test line index before → IsBeforeRun test (line ++ m ∷ []) index before
 IsBeforeRun-append test line m index before within old = record {
   less = old.less;
   run = λ x n e pass. IsRun-append m (old.run x n (sym (ith-append line (m ∷ []) index within) ∙ e) pass) within;
 }
 
 -- what is kept stays right when a line and what is kept for it grow by one
-pub AreBefore-push : (line : List Mark) (kept : List Before) (m : Mark) (b : Before) → length kept ≡ length line → AreBefore line kept → IsBefore (line ++ m ∷ []) (length line + 1) b
+pub AreBefore-push : (line : List Event) (kept : List Before) (m : Event) (b : Before) → length kept ≡ length line → AreBefore line kept → IsBefore (line ++ m ∷ []) (length line + 1) b
     → AreBefore (line ++ m ∷ []) (kept ++ b ∷ [])
 AreBefore-push line kept m b same old next = each-push (λ i c. IsBefore (line ++ m ∷ []) (suc i) c) kept b earlier newest
   where

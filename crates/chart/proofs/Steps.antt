@@ -1,10 +1,10 @@
 -- What one more event adds to a legal history's chart: what a new send knows, what a new receive hears and reports.
 use Rattle.std.proofs.Common.{◌≡◌, ℕ, ◌+◌, inl, cond, max, List, [], ◌∷◌, ◌++◌, take, length, refl, sym, ap, ◌∙◌, subst, arith, append-nil, ne_eqb}
 use Rattle.std.proofs.lemmas.List.{length_push, take_at}
-use Rattle.chart.specs.declared.history.Event.{Event}
-use Rattle.chart.specs.declared.history.Event.TheVariants.{Send, Receive, Close}
+use Rattle.chart.specs.declared.history.Occurrence.{Occurrence}
+use Rattle.chart.specs.declared.history.Occurrence.TheVariants.{Send, Receive, Close}
 use Rattle.chart.specs.Messages.{Content}
-use Rattle.chart.specs.Marks.{ith, is_send_to, send_mark, receive_mark}
+use Rattle.chart.specs.Events.{ith, is_send_to, send_event, receive_event}
 use Rattle.chart.specs.Histories.{by, received, waiting, receive_of, chart_of, IsLegal}
 use Rattle.chart.specs.Charts.{at, BelongsTo}
 use Rattle.chart.specs.Places.{IsSendAfter}
@@ -19,22 +19,22 @@ use Rattle.chart.proofs.Lanes.{newest_is_send}
 use Rattle.chart.proofs.Sends.{grows_by_event, line_after_send, line_after_receive, newest_belongs, sends_of}
 
 -- an event of another instance leaves a line as it is
-pub line_of_other : (h : List Event) (e : Event) (p : ℕ) → (by e ≡ p → ⊥) → chart_of (e ∷ h) p ≡ chart_of h p
-line_of_other h (Send a b x) p differs = ap (λ mine. chart_of h p ++ cond mine (send_mark b x.name ∷ []) []) (ne_eqb a p differs) ∙ append-nil (chart_of h p)
+pub line_of_other : (h : List Occurrence) (e : Occurrence) (p : ℕ) → (by e ≡ p → ⊥) → chart_of (e ∷ h) p ≡ chart_of h p
+line_of_other h (Send a b x) p differs = ap (λ mine. chart_of h p ++ cond mine (send_event b x.name ∷ []) []) (ne_eqb a p differs) ∙ append-nil (chart_of h p)
 line_of_other h (Receive a b c) p differs = ap (λ mine. chart_of h p ++ cond mine (receive_of (waiting h b a) b c) []) (ne_eqb a p differs) ∙ append-nil (chart_of h p)
 line_of_other h (Close a b) p differs = append-nil (chart_of h p)
 
 -- a close leaves each line as it is
-pub line_after_close : (h : List Event) (p q r : ℕ) → chart_of (Close p q ∷ h) r ≡ chart_of h r
+pub line_after_close : (h : List Occurrence) (p q r : ℕ) → chart_of (Close p q ∷ h) r ≡ chart_of h r
 line_after_close h p q r = append-nil (chart_of h r)
 
 -- a new send knows of its own line all events, with itself
-pub new_send_knows_own : (h : List Event) (p q : ℕ) (x : Content) → IsKnown (chart_of (Send p q x ∷ h)) (at p (length (chart_of h p) + 1)) p (length (chart_of h p) + 1)
-new_send_knows_own h p q x = known_own (chart_of (Send p q x ∷ h)) q p (length (chart_of h p) + 1) (newest_is_send h p q x).0 (inl (ap length (line_after_send h p q x) ∙ length_push (chart_of h p) (send_mark q x.name)))
+pub new_send_knows_own : (h : List Occurrence) (p q : ℕ) (x : Content) → IsKnown (chart_of (Send p q x ∷ h)) (at p (length (chart_of h p) + 1)) p (length (chart_of h p) + 1)
+new_send_knows_own h p q x = known_own (chart_of (Send p q x ∷ h)) q p (length (chart_of h p) + 1) (newest_is_send h p q x).0 (inl (ap length (line_after_send h p q x) ∙ length_push (chart_of h p) (send_event q x.name)))
 
-module _ (n k : ℕ) (h : List Event) (legal : IsLegal n k h) where
+module _ (n k : ℕ) (h : List Occurrence) (legal : IsLegal n k h) where
   -- what its line has heard of a line stays so with a new event
-  still_heard : (e : Event) (p r m : ℕ) → IsGreatestHeard (chart_of h) p (length (chart_of h p)) r m → IsGreatestHeard (chart_of (e ∷ h)) p (length (chart_of h p)) r m
+  still_heard : (e : Occurrence) (p r m : ℕ) → IsGreatestHeard (chart_of h) p (length (chart_of h p)) r m → IsGreatestHeard (chart_of (e ∷ h)) p (length (chart_of h p)) r m
   still_heard e p r m heard = heard_grown (chart_of h) (chart_of (e ∷ h)) (grows_by_event h e) (sends_of n k h legal) p (length (chart_of h p)) r m (omega arith) heard
 
   -- a new send knows of another line what its own has heard of it
@@ -61,8 +61,8 @@ module _ (n k : ℕ) (h : List Event) (legal : IsLegal n k h) where
     -- its report is the races of the line above what that send knows of it
     pub new_receive_reports : (m : ℕ) (races : List ℕ) → IsKnown (chart_of h) (at q j) p m → IsRaces (chart_of h p) m q c races → IsReport (chart_of (Receive p q c ∷ h)) (at p (length (chart_of h p) + 1)) races
     new_receive_reports m races knows above =
-        let mark = receive_mark q x.name c in
+        let line_event = receive_event q x.name c in
         let line = line_after_receive h p q c x rest first in
-        let front = ap (λ l. take (length (chart_of h p)) l) line ∙ take_at (chart_of h p) (mark ∷ []) (length (chart_of h p)) refl in
-        let region = ap (λ l. region_of_event (ith l (length (chart_of h p) + 1))) line ∙ ap region_of_event (ith_push (chart_of h p) mark) in
+        let front = ap (λ l. take (length (chart_of h p)) l) line ∙ take_at (chart_of h p) (line_event ∷ []) (length (chart_of h p)) refl in
+        let region = ap (λ l. region_of_event (ith l (length (chart_of h p) + 1))) line ∙ ap region_of_event (ith_push (chart_of h p) line_event) in
         report_from_races (chart_of (Receive p q c ∷ h)) (at q j) p (length (chart_of h p)) m c races belongs region (known p m knows) (subst (λ l. IsRaces l m q c races) (sym front) above)

@@ -4,8 +4,8 @@ use Rattle.std.proofs.lemmas.Option.{none-some, same_Some, slice_get_within, sli
 use Rattle.std.proofs.lemmas.Bool.{cases_Bool, cases_lt}
 use Rattle.std.proofs.lemmas.List.Sums.{sum_by_more}
 use Rattle.std.proofs.lemmas.List.{take-append-le}
-use Rattle.chart.specs.declared.event.Event.{Event as Mark}
-use Rattle.chart.specs.Marks.{ith, tally}
+use Rattle.chart.specs.declared.event.Event.{Event}
+use Rattle.chart.specs.Events.{ith, tally}
 
 -- a place that has an element is from 1 to the length
 pub ith_within : {X : Type 0} (xs : List X) (i : ℕ) (x : X) → ith xs i ≡ Some x → (1 ≤ i) × (i ≤ length xs)
@@ -79,29 +79,29 @@ ith_from_take n xs i x h =
     (within, sym (ith-take n xs i within) ∙ h)
 
 -- the event at a place is there, and passes the test
-abbrev pub Passes : (Mark → Bool) → List Mark → ℕ → Type 0
-Passes test xs i = (m : Mark) × (ith xs i ≡ Some m) × (test m ≡ true)
+abbrev pub Passes : (Event → Bool) → List Event → ℕ → Type 0
+Passes test xs i = (m : Event) × (ith xs i ≡ Some m) × (test m ≡ true)
 
 -- the next event adds one if it passes
-tally_next : (test : Mark → Bool) (xs : List Mark) (i : ℕ) (m : Mark) → ith xs (suc i) ≡ Some m → tally test xs (suc i) ≡ tally test xs i + cond {A = ℕ} (test m) 1 0
+tally_next : (test : Event → Bool) (xs : List Event) (i : ℕ) (m : Event) → ith xs (suc i) ≡ Some m → tally test xs (suc i) ≡ tally test xs i + cond {A = ℕ} (test m) 1 0
 tally_next test xs i m h =
     let e = sum_by_more (λ x. cond (test x) 1 0) xs i m (slice_get_within xs i m h) in
     rw (get_or_from_slice_get xs i m m h) at (rw add-one at e)
 
 -- one place further the count is as before, or there is an event that passes, and it is one more
-pub tally_cases : (test : Mark → Bool) (xs : List Mark) (i : ℕ) → (tally test xs (suc i) ≡ tally test xs i) ⊎ (Passes test xs (suc i) × (tally test xs (suc i) ≡ tally test xs i + 1))
+pub tally_cases : (test : Event → Bool) (xs : List Event) (i : ℕ) → (tally test xs (suc i) ≡ tally test xs i) ⊎ (Passes test xs (suc i) × (tally test xs (suc i) ≡ tally test xs i + 1))
 tally_cases test xs i =
     elim (slice_get_cases xs i).1 [
       | inl w ↦ step w.0 w.2 (cases_Bool (test w.0))
       | inr w ↦ inl (ap (count_by test) (take_all (suc i) xs (omega (arith, w.0)) ∙ sym (take_all i xs w.0)))
     ]
   where
-    step : (m : Mark) → ith xs (suc i) ≡ Some m → (test m ≡ true) ⊎ (test m ≡ false) → (tally test xs (suc i) ≡ tally test xs i) ⊎ (Passes test xs (suc i) × (tally test xs (suc i) ≡ tally test xs i + 1))
+    step : (m : Event) → ith xs (suc i) ≡ Some m → (test m ≡ true) ⊎ (test m ≡ false) → (tally test xs (suc i) ≡ tally test xs i) ⊎ (Passes test xs (suc i) × (tally test xs (suc i) ≡ tally test xs i + 1))
     step m h (inl t) = let e = rw t at (tally_next test xs i m h) in inr ((m, h, t), e)
     step m h (inr f) = let e = rw f at (tally_next test xs i m h) in inl (omega (arith, e))
 
 -- up to a later place there are no fewer
-pub tally-le : (test : Mark → Bool) (xs : List Mark) (i j : ℕ) → i ≤ j → tally test xs i ≤ tally test xs j
+pub tally-le : (test : Event → Bool) (xs : List Event) (i j : ℕ) → i ≤ j → tally test xs i ≤ tally test xs j
 tally-le test xs i zero h = rw (let e : i ≡ zero = omega arith in e) (omega arith)
 tally-le test xs i (suc j) h =
     elim (cases_lt j i) [
@@ -112,7 +112,7 @@ tally-le test xs i (suc j) h =
     ]
 
 -- up to a later event that passes there are more
-pub tally-lt : (test : Mark → Bool) (xs : List Mark) (i j : ℕ) → i < j → Passes test xs j → tally test xs i < tally test xs j
+pub tally-lt : (test : Event → Bool) (xs : List Event) (i j : ℕ) → i < j → Passes test xs j → tally test xs i < tally test xs j
 tally-lt test xs i zero h p = absurd (omega arith)
 tally-lt test xs i (suc j) h (m, at, t) =
     let before = tally-le test xs i j (omega arith) in
@@ -120,7 +120,7 @@ tally-lt test xs i (suc j) h (m, at, t) =
     omega (arith, e)
 
 -- two events that pass, with as many up to each, are one
-pub same_from_tally : (test : Mark → Bool) (xs : List Mark) (i j : ℕ) → Passes test xs i → Passes test xs j → tally test xs i ≡ tally test xs j → i ≡ j
+pub same_from_tally : (test : Event → Bool) (xs : List Event) (i j : ℕ) → Passes test xs i → Passes test xs j → tally test xs i ≡ tally test xs j → i ≡ j
 same_from_tally test xs i j p q e =
     elim (cases_lt i j) [
       | inl w ↦ let l = tally-lt test xs i j w q in absurd (omega arith)
@@ -128,7 +128,7 @@ same_from_tally test xs i j p q e =
     ]
 
 -- each smaller count but 0 is reached at an event that passes
-pub tally_reached : (test : Mark → Bool) (xs : List Mark) (n i : ℕ) → 1 ≤ n → n ≤ tally test xs i → (j : ℕ) × (j ≤ i) × Passes test xs j × (tally test xs j ≡ n)
+pub tally_reached : (test : Event → Bool) (xs : List Event) (n i : ℕ) → 1 ≤ n → n ≤ tally test xs i → (j : ℕ) × (j ≤ i) × Passes test xs j × (tally test xs j ≡ n)
 tally_reached test xs n zero low high = absurd (omega arith)
 tally_reached test xs n (suc i) low high =
     elim (cases_lt (tally test xs i) n) [
@@ -141,15 +141,15 @@ tally_reached test xs n (suc i) low high =
     ]
 
 -- up to a place of the shorter list there are as many in a longer one
-pub tally-append : (test : Mark → Bool) (xs ys : List Mark) (i : ℕ) → i ≤ length xs → tally test (xs ++ ys) i ≡ tally test xs i
+pub tally-append : (test : Event → Bool) (xs ys : List Event) (i : ℕ) → i ≤ length xs → tally test (xs ++ ys) i ≡ tally test xs i
 tally-append test xs ys i h = ap (count_by test) (take-append-le i xs ys h)
 
 -- up to the end of a list there are all
-pub tally_all : (test : Mark → Bool) (xs : List Mark) (i : ℕ) → length xs ≤ i → tally test xs i ≡ count_by test xs
+pub tally_all : (test : Event → Bool) (xs : List Event) (i : ℕ) → length xs ≤ i → tally test xs i ≡ count_by test xs
 tally_all test xs i h = ap (count_by test) (take_all i xs h)
 
 -- up to any place there are no more than on the whole line
-pub tally-le-count_by : (test : Mark → Bool) (xs : List Mark) (i : ℕ) → tally test xs i ≤ count_by test xs
+pub tally-le-count_by : (test : Event → Bool) (xs : List Event) (i : ℕ) → tally test xs i ≤ count_by test xs
 tally-le-count_by test xs i =
     elim (cases_lt i (length xs)) [
       | inl w ↦ let l = tally-le test xs i (length xs) (omega arith) in omega (arith, l, tally_all test xs (length xs) (omega arith))

@@ -1,16 +1,16 @@
 -- Charts, and which send a receive belongs to (ITU-T Z.120: a message is its output and its input event; lanes are first
 -- in, first out, as Alur, Holzmann and Peled 1996 have them).
 use Rattle.std.specs.Prelude.{◌≡◌, ◌≢◌, ℕ, zero, suc, ◌<◌, ◌≤◌, true, List, [], length, slice_index_or, slice_get, Option, Some, count_by, All}
-use Rattle.chart.specs.declared.history.Event.{Event}
-use Rattle.chart.specs.declared.event.Event.{Event as Mark}
+use Rattle.chart.specs.declared.history.Occurrence.{Occurrence}
+use Rattle.chart.specs.declared.event.Event.{Event}
 use Rattle.chart.specs.declared.line.TheConstants.{MAX_EVENTS}
 use Rattle.chart.specs.declared.instance.TheConstants.{MAX_INSTANCES}
-use Rattle.chart.specs.Marks.{is_send_to, is_receive_from, name_of, partner_of, ith, tally, HasRegionsInOrder}
+use Rattle.chart.specs.Events.{is_send_to, is_receive_from, name_of, partner_of, ith, tally, HasRegionsInOrder}
 use Rattle.chart.specs.Histories.{IsLegal, chart_of}
 
 -- each instance's line
 abbrev pub Chart : Type 0
-Chart = ℕ → List Mark
+Chart = ℕ → List Event
 
 -- the place of an event: an instance, and the event's number on its line, from 1
 pub record Place : Type 0 where
@@ -21,16 +21,16 @@ abbrev pub at : ℕ → ℕ → Place
 at p i = record { instance = p; index = i }
 
 -- the event at a place
-abbrev pub mark_at : Chart → Place → Option Mark
-mark_at c e = ith (c e.instance) e.index
+abbrev pub chart_event : Chart → Place → Option Event
+chart_event c e = ith (c e.instance) e.index
 
 -- at e is a send to q
 abbrev pub IsSendTo : Chart → ℕ → Place → Type 0
-IsSendTo c q e = (m : Mark) × (mark_at c e ≡ Some m) × (is_send_to q m ≡ true)
+IsSendTo c q e = (m : Event) × (chart_event c e ≡ Some m) × (is_send_to q m ≡ true)
 
 -- at e is a receive from q
 abbrev pub IsReceiveFrom : Chart → ℕ → Place → Type 0
-IsReceiveFrom c q e = (m : Mark) × (mark_at c e ≡ Some m) × (is_receive_from q m ≡ true)
+IsReceiveFrom c q e = (m : Event) × (chart_event c e ≡ Some m) × (is_receive_from q m ≡ true)
 
 -- the receive r is of the send s: the n-th receive on a lane is of the n-th send
 pub record BelongsTo (c : Chart) (s r : Place) : Type 0 where
@@ -44,23 +44,23 @@ HasNoSend c r = (q : ℕ) × IsReceiveFrom c q r × (count_by (is_send_to r.inst
 
 -- r is a receive, and its send has another name
 abbrev pub HasOtherName : Chart → Place → Type 0
-HasOtherName c r = (s : Place) × (m : Mark) × (n : Mark) × BelongsTo c s r × (mark_at c s ≡ Some m) × (mark_at c r ≡ Some n) × (name_of m ≢ name_of n)
+HasOtherName c r = (s : Place) × (m : Event) × (n : Event) × BelongsTo c s r × (chart_event c s ≡ Some m) × (chart_event c r ≡ Some n) × (name_of m ≢ name_of n)
 
 -- the chart of a history that is legal with no bound on waiting messages
 abbrev pub IsPossible : ℕ → Chart → Type 0
-IsPossible n c = (h : List Event) × (k : ℕ) × IsLegal n k h × ((p : ℕ) → chart_of h p ≡ c p)
+IsPossible n c = (h : List Occurrence) × (k : ℕ) × IsLegal n k h × ((p : ℕ) → chart_of h p ≡ c p)
 
 -- Lines and charts as the code holds them.
 
 -- an instance, and the events of its line
 pub record LineView : Type 0 where
   pub instance : ℕ
-  pub events : List Mark
+  pub events : List Event
 
 -- what each line keeps: the limit, that no event names its own instance, and the rule of coregions
 pub record IsLine (l : LineView) : Type 0 where
   pub short : length l.events ≤ MAX_EVENTS
-  pub partners : (i : ℕ) (m : Mark) → slice_get l.events i ≡ Some m → partner_of m ≢ l.instance
+  pub partners : (i : ℕ) (m : Event) → slice_get l.events i ≡ Some m → partner_of m ≢ l.instance
   pub regions : HasRegionsInOrder l.events
 
 -- each line is the next instance's

@@ -3,7 +3,7 @@ pub mod Histories
 pub mod Knowing
 pub mod Laws
 pub mod LineLayout
-pub mod Marks
+pub mod Events
 pub mod Messages
 pub mod NameSets
 pub mod Names

@@ -2,7 +2,7 @@
 -- chart are (reports one by one are this project's profile).
 use Rattle.std.specs.Prelude.{◌≡◌, ℕ, ◌+◌, Bool, List, [], ◌∷◌, length, map, All, nat_lt}
 use Rattle.std.specs.List.{flat_map, list_any}
-use Rattle.chart.specs.declared.event.Event.{Event as Mark}
+use Rattle.chart.specs.declared.event.Event.{Event}
 use Rattle.chart.specs.declared.event.Event.TheVariants.{Send, Receive}
 use Rattle.chart.specs.declared.instance.EventNo.{EventNo}
 use Rattle.chart.specs.Charts.{Chart, at, LineView, chart_lines}
@@ -18,7 +18,7 @@ abbrev pub has_races : List ReportView → Bool
 has_races reports = list_any (λ report. nat_lt 0 (length report.earlier)) reports
 
 -- the receives among these events of p's line, the first of which is the i-th
-abbrev pub receives_from : ℕ → ℕ → List Mark → List EventNo
+abbrev pub receives_from : ℕ → ℕ → List Event → List EventNo
 receives_from p i [] = []
 receives_from p i (Send to name ∷ line) = receives_from p (i + 1) line
 receives_from p i (Receive from name region ∷ line) = record { instance = p; index = i } ∷ receives_from p (i + 1) line

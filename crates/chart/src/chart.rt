@@ -1,6 +1,6 @@
 //! Charts: one line an instance.
 ghost use Rattle.std.specs.Prelude.{◌≡◌, ◌≤◌, ◌<◌, ◌↔◌, ◌⊎◌, length, IsTrue, IsOk, IfOk, IfErr, All};
-ghost use Rattle.chart.specs.Marks.{partner_of};
+ghost use Rattle.chart.specs.Events.{partner_of};
 ghost use Rattle.chart.specs.Charts.{IsNumbered, HasPartners, IsChart, IsLine};
 ghost use Rattle.chart.specs.declared.instance.TheConstants.{MAX_INSTANCES};
 

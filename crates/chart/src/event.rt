@@ -19,7 +19,7 @@ pub enum Event {
 
 impl Event {
     ghost use Rattle.std.specs.Prelude.{◌≡◌};
-    ghost use Rattle.chart.specs.Marks.{partner_of, name_of, region_of, is_receive_from, is_in};
+    ghost use Rattle.chart.specs.Events.{partner_of, name_of, region_of, is_receive_from, is_in};
 
     /// The instance at the other end of the message.
     pub fn partner(&self) -> InstanceNo

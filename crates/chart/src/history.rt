@@ -5,7 +5,7 @@ use crate::message::Message;
 
 /// What an instance did. Contracts alone speak of histories, so no value of this type is made.
 #[derive(Drop)]
-pub enum Event {
+pub enum Occurrence {
     /// The first instance sends the message to the second.
     Send(InstanceNo, InstanceNo, Message),
     /// The first instance receives from the second, in this coregion, or outside of one at 0.

@@ -1,6 +1,6 @@
 //! Lines: the events of one instance.
 ghost use Rattle.std.specs.Prelude.{◌≡◌, ◌≢◌, ◌≤◌, ◌<◌, ◌+◌, ◌++◌, ◌∷◌, [], ◌↔◌, ◌==◌, length, map, OnOk, OnErr, Ok, Err};
-ghost use Rattle.chart.specs.Marks.{send_mark, partner_of, region_of, is_receive_from, is_in, MayHaveRegion};
+ghost use Rattle.chart.specs.Events.{send_event, partner_of, region_of, is_receive_from, is_in, MayHaveRegion};
 ghost use Rattle.chart.specs.Charts.{IsLine};
 ghost use Rattle.chart.specs.Runs.{IsBeforeRun, EndsWithRun};
 ghost use Rattle.chart.specs.LineLayout.{AreBefore, IsNext};
@@ -168,7 +168,7 @@ impl Line {
     /// Adds a send to this instance for each name, in their order, or none of them: a refusal, the first of F13, F7
     /// and F6 that applies, leaves the line as it was.
     pub fn push_sends(&mut self, to: InstanceNo, names: &[Name]) -> Result<(), LineError>
-        ensures ok { OnOk result (self.new ≡ record self.old { events = self.old.events ++ map (send_mark to) names.now }) }
+        ensures ok { OnOk result (self.new ≡ record self.old { events = self.old.events ++ map (send_event to) names.now }) }
         ensures itself { (result ≡ Err LineError.ToItself) ↔ (to ≡ self.old.instance) }
         ensures full { (result ≡ Err LineError.LineFull)
             ↔ ((to ≢ self.old.instance) × (MAX_EVENTS < length self.old.events + length names.now)) }

@@ -1,6 +1,6 @@
 //! What no contract says: examples from outside, calls with ample memory, and calls whose growth is refused.
 ghost use Rattle.std.specs.Prelude.{◌≡◌, IfOk};
-ghost use Rattle.chart.specs.Marks.{region_of};
+ghost use Rattle.chart.specs.Events.{region_of};
 
 use crate::{
     Event, InstanceNo, Line, LineError, MAX_BODY, MAX_EVENTS, MAX_NAME, Message, Name, NameError,

@@ -1,7 +1,7 @@
 -- What the sends of a line know, found by one search.
 use Rattle.std.proofs.Common.{◌≡◌, ℕ, suc, ◌-◌, ◌<◌, List, length, replicate, Some, refl, sym, subst, arith}
 use Rattle.std.specs.Prelude.{slice_index}
-use Rattle.chart.specs.Marks.{is_send_to}
+use Rattle.chart.specs.Events.{is_send_to}
 use Rattle.chart.specs.Charts.{Chart, Place, at, LineView, IsSendTo, BelongsTo, chart_lines}
 use Rattle.chart.specs.Knowing.{IsUpTo, IsKnown}
 use Rattle.chart.proofs.Belongs.{IsEvent-from_passes, not_both, one_receiver}

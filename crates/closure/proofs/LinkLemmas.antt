@@ -4,11 +4,11 @@ use Rattle.std.proofs.lemmas.Bool.{cases_eq, false≢true}
 use Rattle.std.proofs.lemmas.Option.{same_Some, slice_get_read}
 use Rattle.std.proofs.lemmas.List.{length-set, get_or-set_same, get_or-set_other}
 use Rattle.std.specs.Prelude.{slice_index}
-use Rattle.chart.specs.declared.event.Event.{Event as Mark}
+use Rattle.chart.specs.declared.event.Event.{Event}
 use Rattle.chart.specs.declared.event.Event.TheVariants.{Send, Receive}
 use Rattle.chart.specs.declared.instance.EventNo.{EventNo}
-use Rattle.chart.specs.Marks.{ith, tally, is_send_to, is_receive_from, name_of}
-use Rattle.chart.specs.Charts.{Chart, Place, at, mark_at, LineView, IsReceiveFrom, BelongsTo, HasNoSend, HasOtherName, chart_lines}
+use Rattle.chart.specs.Events.{ith, tally, is_send_to, is_receive_from, name_of}
+use Rattle.chart.specs.Charts.{Chart, Place, at, chart_event, LineView, IsReceiveFrom, BelongsTo, HasNoSend, HasOtherName, chart_lines}
 use Rattle.chart.specs.Places.{IsEvent}
 use Rattle.chart.proofs.Tally.{Passes, ith_at, tally_cases, tally-lt, tally-le-count_by}
 use Rattle.chart.proofs.Belongs.{IsEvent-from_passes, not_both, one_sender, same_send}
@@ -28,7 +28,7 @@ ne_from : (a b : ℕ) → (a ≡ b → ⊥) → (a == b) ≡ false
 ne_from a b differs = ne_eqb a b differs
 
 -- an event that passes adds one to the tally
-pub tally_pass : (test : Mark → Bool) (xs : List Mark) (i : ℕ) → Passes test xs (suc i) → tally test xs (suc i) ≡ tally test xs i + 1
+pub tally_pass : (test : Event → Bool) (xs : List Event) (i : ℕ) → Passes test xs (suc i) → tally test xs (suc i) ≡ tally test xs i + 1
 tally_pass test xs i passes =
     elim (tally_cases test xs i) [
       | inl e ↦ let l = tally-lt test xs i (suc i) (omega arith) passes in absurd (omega arith)
@@ -36,7 +36,7 @@ tally_pass test xs i passes =
     ]
 
 -- another leaves it as it is
-pub tally_skip : (test : Mark → Bool) (xs : List Mark) (i : ℕ) (m : Mark) → ith xs (suc i) ≡ Some m → test m ≡ false → tally test xs (suc i) ≡ tally test xs i
+pub tally_skip : (test : Event → Bool) (xs : List Event) (i : ℕ) (m : Event) → ith xs (suc i) ≡ Some m → test m ≡ false → tally test xs (suc i) ≡ tally test xs i
 tally_skip test xs i m at_i fails =
     elim (tally_cases test xs i) [
       | inl e ↦ e
@@ -44,7 +44,7 @@ tally_skip test xs i m at_i fails =
     ]
 
 -- the next send is found where the first one after those that were passed stands
-pub IsNextSend-at : (line : List Mark) (q passed i : ℕ) (m : Mark) → i < length line → m ≡ get_or line i m → is_send_to q m ≡ true → tally (is_send_to q) line i ≡ tally (is_send_to q) line passed → IsNextSend line q passed (i + 1)
+pub IsNextSend-at : (line : List Event) (q passed i : ℕ) (m : Event) → i < length line → m ≡ get_or line i m → is_send_to q m ≡ true → tally (is_send_to q) line i ≡ tally (is_send_to q) line passed → IsNextSend line q passed (i + 1)
 IsNextSend-at line q passed i m within is sends turn =
     let at_i = slice_get_read line (length line) i m refl within is in
     subst (λ j. IsNextSend line q passed j) (sym (add-one i)) (record {
@@ -56,14 +56,14 @@ IsNextSend-at line q passed i m within is sends turn =
 
 module _ (c : Chart) (n p k : ℕ) (passed : List ℕ) (has : HasPassed c n p k passed) where
   -- a send leaves what is passed as it is
-  pub HasPassed-send : (to : ℕ) (name : List ℕ) → mark_at c (at (suc p) (suc k)) ≡ Some (Send to name) → HasPassed c n p (suc k) passed
+  pub HasPassed-send : (to : ℕ) (name : List ℕ) → chart_event c (at (suc p) (suc k)) ≡ Some (Send to name) → HasPassed c n p (suc k) passed
   HasPassed-send to name is = record {
     same = has.same;
     within = has.within;
     turn = λ q h. has.turn q h ∙ sym (tally_skip (is_receive_from (suc q)) (c (suc p)) k (Send to name) is refl);
   }
 
-  module _ (q from : ℕ) (name : List ℕ) (region : ℕ) (sender : q < n) (by : from ≡ suc q) (is : mark_at c (at (suc p) (suc k)) ≡ Some (Receive from name region)) where
+  module _ (q from : ℕ) (name : List ℕ) (region : ℕ) (sender : q < n) (by : from ≡ suc q) (is : chart_event c (at (suc p) (suc k)) ≡ Some (Receive from name region)) where
     -- it is a receive from there
     pub received : IsReceiveFrom c (suc q) (at (suc p) (suc k))
     received = (Receive from name region, is, eq-eqb from (suc q) by)
@@ -105,8 +105,8 @@ module _ (c : Chart) (n p k : ℕ) (passed : List ℕ) (has : HasPassed c n p k 
         other r differs = ne_from from (suc r) (λ e. differs (omega arith))
 
 -- two events with one name
-pub HasSameName-from_marks : (c : Chart) (s r : Place) (a b : Mark) → mark_at c s ≡ Some a → mark_at c r ≡ Some b → name_of a ≡ name_of b → HasSameName c s r
-HasSameName-from_marks c s r a b at_s at_r same v w at_v at_w = ap name_of (same_Some v a (sym at_v ∙ at_s)) ∙ same ∙ ap name_of (same_Some b w (sym at_r ∙ at_w))
+pub HasSameName-from_events : (c : Chart) (s r : Place) (a b : Event) → chart_event c s ≡ Some a → chart_event c r ≡ Some b → name_of a ≡ name_of b → HasSameName c s r
+HasSameName-from_events c s r a b at_s at_r same v w at_v at_w = ap name_of (same_Some v a (sym at_v ∙ at_s)) ∙ same ∙ ap name_of (same_Some b w (sym at_r ∙ at_w))
 
 -- what has a partner is not faulty
 pub not_faulty : (lines : List LineView) (r : Place) (partner : Partner) → IsPartner lines r partner → IsFaulty (chart_lines lines) r → ⊥
@@ -120,7 +120,7 @@ not_faulty lines r (Sender line index) (within, belongs, named) (inl (q, from, f
     omega arith
 not_faulty lines r (Sender line index) (within, belongs, named) (inr (s, a, b, its, at_s, at_r, differs)) =
     let same = same_send (chart_lines lines) (at (suc line) index) s r belongs its in
-    differs (named a b (subst (λ x. mark_at (chart_lines lines) x ≡ Some a) (sym same) at_s) at_r)
+    differs (named a b (subst (λ x. chart_event (chart_lines lines) x ≡ Some a) (sym same) at_s) at_r)
 
 -- what is faulty is an event
 pub faulty_event : (c : Chart) (r : Place) → IsFaulty c r → IsEvent c r
@@ -164,11 +164,11 @@ module _ (lines : List LineView) where
   Refuses-from_line p rows Memory are h = tt
 
 -- the next send along the same line
-pub IsNextSend-same : (line other : List Mark) (q r passed gone j : ℕ) → line ≡ other → q ≡ r → passed ≡ gone → IsNextSend line q passed j → IsNextSend other r gone j
+pub IsNextSend-same : (line other : List Event) (q r passed gone j : ℕ) → line ≡ other → q ≡ r → passed ≡ gone → IsNextSend line q passed j → IsNextSend other r gone j
 IsNextSend-same line other q r passed gone j a b d next = subst (λ x. IsNextSend x r gone j) a (subst (λ x. IsNextSend line x gone j) b (subst (λ x. IsNextSend line q x j) d next))
 
 -- no send is left along the same line
-pub no_more : (line other : List Mark) (q r passed gone : ℕ) → line ≡ other → q ≡ r → passed ≡ gone → count_by (is_send_to q) line ≡ tally (is_send_to q) line passed → count_by (is_send_to r) other ≡ tally (is_send_to r) other gone
+pub no_more : (line other : List Event) (q r passed gone : ℕ) → line ≡ other → q ≡ r → passed ≡ gone → count_by (is_send_to q) line ≡ tally (is_send_to q) line passed → count_by (is_send_to r) other ≡ tally (is_send_to r) other gone
 no_more line other q r passed gone a b d e = subst (λ x. count_by (is_send_to r) x ≡ tally (is_send_to r) x gone) a (subst (λ x. count_by (is_send_to x) line ≡ tally (is_send_to x) line gone) b (subst (λ x. count_by (is_send_to q) line ≡ tally (is_send_to q) line x) d e))
 
 -- where all events have partners, none is faulty

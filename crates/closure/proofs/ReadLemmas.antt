@@ -4,10 +4,10 @@ use Rattle.std.proofs.lemmas.Bool.{cases_lt}
 use Rattle.std.specs.Prelude.{slice_get}
 use Rattle.std.proofs.lemmas.Option.{slice_get_read, slice_get_within, slice_get-get_or, get_or_from_slice_get}
 use Rattle.std.proofs.lemmas.List.{get_or_past, take_more}
-use Rattle.chart.specs.declared.event.Event.{Event as Mark}
+use Rattle.chart.specs.declared.event.Event.{Event}
 use Rattle.chart.specs.declared.line.TheConstants.{MAX_EVENTS}
-use Rattle.chart.specs.Marks.{ith, partner_of}
-use Rattle.chart.specs.Charts.{Place, at, mark_at, LineView, IsLine, IsChart, chart_lines}
+use Rattle.chart.specs.Events.{ith, partner_of}
+use Rattle.chart.specs.Charts.{Place, at, chart_event, LineView, IsLine, IsChart, chart_lines}
 use Rattle.chart.specs.Places.{IsEvent}
 use Rattle.chart.proofs.Tally.{ith_within}
 
@@ -43,14 +43,14 @@ instance_within lines e here = go e.instance refl
     go (suc p) is = (p, is, line_within lines p e.index (subst (λ x. IsEvent (chart_lines lines) (at x e.index)) is here))
 
 -- the partner of an event is one of the chart's instances
-pub partner_within : (lines : List LineView) (p k : ℕ) (m : Mark) → IsChart lines → p < length lines → mark_at (chart_lines lines) (at (suc p) (suc k)) ≡ Some m → partner_of m ≤ length lines
+pub partner_within : (lines : List LineView) (p k : ℕ) (m : Event) → IsChart lines → p < length lines → chart_event (chart_lines lines) (at (suc p) (suc k)) ≡ Some m → partner_of m ≤ length lines
 partner_within lines p k m chart within at_k =
     let l : LineView = get_or lines p (record { instance = suc p; events = [] }) in
     let bound = (ith_within l.events (suc k) m at_k).1 in
     subst (λ x. partner_of x ≤ length lines) (get_or_from_slice_get l.events k m m at_k) (chart.partners p (record { instance = suc p; events = [] }) within k m (omega arith))
 
 -- and it is another one
-pub partner_other : (lines : List LineView) (p k : ℕ) (m : Mark) → IsChart lines → p < length lines → mark_at (chart_lines lines) (at (suc p) (suc k)) ≡ Some m → partner_of m ≢ suc p
+pub partner_other : (lines : List LineView) (p k : ℕ) (m : Event) → IsChart lines → p < length lines → chart_event (chart_lines lines) (at (suc p) (suc k)) ≡ Some m → partner_of m ≢ suc p
 partner_other lines p k m chart within at_k same =
     let d : LineView = record { instance = suc p; events = [] } in
     let line : IsLine (get_or lines p d) = chart.each p d within in

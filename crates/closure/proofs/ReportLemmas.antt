@@ -5,11 +5,11 @@ use Rattle.std.proofs.lemmas.Bool.{false≢true}
 use Rattle.std.proofs.lemmas.Option.{slice_get-get_or, slice_get_within}
 use Rattle.std.proofs.lemmas.List.{map-append, take_more, take_all, length-take-le, flat_map_more}
 use Rattle.std.proofs.lemmas.List.Elements.{All-push}
-use Rattle.chart.specs.declared.event.Event.{Event as Mark}
+use Rattle.chart.specs.declared.event.Event.{Event}
 use Rattle.chart.specs.declared.event.Event.TheVariants.{Send, Receive}
 use Rattle.chart.specs.declared.instance.EventNo.{EventNo}
-use Rattle.chart.specs.Marks.{is_send_to, is_receive_from, region_of}
-use Rattle.chart.specs.Charts.{Chart, Place, at, mark_at, LineView, BelongsTo, IsNumbered, chart_lines}
+use Rattle.chart.specs.Events.{is_send_to, is_receive_from, region_of}
+use Rattle.chart.specs.Charts.{Chart, Place, at, chart_event, LineView, BelongsTo, IsNumbered, chart_lines}
 use Rattle.chart.specs.Order.{IsRaces, region_of_event}
 use Rattle.chart.specs.Knowing.{IsKnown}
 use Rattle.chart.specs.Reports.{ReportView, IsReportIn, AreReports, receives_from, receives_of}
@@ -20,16 +20,16 @@ use Rattle.closure.specs.Searches.{IsSend}
 use Rattle.closure.specs.Reported.{HaveReported, IsReportAt, line_above}
 
 -- the races above what the send knows are the report
-pub IsReportIn-from_races : (c : Chart) (s : Place) (p k entry region : ℕ) (m : Mark) (earlier : List EventNo) → BelongsTo c s (at p (suc k)) → mark_at c (at p (suc k)) ≡ Some m → region ≡ region_of m → IsKnown c s p entry
+pub IsReportIn-from_races : (c : Chart) (s : Place) (p k entry region : ℕ) (m : Event) (earlier : List EventNo) → BelongsTo c s (at p (suc k)) → chart_event c (at p (suc k)) ≡ Some m → region ≡ region_of m → IsKnown c s p entry
     → IsRaces (take k (c p)) entry s.instance region (map (λ e. e.index) earlier) → All (λ e. e.instance ≡ p) earlier → IsReportIn c (record { receive = record { instance = p; index = k + 1 }; earlier = earlier })
 IsReportIn-from_races c s p k entry region m earlier belongs is of_region known races own = record {
-  exact = report_from_races c s p k entry region (map (λ e. e.index) earlier) (subst (λ i. BelongsTo c s (at p i)) (sym (add-one k)) belongs) (ap (λ i. region_of_event (mark_at c (at p i))) (add-one k) ∙ ap region_of_event is ∙ sym of_region) known races;
+  exact = report_from_races c s p k entry region (map (λ e. e.index) earlier) (subst (λ i. BelongsTo c s (at p i)) (sym (add-one k)) belongs) (ap (λ i. region_of_event (chart_event c (at p i))) (add-one k) ∙ ap region_of_event is ∙ sym of_region) known races;
   line = own;
 }
 
 -- the line above the next event
-pub line_above-next : (c : Chart) (p k : ℕ) (m : Mark) → mark_at c (at p (suc k)) ≡ Some m → record (line_above c p k) { events = (line_above c p k).events ++ m ∷ [] } ≡ line_above c p (k + 1)
-line_above-next c p k m is = ap (λ (xs : List Mark). record { instance = p; events = xs }) (sym (front_next (c p) k m is))
+pub line_above-next : (c : Chart) (p k : ℕ) (m : Event) → chart_event c (at p (suc k)) ≡ Some m → record (line_above c p k) { events = (line_above c p k).events ++ m ∷ [] } ≡ line_above c p (k + 1)
+line_above-next c p k m is = ap (λ (xs : List Event). record { instance = p; events = xs }) (sym (front_next (c p) k m is))
 
 module _ (lines : List LineView) where
   abbrev c : Chart
@@ -48,7 +48,7 @@ module _ (lines : List LineView) where
     };
   }
     where
-      same : (m : Mark) → mark_at c (at (suc p) (suc k)) ≡ Some m → is_send_to q m ≡ true → receives_of (line_above c (suc p) (k + 1)) ≡ receives_of (line_above c (suc p) k)
+      same : (m : Event) → chart_event c (at (suc p) (suc k)) ≡ Some m → is_send_to q m ≡ true → receives_of (line_above c (suc p) (k + 1)) ≡ receives_of (line_above c (suc p) k)
       same (Receive from name region) is fails = absurd (false≢true fails)
       same (Send to name) is passes = ap (receives_from (suc p) 1) (front_next (c (suc p)) k (Send to name) is) ∙ receives-send (suc p) 1 (take k (c (suc p))) to name
 
@@ -63,7 +63,7 @@ module _ (lines : List LineView) where
     };
   }
     where
-      more : (m : Mark) → mark_at c (at (suc p) (suc k)) ≡ Some m → is_receive_from q m ≡ true → receives_of (line_above c (suc p) (k + 1)) ≡ receives_of (line_above c (suc p) k) ++ report.receive ∷ []
+      more : (m : Event) → chart_event c (at (suc p) (suc k)) ≡ Some m → is_receive_from q m ≡ true → receives_of (line_above c (suc p) (k + 1)) ≡ receives_of (line_above c (suc p) k) ++ report.receive ∷ []
       more (Send to name) is fails = absurd (false≢true fails)
       more (Receive from name region) is passes =
           let within = slice_get_within (c (suc p)) k (Receive from name region) is in
@@ -86,7 +86,7 @@ module _ (lines : List LineView) where
       none = record { instance = suc p; events = [] }
 
       whole : line_above c (suc p) k ≡ get_or lines p none
-      whole = ap₂ (λ (i : ℕ) (xs : List Mark). record { instance = i; events = xs }) (sym (numbered p (get_or lines p none) (slice_get-get_or lines p none within))) (take_all k (c (suc p)) (omega (arith, e)))
+      whole = ap₂ (λ (i : ℕ) (xs : List Event). record { instance = i; events = xs }) (sym (numbered p (get_or lines p none) (slice_get-get_or lines p none within))) (take_all k (c (suc p)) (omega (arith, e)))
 
   -- after the last line all are there
   pub AreReports-from_lines : (p : ℕ) (reports : List ReportView) → p ≡ length lines → HaveReported lines p 0 reports → AreReports lines reports

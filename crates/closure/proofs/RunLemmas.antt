@@ -5,15 +5,15 @@ use Rattle.std.proofs.lemmas.Bool.{cases_lt, cases_eq, false≢true}
 use Rattle.std.proofs.lemmas.List.{length-drop, get_or-set_same, get_or-set_other, get_or-replicate, get_or_past, length-replicate}
 use Rattle.std.proofs.Common.{length-take, replicate}
 use Rattle.std.proofs.lemmas.List.Sums.{count_by-le-length}
-use Rattle.chart.specs.declared.history.Event.{Event}
-use Rattle.chart.specs.declared.history.Event.TheVariants.{Send as Sends, Receive as Receives}
-use Rattle.chart.specs.declared.event.Event.{Event as Mark}
+use Rattle.chart.specs.declared.history.Occurrence.{Occurrence}
+use Rattle.chart.specs.declared.history.Occurrence.TheVariants.{Send as Sends, Receive as Receives}
+use Rattle.chart.specs.declared.event.Event.{Event}
 use Rattle.chart.specs.declared.event.Event.TheVariants.{Send, Receive}
 use Rattle.chart.specs.declared.line.TheConstants.{MAX_EVENTS}
 use Rattle.chart.specs.Messages.{Content}
-use Rattle.chart.specs.Marks.{ith, tally, is_send_to, is_receive_from, send_mark, receive_mark, MayHaveRegion}
+use Rattle.chart.specs.Events.{ith, tally, is_send_to, is_receive_from, send_event, receive_event, MayHaveRegion}
 use Rattle.chart.specs.Histories.{by, sent, received, waiting, is_closed, chart_of, MayFollow, IsLegal}
-use Rattle.chart.specs.Charts.{Chart, at, mark_at, LineView, IsChart, IsSendTo, BelongsTo, IsPossible, chart_lines}
+use Rattle.chart.specs.Charts.{Chart, at, chart_event, LineView, IsChart, IsSendTo, BelongsTo, IsPossible, chart_lines}
 use Rattle.chart.specs.Order.{Before, IsCyclic}
 use Rattle.chart.specs.Order.Direct.{message, to_send}
 use Rattle.chart.specs.Order.Before.{direct, through}
@@ -31,7 +31,7 @@ use Rattle.closure.proofs.Circles.{circle, HasCircle}
 
 -- a legal history with no close has made so many events of each line
 pub record IsMade (n : ℕ) (c : Chart) (made : List ℕ) : Type 0 where
-  pub history : List Event
+  pub history : List Occurrence
   pub legal : IsLegal n MAX_EVENTS history
   pub never_closed : (p q : ℕ) → is_closed history p q ≡ false
   pub chart : (p : ℕ) → chart_of history p ≡ take (entry made p) (c p)
@@ -68,7 +68,7 @@ left-less c (suc n) p made h inside more =
     ]
 
 -- up to a place of a front there are as many as on the line
-tally_front : (test : Mark → Bool) (m : ℕ) (xs : List Mark) (i : ℕ) → i ≤ length (take m xs) → tally test (take m xs) i ≡ tally test xs i
+tally_front : (test : Event → Bool) (m : ℕ) (xs : List Event) (i : ℕ) → i ≤ length (take m xs) → tally test (take m xs) i ≡ tally test xs i
 tally_front test m xs i h = sym (tally-append test (take m xs) (drop m xs) i h) ∙ ap (λ ys. tally test ys i) (take-append-drop m xs)
 
 -- the numbers that lines have after one of them was raised
@@ -108,8 +108,8 @@ module _ (lines : List LineView) (made : List ℕ) (p : ℕ) (chart : IsChart li
   room : length (chart_of old.history (suc p)) < MAX_EVENTS
   room = let most = line_short lines p chart inside in omega (arith, ap length (old.chart (suc p)), length-take k (c (suc p)))
 
-  -- an event of the line that has this mark was made
-  IsMade-by : (e : Event) (m : Mark) → by e ≡ suc p → mark_at c (next_of made p) ≡ Some m → MayFollow n MAX_EVENTS old.history e → ((a b : ℕ) → is_closed (e ∷ old.history) a b ≡ false) → chart_of (e ∷ old.history) (suc p) ≡ chart_of old.history (suc p) ++ m ∷ [] → IsMade n c (set made p (k + 1))
+  -- this event of the line was made
+  IsMade-by : (e : Occurrence) (m : Event) → by e ≡ suc p → chart_event c (next_of made p) ≡ Some m → MayFollow n MAX_EVENTS old.history e → ((a b : ℕ) → is_closed (e ∷ old.history) a b ≡ false) → chart_of (e ∷ old.history) (suc p) ≡ chart_of old.history (suc p) ++ m ∷ [] → IsMade n c (set made p (k + 1))
   IsMade-by e m its is follows never line = record {
     history = e ∷ old.history;
     legal = (follows, old.legal);
@@ -126,7 +126,7 @@ module _ (lines : List LineView) (made : List ℕ) (p : ℕ) (chart : IsChart li
   IsMade-send : (q : ℕ) → q < n → IsSendTo c (suc q) (next_of made p) → IsMade n c (set made p (k + 1))
   IsMade-send q q_in (m, is, sends) = go m is sends
     where
-      go : (x : Mark) → mark_at c (next_of made p) ≡ Some x → is_send_to (suc q) x ≡ true → IsMade n c (set made p (k + 1))
+      go : (x : Event) → chart_event c (next_of made p) ≡ Some x → is_send_to (suc q) x ≡ true → IsMade n c (set made p (k + 1))
       go (Receive from name region) at_x fails = absurd (false≢true fails)
       go (Send to name) at_x passes =
           let goes : to ≡ suc q = eqb-true to (suc q) passes in
@@ -155,20 +155,20 @@ module _ (lines : List LineView) (made : List ℕ) (p : ℕ) (chart : IsChart li
           omega (arith, length-drop (received old.history (suc q) (suc p)) (sent old.history (suc q) (suc p)), gone, more, got, turn)
 
       -- the first message that waits was sent by this send
-      its_send : (x : Content) (rest : List Content) → waiting old.history (suc q) (suc p) ≡ x ∷ rest → mark_at c (at (suc q) j) ≡ Some (send_mark (suc p) x.name)
+      its_send : (x : Content) (rest : List Content) → waiting old.history (suc q) (suc p) ≡ x ∷ rest → chart_event c (at (suc q) j) ≡ Some (send_event (suc p) x.name)
       its_send x rest first =
           let w = send_of_first old.history (suc q) (suc p) x rest first in
           let made_q = slice_index made q in
-          let on_front : ith (take made_q (c (suc q))) w.0 ≡ Some (send_mark (suc p) x.name) = subst (λ xs. ith xs w.0 ≡ Some (send_mark (suc p) x.name)) (old.chart (suc q)) w.2 in
-          let on_line = ith_from_take made_q (c (suc q)) w.0 (send_mark (suc p) x.name) on_front in
+          let on_front : ith (take made_q (c (suc q))) w.0 ≡ Some (send_event (suc p) x.name) = subst (λ xs. ith xs w.0 ≡ Some (send_event (suc p) x.name)) (old.chart (suc q)) w.2 in
+          let on_line = ith_from_take made_q (c (suc q)) w.0 (send_event (suc p) x.name) on_front in
           let passes = subst (λ xs. Passes (is_send_to (suc p)) xs w.0) (old.chart (suc q)) w.1.0 in
           let passes_there : Passes (is_send_to (suc p)) (c (suc q)) w.0 = (passes.0, (ith_from_take made_q (c (suc q)) w.0 passes.0 passes.1).1, passes.2) in
           let number : tally (is_send_to (suc p)) (take made_q (c (suc q))) w.0 ≡ received old.history (suc q) (suc p) + 1 = subst (λ xs. tally (is_send_to (suc p)) xs w.0 ≡ received old.history (suc q) (suc p) + 1) (old.chart (suc q)) w.1.1 in
-          let front = tally_front (is_send_to (suc p)) made_q (c (suc q)) w.0 (ith_within (take made_q (c (suc q))) w.0 (send_mark (suc p) x.name) on_front).1 in
+          let front = tally_front (is_send_to (suc p)) made_q (c (suc q)) w.0 (ith_within (take made_q (c (suc q))) w.0 (send_event (suc p) x.name) on_front).1 in
           let one = same_from_tally (is_send_to (suc p)) (c (suc q)) w.0 j passes_there belongs.sent (sym front ∙ number ∙ ap (λ i. i + 1) got ∙ sym turn) in
-          subst (λ i. mark_at c (at (suc q) i) ≡ Some (send_mark (suc p) x.name)) one on_line.1
+          subst (λ i. chart_event c (at (suc q) i) ≡ Some (send_event (suc p) x.name)) one on_line.1
 
-      go : (m : Mark) → mark_at c (next_of made p) ≡ Some m → is_receive_from (suc q) m ≡ true → IsMade n c (set made p (k + 1))
+      go : (m : Event) → chart_event c (next_of made p) ≡ Some m → is_receive_from (suc q) m ≡ true → IsMade n c (set made p (k + 1))
       go (Send to name) at_m fails = absurd (false≢true fails)
       go (Receive from name region) at_m passes = from_first (waiting old.history (suc q) (suc p)) refl some
         where
@@ -178,13 +178,13 @@ module _ (lines : List LineView) (made : List ℕ) (p : ℕ) (chart : IsChart li
           from_first : (ms : List Content) → waiting old.history (suc q) (suc p) ≡ ms → 0 < length ms → IsMade n c (set made p (k + 1))
           from_first [] none one = absurd (omega arith)
           from_first (x ∷ rest) first one =
-              let name_is : x.name ≡ name = names (send_mark (suc p) x.name) (Receive from name region) (its_send x rest first) at_m in
+              let name_is : x.name ≡ name = names (send_event (suc p) x.name) (Receive from name region) (its_send x rest first) at_m in
               let region_may = (chart.each p (record { instance = suc p; events = [] }) inside).regions k (Receive from name region) at_m in
               let other = partner_other lines p k (Receive from name region) chart inside at_m in
               IsMade-by (Receives (suc p) (suc q) region) (Receive from name region) refl at_m
               ((omega arith, omega arith, omega arith, omega arith, λ e. other (comes ∙ sym e)), some, room, subst (λ xs. MayHaveRegion xs region) (sym (old.chart (suc p))) region_may)
               old.never_closed
-              (line_after_receive old.history (suc p) (suc q) region x rest first ∙ ap₂ (λ a b. chart_of old.history (suc p) ++ receive_mark a b region ∷ []) (sym comes) name_is)
+              (line_after_receive old.history (suc p) (suc q) region x rest first ∙ ap₂ (λ a b. chart_of old.history (suc p) ++ receive_event a b region ∷ []) (sym comes) name_is)
 
 -- the next event is made where it can be
 pub IsMade-next : (lines : List LineView) (made : List ℕ) (p : ℕ) → IsChart lines → length made ≡ length lines → IsMade (length lines) (chart_lines lines) made → p < length lines → IsReady (chart_lines lines) (length lines) made p → IsMade (length lines) (chart_lines lines) (set made p (slice_index made p + 1))

@@ -1,10 +1,10 @@
 -- The other end of each event's message, and how the sends of a lane are passed along the sender's line (lanes are first in,
 -- first out, as Alur, Holzmann and Peled 1996 have them).
 use Rattle.std.specs.Prelude.{◌≡◌, ℕ, suc, ◌+◌, ◌<◌, ◌≤◌, true, List, length, slice_index, Some}
-use Rattle.chart.specs.declared.event.Event.{Event as Mark}
+use Rattle.chart.specs.declared.event.Event.{Event}
 use Rattle.chart.specs.declared.instance.EventNo.{EventNo}
-use Rattle.chart.specs.Marks.{ith, tally, is_send_to, is_receive_from, name_of}
-use Rattle.chart.specs.Charts.{Chart, Place, at, mark_at, LineView, IsSendTo, BelongsTo, HasNoSend, HasOtherName, chart_lines}
+use Rattle.chart.specs.Events.{ith, tally, is_send_to, is_receive_from, name_of}
+use Rattle.chart.specs.Charts.{Chart, Place, at, chart_event, LineView, IsSendTo, BelongsTo, HasNoSend, HasOtherName, chart_lines}
 use Rattle.closure.specs.declared.error.ChartError.{ChartError}
 use Rattle.closure.specs.declared.error.ChartError.TheVariants.{ReceiveWithoutSend, NameMismatch, Cyclic, Memory}
 use Rattle.closure.specs.declared.linking.Fault.{Fault}
@@ -15,7 +15,7 @@ use Rattle.closure.specs.Faults.{place_of, IsFaulty}
 
 -- the events at s and at r have one name
 abbrev pub HasSameName : Chart → Place → Place → Type 0
-HasSameName c s r = (a b : Mark) → mark_at c s ≡ Some a → mark_at c r ≡ Some b → name_of a ≡ name_of b
+HasSameName c s r = (a b : Event) → chart_event c s ≡ Some a → chart_event c r ≡ Some b → name_of a ≡ name_of b
 
 -- the event at r is a send to this line, or a receive that belongs to the send at this index of that line, with its name
 abbrev pub IsPartner : List LineView → Place → Partner → Type 0
@@ -23,10 +23,10 @@ IsPartner lines r (Receiver line) = (line < length lines) × IsSendTo (chart_lin
 IsPartner lines r (Sender line index) = (line < length lines) × BelongsTo (chart_lines lines) (at (suc line) index) r × HasSameName (chart_lines lines) (at (suc line) index) r
 
 -- at j is the next send to q after the first `passed` events
-pub record IsNextSend (line : List Mark) (q passed j : ℕ) : Type 0 where
+pub record IsNextSend (line : List Event) (q passed j : ℕ) : Type 0 where
   pub begun : 1 ≤ j
   pub within : j ≤ length line
-  pub send : (m : Mark) × (ith line j ≡ Some m) × (is_send_to q m ≡ true)
+  pub send : (m : Event) × (ith line j ≡ Some m) × (is_send_to q m ≡ true)
   pub turn : tally (is_send_to q) line j ≡ tally (is_send_to q) line passed + 1
 
 -- for the first k events of the line at p: of each sender's line so many events are passed that they have as many sends to

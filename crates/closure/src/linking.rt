@@ -1,6 +1,6 @@
 //! The partner of each event: the n-th receive on a lane is of the n-th send.
 ghost use Rattle.std.specs.Prelude.{◌≡◌, ◌<◌, ◌≤◌, ◌↔◌, suc, length, count_by, IsTrue, MatchOption, IfOk, OnOk, IfErr};
-ghost use Rattle.chart.specs.Marks.{is_send_to, tally};
+ghost use Rattle.chart.specs.Events.{is_send_to, tally};
 ghost use Rattle.chart.specs.Charts.{at, chart_lines, IsChart};
 ghost use Rattle.closure.specs.Faults.{Refuses};
 ghost use Rattle.closure.specs.Rows.{IsRow, AreRows};

@@ -1,7 +1,7 @@
 //! Lines and their events, by places that begin at 0.
 ghost use Rattle.std.specs.Prelude.{◌≡◌, ◌<◌, ◌≤◌, suc, length, Some};
 ghost use Rattle.chart.specs.declared.line.TheConstants.{MAX_EVENTS};
-ghost use Rattle.chart.specs.Charts.{at, mark_at, chart_lines};
+ghost use Rattle.chart.specs.Charts.{at, chart_event, chart_lines};
 
 use chart::{Event, Line, MAX_EVENTS};
 
@@ -26,7 +26,7 @@ pub fn events_of(lines: &[Line], line: usize) -> &[Event]
 pub fn event_at(lines: &[Line], line: usize, place: usize) -> Event
     requires line { line < length lines.now }
     requires place { place < length (chart_lines lines.now (suc line)) }
-    ensures { mark_at (chart_lines lines.now) (at (suc line) (suc place)) ≡ Some result }
+    ensures { chart_event (chart_lines lines.now) (at (suc line) (suc place)) ≡ Some result }
 {
     events_of(lines, line)[place]
 }

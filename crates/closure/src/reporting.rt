@@ -1,7 +1,7 @@
 //! The reports of all receives.
 ghost use Rattle.std.specs.Prelude.{◌≡◌, ◌≢◌, ◌<◌, ◌++◌, ◌∷◌, [], suc, length, IfOk, OnOk};
 ghost use Rattle.chart.specs.declared.line.TheConstants.{MAX_EVENTS};
-ghost use Rattle.chart.specs.Marks.{partner_of, region_of, MayHaveRegion};
+ghost use Rattle.chart.specs.Events.{partner_of, region_of, MayHaveRegion};
 ghost use Rattle.chart.specs.Charts.{at, chart_lines};
 ghost use Rattle.closure.specs.Rows.{AreRows};
 ghost use Rattle.closure.specs.Closures.{AreLinked};

@@ -4,7 +4,7 @@ mod growths;
 mod worked;
 
 ghost use Rattle.std.specs.Prelude.{◌≡◌};
-ghost use Rattle.chart.specs.Marks.{region_of, MayHaveRegion};
+ghost use Rattle.chart.specs.Events.{region_of, MayHaveRegion};
 
 use crate::{AuditError, ChartError, Closure, audit};
 use chart::{Chart, Event, EventNo, InstanceNo, Line, LineError, Name, Report};

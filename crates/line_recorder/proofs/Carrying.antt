@@ -4,10 +4,10 @@ use Rattle.std.specs.Prelude.{slice_get}
 use Rattle.std.proofs.lemmas.Bool.{cases_eq, eqb-true, eqb-false, and_parts}
 use Rattle.std.proofs.lemmas.Option.{slice_get_within, slice_get-get_or}
 use Rattle.std.proofs.lemmas.List.{length_push, length-replicate, length-drop}
-use Rattle.chart.specs.declared.history.Event.{Event}
-use Rattle.chart.specs.declared.history.Event.TheVariants.{Send, Receive, Close}
+use Rattle.chart.specs.declared.history.Occurrence.{Occurrence}
+use Rattle.chart.specs.declared.history.Occurrence.TheVariants.{Send, Receive, Close}
 use Rattle.chart.specs.Messages.{Content}
-use Rattle.chart.specs.Marks.{is_send_to, send_mark, receive_mark}
+use Rattle.chart.specs.Events.{is_send_to, send_event, receive_event}
 use Rattle.chart.specs.Histories.{is_lane, sent, received, waiting, chart_of, MayFollow, IsLegal}
 use Rattle.chart.specs.Charts.{Chart, at, LineView}
 use Rattle.chart.specs.Places.{IsSendAfter}
@@ -30,7 +30,7 @@ use Rattle.line_recorder.specs.Laws.{next_place, IsClockOf}
 use Rattle.line_recorder.proofs.EntryLemmas.{entry_of-with_entry, entry_of-with_entry_other, length-with_entry, entry_of-merged, entry_of-zeros}
 
 -- each message has a clock
-pub clocks_many : (n : ℕ) (h : List Event) (q p : ℕ) → length (clocks_of n h q p) ≡ length (sent h q p)
+pub clocks_many : (n : ℕ) (h : List Occurrence) (q p : ℕ) → length (clocks_of n h q p) ≡ length (sent h q p)
 clocks_many n [] q p = refl
 clocks_many n (Send a b m ∷ h) q p = go (is_lane a b q p) (clocks_many n h q p)
   where
@@ -44,7 +44,7 @@ clocks_many n (Receive a b c ∷ h) q p = clocks_many n h q p
 clocks_many n (Close a b ∷ h) q p = clocks_many n h q p
 
 -- the clock of the first message that waits is there
-first_waits : (n : ℕ) (h : List Event) (q p : ℕ) → 0 < length (waiting h q p) → slice_get (clocks_of n h q p) (received h q p) ≡ Some (first_clock (waiting_clocks n h q p))
+first_waits : (n : ℕ) (h : List Occurrence) (q p : ℕ) → 0 < length (waiting h q p) → slice_get (clocks_of n h q p) (received h q p) ≡ Some (first_clock (waiting_clocks n h q p))
 first_waits n h q p some = go (waiting_clocks n h q p) refl (omega (arith, length-drop (received h q p) (clocks_of n h q p), length-drop (received h q p) (sent h q p), clocks_many n h q p))
   where
     go : (clocks : List (List ℕ)) → waiting_clocks n h q p ≡ clocks → 0 < length clocks → slice_get (clocks_of n h q p) (received h q p) ≡ Some (first_clock clocks)
@@ -58,20 +58,20 @@ first_message (m ∷ rest) some = (m, rest, refl)
 
 -- what is carried is right: each clock has n entries; what an instance knows of another is the greatest heard of it; and a
 -- message's clock is what its send knows
-pub record IsCarried (n : ℕ) (h : List Event) : Type 0 where
+pub record IsCarried (n : ℕ) (h : List Occurrence) : Type 0 where
   pub known_long : (p : ℕ) → length (knowledge_of n h p) ≡ n
   pub long : (q p i : ℕ) (clock : List ℕ) → slice_get (clocks_of n h q p) i ≡ Some clock → length clock ≡ n
   pub knows : (p q : ℕ) → 1 ≤ p → p ≤ n → 1 ≤ q → q ≤ n → (q ≡ p → ⊥) → IsGreatestHeard (chart_of h) p (length (chart_of h p)) q (entry_of (knowledge_of n h p) q)
   pub carries : (q p i j : ℕ) (clock : List ℕ) → slice_get (clocks_of n h q p) i ≡ Some clock → IsSendAfter (chart_of h q) p i j → (r : ℕ) → 1 ≤ r → r ≤ n → IsKnown (chart_of h) (at q j) r (entry_of clock r)
 
-module _ (n k : ℕ) (h : List Event) (legal : IsLegal n k h) (old : IsCarried n h) where
+module _ (n k : ℕ) (h : List Occurrence) (legal : IsLegal n k h) (old : IsCarried n h) where
   -- what a line has heard stays where the line doesn't grow
-  heard_on : (e : Event) (p q : ℕ) → 1 ≤ p → p ≤ n → 1 ≤ q → q ≤ n → (q ≡ p → ⊥) → chart_of (e ∷ h) p ≡ chart_of h p → IsGreatestHeard (chart_of (e ∷ h)) p (length (chart_of (e ∷ h) p)) q (entry_of (knowledge_of n h p) q)
+  heard_on : (e : Occurrence) (p q : ℕ) → 1 ≤ p → p ≤ n → 1 ≤ q → q ≤ n → (q ≡ p → ⊥) → chart_of (e ∷ h) p ≡ chart_of h p → IsGreatestHeard (chart_of (e ∷ h)) p (length (chart_of (e ∷ h) p)) q (entry_of (knowledge_of n h p) q)
   heard_on e p q p_low p_high low high other same =
       subst (λ l. IsGreatestHeard (chart_of (e ∷ h)) p l q (entry_of (knowledge_of n h p) q)) (sym (ap length same)) (heard_begun n k h (e ∷ h) legal (e ∷ [], refl) p (length (chart_of h p)) q (entry_of (knowledge_of n h p) q) (omega arith) (old.knows p q p_low p_high low high other))
 
   -- a message that was sent before carries what its send knows
-  carried_on : (e : Event) (q p i j : ℕ) (clock : List ℕ) → slice_get (clocks_of n h q p) i ≡ Some clock → IsSendAfter (chart_of (e ∷ h) q) p i j → (r : ℕ) → 1 ≤ r → r ≤ n → IsKnown (chart_of (e ∷ h)) (at q j) r (entry_of clock r)
+  carried_on : (e : Occurrence) (q p i j : ℕ) (clock : List ℕ) → slice_get (clocks_of n h q p) i ≡ Some clock → IsSendAfter (chart_of (e ∷ h) q) p i j → (r : ℕ) → 1 ≤ r → r ≤ n → IsKnown (chart_of (e ∷ h)) (at q j) r (entry_of clock r)
   carried_on e q p i j clock at_i sends r low high =
       let none : Content = record { name = []; body = [] } in
       let within : i < length (sent h q p) = omega (arith, slice_get_within (clocks_of n h q p) i clock at_i, clocks_many n h q p) in
@@ -124,7 +124,7 @@ module _ (n k : ℕ) (h : List Event) (legal : IsLegal n k h) (old : IsCarried n
             go : (its : Bool) → (a == p) ≡ its → IsGreatestHeard after_send a (length (after_send a)) b (entry_of (cond its (with_entry (knowledge_of n h a) a index) (knowledge_of n h a)) b)
             go true e =
                 let same : a ≡ p = eqb-true a p e in
-                let longer : index ≡ length (after_send p) = sym (ap length (line_after_send h p q m) ∙ length_push (chart_of h p) (send_mark q m.name)) in
+                let longer : index ≡ length (after_send p) = sym (ap length (line_after_send h p q m) ∙ length_push (chart_of h p) (send_event q m.name)) in
                 let heard = new_send_hears n k h legal p q m b (entry_of (knowledge_of n h p) b) (old.knows p b may.0.0 may.0.1 low high (λ x. other (x ∙ sym same))) in
                 rw (entry_of-with_entry_other (knowledge_of n h a) a b index other) (subst (λ x. IsGreatestHeard after_send x (length (after_send x)) b (entry_of (knowledge_of n h x) b)) (sym same) (subst (λ l. IsGreatestHeard after_send p l b (entry_of (knowledge_of n h p) b)) longer heard))
             go false e = heard_on (Send p q m) a b a_low a_high low high other (line_of_other h (Send p q m) a (λ x. eqb-false a p e (sym x)))
@@ -173,7 +173,7 @@ module _ (n k : ℕ) (h : List Event) (legal : IsLegal n k h) (old : IsCarried n
                 let same : a ≡ p = eqb-true a p e in
                 let message = first_message (waiting h q p) may.1 in
                 let send = send_of_first h q p message.0 message.1 message.2 in
-                let longer : length (chart_of h p) + 1 ≡ length (new p) = sym (ap length (line_after_receive h p q c message.0 message.1 message.2) ∙ length_push (chart_of h p) (receive_mark q message.0.name c)) in
+                let longer : length (chart_of h p) + 1 ≡ length (new p) = sym (ap length (line_after_receive h p q c message.0 message.1 message.2) ∙ length_push (chart_of h p) (receive_event q message.0.name c)) in
                 let known = old.carries q p (received h q p) send.0 taken_clock (first_waits n h q p may.1) send.1 b low high in
                 let heard = new_receive_hears n k h legal p q c message.0 message.1 message.2 send.0 send.1 b (entry_of (knowledge_of n h p) b) (entry_of taken_clock b) (old.knows p b may.0.0 may.0.1 low high (λ x. other (x ∙ sym same))) known in
                 rw (entry_of-merged (knowledge_of n h a) taken_clock b (old.known_long a ∙ sym clock_long) (omega (arith, old.known_long a)))
@@ -190,7 +190,7 @@ module _ (n k : ℕ) (h : List Event) (legal : IsLegal n k h) (old : IsCarried n
   }
 
 -- what is carried along a legal history is right
-pub carried_right : (n k : ℕ) (h : List Event) → IsLegal n k h → IsCarried n h
+pub carried_right : (n k : ℕ) (h : List Occurrence) → IsLegal n k h → IsCarried n h
 carried_right n k [] legal = record {
   known_long = λ p. length-replicate n 0;
   long = λ q p i clock e. absurd (ith_nil (suc i) clock e);
@@ -203,18 +203,18 @@ carried_right n k (Close p q ∷ h) legal = carried_close n k h legal.1 (carried
 
 -- The laws.
 
-pub carried_knowledge : (n k : ℕ) (h : List Event) → IsLegal n k h → (p q : ℕ) → 1 ≤ p → p ≤ n → 1 ≤ q → q ≤ n → (q ≡ p → ⊥) → IsGreatestHeard (chart_of h) p (length (chart_of h p)) q (entry_of (knowledge_of n h p) q)
+pub carried_knowledge : (n k : ℕ) (h : List Occurrence) → IsLegal n k h → (p q : ℕ) → 1 ≤ p → p ≤ n → 1 ≤ q → q ≤ n → (q ≡ p → ⊥) → IsGreatestHeard (chart_of h) p (length (chart_of h p)) q (entry_of (knowledge_of n h p) q)
 carried_knowledge n k h legal = (carried_right n k h legal).knows
 
-pub carried_entries : (n k : ℕ) (h : List Event) → IsLegal n k h → (q p i : ℕ) (clock : List ℕ) → slice_get (clocks_of n h q p) i ≡ Some clock → length clock ≡ n
+pub carried_entries : (n k : ℕ) (h : List Occurrence) → IsLegal n k h → (q p i : ℕ) (clock : List ℕ) → slice_get (clocks_of n h q p) i ≡ Some clock → length clock ≡ n
 carried_entries n k h legal = (carried_right n k h legal).long
 
-pub carried_clock : (n k : ℕ) (h : List Event) → IsLegal n k h → (q p i j : ℕ) (clock : List ℕ) → slice_get (clocks_of n h q p) i ≡ Some clock → IsSendAfter (chart_of h q) p i j → IsClockOf (chart_of h) (at q j) clock
+pub carried_clock : (n k : ℕ) (h : List Occurrence) → IsLegal n k h → (q p i j : ℕ) (clock : List ℕ) → slice_get (clocks_of n h q p) i ≡ Some clock → IsSendAfter (chart_of h q) p i j → IsClockOf (chart_of h) (at q j) clock
 carried_clock n k h legal q p i j clock there sends r low high =
     let right = carried_right n k h legal in
     right.carries q p i j clock there sends r low (omega (arith, right.long q p i clock there))
 
-pub carried_report : (n k : ℕ) (h : List Event) → IsLegal n k h → (p q c : ℕ) → 1 ≤ p → p ≤ n → 0 < length (waiting h q p) → (clock : List ℕ) (rest : List (List ℕ)) → waiting_clocks n h q p ≡ clock ∷ rest → (r : RecorderView) → r.line ≡ record { instance = p; events = chart_of h p } → (report : ReportView) → IsReportOf r q c clock report
+pub carried_report : (n k : ℕ) (h : List Occurrence) → IsLegal n k h → (p q c : ℕ) → 1 ≤ p → p ≤ n → 0 < length (waiting h q p) → (clock : List ℕ) (rest : List (List ℕ)) → waiting_clocks n h q p ≡ clock ∷ rest → (r : RecorderView) → r.line ≡ record { instance = p; events = chart_of h p } → (report : ReportView) → IsReportOf r q c clock report
     → IsReport (chart_of (Receive p q c ∷ h)) (next_place r) (map (λ race. race.index) report.earlier)
 carried_report n k h legal p q c p_low p_high some clock rest first r line report made =
     let message = first_message (waiting h q p) some in

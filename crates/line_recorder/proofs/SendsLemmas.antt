@@ -4,7 +4,7 @@ use Rattle.std.proofs.lemmas.List.{length-append, set-set}
 use Rattle.std.proofs.lemmas.Bool.{false≢true}
 use Rattle.std.specs.Prelude.{Result, Ok, Err, OnOk, is_ok}
 use Rattle.chart.specs.Charts.{LineView}
-use Rattle.chart.specs.Marks.{send_mark}
+use Rattle.chart.specs.Events.{send_event}
 use Rattle.clock.specs.Clocks.{with_entry}
 use Rattle.line_recorder.specs.Recorders.{RecorderView, send_clock, after_send, after_sends, send_clocks}
 use Rattle.line_recorder.specs.Sends.{clock_at, next_clocks, known_after}
@@ -20,7 +20,7 @@ clock_at-after_send r to name index = with_entry-with_entry r.knowledge r.line.i
 
 -- the line is one longer
 length-after_send : (r : RecorderView) (to : ℕ) (name : List ℕ) (n : ℕ) → length (after_send r to name).line.events + n ≡ length r.line.events + suc n
-length-after_send r to name n = omega (arith, length-append r.line.events (send_mark to name ∷ []))
+length-after_send r to name n = omega (arith, length-append r.line.events (send_event to name ∷ []))
 
 -- the clock of a send, and those of the next ones
 next_clocks-suc : (r : RecorderView) (to : ℕ) (name : List ℕ) (n : ℕ) → send_clock r ∷ next_clocks (after_send r to name) n ≡ next_clocks r (suc n)
@@ -40,13 +40,13 @@ send_clocks_are r to [] = refl
 send_clocks_are r to (name ∷ names) = ap (λ clocks. send_clock r ∷ clocks) (send_clocks_are (after_send r to name) to names) ∙ next_clocks-suc r to name (length names)
 
 -- what several sends make of a recorder
-pub after_sends_is : (r : RecorderView) (to : ℕ) (names : List (List ℕ)) → after_sends r to names ≡ record { line = record { instance = r.line.instance; events = r.line.events ++ map (send_mark to) names }; knowledge = known_after r (length names); reports = r.reports }
+pub after_sends_is : (r : RecorderView) (to : ℕ) (names : List (List ℕ)) → after_sends r to names ≡ record { line = record { instance = r.line.instance; events = r.line.events ++ map (send_event to) names }; knowledge = known_after r (length names); reports = r.reports }
 after_sends_is r to [] = ap (λ events. record { line = record { instance = r.line.instance; events = events }; knowledge = r.knowledge; reports = r.reports }) (sym (append-nil r.line.events))
 after_sends_is r to (name ∷ names) =
-    rw (after_sends_is (after_send r to name) to names, known_after-suc r to name (length names), append_assoc r.line.events (send_mark to name ∷ []) (map (send_mark to) names)) refl
+    rw (after_sends_is (after_send r to name) to names, known_after-suc r to name (length names), append_assoc r.line.events (send_event to name ∷ []) (map (send_event to) names)) refl
 
 -- a recorder with that line and that knowledge is the one after the sends
-pub is_after_sends : (r : RecorderView) (to : ℕ) (names : List (List ℕ)) (line : LineView) (known : List ℕ) → line ≡ record { instance = r.line.instance; events = r.line.events ++ map (send_mark to) names } → known ≡ known_after r (length names)
+pub is_after_sends : (r : RecorderView) (to : ℕ) (names : List (List ℕ)) (line : LineView) (known : List ℕ) → line ≡ record { instance = r.line.instance; events = r.line.events ++ map (send_event to) names } → known ≡ known_after r (length names)
     → ◌≡◌ {A = RecorderView} (record { line = line; knowledge = known; reports = r.reports }) (after_sends r to names)
 is_after_sends r to names line known is_line is_known = rw (after_sends_is r to names, is_line, is_known) refl
 

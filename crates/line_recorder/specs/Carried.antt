@@ -1,8 +1,8 @@
 -- What the recorders of several instances know after a history, and the clocks that the messages of its lanes carry: vector
 -- time (Fidge 1988, Mattern 1989) along a history of this project's profile.
 use Rattle.std.specs.Prelude.{ℕ, ◌+◌, ◌==◌, List, [], ◌∷◌, ◌++◌, length, drop, replicate, if◌then◌else◌}
-use Rattle.chart.specs.declared.history.Event.{Event}
-use Rattle.chart.specs.declared.history.Event.TheVariants.{Send, Receive, Close}
+use Rattle.chart.specs.declared.history.Occurrence.{Occurrence}
+use Rattle.chart.specs.declared.history.Occurrence.TheVariants.{Send, Receive, Close}
 use Rattle.chart.specs.Histories.{is_lane, received, chart_of}
 use Rattle.clock.specs.Clocks.{with_entry, merged}
 
@@ -35,20 +35,20 @@ carried_by_receive w p clock = record {
 }
 
 -- after the history, among n instances
-abbrev pub carried : ℕ → List Event → Carried
+abbrev pub carried : ℕ → List Occurrence → Carried
 carried n [] = nothing_carried n
 carried n (Send p q m ∷ h) = carried_by_send (carried n h) p q (length (chart_of h p) + 1)
 carried n (Receive p q c ∷ h) = carried_by_receive (carried n h) p (first_clock (drop (received h q p) ((carried n h).clocks q p)))
 carried n (Close p q ∷ h) = carried n h
 
 -- what p knows
-abbrev pub knowledge_of : ℕ → List Event → ℕ → List ℕ
+abbrev pub knowledge_of : ℕ → List Occurrence → ℕ → List ℕ
 knowledge_of n h p = (carried n h).knowledge p
 
 -- the clocks of the messages that q sent to p
-abbrev pub clocks_of : ℕ → List Event → ℕ → ℕ → List (List ℕ)
+abbrev pub clocks_of : ℕ → List Occurrence → ℕ → ℕ → List (List ℕ)
 clocks_of n h q p = (carried n h).clocks q p
 
 -- the clocks of the messages from q to p that wait
-abbrev pub waiting_clocks : ℕ → List Event → ℕ → ℕ → List (List ℕ)
+abbrev pub waiting_clocks : ℕ → List Occurrence → ℕ → ℕ → List (List ℕ)
 waiting_clocks n h q p = drop (received h q p) (clocks_of n h q p)

@@ -1,9 +1,9 @@
 -- The laws of recorders: statements that the functions of `laws` prove. That a clock is what its event knows is from Fidge
 -- 1988 and Mattern 1989, that a report can be read off one entry of it is this project's profile.
 use Rattle.std.specs.Prelude.{◌≡◌, ℕ, ◌+◌, ◌<◌, ◌≤◌, ◌⊎◌, List, ◌∷◌, ◌++◌, length, map, slice_get, Some}
-use Rattle.chart.specs.declared.history.Event.{Event}
-use Rattle.chart.specs.declared.history.Event.TheVariants.{Receive}
-use Rattle.chart.specs.declared.event.Event.{Event as Mark}
+use Rattle.chart.specs.declared.history.Occurrence.{Occurrence}
+use Rattle.chart.specs.declared.history.Occurrence.TheVariants.{Receive}
+use Rattle.chart.specs.declared.event.Event.{Event}
 use Rattle.chart.specs.Histories.{sent, waiting, chart_of, IsLegal}
 use Rattle.chart.specs.Charts.{Chart, Place, at, LineView, BelongsTo}
 use Rattle.chart.specs.Places.{IsSendAfter}
@@ -18,7 +18,7 @@ use Rattle.line_recorder.specs.Recorders.{RecorderView, new_recorder, send_clock
 
 -- the chart has these events as the first of the instance's line
 abbrev pub HasLine : Chart → LineView → Type 0
-HasLine c l = (more : List Mark) × (c l.instance ≡ l.events ++ more)
+HasLine c l = (more : List Event) × (c l.instance ≡ l.events ++ more)
 
 -- the place of the recorder's next event
 abbrev pub next_place : RecorderView → Place
@@ -62,21 +62,21 @@ ReceiveReportLaw = (c : Chart) (s : Place) (r : RecorderView) (from : ℕ) (name
 
 -- of each other instance an instance knows the greatest heard of it on its line
 abbrev pub CarriedKnowledgeLaw : Type 0
-CarriedKnowledgeLaw = (n k : ℕ) (h : List Event) → IsLegal n k h → (p q : ℕ) → 1 ≤ p → p ≤ n → 1 ≤ q → q ≤ n → (q ≡ p → ⊥) → IsGreatestHeard (chart_of h) p (length (chart_of h p)) q (entry_of (knowledge_of n h p) q)
+CarriedKnowledgeLaw = (n k : ℕ) (h : List Occurrence) → IsLegal n k h → (p q : ℕ) → 1 ≤ p → p ≤ n → 1 ≤ q → q ≤ n → (q ≡ p → ⊥) → IsGreatestHeard (chart_of h) p (length (chart_of h p)) q (entry_of (knowledge_of n h p) q)
 
 -- each message has a clock
 abbrev pub CarriedManyLaw : Type 0
-CarriedManyLaw = (n : ℕ) (h : List Event) (q p : ℕ) → length (clocks_of n h q p) ≡ length (sent h q p)
+CarriedManyLaw = (n : ℕ) (h : List Occurrence) (q p : ℕ) → length (clocks_of n h q p) ≡ length (sent h q p)
 
 -- it has an entry for each instance
 abbrev pub CarriedEntriesLaw : Type 0
-CarriedEntriesLaw = (n k : ℕ) (h : List Event) → IsLegal n k h → (q p i : ℕ) (clock : List ℕ) → slice_get (clocks_of n h q p) i ≡ Some clock → length clock ≡ n
+CarriedEntriesLaw = (n k : ℕ) (h : List Occurrence) → IsLegal n k h → (q p i : ℕ) (clock : List ℕ) → slice_get (clocks_of n h q p) i ≡ Some clock → length clock ≡ n
 
 -- it is what the message's send knows
 abbrev pub CarriedClockLaw : Type 0
-CarriedClockLaw = (n k : ℕ) (h : List Event) → IsLegal n k h → (q p i j : ℕ) (clock : List ℕ) → slice_get (clocks_of n h q p) i ≡ Some clock → IsSendAfter (chart_of h q) p i j → IsClockOf (chart_of h) (at q j) clock
+CarriedClockLaw = (n k : ℕ) (h : List Occurrence) → IsLegal n k h → (q p i j : ℕ) (clock : List ℕ) → slice_get (clocks_of n h q p) i ≡ Some clock → IsSendAfter (chart_of h q) p i j → IsClockOf (chart_of h) (at q j) clock
 
 -- the report that is made by the clock of the first message that waits is the report of its receive
 abbrev pub CarriedReportLaw : Type 0
-CarriedReportLaw = (n k : ℕ) (h : List Event) → IsLegal n k h → (p q c : ℕ) → 1 ≤ p → p ≤ n → 0 < length (waiting h q p) → (clock : List ℕ) (rest : List (List ℕ)) → waiting_clocks n h q p ≡ clock ∷ rest → (r : RecorderView) → r.line ≡ record { instance = p; events = chart_of h p } → (report : ReportView) → IsReportOf r q c clock report
+CarriedReportLaw = (n k : ℕ) (h : List Occurrence) → IsLegal n k h → (p q c : ℕ) → 1 ≤ p → p ≤ n → 0 < length (waiting h q p) → (clock : List ℕ) (rest : List (List ℕ)) → waiting_clocks n h q p ≡ clock ∷ rest → (r : RecorderView) → r.line ≡ record { instance = p; events = chart_of h p } → (report : ReportView) → IsReportOf r q c clock report
     → IsReport (chart_of (Receive p q c ∷ h)) (next_place r) (map (λ race. race.index) report.earlier)

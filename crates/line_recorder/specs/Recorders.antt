@@ -1,8 +1,8 @@
 -- What a recorder is to a contract, and what it is after each event (vector time as Fidge 1988 and Mattern 1989 have it;
 -- races as this project's profile has them).
 use Rattle.std.specs.Prelude.{◌≡◌, ℕ, ◌+◌, List, [], ◌∷◌, ◌++◌, length, map, replicate, All}
-use Rattle.chart.specs.declared.event.Event.{Event as Mark}
-use Rattle.chart.specs.Marks.{send_mark, receive_mark}
+use Rattle.chart.specs.declared.event.Event.{Event}
+use Rattle.chart.specs.Events.{send_event, receive_event}
 use Rattle.chart.specs.Charts.{LineView}
 use Rattle.chart.specs.Order.{IsRaces}
 use Rattle.chart.specs.Reports.{ReportView}
@@ -19,7 +19,7 @@ abbrev pub new_recorder : ℕ → ℕ → RecorderView
 new_recorder p n = record { line = record { instance = p; events = [] }; knowledge = replicate n 0; reports = [] }
 
 -- the line with one more event
-abbrev pub with_event : LineView → Mark → LineView
+abbrev pub with_event : LineView → Event → LineView
 with_event l m = record { instance = l.instance; events = l.events ++ m ∷ [] }
 
 -- the clock of the next event, if it is a send: what is known, with the event itself
@@ -28,11 +28,11 @@ send_clock r = with_entry r.knowledge r.line.instance (length r.line.events + 1)
 
 -- after a send, which is known from then on
 abbrev pub after_send : RecorderView → ℕ → List ℕ → RecorderView
-after_send r to name = record { line = with_event r.line (send_mark to name); knowledge = send_clock r; reports = r.reports }
+after_send r to name = record { line = with_event r.line (send_event to name); knowledge = send_clock r; reports = r.reports }
 
 -- after a receive of a message with this clock, of which there is this report
 abbrev pub after_receive : RecorderView → ℕ → List ℕ → ℕ → List ℕ → ReportView → RecorderView
-after_receive r from name region clock report = record { line = with_event r.line (receive_mark from name region); knowledge = merged r.knowledge clock; reports = r.reports ++ report ∷ [] }
+after_receive r from name region clock report = record { line = with_event r.line (receive_event from name region); knowledge = merged r.knowledge clock; reports = r.reports ++ report ∷ [] }
 
 -- the report of the next event, if it is a receive of a message with this clock: the races above the clock's own entry for
 -- this line

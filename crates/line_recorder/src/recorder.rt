@@ -1,6 +1,6 @@
 //! The recorder of one instance.
 ghost use Rattle.std.specs.Prelude.{◌≡◌, ◌≢◌, ◌≤◌, ◌<◌, ◌+◌, ◌↔◌, length, Err, OnOk, OnErr, IfOk, IsOk};
-ghost use Rattle.chart.specs.Marks.{MayHaveRegion};
+ghost use Rattle.chart.specs.Events.{MayHaveRegion};
 ghost use Rattle.clock.specs.declared.clock.TheConstants.{INLINE_ENTRIES};
 ghost use Rattle.line_recorder.specs.Sends.{next_clocks, known_after};
 ghost use Rattle.line_recorder.specs.Recorders.{new_recorder, send_clock, after_send, after_sends, send_clocks, after_receive, IsReportOf};

@@ -7,10 +7,10 @@ use Rattle.std.proofs.lemmas.Bool.{lt-leb, le-ltb}
 use Rattle.std.proofs.lemmas.Option.{slice_get-get_or, slice_get_within, get_or_from_slice_get}
 use Rattle.chart.proofs.Places.{slice_get-append}
 use Rattle.chart.specs.Charts.{LineView, IsLine}
-use Rattle.chart.specs.Marks.{partner_of, region_of, greatest_region, MayHaveRegion, HasRegionsInOrder}
+use Rattle.chart.specs.Events.{partner_of, region_of, greatest_region, MayHaveRegion, HasRegionsInOrder}
 use Rattle.chart.specs.Names.{IsName, instance_of}
 use Rattle.chart.specs.NameSets.{AreNames}
-use Rattle.chart.specs.declared.event.Event.{Event as Mark}
+use Rattle.chart.specs.declared.event.Event.{Event}
 use Rattle.chart.specs.declared.instance.TheConstants.{MAX_INSTANCES}
 use Rattle.chart.specs.declared.line.TheConstants.{MAX_EVENTS}
 use Rattle.msc_text.specs.ChartText.{chart_text, name_at}
@@ -132,7 +132,7 @@ each-index P (x ∷ xs) f = (f zero x refl, each-index P xs (λ i y e. f (suc i)
 all-at : {X : Type 0} (P : X → Type 0) (xs : List X) (i : ℕ) (x : X) → All P xs → slice_get xs i ≡ Some x → P x
 all-at P xs i x h e = subst P (get_or_from_slice_get xs i x x e) (h i x (slice_get_within xs i x e))
 
-may-follow : (all front rest : List Mark) → front ++ rest ≡ all → HasRegionsInOrder all → MayFollow front rest
+may-follow : (all front rest : List Event) → front ++ rest ≡ all → HasRegionsInOrder all → MayFollow front rest
 may-follow all front [] is h = tt
 may-follow all front (m ∷ rest) is h =
     let here : slice_get all (length front) ≡ Some m = ap (λ l. slice_get l (length front)) (sym is) ∙ slice_get-seam front m rest in
@@ -143,8 +143,8 @@ some_is : (x y : ℕ) → Some x ≡ Some y → x ≡ y
 some_is x y e = cc
 
 -- an event of the line of the instance p
-spelled-mark : (names : List (List ℕ)) (own : List ℕ) (p : ℕ) (m : Mark) → AreNames names → All IsName names → 1 ≤ p → p ≤ length names → name_at names p ≡ own → CanBeSpelled m → partner_of m ≤ length names → partner_of m ≢ p → IsSpelled names own p m
-spelled-mark names own p m are each first last owner can within other =
+spelled-event : (names : List (List ℕ)) (own : List ℕ) (p : ℕ) (m : Event) → AreNames names → All IsName names → 1 ≤ p → p ≤ length names → name_at names p ≡ own → CanBeSpelled m → partner_of m ≤ length names → partner_of m ≢ p → IsSpelled names own p m
+spelled-event names own p m are each first last owner can within other =
     let found = instance_again names (partner_of m) are can.0 within in
     let own_found : instance_of names own ≡ Some p = ap (instance_of names) (sym owner) ∙ instance_again names p are first last in
     record {
@@ -164,14 +164,14 @@ is_part names lines i own line h here there =
     let within = all-at (λ l. All (λ m. partner_of m ≤ length lines) l.events) lines i line h.chart.partners there in
     let can = all-at (λ l. All CanBeSpelled l.events) lines i line h.events there in
     let same : length names ≡ length lines = h.same in
-    let mark : (k : ℕ) (m : Mark) → slice_get line.events k ≡ Some m → IsSpelled names own line.instance m = λ k m e.
+    let line_event : (k : ℕ) (m : Event) → slice_get line.events k ≡ Some m → IsSpelled names own line.instance m = λ k m e.
     (let limit : partner_of m ≤ length lines = all-at (λ x. partner_of x ≤ length lines) line.events k m within e in
-    spelled-mark names own line.instance m h.names_are h.each (omega arith) (omega arith) owner (all-at CanBeSpelled line.events k m can e) (omega arith) (line_is.partners k m e)) in
+    spelled-event names own line.instance m h.names_are h.each (omega arith) (omega arith) owner (all-at CanBeSpelled line.events k m can e) (omega arith) (line_is.partners k m e)) in
     record {
       next = next;
       owner = owner;
       name = all-at IsName names i own h.each here;
-      spelled = each-index (IsSpelled names own line.instance) line.events mark;
+      spelled = each-index (IsSpelled names own line.instance) line.events line_event;
       follow = may-follow line.events [] line.events refl line_is.regions;
       short = line_is.short;
     }

@@ -3,8 +3,8 @@ use Rattle.std.proofs.Common.{◌≡◌, ℕ, suc, ◌+◌, ◌≤◌, cond, eqb
 use Rattle.std.proofs.lemmas.List.{length-append}
 use Rattle.std.proofs.lemmas.Bool.{eqb-false, ne_eqb}
 use Rattle.chart.specs.Charts.{LineView}
-use Rattle.chart.specs.Marks.{partner_of, region_of, greatest_region, MayHaveRegion}
-use Rattle.chart.specs.declared.event.Event.{Event as Mark}
+use Rattle.chart.specs.Events.{partner_of, region_of, greatest_region, MayHaveRegion}
+use Rattle.chart.specs.declared.event.Event.{Event}
 use Rattle.chart.specs.declared.line.TheConstants.{MAX_EVENTS}
 use Rattle.chart.proofs.Regions.{greatest_region-push, may_be-small, may-again}
 use Rattle.msc_text.specs.Faults.{in_line}
@@ -13,12 +13,12 @@ use Rattle.msc_text.proofs.Results.{guard_ok, in_line_ok}
 use Rattle.msc_reader.specs.Drawings.{DrawingView, IsDrawing, IsNextLine, pushed, greater}
 
 -- an event that a line takes is its last then, and there was room
-pub record HasPushed (line more : LineView) (m : Mark) : Type 0 where
+pub record HasPushed (line more : LineView) (m : Event) : Type 0 where
   pub is : more ≡ record line { events = line.events ++ m ∷ [] }
   pub other : partner_of m ≡ line.instance → ⊥
   pub room : length line.events ≡ MAX_EVENTS → ⊥
 
-pub pushed_ok : (line more : LineView) (m : Mark) → pushed line m ≡ Ok more → HasPushed line more m
+pub pushed_ok : (line more : LineView) (m : Event) → pushed line m ≡ Ok more → HasPushed line more m
 unfolding pushed
 pushed_ok line more m e =
     let a = guard_ok (eqb (partner_of m) line.instance) ToItself (cond (eqb (length line.events) MAX_EVENTS) (Err LineFull) (Ok (record line { events = line.events ++ m ∷ [] }))) more e in
@@ -30,16 +30,16 @@ pushed_ok line more m e =
 greater-suc : (c g : ℕ) → greater (suc c) g ≡ suc c
 greater-suc c g = rw (ne_eqb (suc c) 0 (omega arith)) refl
 
-pub greater-most : (region : ℕ) (line : List Mark) → MayHaveRegion line region → greater region (greatest_region line) ≡ max (greatest_region line) region
+pub greater-most : (region : ℕ) (line : List Event) → MayHaveRegion line region → greater region (greatest_region line) ≡ max (greatest_region line) region
 greater-most zero line may = omega arith
 greater-most (suc c) line (inl none) = absurd (omega arith)
 greater-most (suc c) line (inr (inl next)) = greater-suc c (greatest_region line) ∙ omega arith
 greater-most (suc c) line (inr (inr same)) = greater-suc c (greatest_region line) ∙ omega (arith, same.1)
 
 -- one more event
-mark-next : (lines open_region greatest : ℕ) (line : LineView) (m : Mark) → IsNextLine lines open_region greatest line → MayHaveRegion line.events (region_of m) → (length line.events ≡ MAX_EVENTS → ⊥)
+event-next : (lines open_region greatest : ℕ) (line : LineView) (m : Event) → IsNextLine lines open_region greatest line → MayHaveRegion line.events (region_of m) → (length line.events ≡ MAX_EVENTS → ⊥)
     → IsNextLine lines (region_of m) (greater (region_of m) greatest) (record line { events = line.events ++ m ∷ [] })
-mark-next lines open_region greatest line m old may room =
+event-next lines open_region greatest line m old may room =
     let grown = greatest_region-push line.events m in
     let small = may_be-small line.events (region_of m) may in
     let most = greater-most (region_of m) line.events may in
@@ -56,13 +56,13 @@ mark-next lines open_region greatest line m old may room =
     }
 
 -- a drawing with one more event is one
-pub IsDrawing-mark : (n : ℕ) (d : DrawingView) (line more : LineView) (m : Mark) → IsDrawing d → d.line ≡ Some line → (region_of m ≡ 0) ⊎ (region_of m ≡ d.open_region) → in_line n (pushed line m) ≡ Ok more
+pub IsDrawing-event : (n : ℕ) (d : DrawingView) (line more : LineView) (m : Event) → IsDrawing d → d.line ≡ Some line → (region_of m ≡ 0) ⊎ (region_of m ≡ d.open_region) → in_line n (pushed line m) ≡ Ok more
     → IsDrawing (record { lines = d.lines; line = Some more; open_region = region_of m; greatest = greater (region_of m) d.greatest })
-IsDrawing-mark n d line more m drawing there region e =
+IsDrawing-event n d line more m drawing there region e =
     let push = pushed_ok line more m (in_line_ok n (pushed line m) more e) in
     let old : IsNextLine (length d.lines) d.open_region d.greatest line = rw there at drawing.line in
     let may : MayHaveRegion line.events (region_of m) = may_have old region in
-    let next = mark-next (length d.lines) d.open_region d.greatest line m old may push.room in
+    let next = event-next (length d.lines) d.open_region d.greatest line m old may push.room in
     let few : greater (region_of m) d.greatest ≤ MAX_EVENTS = omega (arith, next.most, next.few, next.short) in
     let family : LineView → Type 0 = λ l. IsDrawing (record { lines = d.lines; line = Some l; open_region = region_of m; greatest = greater (region_of m) d.greatest }) in
     subst family (sym push.is) (record { numbered = drawing.numbered; few = few; line = next })

@@ -3,16 +3,16 @@ use Rattle.std.proofs.Common.{◌≡◌, ◌≢◌, ℕ, zero, suc, ◌+◌, ◌
 use Rattle.std.specs.List.{AllByRecursion}
 use Rattle.chart.proofs.Regions.{greatest_region-push}
 use Rattle.chart.specs.Charts.{LineView}
-use Rattle.chart.specs.Marks.{partner_of, name_of, region_of, greatest_region, last_region, MayHaveRegion}
+use Rattle.chart.specs.Events.{partner_of, name_of, region_of, greatest_region, last_region, MayHaveRegion}
 use Rattle.chart.specs.Names.{IsName, instance_of}
-use Rattle.chart.specs.declared.event.Event.{Event as Mark}
-use Rattle.chart.specs.declared.event.Event.TheVariants as marks
+use Rattle.chart.specs.declared.event.Event.{Event}
+use Rattle.chart.specs.declared.event.Event.TheVariants as line_events
 use Rattle.chart.specs.declared.line.TheConstants.{MAX_EVENTS}
 use Rattle.msc_text.specs.ChartText.{name_at}
 use Rattle.msc_text.specs.Faults.{◌>>=◌}
 use Rattle.msc_text.proofs.Results.{bind_at}
 use Rattle.msc_text.specs.Instances.{known, known_of}
-use Rattle.msc_reader.specs.Drawings.{DrawingView, pushed, greater, with_mark, with_send, with_receive}
+use Rattle.msc_reader.specs.Drawings.{DrawingView, pushed, greater, with_event, with_send, with_receive}
 use Rattle.msc_reader.specs.Steps.{held}
 use Rattle.msc_reader.specs.declared.place.Place.TheVariants as places
 use Rattle.msc_reader.specs.declared.place.Region.{Region}
@@ -26,10 +26,10 @@ use Rattle.msc_reader.proofs.Moves.Moves.{sends, receives, opens, shuts}
 use Rattle.msc_reader.proofs.Paths.{Spot, Passes, Path, one_pass, path_then}
 use Rattle.msc_reader.proofs.Paths.Path.{stay, pass}
 use Rattle.msc_reader.proofs.Standing.{more_line, pushed-more}
-use Rattle.msc_reader.proofs.TextSayings.{said, marked, body, last_from, closing, opening}
+use Rattle.msc_reader.proofs.TextSayings.{said, event_sayings, body, last_from, closing, opening}
 
 -- an event that can be spelled on the line of the instance p, whose name is own
-pub record IsSpelled (names : List (List ℕ)) (own : List ℕ) (p : ℕ) (m : Mark) : Type 0 where
+pub record IsSpelled (names : List (List ℕ)) (own : List ℕ) (p : ℕ) (m : Event) : Type 0 where
   pub partner_name : IsName (name_at names (partner_of m))
   pub message_name : IsName (name_of m)
   pub other_name : name_at names (partner_of m) ≢ own
@@ -41,37 +41,37 @@ abbrev pub spot_in : List (List ℕ) → List ℕ → ℕ → Region → List Li
 spot_in begun own events region lines line c g = record { begun = begun; place = places.Inside own events region; drawing = record { lines = lines; line = Some line; open_region = c; greatest = g } }
 
 -- a send is outside of coregions
-abbrev MayTake : Region → Mark → Type 0
-MayTake region (marks.Send to name) = region ≡ regions.Closed
-MayTake region (marks.Receive from name c) = Unit {0}
+abbrev MayTake : Region → Event → Type 0
+MayTake region (line_events.Send to name) = region ≡ regions.Closed
+MayTake region (line_events.Receive from name c) = Unit {0}
 
-event_of : {names : List (List ℕ)} {own : List ℕ} {p : ℕ} (events : ℕ) (m : Mark) → IsSpelled names own p m → events < MAX_EVENTS → IsEvent own events (name_at names (partner_of m)) (name_of m)
+event_of : {names : List (List ℕ)} {own : List ℕ} {p : ℕ} (events : ℕ) (m : Event) → IsSpelled names own p m → events < MAX_EVENTS → IsEvent own events (name_at names (partner_of m)) (name_of m)
 event_of events m h room = record { partner_name = h.partner_name; message_name = h.message_name; other = h.other_name; room = room }
 
-mark-is : (d : DrawingView) (line : LineView) (m : Mark) → d.line ≡ Some line → partner_of m ≢ line.instance → length line.events ≢ MAX_EVENTS
-    → with_mark d d.line m ≡ Ok (record { lines = d.lines; line = Some (more_line line m); open_region = region_of m; greatest = greater (region_of m) d.greatest })
-mark-is d line m there other room =
-    ap (λ o. with_mark d o m) there ∙ bind_at (pushed line m) (λ more. Ok (record { lines = d.lines; line = Some more; open_region = region_of m; greatest = greater (region_of m) d.greatest })) (more_line line m) (pushed-more line m other room)
+event-is : (d : DrawingView) (line : LineView) (m : Event) → d.line ≡ Some line → partner_of m ≢ line.instance → length line.events ≢ MAX_EVENTS
+    → with_event d d.line m ≡ Ok (record { lines = d.lines; line = Some (more_line line m); open_region = region_of m; greatest = greater (region_of m) d.greatest })
+event-is d line m there other room =
+    ap (λ o. with_event d o m) there ∙ bind_at (pushed line m) (λ more. Ok (record { lines = d.lines; line = Some more; open_region = region_of m; greatest = greater (region_of m) d.greatest })) (more_line line m) (pushed-more line m other room)
 
 -- an event of the open coregion passes
-event_pass : (names begun : List (List ℕ)) (own : List ℕ) (events : ℕ) (region : Region) (lines : List LineView) (line : LineView) (g : ℕ) (m : Mark) → IsSpelled names own line.instance m → events < MAX_EVENTS → length line.events ≡ events → MayTake region m
+event_pass : (names begun : List (List ℕ)) (own : List ℕ) (events : ℕ) (region : Region) (lines : List LineView) (line : LineView) (g : ℕ) (m : Event) → IsSpelled names own line.instance m → events < MAX_EVENTS → length line.events ≡ events → MayTake region m
     → Passes names (spot_in begun own events region lines line (region_of m) g) (said names m) (spot_in begun own (events + 1) (held region) lines (more_line line m) (region_of m) (greater (region_of m) g))
 unfolding with_send with_receive known_of
-event_pass names begun own events region lines line g (marks.Send to name) h room many may =
+event_pass names begun own events region lines line g (line_events.Send to name) h room many may =
     let d : DrawingView = record { lines = lines; line = Some line; open_region = 0; greatest = g } in
-    let adds : Passes names (spot_in begun own events regions.Closed lines line 0 g) (sayings.Send (name_at names to) name) (spot_in begun own (events + 1) regions.Closed lines (more_line line (marks.Send to name)) 0 (greater 0 g)) = record {
-      moves = sends (event_of events (marks.Send to name) h room);
+    let adds : Passes names (spot_in begun own events regions.Closed lines line 0 g) (sayings.Send (name_at names to) name) (spot_in begun own (events + 1) regions.Closed lines (more_line line (line_events.Send to name)) 0 (greater 0 g)) = record {
+      moves = sends (event_of events (line_events.Send to name) h room);
       adds = refl;
-      draws = ap (λ o. known o >>= λ partner. with_mark d d.line (marks.Send partner name)) h.found ∙ mark-is d line (marks.Send to name) refl h.other (omega arith);
+      draws = ap (λ o. known o >>= λ partner. with_event d d.line (line_events.Send partner name)) h.found ∙ event-is d line (line_events.Send to name) refl h.other (omega arith);
     } in
-    let family : Region → Type 0 = λ r. Passes names (spot_in begun own events r lines line 0 g) (sayings.Send (name_at names to) name) (spot_in begun own (events + 1) (held r) lines (more_line line (marks.Send to name)) 0 (greater 0 g)) in
+    let family : Region → Type 0 = λ r. Passes names (spot_in begun own events r lines line 0 g) (sayings.Send (name_at names to) name) (spot_in begun own (events + 1) (held r) lines (more_line line (line_events.Send to name)) 0 (greater 0 g)) in
     subst family (sym may) adds
-event_pass names begun own events region lines line g (marks.Receive from name c) h room many may =
+event_pass names begun own events region lines line g (line_events.Receive from name c) h room many may =
     let d : DrawingView = record { lines = lines; line = Some line; open_region = c; greatest = g } in
     record {
-      moves = receives (event_of events (marks.Receive from name c) h room);
+      moves = receives (event_of events (line_events.Receive from name c) h room);
       adds = refl;
-      draws = ap (λ o. known o >>= λ partner. with_mark d d.line (marks.Receive partner name c)) h.found ∙ mark-is d line (marks.Receive from name c) refl h.other (omega arith);
+      draws = ap (λ o. known o >>= λ partner. with_event d d.line (line_events.Receive partner name c)) h.found ∙ event-is d line (line_events.Receive from name c) refl h.other (omega arith);
     }
 
 shut_pass : (names begun : List (List ℕ)) (own : List ℕ) (events : ℕ) (lines : List LineView) (line : LineView) (c g : ℕ) → Passes names (spot_in begun own events regions.Held lines line c g) sayings.Shut (spot_in begun own events regions.Closed lines line 0 g)
@@ -85,19 +85,19 @@ abbrev pub region_at : ℕ → Region
 region_at zero = regions.Closed
 region_at (suc r) = regions.Held
 
-receive_takes : (region : Region) (m : Mark) (c : ℕ) → suc c ≡ region_of m → MayTake region m
-receive_takes region (marks.Send to name) c e = cc
-receive_takes region (marks.Receive from name d) c e = tt
+receive_takes : (region : Region) (m : Event) (c : ℕ) → suc c ≡ region_of m → MayTake region m
+receive_takes region (line_events.Send to name) c e = cc
+receive_takes region (line_events.Receive from name d) c e = tt
 
-closed_takes : (m : Mark) → MayTake regions.Closed m
-closed_takes (marks.Send to name) = refl
-closed_takes (marks.Receive from name d) = tt
+closed_takes : (m : Event) → MayTake regions.Closed m
+closed_takes (line_events.Send to name) = refl
+closed_takes (line_events.Receive from name d) = tt
 
 -- an event, with what ends a coregion before it or begins its own
-mark_path : (names begun : List (List ℕ)) (own : List ℕ) (events : ℕ) (lines : List LineView) (line : LineView) (m : Mark) → IsSpelled names own line.instance m → events < MAX_EVENTS → length line.events ≡ events → (r : ℕ) → r ≡ last_region line.events
+event_path_of : (names begun : List (List ℕ)) (own : List ℕ) (events : ℕ) (lines : List LineView) (line : LineView) (m : Event) → IsSpelled names own line.instance m → events < MAX_EVENTS → length line.events ≡ events → (r : ℕ) → r ≡ last_region line.events
     → (c : ℕ) → c ≡ region_of m → MayHaveRegion line.events c
     → Path names (spot_in begun own events (region_at r) lines line r (greatest_region line.events)) (closing r c ++ (opening r c ++ said names m ∷ [])) (spot_in begun own (events + 1) (region_at c) lines (more_line line m) c (greater c (greatest_region line.events)))
-mark_path names begun own events lines line m h room many r last c is may = by r last c is may
+event_path_of names begun own events lines line m h room many r last c is may = by r last c is may
   where
     event : (region : Region) (c : ℕ) → c ≡ region_of m → MayTake region m → Passes names (spot_in begun own events region lines line c (greatest_region line.events)) (said names m) (spot_in begun own (events + 1) (held region) lines (more_line line m) c (greater c (greatest_region line.events)))
     event region c is takes =
@@ -143,15 +143,15 @@ mark_path names begun own events lines line m h room many r last c is may = by r
 -- ---- the events of a line
 
 -- inside the instance own, the p-th, behind these events
-abbrev pub spot_behind : List (List ℕ) → List ℕ → ℕ → List LineView → List Mark → Spot
+abbrev pub spot_behind : List (List ℕ) → List ℕ → ℕ → List LineView → List Event → Spot
 spot_behind begun own p lines front = spot_in begun own (length front) (region_at (last_from 0 front)) lines (record { instance = p; events = front }) (last_from 0 front) (greatest_region front)
 
 -- each event's coregion may come where it stands
-abbrev pub MayFollow : List Mark → List Mark → Type 0
+abbrev pub MayFollow : List Event → List Event → Type 0
 MayFollow front [] = Unit {0}
 MayFollow front (m ∷ rest) = MayHaveRegion front (region_of m) × MayFollow (front ++ m ∷ []) rest
 
-spot-more : (begun : List (List ℕ)) (own : List ℕ) (p : ℕ) (lines : List LineView) (front : List Mark) (m : Mark) → MayHaveRegion front (region_of m)
+spot-more : (begun : List (List ℕ)) (own : List ℕ) (p : ℕ) (lines : List LineView) (front : List Event) (m : Event) → MayHaveRegion front (region_of m)
     → spot_in begun own (length front + 1) (region_at (region_of m)) lines (record { instance = p; events = front ++ m ∷ [] }) (region_of m) (greater (region_of m) (greatest_region front)) ≡ spot_behind begun own p lines (front ++ m ∷ [])
 spot-more begun own p lines front m may =
     let line : LineView = record { instance = p; events = front ++ m ∷ [] } in
@@ -162,19 +162,19 @@ spot-more begun own p lines front m may =
     ∙ ap (λ g. spot_in begun own (length (front ++ m ∷ [])) (region_at (region_of m)) lines line (region_of m) g) most
     ∙ ap (λ c. spot_in begun own (length (front ++ m ∷ [])) (region_at c) lines line c (greatest_region (front ++ m ∷ []))) last
 
-pub body_path : (names begun : List (List ℕ)) (own : List ℕ) (p : ℕ) (lines : List LineView) (front rest : List Mark) → AllByRecursion (IsSpelled names own p) rest → MayFollow front rest → length front + length rest ≤ MAX_EVENTS
+pub body_path : (names begun : List (List ℕ)) (own : List ℕ) (p : ℕ) (lines : List LineView) (front rest : List Event) → AllByRecursion (IsSpelled names own p) rest → MayFollow front rest → length front + length rest ≤ MAX_EVENTS
     → Path names (spot_behind begun own p lines front) (body names (last_from 0 front) rest) (spot_behind begun own p lines (front ++ rest))
 body_path names begun own p lines front [] h may short = subst (λ l. Path names (spot_behind begun own p lines front) [] (spot_behind begun own p lines l)) (sym (append-nil front)) stay
 body_path names begun own p lines front (m ∷ rest) h may short =
     let line : LineView = record { instance = p; events = front } in
-    let one = mark_path names begun own (length front) lines line m h.0 (omega arith) refl (last_from 0 front) (last_from-is front) (region_of m) refl may.0 in
-    let first = subst (λ s. Path names (spot_behind begun own p lines front) (marked names (last_from 0 front) m) s) (spot-more begun own p lines front m may.0) one in
+    let one = event_path_of names begun own (length front) lines line m h.0 (omega arith) refl (last_from 0 front) (last_from-is front) (region_of m) refl may.0 in
+    let first = subst (λ s. Path names (spot_behind begun own p lines front) (event_sayings names (last_from 0 front) m) s) (spot-more begun own p lines front m may.0) one in
     let others = body_path names begun own p lines (front ++ m ∷ []) rest h.1 may.1 (omega (arith, length-append front (m ∷ []))) in
     let rest_is = subst (λ c. Path names (spot_behind begun own p lines (front ++ m ∷ [])) (body names c rest) (spot_behind begun own p lines ((front ++ m ∷ []) ++ rest))) (last_from-push 0 front m) others in
-    subst (λ l. Path names (spot_behind begun own p lines front) (marked names (last_from 0 front) m ++ body names (region_of m) rest) (spot_behind begun own p lines l)) (append_assoc front (m ∷ []) rest) (path_then first rest_is)
+    subst (λ l. Path names (spot_behind begun own p lines front) (event_sayings names (last_from 0 front) m ++ body names (region_of m) rest) (spot_behind begun own p lines l)) (append_assoc front (m ∷ []) rest) (path_then first rest_is)
 
 -- the end of a line: no coregion is open then
-pub close_path : (names begun : List (List ℕ)) (own : List ℕ) (p : ℕ) (lines : List LineView) (events : List Mark)
+pub close_path : (names begun : List (List ℕ)) (own : List ℕ) (p : ℕ) (lines : List LineView) (events : List Event)
     → Path names (spot_behind begun own p lines events) (closing (last_from 0 events) 0) (spot_in begun own (length events) regions.Closed lines (record { instance = p; events = events }) 0 (greatest_region events))
 close_path names begun own p lines events = by (last_from 0 events)
   where

@@ -4,7 +4,7 @@ use Rattle.std.specs.List.{flat_map, AllByRecursion}
 use Rattle.std.proofs.lemmas.Bool.{eqb-true}
 use Rattle.std.proofs.lemmas.List.Elements.{All-from_recursion}
 use Rattle.chart.specs.Charts.{LineView, IsLine, HasPartners}
-use Rattle.chart.specs.Marks.{partner_of}
+use Rattle.chart.specs.Events.{partner_of}
 use Rattle.chart.specs.Names.{IsName}
 use Rattle.msc_text.specs.ChartText.{chart_text}
 use Rattle.msc_text.specs.Faults.{◌>>=◌, in_line}
@@ -25,7 +25,7 @@ use Rattle.msc_reader.specs.declared.place.Saying.{Saying}
 use Rattle.msc_reader.specs.declared.place.Saying.TheVariants as sayings
 use Rattle.msc_reader.proofs.Onward.{Draws, Outcome, onward}
 use Rattle.msc_reader.proofs.SayingsAgain.{saying_line, line-is}
-use Rattle.msc_reader.proofs.Standing.{IsMark, IsLineAmong, State, so_far}
+use Rattle.msc_reader.proofs.Standing.{IsInstanceEvent, IsLineAmong, State, so_far}
 use Rattle.msc_reader.proofs.TextSayings.{chart_sayings, spell, chart_text-is}
 
 -- ---- names that were read stay
@@ -162,10 +162,10 @@ each-as P Q [] f h = tt
 each-as P Q (x ∷ xs) f h = (f x h.0, each-as P Q xs f h.1)
 
 partners-within : (n : ℕ) (line : LineView) → IsLineAmong n line → All (λ m. partner_of m ≤ n) line.events
-partners-within n line h = All-from_recursion _ line.events (each-as (IsMark n) (λ m. partner_of m ≤ n) line.events (λ m k. k.last) h.marks_are)
+partners-within n line h = All-from_recursion _ line.events (each-as (IsInstanceEvent n) (λ m. partner_of m ≤ n) line.events (λ m k. k.last) h.events_are)
 
 spelled-events : (n : ℕ) (line : LineView) → IsLineAmong n line → All CanBeSpelled line.events
-spelled-events n line h = All-from_recursion _ line.events (each-as (IsMark n) CanBeSpelled line.events (λ m k. (k.first, k.named)) h.marks_are)
+spelled-events n line h = All-from_recursion _ line.events (each-as (IsInstanceEvent n) CanBeSpelled line.events (λ m k. (k.first, k.named)) h.events_are)
 
 has_text : (names : List (List ℕ)) (d : DrawingView) → State names names places.Done d → HasText names d.lines
 has_text names d s =

@@ -5,11 +5,11 @@ use Rattle.std.proofs.lemmas.Bool.{ltb-false, lt-leb}
 use Rattle.std.proofs.lemmas.List.{flat_map_more}
 use Rattle.chart.proofs.Places.{each-push}
 use Rattle.chart.specs.Charts.{LineView}
-use Rattle.chart.specs.Marks.{partner_of, name_of, region_of}
+use Rattle.chart.specs.Events.{partner_of, name_of, region_of}
 use Rattle.chart.specs.Names.{IsName, instance_of}
 use Rattle.chart.specs.NameSets.{AreNames}
-use Rattle.chart.specs.declared.event.Event.{Event as Mark}
-use Rattle.chart.specs.declared.event.Event.TheVariants as marks
+use Rattle.chart.specs.declared.event.Event.{Event}
+use Rattle.chart.specs.declared.event.Event.TheVariants as line_events
 use Rattle.chart.specs.declared.instance.TheConstants.{MAX_INSTANCES}
 use Rattle.msc_text.specs.ChartText.{name_at}
 use Rattle.msc_text.specs.Faults.{◌>>=◌}
@@ -18,7 +18,7 @@ use Rattle.msc_text.proofs.Lookups.{IsNamed, instance_is}
 use Rattle.msc_text.proofs.NewNames.{with_name-names}
 use Rattle.msc_text.proofs.Results.{guard_ok, ok_is}
 use Rattle.msc_text.specs.Instances.{known, known_of}
-use Rattle.msc_reader.specs.Drawings.{DrawingView, with_mark, with_foot, with_send, with_receive, drawn}
+use Rattle.msc_reader.specs.Drawings.{DrawingView, with_event, with_foot, with_send, with_receive, drawn}
 use Rattle.msc_text.specs.Instances.{with_name}
 use Rattle.msc_reader.specs.Reading.{names_after}
 use Rattle.msc_reader.specs.Steps.{held}
@@ -31,7 +31,7 @@ use Rattle.msc_reader.specs.declared.place.Saying.TheVariants as sayings
 use Rattle.msc_reader.proofs.Coregions.{HasOpen, tail_of, last_from-is, closing-open}
 use Rattle.msc_reader.proofs.Moves.{IsEvent, Moves}
 use Rattle.msc_reader.proofs.Moves.Moves.{begins, heads, ends, sends, receives, opens, shuts, leaves}
-use Rattle.msc_reader.proofs.Standing.{IsLineAmong, IsInside, State, inside_said, so_far, all-push, name_at-there, Pushes, more_line, more_drawn, mark-drawn, mark-inside, mark-said}
+use Rattle.msc_reader.proofs.Standing.{IsLineAmong, IsInside, State, inside_said, so_far, all-push, name_at-there, Pushes, more_line, more_drawn, event-drawn, event-inside, event-said}
 use Rattle.msc_reader.proofs.TextSayings.{said, body, last_from, closing, part}
 
 -- one more line is drawn
@@ -65,7 +65,7 @@ begin-on names begun more d s same =
     )
 
 empty_line : (n p : ℕ) → IsLineAmong n (record { instance = p; events = [] })
-empty_line n p = record { line_is = record { short = omega arith; partners = λ i m e. absurd (cc); regions = λ i m e. absurd (cc) }; marks_are = tt }
+empty_line n p = record { line_is = record { short = omega arith; partners = λ i m e. absurd (cc); regions = λ i m e. absurd (cc) }; events_are = tt }
 
 head-on : (names begun more later : List (List ℕ)) (own : List ℕ) (d : DrawingView) → IsName own → State names begun places.Outside d → with_name begun own ≡ Ok more → names ≡ more ++ later
     → Outcome names more places.Outside (places.Inside own 0 regions.Closed) d (sayings.Head own)
@@ -104,7 +104,7 @@ end-on names begun more d s e =
     inr (d, record { is_drawn = refl; state = subst (λ b. State names b places.Done d) (ok_is begun more g.1) state; says = refl })
 
 -- an event whose partner is found
-pushes-of : {names : List (List ℕ)} {own partner name : List ℕ} {events : ℕ} {region : Region} {d : DrawingView} {line : LineView} {q : ℕ} (m : Mark)
+pushes-of : {names : List (List ℕ)} {own partner name : List ℕ} {events : ℕ} {region : Region} {d : DrawingView} {line : LineView} {q : ℕ} (m : Event)
     → IsInside names own events region d line → IsEvent own events partner name → IsNamed names partner q → partner_of m ≡ q → name_of m ≡ name → HasOpen region (region_of m) line.events → Pushes names own events region d line m
 pushes-of {names} {own} {partner} {name} {events} {region} {d} {line} {q} m i event found is named opened =
     record {
@@ -112,46 +112,46 @@ pushes-of {names} {own} {partner} {name} {events} {region} {d} {line} {q} m i ev
       open_is = opened;
       other = λ same. event.other (sym found.has ∙ ap (name_at names) (sym is ∙ same) ∙ i.owner);
       room = event.room;
-      mark = record {
+      line_event = record {
         first = subst (λ x. 1 ≤ x) (sym is) found.first;
         last = subst (λ x. x ≤ length names) (sym is) found.last;
         named = subst IsName (sym named) event.message_name;
       };
     }
 
-mark-on : {names begun : List (List ℕ)} {own : List ℕ} {events : ℕ} {region : Region} {d : DrawingView} {line : LineView} {m : Mark} (saying : Saying)
-    → State names begun (places.Inside own events region) d → Pushes names own events region d line m → drawn names d saying ≡ with_mark d d.line m → said names m ≡ saying
+event-on : {names begun : List (List ℕ)} {own : List ℕ} {events : ℕ} {region : Region} {d : DrawingView} {line : LineView} {m : Event} (saying : Saying)
+    → State names begun (places.Inside own events region) d → Pushes names own events region d line m → drawn names d saying ≡ with_event d d.line m → said names m ≡ saying
     → Outcome names begun (places.Inside own events region) (places.Inside own (events + 1) (held region)) d saying
-mark-on {names} {begun} {own} {events} {region} {d} {line} {m} saying s p by is =
+event-on {names} {begun} {own} {events} {region} {d} {line} {m} saying s p by is =
     inr (
       more_drawn d line m,
       record {
-        is_drawn = by ∙ mark-drawn p;
-        state = record { are = s.are; each = s.each; numbered = s.numbered; among = s.among; stands = (s.stands.0, (more_line line m, mark-inside p)) };
-        says = mark-said p ∙ ap (λ x. so_far names (places.Inside own events region) d ++ x ∷ []) is;
+        is_drawn = by ∙ event-drawn p;
+        state = record { are = s.are; each = s.each; numbered = s.numbered; among = s.among; stands = (s.stands.0, (more_line line m, event-inside p)) };
+        says = event-said p ∙ ap (λ x. so_far names (places.Inside own events region) d ++ x ∷ []) is;
       },
     )
 
 send-on : (names begun : List (List ℕ)) (own to name : List ℕ) (events : ℕ) (d : DrawingView) (o : Option ℕ) → instance_of names to ≡ o → IsEvent own events to name → State names begun (places.Inside own events regions.Closed) d
     → Outcome names begun (places.Inside own events regions.Closed) (places.Inside own (events + 1) regions.Closed) d (sayings.Send to name)
 unfolding with_send known_of
-send-on names begun own to name events d None is event s = inl (ap (λ o. known o >>= λ partner. with_mark d d.line (marks.Send partner name)) is)
+send-on names begun own to name events d None is event s = inl (ap (λ o. known o >>= λ partner. with_event d d.line (line_events.Send partner name)) is)
 send-on names begun own to name events d (Some q) is event s =
     let inside = s.stands.1 in
     let found = instance_is names to q is in
-    let p = pushes-of (marks.Send q name) inside.1 event found refl refl refl in
-    mark-on (sayings.Send to name) s p (ap (λ o. known o >>= λ partner. with_mark d d.line (marks.Send partner name)) is) (ap (λ w. sayings.Send w name) found.has)
+    let p = pushes-of (line_events.Send q name) inside.1 event found refl refl refl in
+    event-on (sayings.Send to name) s p (ap (λ o. known o >>= λ partner. with_event d d.line (line_events.Send partner name)) is) (ap (λ w. sayings.Send w name) found.has)
 
 receive-on : (names begun : List (List ℕ)) (own from name : List ℕ) (events : ℕ) (region : Region) (d : DrawingView) (o : Option ℕ) → instance_of names from ≡ o → IsEvent own events from name → State names begun (places.Inside own events region) d
     → Outcome names begun (places.Inside own events region) (places.Inside own (events + 1) (held region)) d (sayings.Receive from name)
 unfolding with_receive known_of
-receive-on names begun own from name events region d None is event s = inl (ap (λ o. known o >>= λ partner. with_mark d d.line (marks.Receive partner name d.open_region)) is)
+receive-on names begun own from name events region d None is event s = inl (ap (λ o. known o >>= λ partner. with_event d d.line (line_events.Receive partner name d.open_region)) is)
 receive-on names begun own from name events region d (Some q) is event s =
     let inside = s.stands.1 in
     let found = instance_is names from q is in
     let i = inside.1 in
-    let p = pushes-of (marks.Receive q name d.open_region) i event found refl refl i.open_is in
-    mark-on (sayings.Receive from name) s p (ap (λ o. known o >>= λ partner. with_mark d d.line (marks.Receive partner name d.open_region)) is) (ap (λ w. sayings.Receive w name) found.has)
+    let p = pushes-of (line_events.Receive q name d.open_region) i event found refl refl i.open_is in
+    event-on (sayings.Receive from name) s p (ap (λ o. known o >>= λ partner. with_event d d.line (line_events.Receive partner name d.open_region)) is) (ap (λ w. sayings.Receive w name) found.has)
 
 -- the state with another open coregion
 region-state : {names begun : List (List ℕ)} {own : List ℕ} {events : ℕ} {region other : Region} {d : DrawingView} (c : ℕ) (line : LineView) → State names begun (places.Inside own events region) d → IsInside names own events region d line → HasOpen other c line.events

@@ -4,15 +4,15 @@ use Rattle.std.specs.List.{flat_map, AllByRecursion}
 use Rattle.std.proofs.lemmas.Bool.{ne_eqb}
 use Rattle.chart.proofs.Layouts.{IsLine-push}
 use Rattle.chart.specs.Charts.{LineView, IsLine, IsNumbered}
-use Rattle.chart.specs.Marks.{partner_of, name_of, region_of, greatest_region}
+use Rattle.chart.specs.Events.{partner_of, name_of, region_of, greatest_region}
 use Rattle.chart.specs.Names.{IsName}
 use Rattle.chart.specs.NameSets.{AreNames}
-use Rattle.chart.specs.declared.event.Event.{Event as Mark}
+use Rattle.chart.specs.declared.event.Event.{Event}
 use Rattle.chart.specs.declared.line.TheConstants.{MAX_EVENTS}
 use Rattle.chart.proofs.Regions.{greatest_region-push}
 use Rattle.msc_text.specs.ChartText.{name_at}
 use Rattle.msc_text.proofs.Results.{bind_at}
-use Rattle.msc_reader.specs.Drawings.{DrawingView, blank, pushed, greater, with_mark}
+use Rattle.msc_reader.specs.Drawings.{DrawingView, blank, pushed, greater, with_event}
 use Rattle.msc_reader.specs.Steps.{held}
 use Rattle.msc_reader.specs.declared.place.Place.{Place}
 use Rattle.msc_reader.specs.declared.place.Place.TheVariants as places
@@ -21,12 +21,12 @@ use Rattle.msc_reader.specs.declared.place.Saying.{Saying}
 use Rattle.msc_reader.specs.declared.place.Saying.TheVariants as sayings
 use Rattle.msc_reader.proofs.Coregions.{HasOpen, open-may, open-more, tail_of, last_from-push, body-push, tail-more}
 use Rattle.msc_reader.proofs.Drawings.{greater-most}
-use Rattle.msc_reader.proofs.TextSayings.{said, marked, body, last_from, part}
+use Rattle.msc_reader.proofs.TextSayings.{said, event_sayings, body, last_from, part}
 
 -- ---- what is drawn
 
 -- an event among n instances
-pub record IsMark (n : ℕ) (m : Mark) : Type 0 where
+pub record IsInstanceEvent (n : ℕ) (m : Event) : Type 0 where
   pub first : 1 ≤ partner_of m
   pub last : partner_of m ≤ n
   pub named : IsName (name_of m)
@@ -34,7 +34,7 @@ pub record IsMark (n : ℕ) (m : Mark) : Type 0 where
 -- a line among n instances
 pub record IsLineAmong (n : ℕ) (line : LineView) : Type 0 where
   pub line_is : IsLine line
-  pub marks_are : AllByRecursion (IsMark n) line.events
+  pub events_are : AllByRecursion (IsInstanceEvent n) line.events
 
 -- the line that is being drawn is of the instance own, with so many events
 pub record IsInside (names : List (List ℕ)) (own : List ℕ) (events : ℕ) (region : Region) (d : DrawingView) (line : LineView) : Type 0 where
@@ -85,32 +85,32 @@ name_at-there (y ∷ xs) x ys = name_at-there xs x ys
 
 -- ---- one more event
 
-pub record Pushes (names : List (List ℕ)) (own : List ℕ) (events : ℕ) (region : Region) (d : DrawingView) (line : LineView) (m : Mark) : Type 0 where
+pub record Pushes (names : List (List ℕ)) (own : List ℕ) (events : ℕ) (region : Region) (d : DrawingView) (line : LineView) (m : Event) : Type 0 where
   pub inside : IsInside names own events region d line
   pub open_is : HasOpen region (region_of m) line.events
   pub other : partner_of m ≢ line.instance
   pub room : events < MAX_EVENTS
-  pub mark : IsMark (length names) m
+  pub line_event : IsInstanceEvent (length names) m
 
-abbrev pub more_line : LineView → Mark → LineView
+abbrev pub more_line : LineView → Event → LineView
 more_line line m = record line { events = line.events ++ m ∷ [] }
 
-abbrev pub more_drawn : DrawingView → LineView → Mark → DrawingView
+abbrev pub more_drawn : DrawingView → LineView → Event → DrawingView
 more_drawn d line m = record { lines = d.lines; line = Some (more_line line m); open_region = region_of m; greatest = greater (region_of m) d.greatest }
 
-pub pushed-more : (line : LineView) (m : Mark) → partner_of m ≢ line.instance → length line.events ≢ MAX_EVENTS → pushed line m ≡ Ok (more_line line m)
+pub pushed-more : (line : LineView) (m : Event) → partner_of m ≢ line.instance → length line.events ≢ MAX_EVENTS → pushed line m ≡ Ok (more_line line m)
 unfolding pushed
 pushed-more line m other room = rw (ne_eqb (partner_of m) line.instance other, ne_eqb (length line.events) MAX_EVENTS room) refl
 
-pub mark-drawn : {names : List (List ℕ)} {own : List ℕ} {events : ℕ} {region : Region} {d : DrawingView} {line : LineView} {m : Mark} → Pushes names own events region d line m → with_mark d d.line m ≡ Ok (more_drawn d line m)
-mark-drawn {d = d} {line = line} {m = m} p =
+pub event-drawn : {names : List (List ℕ)} {own : List ℕ} {events : ℕ} {region : Region} {d : DrawingView} {line : LineView} {m : Event} → Pushes names own events region d line m → with_event d d.line m ≡ Ok (more_drawn d line m)
+event-drawn {d = d} {line = line} {m = m} p =
     let many = p.inside.many in
     let room = p.room in
-    ap (λ o. with_mark d o m) p.inside.there ∙ bind_at (pushed line m) (λ more. Ok (record { lines = d.lines; line = Some more; open_region = region_of m; greatest = greater (region_of m) d.greatest })) (more_line line m) (pushed-more line m p.other (omega arith))
+    ap (λ o. with_event d o m) p.inside.there ∙ bind_at (pushed line m) (λ more. Ok (record { lines = d.lines; line = Some more; open_region = region_of m; greatest = greater (region_of m) d.greatest })) (more_line line m) (pushed-more line m p.other (omega arith))
 
-pub mark-inside : {names : List (List ℕ)} {own : List ℕ} {events : ℕ} {region : Region} {d : DrawingView} {line : LineView} {m : Mark} → Pushes names own events region d line m
+pub event-inside : {names : List (List ℕ)} {own : List ℕ} {events : ℕ} {region : Region} {d : DrawingView} {line : LineView} {m : Event} → Pushes names own events region d line m
     → IsInside names own (events + 1) (held region) (more_drawn d line m) (more_line line m)
-mark-inside {names} {own} {events} {region} {d} {line} {m} p =
+event-inside {names} {own} {events} {region} {d} {line} {m} p =
     let i = p.inside in
     let many = i.many in
     let room : length line.events < MAX_EVENTS = omega (arith, p.room) in
@@ -124,20 +124,20 @@ mark-inside {names} {own} {events} {region} {d} {line} {m} p =
       open_is = open-more region line.events m p.open_is;
       among = record {
         line_is = IsLine-push line.instance line.events m i.among.line_is p.other room may;
-        marks_are = all-push (IsMark (length names)) line.events m i.among.marks_are p.mark;
+        events_are = all-push (IsInstanceEvent (length names)) line.events m i.among.events_are p.line_event;
       };
     }
 
-pub mark-said : {names : List (List ℕ)} {own : List ℕ} {events : ℕ} {region : Region} {d : DrawingView} {line : LineView} {m : Mark} → Pushes names own events region d line m
+pub event-said : {names : List (List ℕ)} {own : List ℕ} {events : ℕ} {region : Region} {d : DrawingView} {line : LineView} {m : Event} → Pushes names own events region d line m
     → so_far names (places.Inside own (events + 1) (held region)) (more_drawn d line m) ≡ so_far names (places.Inside own events region) d ++ said names m ∷ []
-mark-said {names} {own} {events} {region} {d} {line} {m} p =
+event-said {names} {own} {events} {region} {d} {line} {m} p =
     let r = last_from 0 line.events in
     let front = flat_map (part names) d.lines in
     let b = body names 0 line.events in
     let grown : body names 0 (line.events ++ m ∷ []) ++ tail_of (held region) (last_from 0 (line.events ++ m ∷ [])) ≡ (b ++ tail_of region r) ++ said names m ∷ [] =
     ap (λ l. l ++ tail_of (held region) (last_from 0 (line.events ++ m ∷ []))) (body-push names 0 line.events m)
-    ∙ ap (λ c. (b ++ marked names r m) ++ tail_of (held region) c) (last_from-push 0 line.events m)
-    ∙ append_assoc b (marked names r m) (tail_of (held region) (region_of m))
+    ∙ ap (λ c. (b ++ event_sayings names r m) ++ tail_of (held region) c) (last_from-push 0 line.events m)
+    ∙ append_assoc b (event_sayings names r m) (tail_of (held region) (region_of m))
     ∙ ap (λ l. b ++ l) (tail-more names region line.events m p.open_is)
     ∙ sym (append_assoc b (tail_of region r) (said names m ∷ [])) in
     ap (λ l. sayings.Begin ∷ (front ++ (sayings.Head own ∷ l))) grown

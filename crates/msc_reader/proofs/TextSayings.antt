@@ -3,10 +3,10 @@ use Rattle.std.proofs.Common.{◌≡◌, ℕ, Bool, true, false, ◌||◌, cond,
 use Rattle.std.specs.Prelude.{codes}
 use Rattle.std.specs.List.{flat_map}
 use Rattle.chart.specs.Charts.{LineView}
-use Rattle.chart.specs.Marks.{region_of}
-use Rattle.chart.specs.declared.event.Event.{Event as Mark}
-use Rattle.chart.specs.declared.event.Event.TheVariants as marks
-use Rattle.msc_text.specs.ChartText.{name_at, event_text, ending, beginning, marked_text, events_text, head_text, foot_text, line_text, begin_text, end_text, chart_text}
+use Rattle.chart.specs.Events.{region_of}
+use Rattle.chart.specs.declared.event.Event.{Event}
+use Rattle.chart.specs.declared.event.Event.TheVariants as line_events
+use Rattle.msc_text.specs.ChartText.{name_at, event_text, ending, beginning, event_lines_text, events_text, head_text, foot_text, line_text, begin_text, end_text, chart_text}
 use Rattle.msc_text.specs.Lines.{ended}
 use Rattle.msc_reader.specs.declared.place.Saying.{Saying}
 use Rattle.msc_reader.specs.declared.place.Saying.TheVariants.{Begin, Head, Send, Receive, Open, Shut, Foot, End}
@@ -21,21 +21,21 @@ abbrev pub opening : ℕ → ℕ → List Saying
 opening r c = cond (eqb r c || eqb c 0) [] (Open ∷ [])
 
 -- an event
-abbrev pub said : List (List ℕ) → Mark → Saying
-said names (marks.Send to name) = Send (name_at names to) name
-said names (marks.Receive from name region) = Receive (name_at names from) name
+abbrev pub said : List (List ℕ) → Event → Saying
+said names (line_events.Send to name) = Send (name_at names to) name
+said names (line_events.Receive from name region) = Receive (name_at names from) name
 
 -- an event behind one in the coregion r
-abbrev pub marked : List (List ℕ) → ℕ → Mark → List Saying
-marked names r m = closing r (region_of m) ++ (opening r (region_of m) ++ said names m ∷ [])
+abbrev pub event_sayings : List (List ℕ) → ℕ → Event → List Saying
+event_sayings names r m = closing r (region_of m) ++ (opening r (region_of m) ++ said names m ∷ [])
 
 -- events behind one in the coregion r, with the last coregion left open
-abbrev pub body : List (List ℕ) → ℕ → List Mark → List Saying
+abbrev pub body : List (List ℕ) → ℕ → List Event → List Saying
 body names r [] = []
-body names r (m ∷ line) = marked names r m ++ body names (region_of m) line
+body names r (m ∷ line) = event_sayings names r m ++ body names (region_of m) line
 
 -- the coregion of the last event, or r
-abbrev pub last_from : ℕ → List Mark → ℕ
+abbrev pub last_from : ℕ → List Event → ℕ
 last_from r [] = r
 last_from r (m ∷ line) = last_from (region_of m) line
 
@@ -73,25 +73,25 @@ spell-opening r c = by (eqb r c || eqb c 0)
     by true = refl
     by false = refl
 
-spell-said : (names : List (List ℕ)) (m : Mark) → spell (said names m ∷ []) ≡ event_text names m
+spell-said : (names : List (List ℕ)) (m : Event) → spell (said names m ∷ []) ≡ event_text names m
 unfolding event_text
-spell-said names (marks.Send to name) = simp (append_assoc, append-nil)
-spell-said names (marks.Receive from name region) = simp (append_assoc, append-nil)
+spell-said names (line_events.Send to name) = simp (append_assoc, append-nil)
+spell-said names (line_events.Receive from name region) = simp (append_assoc, append-nil)
 
-spell-marked : (names : List (List ℕ)) (r : ℕ) (m : Mark) → spell (marked names r m) ≡ marked_text names r m
-unfolding marked_text
-spell-marked names r m =
+spell-event_sayings : (names : List (List ℕ)) (r : ℕ) (m : Event) → spell (event_sayings names r m) ≡ event_lines_text names r m
+unfolding event_lines_text
+spell-event_sayings names r m =
     spell-append (closing r (region_of m)) (opening r (region_of m) ++ said names m ∷ [])
     ∙ ap (λ l. l ++ spell (opening r (region_of m) ++ said names m ∷ [])) (spell-closing r (region_of m))
     ∙ ap (λ l. ending r (region_of m) ++ l) (spell-append (opening r (region_of m)) (said names m ∷ []) ∙ ap (λ l. l ++ spell (said names m ∷ [])) (spell-opening r (region_of m)) ∙ ap (λ l. beginning r (region_of m) ++ l) (spell-said names m))
 
-spell-body : (names : List (List ℕ)) (r : ℕ) (line : List Mark) → spell (body names r line) ++ ending (last_from r line) 0 ≡ events_text names r line
+spell-body : (names : List (List ℕ)) (r : ℕ) (line : List Event) → spell (body names r line) ++ ending (last_from r line) 0 ≡ events_text names r line
 spell-body names r [] = refl
 spell-body names r (m ∷ line) =
-    ap (λ l. l ++ ending (last_from (region_of m) line) 0) (spell-append (marked names r m) (body names (region_of m) line))
-    ∙ append_assoc (spell (marked names r m)) (spell (body names (region_of m) line)) (ending (last_from (region_of m) line) 0)
-    ∙ ap (λ l. l ++ (spell (body names (region_of m) line) ++ ending (last_from (region_of m) line) 0)) (spell-marked names r m)
-    ∙ ap (λ l. marked_text names r m ++ l) (spell-body names (region_of m) line)
+    ap (λ l. l ++ ending (last_from (region_of m) line) 0) (spell-append (event_sayings names r m) (body names (region_of m) line))
+    ∙ append_assoc (spell (event_sayings names r m)) (spell (body names (region_of m) line)) (ending (last_from (region_of m) line) 0)
+    ∙ ap (λ l. l ++ (spell (body names (region_of m) line) ++ ending (last_from (region_of m) line) 0)) (spell-event_sayings names r m)
+    ∙ ap (λ l. event_lines_text names r m ++ l) (spell-body names (region_of m) line)
 
 spell-head : (names : List (List ℕ)) (p : ℕ) → ended (saying_line (Head (name_at names p))) ≡ head_text names p
 unfolding head_text

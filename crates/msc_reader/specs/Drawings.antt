@@ -1,9 +1,9 @@
 -- The second look at a chart's text: what its lines draw, now that all names are known (this project's profile).
 use Rattle.std.specs.Prelude.{◌≡◌, ℕ, suc, ◌+◌, ◌≤◌, ◌==◌, List, [], ◌∷◌, ◌++◌, length, Option, None, Some, Result, Ok, Err, nat_le, MatchOption, if◌then◌else◌}
 use Rattle.chart.specs.Charts.{LineView, IsNumbered}
-use Rattle.chart.specs.Marks.{partner_of, region_of, greatest_region, MayHaveRegion}
-use Rattle.chart.specs.declared.event.Event.{Event as Mark}
-use Rattle.chart.specs.declared.event.Event.TheVariants as marks
+use Rattle.chart.specs.Events.{partner_of, region_of, greatest_region, MayHaveRegion}
+use Rattle.chart.specs.declared.event.Event.{Event}
+use Rattle.chart.specs.declared.event.Event.TheVariants as line_events
 use Rattle.chart.specs.declared.instance.TheConstants.{MAX_INSTANCES}
 use Rattle.chart.specs.declared.line.TheConstants.{MAX_EVENTS}
 use Rattle.msc_text.specs.Faults.{◌>>=◌}
@@ -26,7 +26,7 @@ abbrev pub blank : DrawingView
 blank = record { lines = []; line = None; open_region = 0; greatest = 0 }
 
 -- the line with an event more
-unfoldable pub pushed : LineView → Mark → Result LineView Cause
+unfoldable pub pushed : LineView → Event → Result LineView Cause
 pushed line m =
     if partner_of m == line.instance then Err ToItself else (
     if length line.events == MAX_EVENTS then Err LineFull else Ok (record line { events = line.events ++ m ∷ [] }))
@@ -36,9 +36,9 @@ abbrev pub greater : ℕ → ℕ → ℕ
 greater region greatest = if region == 0 then greatest else region
 
 -- the line that is being drawn gets an event
-abbrev pub with_mark : DrawingView → Option LineView → Mark → Result DrawingView Cause
-with_mark d None m = Err Syntax
-with_mark d (Some line) m = do
+abbrev pub with_event : DrawingView → Option LineView → Event → Result DrawingView Cause
+with_event d None m = Err Syntax
+with_event d (Some line) m = do
   more ← pushed line m
   Ok (record { lines = d.lines; line = Some more; open_region = region_of m; greatest = greater (region_of m) d.greatest })
 
@@ -56,13 +56,13 @@ with_foot d (Some line) = Ok (record { lines = d.lines ++ line ∷ []; line = No
 unfoldable pub with_send : List (List ℕ) → DrawingView → List ℕ → List ℕ → Result DrawingView Cause
 with_send names d to name = do
   partner ← known_of names to
-  with_mark d d.line (marks.Send partner name)
+  with_event d d.line (line_events.Send partner name)
 
 -- a receive, which is in the open coregion
 unfoldable pub with_receive : List (List ℕ) → DrawingView → List ℕ → List ℕ → Result DrawingView Cause
 with_receive names d from name = do
   partner ← known_of names from
-  with_mark d d.line (marks.Receive partner name d.open_region)
+  with_event d d.line (line_events.Receive partner name d.open_region)
 
 -- what is drawn with what one more line says
 abbrev pub drawn : List (List ℕ) → DrawingView → Saying → Result DrawingView Cause

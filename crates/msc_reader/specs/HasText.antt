@@ -1,13 +1,13 @@
 -- The names and lines that have a text.
 use Rattle.std.specs.Prelude.{◌≡◌, ℕ, ◌≤◌, List, length, All}
 use Rattle.chart.specs.Charts.{LineView, IsChart}
-use Rattle.chart.specs.Marks.{partner_of, name_of}
+use Rattle.chart.specs.Events.{partner_of, name_of}
 use Rattle.chart.specs.Names.{IsName}
 use Rattle.chart.specs.NameSets.{AreNames}
-use Rattle.chart.specs.declared.event.Event.{Event as Mark}
+use Rattle.chart.specs.declared.event.Event.{Event}
 
 -- the event can be spelled: its partner is an instance from 1 on, and its message has a name
-abbrev pub CanBeSpelled : Mark → Type 0
+abbrev pub CanBeSpelled : Event → Type 0
 CanBeSpelled m = (1 ≤ partner_of m) × IsName (name_of m)
 
 -- names and lines of a chart within the limits

@@ -1,5 +1,5 @@
 pub use Rattle.chart.specs.Charts
-pub use Rattle.chart.specs.Marks
+pub use Rattle.chart.specs.Events
 pub use Rattle.chart.specs.Names
 pub use Rattle.chart.specs.NameSets
 pub use Rattle.msc_text.specs.ChartText

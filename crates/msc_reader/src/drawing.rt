@@ -1,9 +1,9 @@
 //! What the lines of a chart's text draw, once all names are known.
 ghost use Rattle.std.specs.Prelude.{◌≡◌, ◌+◌, ◌⊎◌, ◌≤◌, if◌then◌else◌};
 ghost use Rattle.chart.specs.Charts.{IsNumbered};
-ghost use Rattle.chart.specs.Marks.{region_of, MayHaveRegion};
+ghost use Rattle.chart.specs.Events.{region_of, MayHaveRegion};
 ghost use Rattle.msc_text.specs.Faults.{Gives, in_line};
-ghost use Rattle.msc_reader.specs.Drawings.{blank, pushed, greater, with_mark, with_head, with_foot, with_send, with_receive, drawn};
+ghost use Rattle.msc_reader.specs.Drawings.{blank, pushed, greater, with_event, with_head, with_foot, with_send, with_receive, drawn};
 
 use crate::place::Saying;
 use chart::{Event, InstanceNo, Line, LineError, MAX_INSTANCES, Name, Names};
@@ -115,9 +115,9 @@ impl Drawing {
     }
 
     /// The line that is being drawn gets an event, in the open coregion or in none.
-    fn with_mark(self, number: u64, event: Event) -> Result<Drawing, TextError>
+    fn with_event(self, number: u64, event: Event) -> Result<Drawing, TextError>
         requires { (region_of event ≡ 0) ⊎ (region_of event ≡ self.open_region) }
-        ensures { Gives (λ d. d) result (in_line number (with_mark self self.line event)) }
+        ensures { Gives (λ d. d) result (in_line number (with_event self self.line event)) }
     {
         let Drawing {
             lines,
@@ -166,7 +166,7 @@ impl Drawing {
         ensures { Gives (λ d. d) result (in_line number (with_send names.now self to name)) }
     {
         let to = at_line(number, known_in(names, to))?;
-        self.with_mark(number, Event::Send { to, name })
+        self.with_event(number, Event::Send { to, name })
     }
 
     /// A receive, which is in the open coregion.
@@ -182,7 +182,7 @@ impl Drawing {
     {
         let from = at_line(number, known_in(names, from))?;
         let region = self.open_region;
-        self.with_mark(number, Event::Receive { from, name, region })
+        self.with_event(number, Event::Receive { from, name, region })
     }
 
     /// What is drawn with what one more line says.

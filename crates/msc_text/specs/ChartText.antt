@@ -1,9 +1,9 @@
 -- The text of a chart (a profile of the instance-oriented text of ITU-T Z.120).
 use Rattle.std.specs.Prelude.{ℕ, zero, suc, ◌==◌, ◌||◌, List, [], ◌∷◌, ◌++◌, codes, slice_get, unwrap_or, if◌then◌else◌}
 use Rattle.std.specs.List.{flat_map}
-use Rattle.chart.specs.declared.event.Event.{Event as Mark}
+use Rattle.chart.specs.declared.event.Event.{Event}
 use Rattle.chart.specs.declared.event.Event.TheVariants.{Send, Receive}
-use Rattle.chart.specs.Marks.{region_of}
+use Rattle.chart.specs.Events.{region_of}
 use Rattle.chart.specs.Charts.{LineView}
 
 -- the name of an instance, by its number from 1
@@ -12,7 +12,7 @@ name_at names zero = []
 name_at names (suc place) = unwrap_or (slice_get names place) []
 
 -- out MESSAGE to NAME; or in MESSAGE from NAME;
-unfoldable pub event_text : List (List ℕ) → Mark → List ℕ
+unfoldable pub event_text : List (List ℕ) → Event → List ℕ
 event_text names (Send to name) = codes "out " ++ (name ++ (codes " to " ++ (name_at names to ++ codes ";\n")))
 event_text names (Receive from name region) = codes "in " ++ (name ++ (codes " from " ++ (name_at names from ++ codes ";\n")))
 
@@ -25,13 +25,13 @@ unfoldable pub beginning : ℕ → ℕ → List ℕ
 beginning r c = if r == c || c == 0 then [] else codes "concurrent;\n"
 
 -- an event behind one that is in the coregion r
-unfoldable pub marked_text : List (List ℕ) → ℕ → Mark → List ℕ
-marked_text names r m = ending r (region_of m) ++ (beginning r (region_of m) ++ event_text names m)
+unfoldable pub event_lines_text : List (List ℕ) → ℕ → Event → List ℕ
+event_lines_text names r m = ending r (region_of m) ++ (beginning r (region_of m) ++ event_text names m)
 
 -- the events of a line, of which those before are in the coregion r at last
-abbrev pub events_text : List (List ℕ) → ℕ → List Mark → List ℕ
+abbrev pub events_text : List (List ℕ) → ℕ → List Event → List ℕ
 events_text names r [] = ending r 0
-events_text names r (m ∷ line) = marked_text names r m ++ events_text names (region_of m) line
+events_text names r (m ∷ line) = event_lines_text names r m ++ events_text names (region_of m) line
 
 -- instance NAME;
 unfoldable pub head_text : List (List ℕ) → ℕ → List ℕ

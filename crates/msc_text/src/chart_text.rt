@@ -1,7 +1,7 @@
 //! Charts as text.
 ghost use Rattle.std.specs.Prelude.{◌≡◌, ◌<◌, length, unwrap_or, []};
 ghost use Rattle.std.specs.List.{flat_map};
-ghost use Rattle.msc_text.specs.ChartText.{name_at, event_text, ending, beginning, marked_text, events_text, head_text, foot_text, line_text, begin_text, end_text, chart_text};
+ghost use Rattle.msc_text.specs.ChartText.{name_at, event_text, ending, beginning, event_lines_text, events_text, head_text, foot_text, line_text, begin_text, end_text, chart_text};
 ghost use Rattle.msc_text.specs.Writing.{Wrote, Adds};
 
 use crate::gathering::{Gathering, WriteError};
@@ -73,8 +73,8 @@ fn add_event<W: Out>(
 }
 
 /// Adds an event behind one that is in the coregion `before`, with what ends that one or begins its own.
-#[tactic(auto, using(crate::proofs::Writes::joining), unfolding(crate::specs::ChartText::marked_text))]
-fn add_marked<W: Out>(
+#[tactic(auto, using(crate::proofs::Writes::joining), unfolding(crate::specs::ChartText::event_lines_text))]
+fn add_event_lines<W: Out>(
     gathering: &mut Gathering,
     out: &mut W,
     names: &Names,
@@ -82,7 +82,7 @@ fn add_marked<W: Out>(
     event: &Event,
 ) -> Result<(), WriteError>
     requires { W.failures out.old < u64.MAX }
-    ensures { Adds W.contents W.failures out.old out.new gathering.old gathering.new result (marked_text names.now before event.now) }
+    ensures { Adds W.contents W.failures out.old out.new gathering.old gathering.new result (event_lines_text names.now before event.now) }
 {
     let region = event.region();
     gathering.add(out, ending(before, region))?;
@@ -102,7 +102,7 @@ fn add_events<W: Out>(
 {
     let mut before = 0;
     for event in events {
-        add_marked(gathering, out, names, before, event)?;
+        add_event_lines(gathering, out, names, before, event)?;
         before = event.region();
     }
     gathering.add(out, ending(before, 0))

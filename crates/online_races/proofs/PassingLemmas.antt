@@ -4,7 +4,7 @@ use Rattle.std.proofs.lemmas.Bool.{cases_lt, cases_eq, false≢true}
 use Rattle.std.proofs.lemmas.List.Elements.{Contains-get_or, All-push, All-nil}
 use Rattle.std.proofs.lemmas.List.{reverse-append, length-reverse}
 use Rattle.std.proofs.Math.Seq.{take-append_seam}
-use Rattle.chart.specs.declared.event.Event.{Event as Mark}
+use Rattle.chart.specs.declared.event.Event.{Event}
 use Rattle.chart.specs.declared.instance.EventNo.{EventNo}
 use Rattle.chart.specs.declared.line.TheConstants.{MAX_EVENTS}
 use Rattle.chart.specs.Charts.{LineView}
@@ -13,7 +13,7 @@ use Rattle.chart.proofs.Tally.{ith_within}
 use Rattle.online_races.specs.Passing.{IsRace, ArePassed}
 
 -- rising, the races above the entry among the events after the first `before` ones
-pub record AreFound (line : List Mark) (before entry q region : ℕ) (races : List ℕ) : Type 0 where
+pub record AreFound (line : List Event) (before entry q region : ℕ) (races : List ℕ) : Type 0 where
   pub rising : AllPairs (λ i j. i < j) races
   pub exact : (j : ℕ) → Contains races j ↔ ((before < j) × (entry < j) × IsRace line q region j)
 
@@ -41,14 +41,14 @@ Contains-cons : (x : ℕ) (xs : List ℕ) (j : ℕ) → Contains xs j → Contai
 Contains-cons x xs j (k, within, same) = (suc k, omega arith, same)
 
 -- at the end of the line nothing is found
-pub AreFound-end : (line : List Mark) (entry q region : ℕ) → AreFound line (length line) entry q region []
+pub AreFound-end : (line : List Event) (entry q region : ℕ) → AreFound line (length line) entry q region []
 AreFound-end line entry q region = record {
   rising = λ i j d less within. absurd (omega arith);
   exact = λ j. (λ here. absurd (omega (arith, here.1)), λ w. let v = ith_within line j w.2.0 w.2.1 in absurd (omega (arith, v.1)));
 }
 
 -- what is passed adds nothing
-pub AreFound-passed : (line : List Mark) (before last entry q region : ℕ) (xs : List ℕ) → ArePassed line before last q region → AreFound line last entry q region xs → AreFound line before entry q region xs
+pub AreFound-passed : (line : List Event) (before last entry q region : ℕ) (xs : List ℕ) → ArePassed line before last q region → AreFound line last entry q region xs → AreFound line before entry q region xs
 AreFound-passed line before last entry q region xs passed found = record {
   rising = found.rising;
   exact = λ j. (
@@ -64,7 +64,7 @@ AreFound-passed line before last entry q region xs passed found = record {
 }
 
 -- a race is the first of those that are found
-pub AreFound-race : (line : List Mark) (index entry q region : ℕ) (xs : List ℕ) → entry < index → IsRace line q region index → AreFound line index entry q region xs → AreFound line (index - 1) entry q region (index ∷ xs)
+pub AreFound-race : (line : List Event) (index entry q region : ℕ) (xs : List ℕ) → entry < index → IsRace line q region index → AreFound line index entry q region xs → AreFound line (index - 1) entry q region (index ∷ xs)
 AreFound-race line index entry q region xs above race found = record {
   rising = AllPairs-cons index xs found.rising (λ j here. ((found.exact j).0 here).0);
   exact = λ j. (
@@ -80,7 +80,7 @@ AreFound-race line index entry q region xs above race found = record {
 }
 
 -- where all above the entry is passed, the races are found
-pub IsRaces-found : (line : List Mark) (before entry q region : ℕ) (xs : List ℕ) → before ≤ entry → AreFound line before entry q region xs → IsRaces line entry q region xs
+pub IsRaces-found : (line : List Event) (before entry q region : ℕ) (xs : List ℕ) → before ≤ entry → AreFound line before entry q region xs → IsRaces line entry q region xs
 IsRaces-found line before entry q region xs done found = record {
   rising = found.rising;
   exact = λ j. (
@@ -90,7 +90,7 @@ IsRaces-found line before entry q region xs done found = record {
 }
 
 -- where there are no races, nothing above the entry is one
-pub no_race : (line : List Mark) (entry q region index : ℕ) → IsRaces line entry q region [] → entry < index → IsRace line q region index → ⊥
+pub no_race : (line : List Event) (entry q region index : ℕ) → IsRaces line entry q region [] → entry < index → IsRace line q region index → ⊥
 no_race line entry q region index none above race = let here = (none.exact index).1 (above, race) in omega (arith, here.1)
 
 -- the search begins at the end of the line

@@ -1,14 +1,14 @@
 -- How the events of a line are passed, from its end on back, in search of races (Alur, Holzmann and Peled 1996; which
 -- events are no races is this project's profile).
 use Rattle.std.specs.Prelude.{◌≡◌, ℕ, ◌<◌, ◌≤◌, ◌⊎◌, true, false, List, Some}
-use Rattle.chart.specs.declared.event.Event.{Event as Mark}
-use Rattle.chart.specs.Marks.{ith, is_receive_from, is_in}
+use Rattle.chart.specs.declared.event.Event.{Event}
+use Rattle.chart.specs.Events.{ith, is_receive_from, is_in}
 
 -- the event at j is neither a receive from q nor in the region
-abbrev pub IsRace : List Mark → ℕ → ℕ → ℕ → Type 0
-IsRace line q region j = (m : Mark) × (ith line j ≡ Some m) × (is_receive_from q m ≡ false) × (is_in region m ≡ false)
+abbrev pub IsRace : List Event → ℕ → ℕ → ℕ → Type 0
+IsRace line q region j = (m : Event) × (ith line j ≡ Some m) × (is_receive_from q m ≡ false) × (is_in region m ≡ false)
 
 -- each event after the first `before` ones, up to the last, is a receive from q or in the region
-pub record ArePassed (line : List Mark) (before last q region : ℕ) : Type 0 where
+pub record ArePassed (line : List Event) (before last q region : ℕ) : Type 0 where
   pub less : before < last
-  pub each : (j : ℕ) (m : Mark) → before < j → j ≤ last → ith line j ≡ Some m → (is_receive_from q m ≡ true) ⊎ (is_in region m ≡ true)
+  pub each : (j : ℕ) (m : Event) → before < j → j ≤ last → ith line j ≡ Some m → (is_receive_from q m ≡ true) ⊎ (is_in region m ≡ true)

@@ -1,10 +1,10 @@
 -- What an instance holds, when the history grows.
 use Rattle.std.proofs.Common.{◌≡◌, ◌≢◌, ℕ, suc, ◌+◌, ◌<◌, ◌≤◌, max, List, [], ◌∷◌, ◌++◌, length, set, sym, ap, ◌∙◌, arith}
 use Rattle.std.proofs.lemmas.List.{length-set, length_push}
-use Rattle.chart.specs.declared.history.Event.{Event}
-use Rattle.chart.specs.declared.event.Event.{Event as Mark}
+use Rattle.chart.specs.declared.history.Occurrence.{Occurrence}
+use Rattle.chart.specs.declared.event.Event.{Event}
 use Rattle.chart.specs.declared.line.TheConstants.{MAX_EVENTS}
-use Rattle.chart.specs.Marks.{region_of, greatest_region, MayHaveRegion}
+use Rattle.chart.specs.Events.{region_of, greatest_region, MayHaveRegion}
 use Rattle.chart.specs.Histories.{waiting, is_closed, chart_of, IsLegal, Begins}
 use Rattle.line_recorder.specs.Carried.{knowledge_of, waiting_clocks}
 use Rattle.schedule.specs.Meaning.{Run}
@@ -24,7 +24,7 @@ pub record IsIdle (n : ℕ) (r s : Run) (p : ℕ) : Type 0 where
   pub region : s.region p ≡ r.region p
 
 -- nothing was done to the lanes from n instances to p between two histories
-pub record AreIdle (n : ℕ) (h g : List Event) (p : ℕ) : Type 0 where
+pub record AreIdle (n : ℕ) (h g : List Occurrence) (p : ℕ) : Type 0 where
   pub waiting : (q : ℕ) → waiting g q p ≡ waiting h q p
   pub clocks : (q : ℕ) → waiting_clocks n g q p ≡ waiting_clocks n h q p
   pub closed : (q : ℕ) → is_closed g q p ≡ is_closed h q p
@@ -43,7 +43,7 @@ IsOwn-idle n k r s p a lanes legal idle own = record {
 }
 
 -- and so are lanes to which nothing was done
-pub AreLanes-idle : (n : ℕ) (h g : List Event) (p : ℕ) (lanes : List LaneView) → AreIdle n h g p → AreLanes n h p lanes → AreLanes n g p lanes
+pub AreLanes-idle : (n : ℕ) (h g : List Occurrence) (p : ℕ) (lanes : List LaneView) → AreIdle n h g p → AreLanes n h p lanes → AreLanes n g p lanes
 AreLanes-idle n h g p lanes idle old = record {
   many = old.many;
   each = λ j lane e.
@@ -52,11 +52,11 @@ AreLanes-idle n h g p lanes idle old = record {
 }
 
 -- the lane from q to p has in g what it had in h
-abbrev pub IsSame : ℕ → List Event → List Event → ℕ → ℕ → Type 0
+abbrev pub IsSame : ℕ → List Occurrence → List Occurrence → ℕ → ℕ → Type 0
 IsSame n h g p q = (waiting g q p ≡ waiting h q p) × (waiting_clocks n g q p ≡ waiting_clocks n h q p) × (is_closed g q p ≡ is_closed h q p)
 
 -- where something was done to one lane, and it is right
-pub AreLanes-set : (n : ℕ) (h g : List Event) (p j : ℕ) (lanes : List LaneView) (lane : LaneView) → ((q : ℕ) → q ≢ suc j → IsSame n h g p q) → IsLane n g (suc j) p lane → AreLanes n h p lanes
+pub AreLanes-set : (n : ℕ) (h g : List Occurrence) (p j : ℕ) (lanes : List LaneView) (lane : LaneView) → ((q : ℕ) → q ≢ suc j → IsSame n h g p q) → IsLane n g (suc j) p lane → AreLanes n h p lanes
     → AreLanes n g p (set lanes j lane)
 AreLanes-set n h g p j lanes lane idle new old = record {
   many = length-set lanes j lane ∙ old.many;
@@ -69,10 +69,10 @@ AreLanes-set n h g p j lanes lane idle new old = record {
 }
 
 -- an instance whose line grew by an event of its open coregion
-pub IsOwn-push : (n : ℕ) (r s : Run) (p : ℕ) (a b : ActorView) (m : Mark) → IsOwn n r p a → IsRecorder n s.history p b.recorder → chart_of s.history p ≡ chart_of r.history p ++ m ∷ [] → s.region p ≡ r.region p → region_of m ≡ r.region p → length (chart_of r.history p) < MAX_EVENTS
+pub IsOwn-push : (n : ℕ) (r s : Run) (p : ℕ) (a b : ActorView) (m : Event) → IsOwn n r p a → IsRecorder n s.history p b.recorder → chart_of s.history p ≡ chart_of r.history p ++ m ∷ [] → s.region p ≡ r.region p → region_of m ≡ r.region p → length (chart_of r.history p) < MAX_EVENTS
     → b.last ≡ s.last p → s.last p ≤ n → b.region ≡ a.region → b.greatest ≡ max a.greatest (region_of m) → IsOwn n s p b
 IsOwn-push n r s p a b m own recorder grown same its room last known region greatest =
-    let chart : List Mark = chart_of r.history p in
+    let chart : List Event = chart_of r.history p in
     let may : MayHaveRegion chart (region_of m) = rw its own.may in
     let next : greatest_region (chart ++ m ∷ []) ≡ max (greatest_region chart) (region_of m) = greatest_region-push chart m in
     let small : region_of m ≤ greatest_region chart + 1 = may_be-small chart (region_of m) may in

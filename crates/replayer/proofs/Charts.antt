@@ -10,9 +10,9 @@ use Rattle.std.proofs.lemmas.Option.{slice_get-map, slice_get-get_or, slice_get_
 use Rattle.std.proofs.Math.Path.{fun_ext}
 use Rattle.std.proofs.lemmas.Bool.{cases_lt}
 use Rattle.std.proofs.lemmas.List.Concat.{flat_map-cons}
-use Rattle.chart.specs.declared.history.Event.{Event}
-use Rattle.chart.specs.declared.history.Event.TheVariants as events
-use Rattle.chart.specs.Marks.{partner_of}
+use Rattle.chart.specs.declared.history.Occurrence.{Occurrence}
+use Rattle.chart.specs.declared.history.Occurrence.TheVariants as events
+use Rattle.chart.specs.Events.{partner_of}
 use Rattle.chart.specs.Histories.{by, chart_of, MayFollow, IsLegal}
 use Rattle.chart.specs.Reports.{ReportView, IsReportIn, AreReportsOf, AreReports, receives_of}
 use Rattle.chart.proofs.ReportLists.{AreReportsOf-nil, AreReportsOf-cons}
@@ -25,7 +25,7 @@ use Rattle.replayer.specs.Outcomes.{lines_of}
 use Rattle.chart.proofs.Histories.{partners-known}
 
 -- a line of a history's chart
-abbrev pub line_of : List Event → ℕ → LineView
+abbrev pub line_of : List Occurrence → ℕ → LineView
 line_of h p = record { instance = p; events = chart_of h p }
 
 -- the instances' lines are those of the history's chart
@@ -52,11 +52,11 @@ reports-of c (a ∷ actors) each =
     (AreReportsOf-cons c a.recorder.line (map (λ (x : ActorView). x.recorder.line) actors) a.recorder.reports (flat_map (λ (x : ActorView). x.recorder.reports) actors) first.0 first.1 (reports-of c actors (λ i x e. each (suc i) x e)))
 
 -- an instance that isn't there has no line
-no-line : (n k : ℕ) (h : List Event) → IsLegal n k h → (p : ℕ) → (p ≡ 0) ⊎ (n < p) → chart_of h p ≡ []
+no-line : (n k : ℕ) (h : List Occurrence) → IsLegal n k h → (p : ℕ) → (p ≡ 0) ⊎ (n < p) → chart_of h p ≡ []
 no-line n k [] legal p none = refl
 no-line n k (e ∷ h) legal p none = line_of_other h e p (λ same. absurd (out (by-within e legal.0) same none)) ∙ no-line n k h legal.1 p none
   where
-    by-within : (e : Event) → MayFollow n k h e → (1 ≤ by e) × (by e ≤ n)
+    by-within : (e : Occurrence) → MayFollow n k h e → (1 ≤ by e) × (by e ≤ n)
     by-within (events.Send a b m) may = (may.0.0, may.0.1)
     by-within (events.Receive a b c) may = (may.0.0, may.0.1)
     by-within (events.Close a b) may = (may.0.0, may.0.1)
@@ -66,7 +66,7 @@ no-line n k (e ∷ h) legal p none = line_of_other h e p (λ same. absurd (out (
     out within same (inr past) = absurd (omega (arith, within.1, same, past))
 
 -- the lines are the history's chart
-pub chart-is : (n k : ℕ) (h : List Event) → IsLegal n k h → chart_of h ≡ chart_lines (lines_of n h)
+pub chart-is : (n k : ℕ) (h : List Occurrence) → IsLegal n k h → chart_of h ≡ chart_lines (lines_of n h)
 chart-is n k h legal = fun_ext (λ p. at_instance p)
   where
     at_instance : (p : ℕ) → chart_of h p ≡ chart_lines (lines_of n h) p
@@ -89,7 +89,7 @@ reports-are n k r actors agrees =
     }
 
 -- they are numbered
-pub lines-numbered : (n : ℕ) (h : List Event) → IsNumbered (lines_of n h)
+pub lines-numbered : (n : ℕ) (h : List Occurrence) → IsNumbered (lines_of n h)
 lines-numbered n h i l e =
     let inside = slice_get_within (lines_of n h) i l e in
     let within : i < n = omega (arith, inside, length-map-range_with_len (line_of h) 1 n) in
@@ -98,10 +98,10 @@ lines-numbered n h i l e =
     ap (λ (x : LineView). x.instance) same
 
 -- and have partners among the instances
-pub lines-partnered : (n k : ℕ) (h : List Event) → IsLegal n k h → HasPartners n (lines_of n h)
+pub lines-partnered : (n k : ℕ) (h : List Occurrence) → IsLegal n k h → HasPartners n (lines_of n h)
 lines-partnered n k h legal =
     All-map (λ (l : LineView). All (λ m. partner_of m ≤ n) l.events) (line_of h) (range_with_len 1 n) (λ i d _. partners-known n k h legal (get_or (range_with_len 1 n) i d))
 
 -- there is a line for each instance
-pub length-lines_of : (n : ℕ) (h : List Event) → length (lines_of n h) ≡ n
+pub length-lines_of : (n : ℕ) (h : List Occurrence) → length (lines_of n h) ≡ n
 length-lines_of n h = length-map-range_with_len (line_of h) 1 n

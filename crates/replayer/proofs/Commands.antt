@@ -7,9 +7,9 @@ use Rattle.std.proofs.lemmas.List.{length-drop, get_or-drop}
 use Rattle.std.proofs.lemmas.Option.{slice_get-get_or}
 use Rattle.std.proofs.lemmas.List.Elements.{All-weaker}
 use Rattle.chart.specs.declared.line.TheConstants.{MAX_EVENTS}
-use Rattle.chart.specs.declared.history.Event.{Event}
-use Rattle.chart.specs.declared.history.Event.TheVariants as events
-use Rattle.chart.specs.Marks.{MayHaveRegion}
+use Rattle.chart.specs.declared.history.Occurrence.{Occurrence}
+use Rattle.chart.specs.declared.history.Occurrence.TheVariants as events
+use Rattle.chart.specs.Events.{MayHaveRegion}
 use Rattle.chart.specs.Histories.{waiting, is_closed, sent as history_sent, received as history_received}
 use Rattle.chart.specs.Reports.{ReportView}
 use Rattle.line_recorder.specs.Carried.{clocks_of}
@@ -18,7 +18,7 @@ use Rattle.line_recorder.proofs.Carrying.{clocks_many, carried_right}
 use Rattle.schedule.specs.declared.command.Word.{Word}
 use Rattle.schedule.specs.declared.command.Word.TheVariants as words
 use Rattle.schedule.specs.Meaning.{Run, scan, has_waiting, happens, sends, receives, receives_any, first_waiting, are_closed, closes, opens, shuts}
-use Rattle.replayer.specs.Views.{LaneView, ActorView, empty_lane, popped, after_receipt, some_wait, is_shut, lane_waits, lane_is_closed}
+use Rattle.replayer.specs.Views.{LaneView, ActorView, empty_lane, popped, after_receipt, some_wait, is_closed_lane, lane_waits, lane_is_closed}
 use Rattle.replayer.specs.Words.{send_word, receive_word}
 use Rattle.replayer.specs.Agreement.{AreLanes, Agrees, HasActed}
 use Rattle.replayer.proofs.Kept.{sent, taken, shut-off, reopened}
@@ -168,7 +168,7 @@ shut-done n k r actors p i a a' agrees at_p at_a some new =
     rw (new, at_p, e) (reopened n k r actors i 0 a agrees at_a (inl refl))
 
 -- whether messages wait on a lane of an inbox, and on one of the history
-pub waits-same : (n : ℕ) (h : List Event) (p : ℕ) (lanes : List LaneView) → AreLanes n h p lanes → (q : ℕ) → IsOther n p q → lane_waits lanes q ≡ has_waiting h q p
+pub waits-same : (n : ℕ) (h : List Occurrence) (p : ℕ) (lanes : List LaneView) → AreLanes n h p lanes → (q : ℕ) → IsOther n p q → lane_waits lanes q ≡ has_waiting h q p
 waits-same n h p lanes old zero other = absurd (omega (arith, other.0))
 waits-same n h p lanes old (suc j) other =
     let empty : LaneView = empty_lane in
@@ -176,12 +176,12 @@ waits-same n h p lanes old (suc j) other =
     ap some_wait there ∙ ap (nat_lt 0) (names-many (waiting h (suc j) p) (get_or lanes j empty).names (old.each j (get_or lanes j empty) there).names)
 
 -- whether a lane of an inbox is closed, and one of the history
-pub closed-same : (n : ℕ) (h : List Event) (p : ℕ) (lanes : List LaneView) → AreLanes n h p lanes → (q : ℕ) → IsOther n p q → lane_is_closed lanes q ≡ is_closed h q p
+pub closed-same : (n : ℕ) (h : List Occurrence) (p : ℕ) (lanes : List LaneView) → AreLanes n h p lanes → (q : ℕ) → IsOther n p q → lane_is_closed lanes q ≡ is_closed h q p
 closed-same n h p lanes old zero other = absurd (omega (arith, other.0))
 closed-same n h p lanes old (suc j) other =
     let empty : LaneView = empty_lane in
     let there : slice_get lanes j ≡ Some (get_or lanes j empty) = slice_get-get_or lanes j empty (omega (arith, other.1, old.many)) in
-    ap is_shut there ∙ (old.each j (get_or lanes j empty) there).closed
+    ap is_closed_lane there ∙ (old.each j (get_or lanes j empty) there).closed
 
 -- the search in an inbox is the search in the history
 pub first-same : (n k : ℕ) (r : Run) (actors : List ActorView) (p i : ℕ) (a : ActorView) → Agrees n k r actors → p ≡ suc i → slice_get actors i ≡ Some a → find (lane_waits a.lanes) (scan (length a.lanes) p a.last) ≡ first_waiting n r p

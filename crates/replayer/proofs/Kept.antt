@@ -4,12 +4,12 @@ use Rattle.std.specs.Prelude.{slice_get}
 use Rattle.std.proofs.lemmas.Bool.{eq-eqb, ne_eqb}
 use Rattle.std.proofs.lemmas.List.{length-set, map-append}
 use Rattle.std.proofs.lemmas.Option.{slice_get_within}
-use Rattle.chart.specs.declared.history.Event.{Event}
-use Rattle.chart.specs.declared.history.Event.TheVariants.{Send, Receive, Close}
+use Rattle.chart.specs.declared.history.Occurrence.{Occurrence}
+use Rattle.chart.specs.declared.history.Occurrence.TheVariants.{Send, Receive, Close}
 use Rattle.chart.specs.declared.line.TheConstants.{MAX_EVENTS}
 use Rattle.chart.specs.Charts.{LineView}
 use Rattle.chart.specs.Messages.{Content}
-use Rattle.chart.specs.Marks.{send_mark, receive_mark, MayHaveRegion}
+use Rattle.chart.specs.Events.{send_event, receive_event, MayHaveRegion}
 use Rattle.chart.specs.Histories.{by, waiting, chart_of, IsLegal, AreTwo}
 use Rattle.chart.specs.Reports.{ReportView}
 use Rattle.chart.proofs.Steps.{line_of_other}
@@ -67,7 +67,7 @@ Agrees-set_two n k r s actors i j a b old legal others first second = record {
 }
 
 -- what an idle instance is after another one's event that left its line, its last sender and its coregion
-other-idle : (n k : ℕ) (r s : Run) (e : Event) (p : ℕ) (a : ActorView) (lanes : List LaneView) → IsLegal n k r.history → s.history ≡ e ∷ r.history → p ≢ by e → s.last p ≡ r.last p → s.region p ≡ r.region p → IsOwn n r p a → IsOwn n s p (record a { lanes = lanes })
+other-idle : (n k : ℕ) (r s : Run) (e : Occurrence) (p : ℕ) (a : ActorView) (lanes : List LaneView) → IsLegal n k r.history → s.history ≡ e ∷ r.history → p ≢ by e → s.last p ≡ r.last p → s.region p ≡ r.region p → IsOwn n r p a → IsOwn n s p (record a { lanes = lanes })
 other-idle n k r s e p a lanes legal grown ne last region own =
     IsOwn-idle n k r s p a lanes legal (record {
       begins = (e ∷ [], grown);
@@ -82,11 +82,11 @@ module _ (n k : ℕ) (r : Run) (actors : List ActorView) (agrees : Agrees n k r 
   pub sent : (a b : ActorView) (lane : LaneView) (name : List ℕ) → slice_get actors i ≡ Some a → slice_get actors j ≡ Some b → slice_get b.lanes i ≡ Some lane → a.region ≡ 0 → lane.closed ≡ false → length a.recorder.line.events < MAX_EVENTS → length lane.names < k
       → Agrees n k (happens r (Send (suc i) (suc j) (message name))) (set (set actors i (record a { recorder = after_send a.recorder (suc j) name })) j (record b { lanes = set b.lanes i (record { names = lane.names ++ name ∷ []; clocks = lane.clocks ++ send_clock a.recorder ∷ []; closed = lane.closed }) }))
   sent a b lane name at_a at_b at_lane outside opened room space =
-      let h : List Event = r.history in
+      let h : List Occurrence = r.history in
       let p : ℕ = suc i in
       let q : ℕ = suc j in
       let m : Content = message name in
-      let e : Event = Send p q m in
+      let e : Occurrence = Send p q m in
       let s : Run = happens r e in
       let mine : IsActor n r p a = agrees.each i a at_a in
       let its : IsActor n r q b = agrees.each j b at_b in
@@ -108,7 +108,7 @@ module _ (n k : ℕ) (r : Run) (actors : List ActorView) (agrees : Agrees n k r 
         lanes = AreLanes-idle n h s.history (suc l) x.lanes (idle (suc l) (λ same. other (omega arith))) old.lanes;
       })
       (record {
-        own = IsOwn-push n r s p a _ (send_mark q name) mine.own (IsRecorder-send n k h p q m a.recorder agrees.legal mine.own.recorder) (line_after_send h p q m) refl (sym none) few mine.own.last mine.own.known refl (omega arith);
+        own = IsOwn-push n r s p a _ (send_event q name) mine.own (IsRecorder-send n k h p q m a.recorder agrees.legal mine.own.recorder) (line_after_send h p q m) refl (sym none) few mine.own.last mine.own.known refl (omega arith);
         lanes = AreLanes-idle n h s.history p a.lanes (idle p (λ same. ne (omega arith))) mine.lanes;
       })
       (record {
@@ -125,11 +125,11 @@ module _ (n k : ℕ) (r : Run) (actors : List ActorView) (agrees : Agrees n k r 
   pub taken : (a : ActorView) (lane : LaneView) (name clock : List ℕ) (names clocks : List (List ℕ)) (report : ReportView) → j < length actors → slice_get actors i ≡ Some a → slice_get a.lanes j ≡ Some lane → lane.names ≡ name ∷ names → lane.clocks ≡ clock ∷ clocks → IsReportOf a.recorder (suc j) a.region clock report → length a.recorder.line.events < MAX_EVENTS
       → Agrees n k (received r (suc i) (suc j)) (set actors i (after_receipt (record a { lanes = set a.lanes j (popped lane names clocks) }) (suc j) name clock report))
   taken a lane name clock names clocks report there at_a at_lane front stamp made room =
-      let h : List Event = r.history in
+      let h : List Occurrence = r.history in
       let p : ℕ = suc i in
       let q : ℕ = suc j in
       let c : ℕ = r.region p in
-      let e : Event = Receive p q c in
+      let e : Occurrence = Receive p q c in
       let s : Run = received r p q in
       let mine : IsActor n r p a = agrees.each i a at_a in
       let here : IsLane n h q p lane = mine.lanes.each j lane at_lane in
@@ -139,8 +139,8 @@ module _ (n k : ℕ) (r : Run) (actors : List ActorView) (agrees : Agrees n k r 
       let i_within : i < n = omega (arith, slice_get_within actors i a at_a, agrees.many) in
       let j_within : j < n = omega (arith, agrees.many) in
       let clocked : waiting_clocks n h q p ≡ clock ∷ clocks = sym here.clocks ∙ stamp in
-      let grown : chart_of s.history p ≡ chart_of h p ++ receive_mark q name a.region ∷ [] =
-      line_after_receive h p q c first.0 first.1 first.2 ∙ ap (λ w. chart_of h p ++ receive_mark q w c ∷ []) first.3 ∙ ap (λ x. chart_of h p ++ receive_mark q name x ∷ []) (sym mine.own.region) in
+      let grown : chart_of s.history p ≡ chart_of h p ++ receive_event q name a.region ∷ [] =
+      line_after_receive h p q c first.0 first.1 first.2 ∙ ap (λ w. chart_of h p ++ receive_event q w c ∷ []) first.3 ∙ ap (λ x. chart_of h p ++ receive_event q name x ∷ []) (sym mine.own.region) in
       let recorded = IsRecorder-receive n k h p q c first.0 first.1 clock clocks a.recorder report agrees.legal (omega arith) (omega arith) first.2 clocked (subst (λ x. IsReportOf a.recorder q x clock report) mine.own.region made) mine.own.recorder in
       let recorder : IsRecorder n s.history p (after_receive a.recorder q name a.region clock report) = subst₂ (λ (w : List ℕ) (x : ℕ). IsRecorder n s.history p (after_receive a.recorder q w x clock report)) first.3 (sym mine.own.region) recorded in
       let last : q ≡ s.last p = sym (changed-same r.last p q) in
@@ -156,7 +156,7 @@ module _ (n k : ℕ) (r : Run) (actors : List ActorView) (agrees : Agrees n k r 
         }) old.lanes;
       })
       (record {
-        own = IsOwn-push n r s p a _ (receive_mark q name a.region) mine.own recorder grown refl mine.own.region few last known refl refl;
+        own = IsOwn-push n r s p a _ (receive_event q name a.region) mine.own recorder grown refl mine.own.region few last known refl refl;
         lanes = AreLanes-set n h s.history p j a.lanes _ (λ o past. (waiting-receive_other h p q c o p (is_lane-from q p o p past), waiting_clocks-receive_other n h p q c o p (is_lane-from q p o p past), refl))
             (record {
               names = sym first.4 ∙ ap names_of (sym (waiting-receive h p q c first.0 first.1 first.2));
@@ -169,10 +169,10 @@ module _ (n k : ℕ) (r : Run) (actors : List ActorView) (agrees : Agrees n k r 
   pub shut-off : (b : ActorView) (lane : LaneView) → i < length actors → slice_get actors j ≡ Some b → slice_get b.lanes i ≡ Some lane → lane.closed ≡ false
       → Agrees n k (happens r (Close (suc i) (suc j))) (set actors j (record b { lanes = set b.lanes i (record lane { closed = true }) }))
   shut-off b lane there at_b at_lane opened =
-      let h : List Event = r.history in
+      let h : List Occurrence = r.history in
       let p : ℕ = suc i in
       let q : ℕ = suc j in
-      let e : Event = Close p q in
+      let e : Occurrence = Close p q in
       let s : Run = happens r e in
       let its : IsActor n r q b = agrees.each j b at_b in
       let here : IsLane n h p q lane = its.lanes.each i lane at_lane in

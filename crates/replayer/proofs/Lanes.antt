@@ -2,7 +2,7 @@
 use Rattle.std.proofs.Common.{◌≡◌, ℕ, suc, ◌+◌, ◌<◌, ◌≤◌, ◌==◌, not, Bool, false, List, [], ◌∷◌, length, get_or, Some, sym, ap, ◌∙◌, subst, arith}
 use Rattle.std.specs.Prelude.{slice_get, nat_lt}
 use Rattle.std.proofs.lemmas.Bool.{le-ltb}
-use Rattle.replayer.specs.Views.{LaneView, popped, some_wait, is_shut, lane_waits, lane_is_closed}
+use Rattle.replayer.specs.Views.{LaneView, popped, some_wait, is_closed_lane, lane_waits, lane_is_closed}
 use Rattle.replayer.proofs.Places.{slice_get-read}
 
 -- whether a number counts, by the place before it
@@ -25,7 +25,7 @@ none-at lanes a len lane within there long none = lane_waits-at lanes a lane (sl
 pub closed-at : (lanes : List LaneView) (a : ℕ) (lane : LaneView) (b v : Bool) → a < length lanes → lane ≡ get_or lanes a lane → b ≡ lane.closed → b ≡ v → lane_is_closed lanes (a + 1) ≡ v
 closed-at lanes a lane b v within there closed is =
     let e : suc a ≡ a + 1 = omega arith in
-    subst (λ x. lane_is_closed lanes x ≡ v) e (ap is_shut (slice_get-read lanes a lane within there) ∙ sym closed ∙ is)
+    subst (λ x. lane_is_closed lanes x ≡ v) e (ap is_closed_lane (slice_get-read lanes a lane within there) ∙ sym closed ∙ is)
 
 -- the lane that is read at the place of a number
 pub lane-read : (xs lanes : List LaneView) (p a : ℕ) (lane : LaneView) → xs ≡ lanes → p ≡ suc a → p ≤ length lanes → lane ≡ get_or xs a lane → slice_get lanes a ≡ Some lane

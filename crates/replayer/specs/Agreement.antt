@@ -1,8 +1,8 @@
 -- What a replay holds of the history so far.
 use Rattle.std.specs.Prelude.{◌≡◌, ℕ, suc, ◌≤◌, List, length, map, slice_get, Option, None, Some, Result, Ok, Err}
-use Rattle.chart.specs.declared.history.Event.{Event}
+use Rattle.chart.specs.declared.history.Occurrence.{Occurrence}
 use Rattle.chart.specs.declared.line.TheConstants.{MAX_EVENTS}
-use Rattle.chart.specs.Marks.{greatest_region, MayHaveRegion}
+use Rattle.chart.specs.Events.{greatest_region, MayHaveRegion}
 use Rattle.chart.specs.Messages.{Content}
 use Rattle.chart.specs.Histories.{waiting, is_closed, chart_of, IsLegal}
 use Rattle.line_recorder.specs.Carried.{waiting_clocks}
@@ -17,13 +17,13 @@ abbrev pub names_of : List Content → List (List ℕ)
 names_of ms = map (λ (m : Content). m.name) ms
 
 -- the lane from q to p, two of n instances, is as the history has it
-pub record IsLane (n : ℕ) (h : List Event) (q p : ℕ) (lane : LaneView) : Type 0 where
+pub record IsLane (n : ℕ) (h : List Occurrence) (q p : ℕ) (lane : LaneView) : Type 0 where
   pub names : lane.names ≡ names_of (waiting h q p)
   pub clocks : lane.clocks ≡ waiting_clocks n h q p
   pub closed : lane.closed ≡ is_closed h q p
 
 -- the lanes from n instances to p are as the history has them
-pub record AreLanes (n : ℕ) (h : List Event) (p : ℕ) (lanes : List LaneView) : Type 0 where
+pub record AreLanes (n : ℕ) (h : List Occurrence) (p : ℕ) (lanes : List LaneView) : Type 0 where
   pub many : length lanes ≡ n
   pub each : (j : ℕ) (lane : LaneView) → slice_get lanes j ≡ Some lane → IsLane n h (suc j) p lane
 

@@ -1,7 +1,7 @@
 -- What a schedule comes to.
 use Rattle.std.specs.Prelude.{◌≡◌, ℕ, ◌≤◌, ◌==◌, List, length, map, filter, AllPairs}
 use Rattle.std.specs.List.{range_with_len}
-use Rattle.chart.specs.declared.history.Event.{Event}
+use Rattle.chart.specs.declared.history.Occurrence.{Occurrence}
 use Rattle.chart.specs.Charts.{LineView}
 use Rattle.chart.specs.Histories.{chart_of}
 use Rattle.chart.specs.Reports.{ReportView, AreReports}
@@ -17,7 +17,7 @@ pub record OutcomeView : Type 0 where
   pub notes : List Note
 
 -- the lines of n instances in the chart of a history
-abbrev pub lines_of : ℕ → List Event → List LineView
+abbrev pub lines_of : ℕ → List Occurrence → List LineView
 lines_of n h = map (λ p. record { instance = p; events = chart_of h p }) (range_with_len 1 n)
 
 -- the notes that came, now by line: those of each line as they came

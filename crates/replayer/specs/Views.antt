@@ -46,9 +46,9 @@ some_wait None = false
 some_wait (Some lane) = nat_lt 0 (length lane.names)
 
 -- the lane is closed
-abbrev pub is_shut : Option LaneView → Bool
-is_shut None = false
-is_shut (Some lane) = lane.closed
+abbrev pub is_closed_lane : Option LaneView → Bool
+is_closed_lane None = false
+is_closed_lane (Some lane) = lane.closed
 
 -- a message waits on the lane from q
 abbrev pub lane_waits : List LaneView → ℕ → Bool
@@ -58,4 +58,4 @@ lane_waits lanes (suc q) = some_wait (slice_get lanes q)
 -- the lane from q is closed
 abbrev pub lane_is_closed : List LaneView → ℕ → Bool
 lane_is_closed lanes zero = false
-lane_is_closed lanes (suc q) = is_shut (slice_get lanes q)
+lane_is_closed lanes (suc q) = is_closed_lane (slice_get lanes q)

@@ -1,6 +1,6 @@
 //! The instances of a replay.
 ghost use Rattle.std.specs.Prelude.{ℕ, ◌≡◌, ◌≢◌, ◌≤◌, ◌<◌, ◌+◌, ◌++◌, ◌∷◌, [], true, suc, List, length, slice_get, slice_set, replicate, Some, All, IfOk, OnOk};
-ghost use Rattle.chart.specs.Marks.{MayHaveRegion};
+ghost use Rattle.chart.specs.Events.{MayHaveRegion};
 ghost use Rattle.chart.specs.Reports.{ReportView};
 ghost use Rattle.chart.specs.declared.instance.TheConstants.{MAX_INSTANCES};
 ghost use Rattle.chart.specs.declared.line.TheConstants.{MAX_EVENTS};

@@ -1,7 +1,7 @@
 //! The whole replay.
 ghost use Rattle.std.specs.Prelude.{ℕ, ◌≡◌, ◌≤◌, List, length, map, All, IfOk};
 ghost use Rattle.std.specs.List.{flat_map};
-ghost use Rattle.chart.specs.declared.history.Event.{Event};
+ghost use Rattle.chart.specs.declared.history.Occurrence.{Occurrence};
 ghost use Rattle.chart.specs.declared.instance.TheConstants.{MAX_INSTANCES};
 ghost use Rattle.chart.specs.Histories.{IsLegal};
 ghost use Rattle.schedule.specs.Plans.{IsAmong};
@@ -73,7 +73,7 @@ fn parts(alloc: Global, actors: Vec<Actor>) -> Result<(Vec<Line>, Vec<Report>), 
 
 /// The chart of these lines, which are those of a run.
 fn chart(lines: Vec<Line>) -> Chart
-    requires { (n k : ℕ) × (h : List Event) × (2 ≤ n) × (n ≤ MAX_INSTANCES) × IsLegal n k h × (lines.items ≡ lines_of n h) }
+    requires { (n k : ℕ) × (h : List Occurrence) × (2 ≤ n) × (n ≤ MAX_INSTANCES) × IsLegal n k h × (lines.items ≡ lines_of n h) }
     ensures { result ≡ lines.items }
 {
     match Chart::new(lines) {

@@ -1,6 +1,6 @@
 pub use Rattle.chart.specs.Charts
 pub use Rattle.chart.specs.Histories
-pub use Rattle.chart.specs.Marks
+pub use Rattle.chart.specs.Events
 pub use Rattle.chart.specs.Messages
 pub use Rattle.chart.specs.Names
 pub use Rattle.chart.specs.NameSets

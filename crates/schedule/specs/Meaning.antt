@@ -1,10 +1,10 @@
 -- What a schedule means: its commands, one after the other, over a history (this project's profile).
 use Rattle.std.specs.Prelude.{ℕ, ◌+◌, ◌-◌, Bool, not, ◌==◌, List, [], ◌∷◌, ◌++◌, length, filter, find, fold, Option, None, Some, Result, Ok, Err, nat_lt, nat_le, if◌then◌else◌}
 use Rattle.std.specs.List.{range_with_len, list_all}
-use Rattle.chart.specs.declared.history.Event.{Event}
-use Rattle.chart.specs.declared.history.Event.TheVariants as events
+use Rattle.chart.specs.declared.history.Occurrence.{Occurrence}
+use Rattle.chart.specs.declared.history.Occurrence.TheVariants as events
 use Rattle.chart.specs.declared.line.TheConstants.{MAX_EVENTS}
-use Rattle.chart.specs.Marks.{greatest_region}
+use Rattle.chart.specs.Events.{greatest_region}
 use Rattle.chart.specs.Histories.{waiting, is_closed, chart_of}
 use Rattle.schedule.specs.declared.command.Action.{Action}
 use Rattle.schedule.specs.declared.command.Action.TheVariants.{Send, Receive, Any, Close, Open, Shut}
@@ -17,7 +17,7 @@ use Rattle.schedule.specs.Plans.{Plan}
 -- how far a schedule has come: the history; from whom each instance received last, 0 for nobody; and each instance's open
 -- coregion, 0 for none
 pub record Run : Type 0 where
-  pub history : List Event
+  pub history : List Occurrence
   pub last : ℕ → ℕ
   pub region : ℕ → ℕ
 
@@ -30,15 +30,15 @@ abbrev pub scan : ℕ → ℕ → ℕ → List ℕ
 scan n p l = filter (λ q. not (q == p)) (range_with_len (l + 1) (n - l) ++ range_with_len 1 l)
 
 -- a message waits from q to p
-abbrev pub has_waiting : List Event → ℕ → ℕ → Bool
+abbrev pub has_waiting : List Occurrence → ℕ → ℕ → Bool
 has_waiting h q p = nat_lt 0 (length (waiting h q p))
 
 -- p's line has as many events as it may have
-abbrev pub is_line_full : List Event → ℕ → Bool
+abbrev pub is_line_full : List Occurrence → ℕ → Bool
 is_line_full h p = nat_le MAX_EVENTS (length (chart_of h p))
 
 -- the run with one event more
-abbrev pub happens : Run → Event → Run
+abbrev pub happens : Run → Occurrence → Run
 happens r e = record { history = e ∷ r.history; last = r.last; region = r.region }
 
 -- What each action does: how far the schedule has come then, or the word of its note. The first cause decides.

@@ -1,11 +1,11 @@
-use Rattle.chart.proofs.Begun.{legal_begun, mark_begun, send_begun, belongs_begun, before_begun, known_begun, report_begun, heard_begun}
+use Rattle.chart.proofs.Begun.{legal_begun, chart_event_begun, send_begun, belongs_begun, before_begun, known_begun, report_begun, heard_begun}
 use Rattle.chart.proofs.laws.growth_law.Goals as goal
 
 pub returns-clause-legal : goal.returns-clause-legal
 returns-clause-legal c = legal_begun
 
 pub returns-clause-place : goal.returns-clause-place
-returns-clause-place c = mark_begun
+returns-clause-place c = chart_event_begun
 
 pub returns-clause-send : goal.returns-clause-send
 returns-clause-send c = send_begun

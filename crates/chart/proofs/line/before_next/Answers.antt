@@ -1,6 +1,6 @@
 use Rattle.std.proofs.Common.{◌≡◌, length, arith, subst, sym, ap, ◌∙◌}
 use Rattle.std.proofs.lemmas.Bool.{false≢true, eqb-true}
-use Rattle.chart.specs.Marks.{is_receive_from, is_in, region_of}
+use Rattle.chart.specs.Events.{is_receive_from, is_in, region_of}
 use Rattle.chart.specs.Runs.{EndsWithRun}
 use Rattle.chart.proofs.InRegions.{region_of-in, none_in}
 use Rattle.chart.proofs.Runs.{IsBeforeRun-push}

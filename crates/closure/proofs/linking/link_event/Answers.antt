@@ -1,10 +1,10 @@
 use Rattle.std.proofs.Common.{suc, length, Some, ap, sym, ◌∙◌, arith}
 use Rattle.chart.specs.declared.event.Event.TheVariants.{Receive}
 use Rattle.std.proofs.lemmas.Bool.{false≢true}
-use Rattle.chart.specs.Marks.{ith}
+use Rattle.chart.specs.Events.{ith}
 use Rattle.chart.specs.Charts.{at, chart_lines}
 use Rattle.closure.proofs.ReadLemmas.{ith_read, partner_within}
-use Rattle.closure.proofs.LinkLemmas.{HasPassed-send, HasPassed-receive, HasSameName-from_marks, belongs_to_next, none_left, no_more, IsNextSend-same}
+use Rattle.closure.proofs.LinkLemmas.{HasPassed-send, HasPassed-receive, HasSameName-from_events, belongs_to_next, none_left, no_more, IsNextSend-same}
 use Rattle.closure.proofs.linking.link_event.Goals as goal
 
 pub returns-in-Send-clause-next : goal.returns-in-Send-clause-next
@@ -51,7 +51,7 @@ returns-clause-ok c =
     let belongs = belongs_to_next (chart_lines c.args.lines.now) (length c.args.lines.now) c.args.line c.args.place c.args.passed.now c.requires.passed c.place-in-Receive.result c.in-Receive.from c.in-Receive.name c.in-Receive.region (omega (arith, w, c.place-in-Receive.ensures.value)) c.place-in-Receive.ensures.value at_r c.in-Some.index next in (
       omega (arith, w, c.place-in-Receive.ensures.value),
       belongs,
-      HasSameName-from_marks (chart_lines c.args.lines.now) (at (suc c.place-in-Receive.result) c.in-Some.index) (at (suc c.args.line) (suc c.args.place)) c.index-events-index.result (Receive c.in-Receive.from c.in-Receive.name c.in-Receive.region)
+      HasSameName-from_events (chart_lines c.args.lines.now) (at (suc c.place-in-Receive.result) c.in-Some.index) (at (suc c.args.line) (suc c.args.place)) c.index-events-index.result (Receive c.in-Receive.from c.in-Receive.name c.in-Receive.region)
           (ap (λ xs. ith xs c.in-Some.index) (sym c.events_of-events.ensures) ∙ ith_read c.events_of-events.result.now c.in-Some.index c.index-events-index.result c.in-Some.ensures.begun c.in-Some.ensures.within c.index-events-index.is)
           at_r
           (sym c.name.ensures ∙ c.are_same.ensures.0 c.if-not-are_same.false),

@@ -1,5 +1,5 @@
 use Rattle.std.proofs.Common.{◌≡◌, ◌-◌, ◌≤◌, length}
-use Rattle.chart.specs.Marks.{is_send_to, tally}
+use Rattle.chart.specs.Events.{is_send_to, tally}
 use Rattle.closure.proofs.linking.next_send.Given as goal
 
 abbrev pub invariant-loop-index : goal.invariant-loop-index

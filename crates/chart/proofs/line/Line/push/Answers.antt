@@ -1,7 +1,7 @@
 use Rattle.std.proofs.Common.{◌≢◌, ◌+◌, ◌<◌, [], ◌∷◌, ◌++◌, length, arith, subst, sym, ◌∙◌}
 use Rattle.std.proofs.lemmas.Bool.{eq-eqb, false≢true}
 use Rattle.chart.specs.declared.line.TheConstants.{MAX_EVENTS}
-use Rattle.chart.specs.Marks.{partner_of, region_of, MayHaveRegion}
+use Rattle.chart.specs.Events.{partner_of, region_of, MayHaveRegion}
 use Rattle.chart.specs.Charts.{LineView}
 use Rattle.chart.specs.LineLayout.{IsBefore}
 use Rattle.chart.proofs.Layouts.{IsLaidOut-push}
