@@ -15,11 +15,12 @@ use Rattle.lane_core.specs.Traffic.{with_at}
 use Rattle.lane_core.specs.IndexWords.{IndexLane, after as lane_with}
 use Rattle.lane_core.proofs.IndexRuns.{Fits, kept}
 use Rattle.line_recorder.specs.Recorders.{after_sends}
+use Rattle.board_core.specs.Instances.{HaveClocks, IsInstance}
 use Rattle.board_core.specs.Parcels.{Parcel, names, goods}
 use Rattle.board_core.specs.Steps.{Step, Sender_loads, Fills, Publishes, Closes, Receiver_loads, Takes, Puts_back, Frees, Opens, Shuts}
 use Rattle.board_core.specs.World.{World, after, filled, taken, after_receives, with_sends, with_receives, parcel_of}
 use Rattle.board_core.specs.Runs.{MayFollow, IsRun, world_after}
-use Rattle.board_core.proofs.Standing.{HaveClocks, have_clocks_push, IsLane, IsInstance, Stands, stands_first, with_lane-each, with_at-each, other_receiver, clocks_beside, back_quiet, back_filling, stands_quiet, stands_idle}
+use Rattle.board_core.proofs.Standing.{have_clocks_push, IsLane, Stands, stands_first, with_lane-each, with_at-each, other_receiver, clocks_beside, back_quiet, back_filling, stands_quiet, stands_idle}
 use Rattle.board_core.proofs.Several.{several_sent, several_received}
 
 -- what is freed and what is in the receiver's hands are the first of what was published

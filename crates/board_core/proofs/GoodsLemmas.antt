@@ -55,7 +55,7 @@ pub waiting_goods_clocks : (n : ℕ) (h : List Occurrence) (q p : ℕ) (xs : Lis
 waiting_goods_clocks n h q p xs e = ap (drop (received h q p)) (sym (goods_clocks n h q p)) ∙ drop-map (λ (x : Parcel). x.clock) (received h q p) (goods n h q p) ∙ ap (map (λ (x : Parcel). x.clock)) e
 
 -- an event adds to them, or leaves them
-goods_more : (n : ℕ) (h : List Occurrence) (e : Occurrence) (q p : ℕ) → (more : List Parcel) × (goods n (e ∷ h) q p ≡ goods n h q p ++ more)
+pub goods_more : (n : ℕ) (h : List Occurrence) (e : Occurrence) (q p : ℕ) → (more : List Parcel) × (goods n (e ∷ h) q p ≡ goods n h q p ++ more)
 goods_more n h (Send a b m) q p = go (is_lane a b q p)
   where
     x : Parcel
@@ -68,7 +68,7 @@ goods_more n h (Receive a b c) q p = ([], sym (append-nil (goods n h q p)))
 goods_more n h (Close a b) q p = ([], sym (append-nil (goods n h q p)))
 
 -- and so do several
-goods_several : (n : ℕ) (more h : List Occurrence) (q p : ℕ) → (rest : List Parcel) × (goods n (more ++ h) q p ≡ goods n h q p ++ rest)
+pub goods_several : (n : ℕ) (more h : List Occurrence) (q p : ℕ) → (rest : List Parcel) × (goods n (more ++ h) q p ≡ goods n h q p ++ rest)
 goods_several n [] h q p = ([], sym (append-nil (goods n h q p)))
 goods_several n (e ∷ more) h q p =
     let before = goods_several n more h q p in
@@ -79,7 +79,7 @@ pub goods_grow : GoodsGrowthLaw
 goods_grow n h g (more, e) q p = subst (λ x. (rest : List Parcel) × (goods n x q p ≡ goods n h q p ++ rest)) (sym e) (goods_several n more h q p)
 
 -- what an instance did only grows
-own_grows : (more h : List Occurrence) (p : ℕ) → length (own h p) ≤ length (own (more ++ h) p)
+pub own_grows : (more h : List Occurrence) (p : ℕ) → length (own h p) ≤ length (own (more ++ h) p)
 own_grows [] h p = omega arith
 own_grows (e ∷ more) h p = go (by e == p) (own_grows more h p)
   where
@@ -88,7 +88,7 @@ own_grows (e ∷ more) h p = go (by e == p) (own_grows more h p)
     go false before = before
 
 -- events of others leave its line and what it knows
-others_leave : (n : ℕ) (more h : List Occurrence) (p : ℕ) → own (more ++ h) p ≡ own h p → (chart_of (more ++ h) p ≡ chart_of h p) × (knowledge_of n (more ++ h) p ≡ knowledge_of n h p)
+pub others_leave : (n : ℕ) (more h : List Occurrence) (p : ℕ) → own (more ++ h) p ≡ own h p → (chart_of (more ++ h) p ≡ chart_of h p) × (knowledge_of n (more ++ h) p ≡ knowledge_of n h p)
 others_leave n [] h p same = (refl, refl)
 others_leave n (e ∷ more) h p same = go (by e == p) refl same (λ i. others_leave n more h p i)
   where

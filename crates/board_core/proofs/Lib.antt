@@ -1,5 +1,6 @@
 pub mod Along
 pub mod GoodsLemmas
+pub mod OwnEvents
 pub mod Reaching
 pub mod ReceiveCall
 pub mod Resting

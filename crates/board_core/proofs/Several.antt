@@ -15,14 +15,15 @@ use Rattle.line_recorder.specs.Carried.{waiting_clocks}
 use Rattle.line_recorder.specs.Recorders.{RecorderView, after_send, after_sends, after_receive}
 use Rattle.line_recorder.specs.Recording.{IsRecorder}
 use Rattle.line_recorder.proofs.Recording.{knowledge_of-other, send_clock-is, IsRecorder-send, IsRecorder-receive}
+use Rattle.board_core.specs.Instances.{HaveClocks, IsInstance}
 use Rattle.board_core.specs.Parcels.{Parcel, names, goods, next_clock}
 use Rattle.board_core.specs.World.{with_sends, with_receives, after_receives}
 use Rattle.board_core.specs.Runs.{AreAnswers}
 use Rattle.board_core.proofs.GoodsLemmas.{goods_many, waiting_goods, waiting_goods_clocks}
-use Rattle.board_core.proofs.Standing.{HaveClocks, IsInstance, stands_idle}
+use Rattle.board_core.proofs.Standing.{stands_idle}
 
 -- another instance, when an event came that isn't its own
-beside : (n k : ℕ) (h : List Occurrence) (e : Occurrence) (s : ℕ) (r : RecorderView) (region : ℕ) → IsLegal n k h → s ≢ by e → IsInstance n h s r region → IsInstance n (e ∷ h) s r region
+pub beside : (n k : ℕ) (h : List Occurrence) (e : Occurrence) (s : ℕ) (r : RecorderView) (region : ℕ) → IsLegal n k h → s ≢ by e → IsInstance n h s r region → IsInstance n (e ∷ h) s r region
 beside n k h e s r region legal ne old = stands_idle n k h (e ∷ h) s r region legal (e ∷ [], refl) (line_of_other h e s (λ same. ne (sym same))) (knowledge_of-other n h e s ne) old
 
 -- what q's sends of these parcels to p make of a history, where its recorder is this one afterwards

@@ -12,15 +12,10 @@ use Rattle.lane_core.specs.IndexWords.{IndexLane, after as lane_with, MayFollow 
 use Rattle.lane_core.proofs.IndexRuns.{Fits, first, kept}
 use Rattle.line_recorder.specs.Carried.{knowledge_of}
 use Rattle.line_recorder.specs.Recorders.{RecorderView, send_clock, after_send, after_sends}
-use Rattle.line_recorder.specs.Recording.{IsRecorder}
 use Rattle.line_recorder.proofs.Recording.{IsRecorder-idle}
 use Rattle.board_core.specs.Parcels.{Parcel, names, goods}
+use Rattle.board_core.specs.Instances.{HaveClocks, IsInstance}
 use Rattle.board_core.specs.World.{World, new_world, with_lane, lanes_with, filled}
-
--- each of these has the clock that the recorder answers for it, after those before
-abbrev pub HaveClocks : RecorderView → ℕ → List Parcel → Type 0
-HaveClocks r p [] = Unit {0}
-HaveClocks r p (x ∷ xs) = (x.clock ≡ send_clock r) × HaveClocks (after_send r p x.message.name) p xs
 
 -- one more has it
 pub have_clocks_push : (r : RecorderView) (p : ℕ) (xs : List Parcel) (x : Parcel) → HaveClocks r p xs → x.clock ≡ send_clock (after_sends r p (names xs)) → HaveClocks r p (xs ++ x ∷ [])
@@ -34,11 +29,6 @@ pub record IsLane (n k : ℕ) (h : List Occurrence) (r : RecorderView) (q p : �
   pub freed : length l.traffic.freed ≡ received h q p
   pub closed : l.traffic.closed ≡ is_closed h q p
   pub clocks : HaveClocks r p l.traffic.filling
-
--- the recorder of p and its open coregion are as the history has them
-pub record IsInstance (n : ℕ) (h : List Occurrence) (p : ℕ) (r : RecorderView) (region : ℕ) : Type 0 where
-  pub recorder : IsRecorder n h p r
-  pub may : MayHaveRegion (chart_of h p) region
 
 -- the whole board is as its history has it, which is legal
 pub record Stands (n k : ℕ) (w : World) : Type 0 where

@@ -47,12 +47,12 @@ clocks n k steps run q p i x at_i =
     )
 
 -- sends leave a recorder's reports
-reports_sent : (r : RecorderView) (to : ℕ) (words : List (List ℕ)) → (after_sends r to words).reports ≡ r.reports
+pub reports_sent : (r : RecorderView) (to : ℕ) (words : List (List ℕ)) → (after_sends r to words).reports ≡ r.reports
 reports_sent r to [] = refl
 reports_sent r to (word ∷ words) = reports_sent (after_send r to word) to words
 
 -- receives add theirs
-reports_received : (r : RecorderView) (from region : ℕ) (xs : List Parcel) (reports : List ReportView) → AreAnswers r from region xs reports → (after_receives r from region xs reports).reports ≡ r.reports ++ reports
+pub reports_received : (r : RecorderView) (from region : ℕ) (xs : List Parcel) (reports : List ReportView) → AreAnswers r from region xs reports → (after_receives r from region xs reports).reports ≡ r.reports ++ reports
 reports_received r from region [] [] answers = sym (append-nil r.reports)
 reports_received r from region [] (report ∷ reports) answers = absurd answers
 reports_received r from region (x ∷ xs) [] answers = absurd answers

@@ -1,5 +1,5 @@
 -- The lanes of histories that grow by an event.
-use Rattle.std.proofs.Common.{◌≡◌, ◌≢◌, ℕ, ◌+◌, ◌<◌, ◌≤◌, ◌==◌, Bool, true, false, cond, List, [], ◌∷◌, ◌++◌, length, drop, refl, sym, ap, ◌∙◌, subst, arith, length-drop}
+use Rattle.std.proofs.Common.{◌≡◌, ◌≢◌, ℕ, ◌+◌, ◌<◌, ◌≤◌, ◌==◌, ◌&&◌, ◌||◌, Bool, true, false, cond, List, [], ◌∷◌, ◌++◌, length, drop, refl, sym, ap, ◌∙◌, subst, arith, append-nil, append_assoc, length-append, length-drop}
 use Rattle.std.specs.Prelude.{All}
 use Rattle.std.proofs.lemmas.Bool.{eqb-true, eq-eqb, ne_eqb, and_parts, and_from, and_left, and_right}
 use Rattle.std.proofs.lemmas.List.{drop-append-le, drop-drop, length_push}
@@ -8,7 +8,7 @@ use Rattle.chart.specs.declared.history.Occurrence.{Occurrence}
 use Rattle.chart.specs.declared.history.Occurrence.TheVariants.{Send, Receive, Close}
 use Rattle.chart.specs.Messages.{Content}
 use Rattle.chart.specs.Events.{send_event, receive_event, partner_of}
-use Rattle.chart.specs.Histories.{is_lane, sent, received, waiting, is_closed, receive_of, line_gets, chart_of, IsLegal}
+use Rattle.chart.specs.Histories.{by, own, is_lane, sent, received, waiting, is_closed, receive_of, line_gets, chart_of, IsLegal, Begins}
 
 -- a lane is itself
 pub is_lane-same : (a b : ℕ) → is_lane a b a b ≡ true
@@ -80,3 +80,131 @@ partners-known n k (Receive a b c ∷ h) legal p = All-append (λ x. partner_of 
     go true (m ∷ ms) = All-cons (λ x. partner_of x ≤ n) (receive_event b m.name c) [] legal.0.0.3 (All-nil (λ x. partner_of x ≤ n))
     go false ms = All-nil (λ x. partner_of x ≤ n)
 partners-known n k (Close a b ∷ h) legal p = All-append (λ x. partner_of x ≤ n) (chart_of h p) [] (partners-known n k h legal.1 p) (All-nil (λ x. partner_of x ≤ n))
+
+-- What an instance sent, received and closed is a matter of its own occurrences alone.
+
+pub sent_own : (h : List Occurrence) (q p : ℕ) → sent (own h q) q p ≡ sent h q p
+sent_own [] q p = refl
+sent_own (Send a b m ∷ h) q p = go (a == q) refl (sent_own h q p)
+  where
+    go : (mine : Bool) → (a == q) ≡ mine → sent (own h q) q p ≡ sent h q p → sent (cond mine (Send a b m ∷ own h q) (own h q)) q p ≡ cond (mine && (b == p)) (sent h q p ++ m ∷ []) (sent h q p)
+    go true e before = rw e (ap (λ (ms : List Content). cond (b == p) (ms ++ m ∷ []) ms) before)
+    go false e before = before
+sent_own (Receive a b c ∷ h) q p = go (a == q) (sent_own h q p)
+  where
+    go : (mine : Bool) → sent (own h q) q p ≡ sent h q p → sent (cond mine (Receive a b c ∷ own h q) (own h q)) q p ≡ sent h q p
+    go true before = before
+    go false before = before
+sent_own (Close a b ∷ h) q p = go (a == q) (sent_own h q p)
+  where
+    go : (mine : Bool) → sent (own h q) q p ≡ sent h q p → sent (cond mine (Close a b ∷ own h q) (own h q)) q p ≡ sent h q p
+    go true before = before
+    go false before = before
+
+pub received_own : (h : List Occurrence) (q p : ℕ) → received (own h p) q p ≡ received h q p
+received_own [] q p = refl
+received_own (Send a b m ∷ h) q p = go (a == p) (received_own h q p)
+  where
+    go : (mine : Bool) → received (own h p) q p ≡ received h q p → received (cond mine (Send a b m ∷ own h p) (own h p)) q p ≡ received h q p
+    go true before = before
+    go false before = before
+received_own (Receive a b c ∷ h) q p = go (a == p) refl (received_own h q p)
+  where
+    go : (mine : Bool) → (a == p) ≡ mine → received (own h p) q p ≡ received h q p → received (cond mine (Receive a b c ∷ own h p) (own h p)) q p ≡ cond ((b == q) && mine) (received h q p + 1) (received h q p)
+    go true e before = rw e (ap (λ (i : ℕ). cond ((b == q) && true) (i + 1) i) before)
+    go false e before = rw (and_right (b == q) false refl) before
+received_own (Close a b ∷ h) q p = go (a == p) (received_own h q p)
+  where
+    go : (mine : Bool) → received (own h p) q p ≡ received h q p → received (cond mine (Close a b ∷ own h p) (own h p)) q p ≡ received h q p
+    go true before = before
+    go false before = before
+
+pub closed_own : (h : List Occurrence) (q p : ℕ) → is_closed (own h q) q p ≡ is_closed h q p
+closed_own [] q p = refl
+closed_own (Send a b m ∷ h) q p = go (a == q) (closed_own h q p)
+  where
+    go : (mine : Bool) → is_closed (own h q) q p ≡ is_closed h q p → is_closed (cond mine (Send a b m ∷ own h q) (own h q)) q p ≡ is_closed h q p
+    go true before = before
+    go false before = before
+closed_own (Receive a b c ∷ h) q p = go (a == q) (closed_own h q p)
+  where
+    go : (mine : Bool) → is_closed (own h q) q p ≡ is_closed h q p → is_closed (cond mine (Receive a b c ∷ own h q) (own h q)) q p ≡ is_closed h q p
+    go true before = before
+    go false before = before
+closed_own (Close a b ∷ h) q p = go (a == q) refl (closed_own h q p)
+  where
+    go : (mine : Bool) → (a == q) ≡ mine → is_closed (own h q) q p ≡ is_closed h q p → is_closed (cond mine (Close a b ∷ own h q) (own h q)) q p ≡ (mine && (b == p)) || is_closed h q p
+    go true e before = rw e (ap (λ (closed : Bool). (b == p) || closed) before)
+    go false e before = before
+
+-- the same occurrences of its own: it sent, received and closed the same
+pub same_sent : (h g : List Occurrence) (q p : ℕ) → own g q ≡ own h q → sent g q p ≡ sent h q p
+same_sent h g q p same = sym (sent_own g q p) ∙ ap (λ x. sent x q p) same ∙ sent_own h q p
+
+pub same_received : (h g : List Occurrence) (q p : ℕ) → own g p ≡ own h p → received g q p ≡ received h q p
+same_received h g q p same = sym (received_own g q p) ∙ ap (λ x. received x q p) same ∙ received_own h q p
+
+pub same_closed : (h g : List Occurrence) (q p : ℕ) → own g q ≡ own h q → is_closed g q p ≡ is_closed h q p
+same_closed h g q p same = sym (closed_own g q p) ∙ ap (λ x. is_closed x q p) same ∙ closed_own h q p
+
+-- what it did in a history and after it
+pub own-append : (more h : List Occurrence) (p : ℕ) → own (more ++ h) p ≡ own more p ++ own h p
+own-append [] h p = refl
+own-append (e ∷ more) h p = go (by e == p) (own-append more h p)
+  where
+    go : (mine : Bool) → own (more ++ h) p ≡ own more p ++ own h p → cond mine (e ∷ own (more ++ h) p) (own (more ++ h) p) ≡ cond mine (e ∷ own more p) (own more p) ++ own h p
+    go true before = ap (λ g. e ∷ g) before
+    go false before = before
+
+-- All of this only grows with the history.
+
+pub begins_same : (h : List Occurrence) → Begins h h
+begins_same h = ([], refl)
+
+pub begins_onward : (h g f : List Occurrence) → Begins h g → Begins g f → Begins h f
+begins_onward h g f (more, e) (rest, i) = (rest ++ more, i ∙ ap (λ x. rest ++ x) e ∙ sym (append_assoc rest more h))
+
+pub own_begins : (h g : List Occurrence) → Begins h g → (p : ℕ) → Begins (own h p) (own g p)
+own_begins h g (more, e) p = (own more p, ap (λ x. own x p) e ∙ own-append more h p)
+
+pub sent_begins : (h g : List Occurrence) → Begins h g → (q p : ℕ) → (rest : List Content) × (sent g q p ≡ sent h q p ++ rest)
+sent_begins h g (more, e) q p = let w = several more in (w.0, ap (λ x. sent x q p) e ∙ w.1)
+  where
+    several : (more : List Occurrence) → (rest : List Content) × (sent (more ++ h) q p ≡ sent h q p ++ rest)
+    several [] = ([], sym (append-nil (sent h q p)))
+    several (Send a b m ∷ more) = go (is_lane a b q p) (several more)
+      where
+        go : (its : Bool) → (rest : List Content) × (sent (more ++ h) q p ≡ sent h q p ++ rest) → (rest : List Content) × (cond its (sent (more ++ h) q p ++ m ∷ []) (sent (more ++ h) q p) ≡ sent h q p ++ rest)
+        go true (rest, i) = (rest ++ m ∷ [], ap (λ ms. ms ++ m ∷ []) i ∙ append_assoc (sent h q p) rest (m ∷ []))
+        go false before = before
+    several (Receive a b c ∷ more) = several more
+    several (Close a b ∷ more) = several more
+
+pub sent_begins-le : (h g : List Occurrence) → Begins h g → (q p : ℕ) → length (sent h q p) ≤ length (sent g q p)
+sent_begins-le h g begins q p = let w = sent_begins h g begins q p in omega (arith, ap length w.1, length-append (sent h q p) w.0)
+
+pub received_begins : (h g : List Occurrence) → Begins h g → (q p : ℕ) → received h q p ≤ received g q p
+received_begins h g (more, e) q p = subst (λ x. received h q p ≤ received x q p) (sym e) (several more)
+  where
+    several : (more : List Occurrence) → received h q p ≤ received (more ++ h) q p
+    several [] = omega arith
+    several (Send a b m ∷ more) = several more
+    several (Receive a b c ∷ more) = go (is_lane b a q p) (several more)
+      where
+        go : (its : Bool) → received h q p ≤ received (more ++ h) q p → received h q p ≤ cond its (received (more ++ h) q p + 1) (received (more ++ h) q p)
+        go true before = omega arith
+        go false before = before
+    several (Close a b ∷ more) = several more
+
+pub closed_begins : (h g : List Occurrence) → Begins h g → (q p : ℕ) → is_closed h q p ≡ true → is_closed g q p ≡ true
+closed_begins h g (more, e) q p closed = ap (λ x. is_closed x q p) e ∙ several more
+  where
+    several : (more : List Occurrence) → is_closed (more ++ h) q p ≡ true
+    several [] = closed
+    several (Send a b m ∷ more) = several more
+    several (Receive a b c ∷ more) = several more
+    several (Close a b ∷ more) = go (is_lane a b q p) (several more)
+      where
+        go : (its : Bool) → is_closed (more ++ h) q p ≡ true → its || is_closed (more ++ h) q p ≡ true
+        go true before = refl
+        go false before = before
