@@ -101,8 +101,17 @@ impl Clock {
         ensures succeeds { length self.now ≤ INLINE_ENTRIES → IsOk result }
     {
         let mut stamped = self.copied(alloc)?;
-        stamped.entries.as_mut_slice()[p.place()] = index;
+        stamped.stamp(p, index);
         Ok(stamped)
+    }
+
+    /// Makes the entry for `p` this one, as a stamp does, in place. It takes no memory.
+    pub fn stamp(&mut self, p: InstanceNo, index: u32)
+        requires { p ≤ length self.old }
+        ensures value { self.new ≡ with_entry self.old p index }
+        ensures len { length self.new ≡ length self.old }
+    {
+        self.entries.as_mut_slice()[p.place()] = index;
     }
 
     /// The entries that differ from `base`'s, rising by instance. Applied to `base` they give this clock.

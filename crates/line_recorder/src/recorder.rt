@@ -70,6 +70,20 @@ impl Recorder {
         &self.knowledge
     }
 
+    /// The clock of the next event, if it is a send: what is known, and the send itself. Nothing is recorded.
+    ///
+    /// F6: it fails only where there is no memory, and up to [`INLINE_ENTRIES`] instances it takes none.
+    pub fn next_clock(&self) -> Result<Clock, AllocError>
+        requires { length self.now.line.events < MAX_EVENTS }
+        ensures clock { IfOk result (λ clock. clock ≡ send_clock self.now) }
+        ensures entries { IfOk result (λ clock. length clock ≡ length self.now.knowledge) }
+        ensures succeeds { length self.now.knowledge ≤ INLINE_ENTRIES → IsOk result }
+    {
+        let next = self.line.len() as u32 + 1;
+        self.knowledge
+            .stamped(self.alloc, self.line.instance(), next)
+    }
+
     /// The report of each receive of the line, in their order.
     pub fn reports(&self) -> &[Report]
         ensures { result.now ≡ self.now.reports }
@@ -101,15 +115,14 @@ impl Recorder {
         if self.line.len() >= MAX_EVENTS {
             return Err(RecordError::LineFull);
         }
+        let own = self.line.instance();
         let index = self.line.len() as u32 + 1;
-        let clock = self
-            .knowledge
-            .stamped(self.alloc, self.line.instance(), index)?;
-        let known = clock.copied(self.alloc)?;
+        let mut clock = self.knowledge.copied(self.alloc)?;
         self.line
             .push(Event::Send { to, name })
             .map_err(|_| RecordError::Memory)?;
-        self.knowledge = known;
+        self.knowledge.stamp(own, index);
+        clock.stamp(own, index);
         Ok(clock)
     }
 
