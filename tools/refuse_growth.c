@@ -1,0 +1,41 @@
+/* Loaded before a program by LD_PRELOAD. The growth of memory whose number REFUSED_GROWTH gives, from 1, is refused, and
+   the file that REFUSAL_FILE names is then made: where there is none, the program ended before that growth. */
+#include <errno.h>
+#include <fcntl.h>
+#include <stddef.h>
+#include <stdlib.h>
+#include <unistd.h>
+
+extern void *__libc_malloc(size_t);
+extern void *__libc_calloc(size_t, size_t);
+extern void *__libc_realloc(void *, size_t);
+extern void *__libc_memalign(size_t, size_t);
+
+static long growths, asked = -1;
+
+__attribute__((constructor)) static void begin(void) {
+  const char *number = getenv("REFUSED_GROWTH");
+  growths = 0;
+  asked = number ? atol(number) : -1;
+}
+
+static int is_refused(void) {
+  if (__atomic_add_fetch(&growths, 1, __ATOMIC_SEQ_CST) != asked) return 0;
+  const char *file = getenv("REFUSAL_FILE");
+  int made = file ? open(file, O_CREAT | O_WRONLY | O_CLOEXEC, 0600) : -1;
+  if (made >= 0) close(made);
+  errno = ENOMEM;
+  return 1;
+}
+
+void *malloc(size_t size) { return is_refused() ? NULL : __libc_malloc(size); }
+void *calloc(size_t count, size_t size) { return is_refused() ? NULL : __libc_calloc(count, size); }
+void *realloc(void *old, size_t size) { return is_refused() ? NULL : __libc_realloc(old, size); }
+void *memalign(size_t by, size_t size) { return is_refused() ? NULL : __libc_memalign(by, size); }
+void *aligned_alloc(size_t by, size_t size) { return is_refused() ? NULL : __libc_memalign(by, size); }
+int posix_memalign(void **made, size_t by, size_t size) {
+  void *given = is_refused() ? NULL : __libc_memalign(by, size);
+  if (!given) return ENOMEM;
+  *made = given;
+  return 0;
+}
