@@ -1,6 +1,6 @@
 -- An end that goes on alone, in either form.
-use Rattle.std.proofs.Common.{◌≡◌, ℕ, suc, zero, ◌+◌, ◌-◌, ◌<◌, ◌≤◌, ◌&&◌, ◌⊎◌, inl, inr, Bool, true, false, cond, List, [], ◌∷◌, ◌++◌, length, take, refl, sym, ap, ◌∙◌, subst, arith}
-use Rattle.std.specs.Prelude.{◌↔◌}
+use Rattle.std.proofs.Common.{◌≡◌, ℕ, suc, zero, ◌+◌, ◌-◌, ◌<◌, ◌≤◌, ◌&&◌, ◌⊎◌, inl, inr, Bool, true, false, cond, List, [], ◌∷◌, ◌++◌, length, take, Option, Some, refl, sym, ap, ◌∙◌, subst, arith}
+use Rattle.std.specs.Prelude.{◌↔◌, reverse}
 use Rattle.std.proofs.lemmas.Bool.{cases_lt}
 use Rattle.std.proofs.lemmas.List.{append_assoc, append-nil, length_push, length-append}
 use Rattle.lane_core.specs.declared.answers.Room.{Room}
@@ -8,9 +8,10 @@ use Rattle.lane_core.specs.declared.answers.Room.TheVariants.{Open, Full}
 use Rattle.lane_core.specs.declared.answers.Found.{Found}
 use Rattle.lane_core.specs.declared.answers.Found.TheVariants.{Message, Nothing, Ended}
 use Rattle.lane_core.specs.Steps.{Step, Sender_loads, Fills, Publishes, Receiver_loads, Takes, Frees}
-use Rattle.lane_core.specs.Traffic.{Traffic, waiting}
+use Rattle.lane_core.specs.Traffic.{Traffic, message_in, put_in, published_all, taken_out, freed_all, waiting}
 use Rattle.lane_core.specs.Laws.{FreedInOrder, AtMostCapacity, FullExactly}
-use Rattle.lane_core.specs.Alone.{receive_call, receives, SendCall, messages, send_call, sends, ReceiverAlone, SenderAlone}
+use Rattle.lane_core.specs.Forms.{Form, IsRun, traffic_of, sender_finds, receiver_finds, sender_keeps, receiver_keeps}
+use Rattle.lane_core.specs.Alone.{receive_call, receives, AreReceived, messages, send_call, sends, AreSent, ReceiverAlone, SenderAlone}
 use Rattle.lane_core.proofs.Passing.{IsFoundRightly, count_waiting, goes_on}
 
 -- one message was received
@@ -27,6 +28,24 @@ pub record Gave {M : Type 0} (t u : Traffic M) (m : M) : Type 0 where
   pub filling : u.filling ≡ []
   pub closed : u.closed ≡ t.closed
 
+-- by a take of this message and a free, where nothing else was in the receiver's hand
+pub took : {M : Type 0} (t : Traffic M) (place : ℕ) (m : M) → t.emptying ≡ [] → t.slots place ≡ Some m → Took t (freed_all (taken_out t place)) m
+took {M} t place m hand found = record {
+  freed = ap (λ (o : Option M). t.freed ++ reverse (message_in o ++ t.emptying)) found ∙ ap (λ ms. t.freed ++ reverse (m ∷ ms)) hand;
+  published = refl;
+  emptying = refl;
+  closed = refl;
+}
+
+-- by a fill and a publish, where nothing else was filled
+pub gave : {M : Type 0} (t : Traffic M) (place : ℕ) (m : M) → t.filling ≡ [] → Gave t (published_all (put_in t place m)) m
+gave t place m hand = record {
+  published = ap (λ ms. t.published ++ (ms ++ m ∷ [])) hand;
+  freed = refl;
+  filling = refl;
+  closed = refl;
+}
+
 -- nothing is taken of nothing
 take_none : {A : Type 0} (n : ℕ) → take {A = A} n [] ≡ []
 take_none zero = refl
@@ -37,61 +56,53 @@ both : (a b : Bool) → (a && b) ≡ true → b ≡ true
 both true b e = e
 both false b e = let no : true ≡ false = sym e in cc
 
-module _ {M : Type 0} (IsRun : ℕ → List (Step M) → Type 0) (traffic_of : ℕ → List (Step M) → Traffic M) (finds : ℕ → List (Step M) → Found) (claims : ℕ → List (Step M) → Bool)
-    (order : FreedInOrder M IsRun traffic_of)
-    (found : (k : ℕ) (h : List (Step M)) → 1 ≤ k → IsRun k h → IsFoundRightly (traffic_of k h) (finds k h))
-    (claimed : (k : ℕ) (h : List (Step M)) → 1 ≤ k → IsRun k h → (traffic_of k h).emptying ≡ [] → claims k h ≡ true → 0 < length (waiting (traffic_of k h)))
-    (looks : (k : ℕ) (h : List (Step M)) → IsRun k h → IsRun k (Receiver_loads ∷ h) × (traffic_of k (Receiver_loads ∷ h) ≡ traffic_of k h))
-    (loaded : (k : ℕ) (h : List (Step M)) → 1 ≤ k → IsRun k h → (traffic_of k h).emptying ≡ [] → 0 < length (waiting (traffic_of k h)) → claims k (Receiver_loads ∷ h) ≡ true)
-    (takes : (k : ℕ) (h : List (Step M)) → 1 ≤ k → IsRun k h → (traffic_of k h).emptying ≡ [] → claims k h ≡ true → IsRun k (Frees ∷ Takes ∷ h) × ((m : M) × Took (traffic_of k h) (traffic_of k (Frees ∷ Takes ∷ h)) m)) where
-  -- what this many receives come to, from a traffic t
-  abbrev Comes : ℕ → Traffic M → ℕ → List (Step M) → Type 0
-  Comes k t n after =
-      IsRun k after
-      × ((traffic_of k after).freed ≡ t.freed ++ take n (waiting t))
-      × (n < length (waiting t) → finds k after ≡ Message)
-      × (length (waiting t) ≤ n → (finds k after ≡ cond t.closed Ended Nothing) × (claims k after ≡ false))
-
+module _ {M : Type 0} (form : Form M)
+    (order : FreedInOrder form)
+    (found : (k : ℕ) (h : List (Step M)) → 1 ≤ k → IsRun form k h → IsFoundRightly (traffic_of form k h) (receiver_finds form k h))
+    (claimed : (k : ℕ) (h : List (Step M)) → 1 ≤ k → IsRun form k h → (traffic_of form k h).emptying ≡ [] → receiver_keeps form k h ≡ true → 0 < length (waiting (traffic_of form k h)))
+    (looks : (k : ℕ) (h : List (Step M)) → IsRun form k h → IsRun form k (Receiver_loads ∷ h) × (traffic_of form k (Receiver_loads ∷ h) ≡ traffic_of form k h))
+    (loaded : (k : ℕ) (h : List (Step M)) → 1 ≤ k → IsRun form k h → (traffic_of form k h).emptying ≡ [] → 0 < length (waiting (traffic_of form k h)) → receiver_keeps form k (Receiver_loads ∷ h) ≡ true)
+    (takes : (k : ℕ) (h : List (Step M)) → 1 ≤ k → IsRun form k h → (traffic_of form k h).emptying ≡ [] → receiver_keeps form k h ≡ true → IsRun form k (Frees ∷ Takes ∷ h) × ((m : M) × Took (traffic_of form k h) (traffic_of form k (Frees ∷ Takes ∷ h)) m)) where
   -- what is found where none waits
-  found_none : (k : ℕ) (h : List (Step M)) → 1 ≤ k → IsRun k h → length (waiting (traffic_of k h)) ≤ 0 → finds k h ≡ cond (traffic_of k h).closed Ended Nothing
-  found_none k h some run none = go (finds k h) (traffic_of k h).closed (found k h some run) refl
+  found_none : (k : ℕ) (h : List (Step M)) → 1 ≤ k → IsRun form k h → length (waiting (traffic_of form k h)) ≤ 0 → receiver_finds form k h ≡ cond (traffic_of form k h).closed Ended Nothing
+  found_none k h some run none = go (receiver_finds form k h) (traffic_of form k h).closed (found k h some run) refl
     where
-      go : (f : Found) (closed : Bool) → (f ≡ Message ↔ 0 < length (waiting (traffic_of k h))) × (f ≡ Ended ↔ ((waiting (traffic_of k h) ≡ []) × ((traffic_of k h).closed ≡ true))) → (traffic_of k h).closed ≡ closed → f ≡ cond closed Ended Nothing
+      go : (f : Found) (closed : Bool) → (f ≡ Message ↔ 0 < length (waiting (traffic_of form k h))) × (f ≡ Ended ↔ ((waiting (traffic_of form k h) ≡ []) × ((traffic_of form k h).closed ≡ true))) → (traffic_of form k h).closed ≡ closed → f ≡ cond closed Ended Nothing
       go Message closed right e = absurd (let more = right.0.0 refl in omega arith)
       go Ended true right e = refl
       go Ended false right e = let no : true ≡ false = sym (right.1.0 refl).1 ∙ e in cc
       go Nothing false right e = refl
-      go Nothing true right e = right.1.1 (empty (waiting (traffic_of k h)) none, e)
+      go Nothing true right e = right.1.1 (empty (waiting (traffic_of form k h)) none, e)
         where
           empty : (ms : List M) → length ms ≤ 0 → ms ≡ []
           empty [] none = refl
           empty (m ∷ ms) none = absurd (omega arith)
 
   -- none is claimed where none waits
-  claims_none : (k : ℕ) (h : List (Step M)) → 1 ≤ k → IsRun k h → (traffic_of k h).emptying ≡ [] → length (waiting (traffic_of k h)) ≤ 0 → claims k h ≡ false
-  claims_none k h some run hand none = go (claims k h) (λ e. claimed k h some run hand e)
+  claims_none : (k : ℕ) (h : List (Step M)) → 1 ≤ k → IsRun form k h → (traffic_of form k h).emptying ≡ [] → length (waiting (traffic_of form k h)) ≤ 0 → receiver_keeps form k h ≡ false
+  claims_none k h some run hand none = go (receiver_keeps form k h) (λ e. claimed k h some run hand e)
     where
-      go : (b : Bool) → (b ≡ true → 0 < length (waiting (traffic_of k h))) → b ≡ false
+      go : (b : Bool) → (b ≡ true → 0 < length (waiting (traffic_of form k h))) → b ≡ false
       go true more = absurd (let many = more refl in omega arith)
       go false more = refl
 
-  pub receiver_alone : ReceiverAlone M IsRun traffic_of finds claims
+  pub receiver_alone : ReceiverAlone form
   receiver_alone k h some run hand [] =
-      (run, sym (append-nil (traffic_of k h).freed), (λ more. (found k h some run).0.1 more), (λ none. (found_none k h some run none, claims_none k h some run hand none)))
-  receiver_alone k h some run hand (keeps ∷ calls) = first (λ g goes empty. receiver_alone k g some goes empty calls) (keeps && claims k h) refl
+      (run, sym (append-nil (traffic_of form k h).freed), (λ more. (found k h some run).0.1 more), (λ none. (found_none k h some run none, claims_none k h some run hand none)))
+  receiver_alone k h some run hand (keeps ∷ calls) = first (λ g goes empty. receiver_alone k g some goes empty calls) (keeps && receiver_keeps form k h) refl
     where
       t : Traffic M
-      t = traffic_of k h
+      t = traffic_of form k h
 
       -- what the further calls come to, from any run
       Further : Type 0
-      Further = (g : List (Step M)) → IsRun k g → (traffic_of k g).emptying ≡ [] → Comes k (traffic_of k g) (length calls) (receives finds claims k calls g)
+      Further = (g : List (Step M)) → IsRun form k g → (traffic_of form k g).emptying ≡ [] → AreReceived form k (traffic_of form k g) (length calls) (receives form k calls g)
 
       -- none waits: the call loads alone
-      idle : Further → (0 < length (waiting t) → ⊥) → Comes k t (suc (length calls)) (receives finds claims k calls (Receiver_loads ∷ h))
+      idle : Further → (0 < length (waiting t) → ⊥) → AreReceived form k t (suc (length calls)) (receives form k calls (Receiver_loads ∷ h))
       idle further none =
           let look = looks k h run in
-          let same : traffic_of k (Receiver_loads ∷ h) ≡ t = look.1 in
+          let same : traffic_of form k (Receiver_loads ∷ h) ≡ t = look.1 in
           let rest = further (Receiver_loads ∷ h) look.0 (ap (λ (u : Traffic M). u.emptying) same ∙ hand) in
           let empty = nothing (waiting t) none in (
             rest.0,
@@ -105,11 +116,11 @@ module _ {M : Type 0} (IsRun : ℕ → List (Step M) → Type 0) (traffic_of : �
           nothing (m ∷ ms) none = absurd (none (omega arith))
 
       -- one was received, from a run g with the same traffic
-      onward : Further → (g : List (Step M)) → IsRun k g → traffic_of k g ≡ t → claims k g ≡ true → Comes k t (suc (length calls)) (receives finds claims k calls (Frees ∷ Takes ∷ g))
+      onward : Further → (g : List (Step M)) → IsRun form k g → traffic_of form k g ≡ t → receiver_keeps form k g ≡ true → AreReceived form k t (suc (length calls)) (receives form k calls (Frees ∷ Takes ∷ g))
       onward further g goes same claim =
           let took = takes k g some goes (ap (λ (u : Traffic M). u.emptying) same ∙ hand) claim in
           let now : List (Step M) = Frees ∷ Takes ∷ g in
-          let u : Traffic M = traffic_of k now in
+          let u : Traffic M = traffic_of form k now in
           let m = took.1.0 in
           let step : Took t u m = subst (λ (v : Traffic M). Took v u m) same took.1.1 in
           let next = order k now some took.0 in
@@ -122,46 +133,38 @@ module _ {M : Type 0} (IsRun : ℕ → List (Step M) → Type 0) (traffic_of : �
             (λ least. let last = rest.3 (omega (arith, ap length left, ap length had)) in (last.0 ∙ ap (λ b. cond b Ended Nothing) step.closed, last.1)),
           )
 
-      go : Further → (f : Found) → finds k h ≡ f → Comes k t (suc (length calls)) (receives finds claims k calls (receive_call f h))
+      go : Further → (f : Found) → receiver_finds form k h ≡ f → AreReceived form k t (suc (length calls)) (receives form k calls (receive_call f h))
       go further Message e =
           let look = looks k h run in
           onward further (Receiver_loads ∷ h) look.0 look.1 (loaded k h some run hand ((found k h some run).0.0 e))
       go further Nothing e = idle further (λ more. let no : Nothing ≡ Message = sym e ∙ (found k h some run).0.1 more in cc)
       go further Ended e = idle further (λ more. let no : Ended ≡ Message = sym e ∙ (found k h some run).0.1 more in cc)
 
-      first : Further → (b : Bool) → (keeps && claims k h) ≡ b → Comes k t (suc (length calls)) (receives finds claims k calls (cond b (Frees ∷ Takes ∷ h) (receive_call (finds k h) h)))
-      first further true e = onward further h run refl (both keeps (claims k h) e)
-      first further false e = go further (finds k h) refl
+      first : Further → (b : Bool) → (keeps && receiver_keeps form k h) ≡ b → AreReceived form k t (suc (length calls)) (receives form k calls (cond b (Frees ∷ Takes ∷ h) (receive_call (receiver_finds form k h) h)))
+      first further true e = onward further h run refl (both keeps (receiver_keeps form k h) e)
+      first further false e = go further (receiver_finds form k h) refl
 
-module _ {M : Type 0} (IsRun : ℕ → List (Step M) → Type 0) (traffic_of : ℕ → List (Step M) → Traffic M) (finds : ℕ → List (Step M) → Room) (claims : ℕ → List (Step M) → Bool)
-    (order : FreedInOrder M IsRun traffic_of)
-    (bounded : AtMostCapacity M IsRun traffic_of)
-    (full : FullExactly M IsRun traffic_of finds)
-    (claimed : (k : ℕ) (h : List (Step M)) → 1 ≤ k → IsRun k h → (traffic_of k h).filling ≡ [] → claims k h ≡ true → length (waiting (traffic_of k h)) < k)
-    (looks : (k : ℕ) (h : List (Step M)) → IsRun k h → IsRun k (Sender_loads ∷ h) × (traffic_of k (Sender_loads ∷ h) ≡ traffic_of k h))
-    (loaded : (k : ℕ) (h : List (Step M)) → 1 ≤ k → IsRun k h → (traffic_of k h).filling ≡ [] → length (waiting (traffic_of k h)) < k → claims k (Sender_loads ∷ h) ≡ true)
-    (gives : (k : ℕ) (h : List (Step M)) (m : M) → 1 ≤ k → IsRun k h → (traffic_of k h).filling ≡ [] → (traffic_of k h).closed ≡ false → claims k h ≡ true → IsRun k (Publishes ∷ Fills m ∷ h) × Gave (traffic_of k h) (traffic_of k (Publishes ∷ Fills m ∷ h)) m) where
-  -- what these sends come to, from a traffic t
-  abbrev Reaches : ℕ → Traffic M → List (SendCall M) → List (Step M) → Type 0
-  Reaches k t calls after =
-      IsRun k after
-      × ((traffic_of k after).published ≡ t.published ++ take (k - length (waiting t)) (messages calls))
-      × (length calls < k - length (waiting t) → finds k after ≡ Open)
-      × (k - length (waiting t) ≤ length calls → (finds k after ≡ Full) × (claims k after ≡ false))
-
+module _ {M : Type 0} (form : Form M)
+    (order : FreedInOrder form)
+    (bounded : AtMostCapacity form)
+    (full : FullExactly form)
+    (claimed : (k : ℕ) (h : List (Step M)) → 1 ≤ k → IsRun form k h → (traffic_of form k h).filling ≡ [] → sender_keeps form k h ≡ true → length (waiting (traffic_of form k h)) < k)
+    (looks : (k : ℕ) (h : List (Step M)) → IsRun form k h → IsRun form k (Sender_loads ∷ h) × (traffic_of form k (Sender_loads ∷ h) ≡ traffic_of form k h))
+    (loaded : (k : ℕ) (h : List (Step M)) → 1 ≤ k → IsRun form k h → (traffic_of form k h).filling ≡ [] → length (waiting (traffic_of form k h)) < k → sender_keeps form k (Sender_loads ∷ h) ≡ true)
+    (gives : (k : ℕ) (h : List (Step M)) (m : M) → 1 ≤ k → IsRun form k h → (traffic_of form k h).filling ≡ [] → (traffic_of form k h).closed ≡ false → sender_keeps form k h ≡ true → IsRun form k (Publishes ∷ Fills m ∷ h) × Gave (traffic_of form k h) (traffic_of form k (Publishes ∷ Fills m ∷ h)) m) where
   -- there is room where fewer wait
-  found_room : (k : ℕ) (h : List (Step M)) → 1 ≤ k → IsRun k h → length (waiting (traffic_of k h)) < k → finds k h ≡ Open
-  found_room k h some run less = go (finds k h) (λ e. (full k h some run).0 e)
+  found_room : (k : ℕ) (h : List (Step M)) → 1 ≤ k → IsRun form k h → length (waiting (traffic_of form k h)) < k → sender_finds form k h ≡ Open
+  found_room k h some run less = go (sender_finds form k h) (λ e. (full k h some run).0 e)
     where
-      go : (r : Room) → (r ≡ Full → length (waiting (traffic_of k h)) ≡ k) → r ≡ Open
+      go : (r : Room) → (r ≡ Full → length (waiting (traffic_of form k h)) ≡ k) → r ≡ Open
       go Open right = refl
       go Full right = absurd (let many = right refl in omega arith)
 
   -- no place is claimed where as many wait
-  claims_full : (k : ℕ) (h : List (Step M)) → 1 ≤ k → IsRun k h → (traffic_of k h).filling ≡ [] → length (waiting (traffic_of k h)) ≡ k → claims k h ≡ false
-  claims_full k h some run hand many = go (claims k h) (λ e. claimed k h some run hand e)
+  claims_full : (k : ℕ) (h : List (Step M)) → 1 ≤ k → IsRun form k h → (traffic_of form k h).filling ≡ [] → length (waiting (traffic_of form k h)) ≡ k → sender_keeps form k h ≡ false
+  claims_full k h some run hand many = go (sender_keeps form k h) (λ e. claimed k h some run hand e)
     where
-      go : (b : Bool) → (b ≡ true → length (waiting (traffic_of k h)) < k) → b ≡ false
+      go : (b : Bool) → (b ≡ true → length (waiting (traffic_of form k h)) < k) → b ≡ false
       go true less = absurd (let few = less refl in omega arith)
       go false less = refl
 
@@ -169,7 +172,7 @@ module _ {M : Type 0} (IsRun : ℕ → List (Step M) → Type 0) (traffic_of : �
   none_of : (n : ℕ) (ms : List M) → n ≡ 0 → take n ms ≡ []
   none_of n ms e = ap (λ c. take c ms) e
 
-  pub sender_alone : SenderAlone M IsRun traffic_of finds claims
+  pub sender_alone : SenderAlone form
   sender_alone k h some run hand opened [] = (
     run,
     sym (append-nil t.published) ∙ ap (λ ms. t.published ++ ms) (sym (take_none (k - length (waiting t)))),
@@ -178,28 +181,28 @@ module _ {M : Type 0} (IsRun : ℕ → List (Step M) → Type 0) (traffic_of : �
   )
     where
       t : Traffic M
-      t = traffic_of k h
-  sender_alone k h some run hand opened (call ∷ calls) = first (λ g goes empty still. sender_alone k g some goes empty still calls) (call.keeps && claims k h) refl
+      t = traffic_of form k h
+  sender_alone k h some run hand opened (call ∷ calls) = first (λ g goes empty still. sender_alone k g some goes empty still calls) (call.keeps && sender_keeps form k h) refl
     where
       t : Traffic M
-      t = traffic_of k h
+      t = traffic_of form k h
 
       m : M
       m = call.message
 
       -- what the further sends come to, from any run
       Further : Type 0
-      Further = (g : List (Step M)) → IsRun k g → (traffic_of k g).filling ≡ [] → (traffic_of k g).closed ≡ false → Reaches k (traffic_of k g) calls (sends finds claims k calls g)
+      Further = (g : List (Step M)) → IsRun form k g → (traffic_of form k g).filling ≡ [] → (traffic_of form k g).closed ≡ false → AreSent form k (traffic_of form k g) calls (sends form k calls g)
 
       -- one was sent, from a run g with the same traffic
-      onward : Further → (g : List (Step M)) → IsRun k g → traffic_of k g ≡ t → claims k g ≡ true → Reaches k t (call ∷ calls) (sends finds claims k calls (Publishes ∷ Fills m ∷ g))
+      onward : Further → (g : List (Step M)) → IsRun form k g → traffic_of form k g ≡ t → sender_keeps form k g ≡ true → AreSent form k t (call ∷ calls) (sends form k calls (Publishes ∷ Fills m ∷ g))
       onward further g goes same claim =
           let hand_of_g = ap (λ (u : Traffic M). u.filling) same ∙ hand in
           let few = claimed k g some goes hand_of_g claim in
           let less : length (waiting t) < k = subst (λ (u : Traffic M). length (waiting u) < k) same few in
           let gave = gives k g m some goes hand_of_g (ap (λ (u : Traffic M). u.closed) same ∙ opened) claim in
           let now : List (Step M) = Publishes ∷ Fills m ∷ g in
-          let u : Traffic M = traffic_of k now in
+          let u : Traffic M = traffic_of form k now in
           let step : Gave t u m = subst (λ (v : Traffic M). Gave v u m) same gave.1 in
           let one : length (waiting u) ≡ length (waiting t) + 1 = omega (arith, count_waiting t, count_waiting u, ap length step.published, ap length step.freed, length_push t.published m, ap length (order k h some run).1, length-append t.freed (order k h some run).0) in
           let room : k - length (waiting t) ≡ suc (k - length (waiting u)) = omega (arith, one) in
@@ -210,10 +213,10 @@ module _ {M : Type 0} (IsRun : ℕ → List (Step M) → Type 0) (traffic_of : �
             (λ more. rest.3 (omega (arith, room))),
           )
 
-      go : Further → (r : Room) → finds k h ≡ r → Reaches k t (call ∷ calls) (sends finds claims k calls (send_call r m h))
+      go : Further → (r : Room) → sender_finds form k h ≡ r → AreSent form k t (call ∷ calls) (sends form k calls (send_call r m h))
       go further Full e =
           let look = looks k h run in
-          let same : traffic_of k (Sender_loads ∷ h) ≡ t = look.1 in
+          let same : traffic_of form k (Sender_loads ∷ h) ≡ t = look.1 in
           let rest = further (Sender_loads ∷ h) look.0 (ap (λ (u : Traffic M). u.filling) same ∙ hand) (ap (λ (u : Traffic M). u.closed) same ∙ opened) in
           let many : length (waiting t) ≡ k = (full k h some run).0 e in
           let still = ap (λ (u : Traffic M). length (waiting u)) same in (
@@ -230,6 +233,6 @@ module _ {M : Type 0} (IsRun : ℕ → List (Step M) → Type 0) (traffic_of : �
           fewer (inl less) = less
           fewer (inr more) = let no : Open ≡ Full = sym e ∙ (full k h some run).1 (omega (arith, bounded k h some run)) in cc
 
-      first : Further → (b : Bool) → (call.keeps && claims k h) ≡ b → Reaches k t (call ∷ calls) (sends finds claims k calls (cond b (Publishes ∷ Fills m ∷ h) (send_call (finds k h) m h)))
-      first further true e = onward further h run refl (both call.keeps (claims k h) e)
-      first further false e = go further (finds k h) refl
+      first : Further → (b : Bool) → (call.keeps && sender_keeps form k h) ≡ b → AreSent form k t (call ∷ calls) (sends form k calls (cond b (Publishes ∷ Fills m ∷ h) (send_call (sender_finds form k h) m h)))
+      first further true e = onward further h run refl (both call.keeps (sender_keeps form k h) e)
+      first further false e = go further (sender_finds form k h) refl

@@ -1,5 +1,6 @@
 pub mod Calls
-pub mod IndexAlone
+pub mod FormLaws
+pub mod IndexLaws
 pub mod IndexRuns
 pub mod Passing
 pub mod Rings

@@ -1,12 +1,13 @@
 -- What the slots of a lane hold, and what was published and freed, at each touch and publish and free: the same in both
 -- forms.
-use Rattle.std.proofs.Common.{◌≡◌, ℕ, ◌+◌, ◌-◌, ◌%◌, ◌<◌, ◌≤◌, Bool, true, false, cond, List, [], ◌∷◌, ◌++◌, length, drop, Option, None, Some, refl, sym, ap, ◌∙◌, subst, arith}
+use Rattle.std.proofs.Common.{◌≡◌, ℕ, ◌+◌, ◌-◌, ◌%◌, ◌<◌, ◌≤◌, ◌⊎◌, inl, inr, Bool, true, false, cond, List, [], ◌∷◌, ◌++◌, length, drop, Option, None, Some, refl, sym, ap, ◌∙◌, subst, arith}
 use Rattle.std.specs.Prelude.{◌↔◌, reverse, nat_lt}
+use Rattle.std.proofs.Math.Nat.{add-mod_right}
 use Rattle.std.proofs.Math.Seq.{drop-append_seam}
-use Rattle.std.proofs.lemmas.Bool.{ltb-true, ltb-false}
+use Rattle.std.proofs.lemmas.Bool.{cases_eq, cases_lt, ltb-true, ltb-false}
 use Rattle.lane_core.specs.declared.answers.Found.{Found}
 use Rattle.lane_core.specs.declared.answers.Found.TheVariants.{Message, Nothing, Ended}
-use Rattle.std.proofs.lemmas.List.{append_assoc, append-nil, length-append, length-reverse, length-drop, nil_from_length}
+use Rattle.std.proofs.lemmas.List.{append_assoc, append-nil, length_push, length-append, length-reverse, length-drop, nil_from_length}
 use Rattle.std.proofs.lemmas.Grind.{reverse_onto}
 use Rattle.lane_core.specs.Traffic.{Traffic, no_traffic, with_at, message_in, put_in, published_all, closed_off, taken_out, back_in, freed_all, waiting}
 use Rattle.lane_core.proofs.Rings.{other_place, set_there, set_other}
@@ -40,12 +41,22 @@ has_front slots k n (x ∷ xs) ys has = (has.0, has_front slots k (n + 1) xs ys 
 between : {M : Type 0} (freed emptying : List M) (m : M) (ms : List M) → (freed ++ reverse emptying) ++ m ∷ ms ≡ (freed ++ reverse (m ∷ emptying)) ++ ms
 between freed emptying m ms = sym (ap (λ xs. (freed ++ xs) ++ ms) (reverse_onto emptying m []) ∙ ap (λ xs. xs ++ ms) (sym (append_assoc freed (reverse emptying) (m ∷ []))) ∙ append_assoc (freed ++ reverse emptying) (m ∷ []) ms)
 
+-- a slot that is emptied, and one that was empty
+vacated : {M : Type 0} (slots : ℕ → Option M) (place i : ℕ) → ((i ≡ place → ⊥) → slots i ≡ None) → with_at slots place None i ≡ None
+vacated slots place i empty = go (cases_eq i place)
+  where
+    go : (i ≡ place) ⊎ (i ≡ place → ⊥) → with_at slots place None i ≡ None
+    go (inl same) = set_there slots place i None same
+    go (inr other) = set_other slots place i None other ∙ empty other
+
 -- what was freed or is in the receiver's hand is a beginning of what was published, and the slots hold the rest, and then
--- what the sender put in
+-- what the sender put in; nothing is in those from which the receiver has taken, nor, on an open lane, in those that are free
 pub record Holds {M : Type 0} (k : ℕ) (t : Traffic M) : Type 0 where
   pub left : List M
   pub order : t.published ≡ (t.freed ++ reverse t.emptying) ++ left
   pub slots : HasSlots t.slots k (length t.freed + length t.emptying) (left ++ t.filling)
+  pub taken_empty : (c : ℕ) → length t.freed ≤ c → c < length t.freed + length t.emptying → t.slots (c % k) ≡ None
+  pub free_empty : t.closed ≡ false → (c : ℕ) → length t.published + length t.filling ≤ c → c < length t.freed + k → t.slots (c % k) ≡ None
 
 -- no more is published or put in than the lane has places
 abbrev pub HasRoom : {M : Type 0} → ℕ → Traffic M → Type 0
@@ -57,7 +68,7 @@ count_left k t h = omega (arith, ap length h.order, length-append (t.freed ++ re
 
 -- before the first step
 pub holds_first : {M : Type 0} (k : ℕ) → Holds k (no_traffic {M = M})
-holds_first k = record { left = []; order = refl; slots = tt }
+holds_first k = record { left = []; order = refl; slots = tt; taken_empty = λ c low high. refl; free_empty = λ opened c low high. refl }
 
 module _ {M : Type 0} (k : ℕ) (t : Traffic M) (h : Holds k t) where
   -- the count of the next message that is taken
@@ -74,6 +85,10 @@ module _ {M : Type 0} (k : ℕ) (t : Traffic M) (h : Holds k t) where
     left = h.left;
     order = h.order;
     slots = subst (HasSlots new k reached) (append_assoc h.left t.filling (m ∷ [])) (has_push new k reached (h.left ++ t.filling) m (has_other t.slots k reached (h.left ++ t.filling) place (Some m) other h.slots) (set_there t.slots place ((reached + length (h.left ++ t.filling)) % k) (Some m) (ap (λ c. c % k) count_held ∙ sym at)));
+    taken_empty = λ c low high. set_other t.slots place (c % k) (Some m) (λ same. other_place k c (length t.published + length t.filling) (omega (arith, count_left k t h)) (omega arith) (same ∙ at)) ∙ h.taken_empty c low high;
+    free_empty = λ opened c low high.
+        let next : length t.published + length t.filling < c = omega (arith, length_push t.filling m) in
+        set_other t.slots place (c % k) (Some m) (λ same. other_place k (length t.published + length t.filling) c next (omega (arith, count_left k t h)) (sym (same ∙ at))) ∙ h.free_empty opened c (omega arith) high;
   }
     where
       new : ℕ → Option M
@@ -88,6 +103,8 @@ module _ {M : Type 0} (k : ℕ) (t : Traffic M) (h : Holds k t) where
     left = h.left ++ t.filling;
     order = ap (λ ms. ms ++ t.filling) h.order ∙ append_assoc (t.freed ++ reverse t.emptying) h.left t.filling;
     slots = subst (HasSlots t.slots k reached) (sym (append-nil (h.left ++ t.filling))) h.slots;
+    taken_empty = h.taken_empty;
+    free_empty = λ opened c low high. h.free_empty opened c (omega (arith, length-append t.published t.filling)) high;
   }
 
   -- the lane is closed
@@ -96,6 +113,8 @@ module _ {M : Type 0} (k : ℕ) (t : Traffic M) (h : Holds k t) where
     left = h.left;
     order = h.order;
     slots = subst (HasSlots t.slots k reached) (sym (append-nil h.left)) (has_front t.slots k reached h.left t.filling h.slots);
+    taken_empty = h.taken_empty;
+    free_empty = λ (no : true ≡ false) c low high. cc;
   }
 
   -- the slot that is taken from next has a message
@@ -105,6 +124,14 @@ module _ {M : Type 0} (k : ℕ) (t : Traffic M) (h : Holds k t) where
       go : (left : List M) → HasSlots t.slots k reached (left ++ t.filling) → 0 < length left → (m : M) × (t.slots place ≡ Some m)
       go [] has more = absurd (omega arith)
       go (m ∷ ms) has more = (m, ap t.slots at ∙ has.0)
+
+  -- a count before the next one, or up to it
+  sooner : (c : ℕ) → (c ≡ reached → ⊥) → c < reached + 1 → c < reached
+  sooner c other high = go (cases_lt c reached)
+    where
+      go : (c < reached) ⊎ (reached ≤ c) → c < reached
+      go (inl less) = less
+      go (inr last) = absurd (other (omega arith))
 
   -- the receiver takes it
   pub holds_taken : (place : ℕ) → reached < length t.published → HasRoom k t → place ≡ reached % k → Holds k (taken_out t place)
@@ -120,8 +147,18 @@ module _ {M : Type 0} (k : ℕ) (t : Traffic M) (h : Holds k t) where
             left = ms;
             order = order ∙ between t.freed t.emptying m ms;
             slots = subst (λ n. HasSlots (with_at t.slots place None) k n (ms ++ t.filling)) shift kept;
+            taken_empty = λ c low high. vacated t.slots place (c % k) (λ other. h.taken_empty c low (sooner c (λ last. other (ap (λ n. n % k) last ∙ sym at)) (omega arith)));
+            free_empty = λ opened c low high. vacated t.slots place (c % k) (λ other. h.free_empty opened c low high);
           } in
           subst (λ (o : Option M). Holds k (record t { slots = with_at t.slots place None; emptying = message_in o ++ t.emptying })) (sym found) taken
+
+  -- nothing is in the slot from which it took last
+  pub back_empty : 0 < length t.emptying → t.slots ((length t.freed + (length t.emptying - 1)) % k) ≡ None
+  back_empty some = h.taken_empty (length t.freed + (length t.emptying - 1)) (omega arith) (omega arith)
+
+  -- nor, on an open lane, in the one that the sender fills next
+  pub next_empty : t.closed ≡ false → length t.published + length t.filling < length t.freed + k → t.slots ((length t.published + length t.filling) % k) ≡ None
+  next_empty opened room = h.free_empty opened (length t.published + length t.filling) (omega arith) room
 
   -- the receiver puts back what it took last
   pub holds_back : (place : ℕ) → 0 < length t.emptying → HasRoom k t → place ≡ (length t.freed + (length t.emptying - 1)) % k → Holds k (back_in t t.emptying place)
@@ -138,6 +175,8 @@ module _ {M : Type 0} (k : ℕ) (t : Traffic M) (h : Holds k t) where
             left = m ∷ h.left;
             order = h.order ∙ ap (λ ms. (t.freed ++ reverse ms) ++ h.left) e ∙ sym (between t.freed ms m h.left);
             slots = (set_there t.slots place (n % k) (Some m) (sym (at ∙ ap (λ c. c % k) there)), kept);
+            taken_empty = λ c low high. set_other t.slots place (c % k) (Some m) (λ same. other_place k c n high (omega (arith, count_held, count_left k t h)) (same ∙ at ∙ ap (λ c. c % k) there)) ∙ h.taken_empty c low (omega arith);
+            free_empty = λ opened c low high. set_other t.slots place (c % k) (Some m) (λ same. other_place k n c (omega (arith, count_left k t h)) (omega arith) (sym (same ∙ at ∙ ap (λ c. c % k) there))) ∙ h.free_empty opened c low high;
           }
 
   -- what it took is freed
@@ -145,8 +184,30 @@ module _ {M : Type 0} (k : ℕ) (t : Traffic M) (h : Holds k t) where
   holds_freed = record {
     left = h.left;
     order = h.order ∙ ap (λ ms. ms ++ h.left) (sym (append-nil (t.freed ++ reverse t.emptying)));
-    slots = subst (λ n. HasSlots t.slots k n (h.left ++ t.filling)) (omega (arith, length-append t.freed (reverse t.emptying), length-reverse t.emptying)) h.slots;
+    slots = subst (λ n. HasSlots t.slots k n (h.left ++ t.filling)) many h.slots;
+    taken_empty = λ c low high. absurd (omega arith);
+    free_empty = λ opened c low high. go opened c low (omega (arith, many)) (cases_lt c (length t.freed + k));
   }
+    where
+      many : reached ≡ length (t.freed ++ reverse t.emptying) + 0
+      many = omega (arith, length-append t.freed (reverse t.emptying), length-reverse t.emptying)
+
+      -- a place that the receiver had freed, or one of those that it frees now
+      go : t.closed ≡ false → (c : ℕ) → length t.published + length t.filling ≤ c → c < reached + k → (c < length t.freed + k) ⊎ (length t.freed + k ≤ c) → t.slots (c % k) ≡ None
+      go opened c low high (inl less) = h.free_empty opened c low less
+      go opened c low high (inr more) =
+          let d : ℕ = c - k in
+          let e : c ≡ d + k = omega arith in
+          ap t.slots (ap (λ n. n % k) e ∙ add-mod_right d k) ∙ h.taken_empty d (omega arith) (omega arith)
+
+-- what was taken last is put back into the slot of a place
+pub put_back : {M : Type 0} (t : Traffic M) (place i : ℕ) → i ≡ place → 0 < length t.emptying
+    → (m : M) × (before : List M) × (t.emptying ≡ m ∷ before) × ((back_in t t.emptying place).emptying ≡ before) × ((back_in t t.emptying place).slots i ≡ Some m)
+put_back {M} t place i same some = go t.emptying refl some
+  where
+    go : (ms : List M) → t.emptying ≡ ms → 0 < length ms → (m : M) × (before : List M) × (t.emptying ≡ m ∷ before) × ((back_in t ms place).emptying ≡ before) × ((back_in t ms place).slots i ≡ Some m)
+    go [] e some = absurd (omega arith)
+    go (m ∷ ms) e some = (m, ms, e, refl, set_there t.slots place i (Some m) same)
 
 -- how many wait
 pub count_waiting : {M : Type 0} (t : Traffic M) → length (waiting t) ≡ length t.published - length t.freed

@@ -7,7 +7,8 @@ use Rattle.std.proofs.lemmas.List.{length_push, length-append, length-reverse}
 use Rattle.lane_core.specs.declared.slot_words.Word.{Word}
 use Rattle.lane_core.specs.Steps.{Step, Sender_loads, Fills, Publishes, Closes, Receiver_loads, Takes, Puts_back, Frees}
 use Rattle.lane_core.specs.Traffic.{Traffic, with_at, back_in}
-use Rattle.lane_core.specs.SlotWords.{SlotLane, new_lane, after, lane_after, IsRun, MayFollow, sender_place, receiver_place, sender_word, receiver_word, full_word, end_word, free_word}
+use Rattle.lane_core.specs.Forms.{lane_after, IsRun}
+use Rattle.lane_core.specs.SlotWords.{SlotLane, new_lane, after, MayFollow, sender_place, receiver_place, sender_word, receiver_word, full_word, end_word, free_word, slot_words}
 use Rattle.lane_core.proofs.Rings.{other_place, set_there, set_other}
 use Rattle.lane_core.proofs.Passing.{Holds, holds_first, holds_filled, holds_published, holds_closed, has_next, holds_taken, holds_back, holds_freed}
 
@@ -30,6 +31,7 @@ pub record Fits {M : Type 0} (k : ℕ) (l : SlotLane M) : Type 0 where
   pub behind : l.receiver.taken + bit l.receiver.emptied ≤ l.sender.put
   pub sender_claims : l.sender.claims ≡ true → l.sender.put < l.receiver.taken + k
   pub receiver_claims : l.receiver.claims ≡ true → l.receiver.taken < l.sender.put
+  pub emptied_claims : l.receiver.emptied ≡ true → l.receiver.claims ≡ true
   pub full : (c : ℕ) → l.receiver.taken ≤ c → c < l.receiver.taken + k → (l.words (c % k)).full ≡ nat_lt c l.sender.put
   pub ends : (i : ℕ) → (l.words i).end ≡ (l.sender.closed && (i == l.sender.put % k))
   pub holds : Holds k l.traffic
@@ -158,6 +160,10 @@ module _ {M : Type 0} (k : ℕ) (l : SlotLane M) (some : 1 ≤ k) (f : Fits k l)
   pub next_place : l.receiver.emptied ≡ false → receiver_place l.receiver ≡ (length l.traffic.freed + length l.traffic.emptying) % k
   next_place fresh = let counts : l.receiver.taken ≡ length l.traffic.freed + length l.traffic.emptying = omega (arith, ap bit fresh) in at_receiver ∙ ap (λ c. c % k) counts
 
+  -- so is the slot that it took from
+  pub last_place : l.receiver.emptied ≡ true → receiver_place l.receiver ≡ (length l.traffic.freed + (length l.traffic.emptying - 1)) % k
+  last_place hand = let counts : l.receiver.taken ≡ length l.traffic.freed + (length l.traffic.emptying - 1) = omega (arith, ap bit hand) in at_receiver ∙ ap (λ c. c % k) counts
+
 first : {M : Type 0} (k : ℕ) → Fits k (new_lane {M = M} k)
 first k = record {
   sender_places = refl;
@@ -171,6 +177,7 @@ first k = record {
   behind = omega arith;
   sender_claims = λ (no : false ≡ true). cc;
   receiver_claims = λ (no : false ≡ true). cc;
+  emptied_claims = λ (no : false ≡ true). cc;
   full = λ c low high. sym (not_less c 0 (omega arith));
   ends = λ i. refl;
   holds = holds_first k;
@@ -190,6 +197,7 @@ kept k l Sender_loads some old may = record {
   behind = old.behind;
   sender_claims = loaded_claims k l some old;
   receiver_claims = old.receiver_claims;
+  emptied_claims = old.emptied_claims;
   full = old.full;
   ends = old.ends;
   holds = old.holds;
@@ -210,6 +218,7 @@ kept k l (Fills m) some old may =
       behind = old.behind;
       sender_claims = old.sender_claims;
       receiver_claims = old.receiver_claims;
+      emptied_claims = old.emptied_claims;
       full = old.full;
       ends = old.ends;
       holds = holds_filled k l.traffic old.holds (sender_place l.sender) m (omega (arith, room, counts)) (at_sender k l some old ∙ ap (λ c. c % k) counts);
@@ -229,6 +238,7 @@ kept k l Publishes some old may =
       behind = omega arith;
       sender_claims = λ (no : false ≡ true). cc;
       receiver_claims = λ claims. omega (arith, old.receiver_claims claims);
+      emptied_claims = old.emptied_claims;
       full = λ c low high. full_published k l some old c low high room;
       ends = λ i. bit_kept (λ w. w.end) l.words (sender_place l.sender) i (full_word (sender_word l)) refl ∙ old.ends i ∙ ap (λ b. b && (i == l.sender.put % k)) may.0 ∙ sym (ap (λ b. b && (i == (l.sender.put + 1) % k)) may.0);
       holds = holds_published k l.traffic old.holds;
@@ -245,6 +255,7 @@ kept k l Closes some old may = record {
   behind = old.behind;
   sender_claims = λ (no : false ≡ true). cc;
   receiver_claims = old.receiver_claims;
+  emptied_claims = old.emptied_claims;
   full = λ c low high. bit_kept (λ w. w.full) l.words (sender_place l.sender) (c % k) (end_word (sender_word l)) refl ∙ old.full c low high;
   ends = ends_closed k l some old may;
   holds = holds_closed k l.traffic old.holds;
@@ -261,6 +272,7 @@ kept k l Receiver_loads some old may = record {
   behind = old.behind;
   sender_claims = old.sender_claims;
   receiver_claims = λ claims. ltb-true l.receiver.taken l.sender.put (sym (word_waits k l some old) ∙ claims);
+  emptied_claims = λ hand. word_waits k l some old ∙ lt-ltb l.receiver.taken l.sender.put (omega (arith, ap bit hand));
   full = old.full;
   ends = old.ends;
   holds = old.holds;
@@ -283,6 +295,7 @@ kept k l Takes some old may =
       behind = omega (arith, more);
       sender_claims = old.sender_claims;
       receiver_claims = old.receiver_claims;
+      emptied_claims = λ hand. may.0;
       full = old.full;
       ends = old.ends;
       holds = holds_taken k l.traffic old.holds (receiver_place l.receiver) there (omega arith) place;
@@ -299,16 +312,14 @@ kept {M} k l Puts_back some old may = record {
   behind = omega arith;
   sender_claims = old.sender_claims;
   receiver_claims = old.receiver_claims;
+  emptied_claims = λ (no : false ≡ true). cc;
   full = old.full;
   ends = old.ends;
-  holds = holds_back k l.traffic old.holds (receiver_place l.receiver) (omega (arith, one)) (omega arith) (at_receiver k l some old ∙ ap (λ c. c % k) counts);
+  holds = holds_back k l.traffic old.holds (receiver_place l.receiver) (omega (arith, one)) (omega arith) (last_place k l some old may);
 }
   where
     one : 1 ≡ length l.traffic.emptying
     one = sym (ap bit may) ∙ old.emptied
-
-    counts : l.receiver.taken ≡ length l.traffic.freed + (length l.traffic.emptying - 1)
-    counts = omega (arith, one)
 
     on : (P : Traffic M → Type 0) → P l.traffic → ((m : M) (ms : List M) → P (back_in l.traffic (m ∷ ms) (receiver_place l.receiver))) → P (back_in l.traffic l.traffic.emptying (receiver_place l.receiver))
     on P same back = elim l.traffic.emptying as (λ ms. P (back_in l.traffic ms (receiver_place l.receiver))) [ [] ↦ same | m ∷ ms ↦ back m ms ]
@@ -330,12 +341,13 @@ kept k l Frees some old may =
       behind = omega (arith, one);
       sender_claims = λ claims. omega (arith, old.sender_claims claims);
       receiver_claims = λ (no : false ≡ true). cc;
+      emptied_claims = λ (no : false ≡ true). cc;
       full = full_freed k l some old;
       ends = λ i. bit_kept (λ w. w.end) l.words (receiver_place l.receiver) i (free_word (receiver_word l)) refl ∙ old.ends i;
       holds = holds_freed k l.traffic old.holds;
     }
 
 -- after every run
-pub fits : {M : Type 0} (k : ℕ) (h : List (Step M)) → 1 ≤ k → IsRun k h → Fits k (lane_after k h)
+pub fits : {M : Type 0} (k : ℕ) (h : List (Step M)) → 1 ≤ k → IsRun (slot_words M) k h → Fits k (lane_after (slot_words M) k h)
 fits k [] some run = first k
-fits k (e ∷ h) some run = kept k (lane_after k h) e some (fits k h some run.1) run.0
+fits {M} k (e ∷ h) some run = kept k (lane_after (slot_words M) k h) e some (fits k h some run.1) run.0

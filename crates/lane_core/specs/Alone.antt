@@ -4,6 +4,7 @@ use Rattle.lane_core.specs.declared.answers.Room.{Room}
 use Rattle.lane_core.specs.declared.answers.Room.TheVariants.{Open, Full}
 use Rattle.lane_core.specs.declared.answers.Found.{Found}
 use Rattle.lane_core.specs.declared.answers.Found.TheVariants.{Message, Nothing, Ended}
+use Rattle.lane_core.specs.Forms.{Form, IsRun, traffic_of, sender_finds, receiver_finds, sender_keeps, receiver_keeps}
 use Rattle.lane_core.specs.Steps.{Step, Sender_loads, Fills, Publishes, Receiver_loads, Takes, Frees}
 use Rattle.lane_core.specs.Traffic.{Traffic, waiting}
 
@@ -15,9 +16,10 @@ receive_call Ended h = Receiver_loads ∷ h
 
 -- the run with receives after it. For each it is given whether it may go by what was loaded before: it then makes no load
 -- where its end claims a message by that
-abbrev pub receives : {M : Type 0} → (ℕ → List (Step M) → Found) → (ℕ → List (Step M) → Bool) → ℕ → List Bool → List (Step M) → List (Step M)
-receives finds claims k [] h = h
-receives finds claims k (keeps ∷ calls) h = receives finds claims k calls (if keeps && claims k h then Frees ∷ Takes ∷ h else receive_call (finds k h) h)
+abbrev pub receives : {M : Type 0} → Form M → ℕ → List Bool → List (Step M) → List (Step M)
+receives form k [] h = h
+receives form k (keeps ∷ calls) h =
+    receives form k calls (if keeps && receiver_keeps form k h then Frees ∷ Takes ∷ h else receive_call (receiver_finds form k h) h)
 
 -- the steps of a send of this message that finds this, the newest first
 abbrev pub send_call : {M : Type 0} → Room → M → List (Step M) → List (Step M)
@@ -35,26 +37,35 @@ messages [] = []
 messages (call ∷ calls) = call.message ∷ messages calls
 
 -- the run with sends after it. One that may go by what was loaded before makes no load where its end claims a place by that
-abbrev pub sends : {M : Type 0} → (ℕ → List (Step M) → Room) → (ℕ → List (Step M) → Bool) → ℕ → List (SendCall M) → List (Step M) → List (Step M)
-sends finds claims k [] h = h
-sends finds claims k (call ∷ calls) h = sends finds claims k calls (if call.keeps && claims k h then Publishes ∷ Fills call.message ∷ h else send_call (finds k h) call.message h)
+abbrev pub sends : {M : Type 0} → Form M → ℕ → List (SendCall M) → List (Step M) → List (Step M)
+sends form k [] h = h
+sends form k (call ∷ calls) h =
+    sends form k calls (if call.keeps && sender_keeps form k h then Publishes ∷ Fills call.message ∷ h else send_call (sender_finds form k h) call.message h)
 
--- A receiver between two calls that goes on alone: n calls are steps that it may make, and free the first n of those that
--- waited; then a load finds a message while one of these is left, and else that the lane has ended, or nothing.
-abbrev pub ReceiverAlone : (M : Type 0) → (ℕ → List (Step M) → Type 0) → (ℕ → List (Step M) → Traffic M) → (ℕ → List (Step M) → Found) → (ℕ → List (Step M) → Bool) → Type 0
-ReceiverAlone M IsRun traffic_of finds claims =
-    (k : ℕ) (h : List (Step M)) → 1 ≤ k → IsRun k h → (traffic_of k h).emptying ≡ [] → (calls : List Bool)
-    → IsRun k (receives finds claims k calls h)
-    × ((traffic_of k (receives finds claims k calls h)).freed ≡ (traffic_of k h).freed ++ take (length calls) (waiting (traffic_of k h)))
-    × (length calls < length (waiting (traffic_of k h)) → finds k (receives finds claims k calls h) ≡ Message)
-    × (length (waiting (traffic_of k h)) ≤ length calls → (finds k (receives finds claims k calls h) ≡ (if (traffic_of k h).closed then Ended else Nothing)) × (claims k (receives finds claims k calls h) ≡ false))
+-- what so many receives after the run h come to, from a traffic t: they are steps that may be made, and free the first of
+-- those that waited; then a load finds a message while one of these is left, and else that the lane has ended, or nothing
+abbrev pub AreReceived : {M : Type 0} → Form M → ℕ → Traffic M → ℕ → List (Step M) → Type 0
+AreReceived form k t many h =
+    IsRun form k h
+    × ((traffic_of form k h).freed ≡ t.freed ++ take many (waiting t))
+    × (many < length (waiting t) → receiver_finds form k h ≡ Message)
+    × (length (waiting t) ≤ many → (receiver_finds form k h ≡ (if t.closed then Ended else Nothing)) × (receiver_keeps form k h ≡ false))
 
--- A sender between two calls that goes on alone, on an open lane: sends of these messages are steps that it may make, and
--- publish the first of them up to the capacity; then a load finds room while that isn't reached, and else a full lane.
-abbrev pub SenderAlone : (M : Type 0) → (ℕ → List (Step M) → Type 0) → (ℕ → List (Step M) → Traffic M) → (ℕ → List (Step M) → Room) → (ℕ → List (Step M) → Bool) → Type 0
-SenderAlone M IsRun traffic_of finds claims =
-    (k : ℕ) (h : List (Step M)) → 1 ≤ k → IsRun k h → (traffic_of k h).filling ≡ [] → (traffic_of k h).closed ≡ false → (calls : List (SendCall M))
-    → IsRun k (sends finds claims k calls h)
-    × ((traffic_of k (sends finds claims k calls h)).published ≡ (traffic_of k h).published ++ take (k - length (waiting (traffic_of k h))) (messages calls))
-    × (length calls < k - length (waiting (traffic_of k h)) → finds k (sends finds claims k calls h) ≡ Open)
-    × (k - length (waiting (traffic_of k h)) ≤ length calls → (finds k (sends finds claims k calls h) ≡ Full) × (claims k (sends finds claims k calls h) ≡ false))
+-- of a receiver between two calls that goes on alone
+abbrev pub ReceiverAlone : {M : Type 0} → Form M → Type 0
+ReceiverAlone {M} form = (k : ℕ) (h : List (Step M)) → 1 ≤ k → IsRun form k h → (traffic_of form k h).emptying ≡ []
+    → (calls : List Bool) → AreReceived form k (traffic_of form k h) (length calls) (receives form k calls h)
+
+-- what these sends after the run h come to, from a traffic t: they are steps that may be made, and publish the first of
+-- their messages up to the capacity; then a load finds room while that isn't reached, and else a full lane
+abbrev pub AreSent : {M : Type 0} → Form M → ℕ → Traffic M → List (SendCall M) → List (Step M) → Type 0
+AreSent form k t calls h =
+    IsRun form k h
+    × ((traffic_of form k h).published ≡ t.published ++ take (k - length (waiting t)) (messages calls))
+    × (length calls < k - length (waiting t) → sender_finds form k h ≡ Open)
+    × (k - length (waiting t) ≤ length calls → (sender_finds form k h ≡ Full) × (sender_keeps form k h ≡ false))
+
+-- of a sender between two calls that goes on alone, on an open lane
+abbrev pub SenderAlone : {M : Type 0} → Form M → Type 0
+SenderAlone {M} form = (k : ℕ) (h : List (Step M)) → 1 ≤ k → IsRun form k h → (traffic_of form k h).filling ≡ [] → (traffic_of form k h).closed ≡ false
+    → (calls : List (SendCall M)) → AreSent form k (traffic_of form k h) calls (sends form k calls h)

@@ -1,6 +1,5 @@
--- A lane over index words: its two ends, and every run of their steps (this project's profile). A run is a list of steps,
--- the newest first.
-use Rattle.std.specs.Prelude.{◌≡◌, ℕ, ◌+◌, ◌-◌, ◌*◌, ◌/◌, ◌%◌, ◌<◌, ◌≤◌, ◌^◌, ◌==◌, nat_lt, Bool, true, false, List, [], ◌∷◌, if◌then◌else◌}
+-- A lane over index words: its two ends, and what each step makes of it (this project's profile).
+use Rattle.std.specs.Prelude.{◌≡◌, ℕ, ◌+◌, ◌-◌, ◌*◌, ◌/◌, ◌%◌, ◌<◌, ◌≤◌, ◌^◌, ◌==◌, nat_lt, true, false, if◌then◌else◌}
 use Rattle.lane_core.specs.declared.index_words.SenderEnd.{SenderEnd}
 use Rattle.lane_core.specs.declared.index_words.ReceiverEnd.{ReceiverEnd}
 use Rattle.lane_core.specs.declared.answers.Room.{Room}
@@ -12,6 +11,7 @@ use Rattle.lane_core.specs.declared.answers.SenderStep.TheVariants.{Load, Fill, 
 use Rattle.lane_core.specs.declared.answers.ReceiverStep.{ReceiverStep}
 use Rattle.lane_core.specs.declared.answers.ReceiverStep.TheVariants.{Look, Take, Free}
 use Rattle.lane_core.specs.Steps.{Step, Sender_loads, Fills, Publishes, Closes, Receiver_loads, Takes, Puts_back, Frees}
+use Rattle.lane_core.specs.Forms.{Form}
 use Rattle.lane_core.specs.Traffic.{Traffic, no_traffic, put_in, published_all, closed_off, taken_out, back_in, freed_all}
 
 -- The sender.
@@ -128,9 +128,13 @@ receiver_took r = record r { emptied = r.emptied + 1 }
 abbrev pub MayPutBack : ReceiverEnd → Type 0
 MayPutBack r = 0 < r.emptied
 
--- the place of what it took last
+-- the count of what it took last
+abbrev pub back_count : ReceiverEnd → ℕ
+back_count r = r.freed + (r.emptied - 1)
+
+-- the place of that count
 abbrev pub back_place : ReceiverEnd → ℕ
-back_place r = (r.freed + (r.emptied - 1)) % r.capacity
+back_place r = back_count r % r.capacity
 
 -- after it put that back
 abbrev pub receiver_put_back : ReceiverEnd → ReceiverEnd
@@ -195,50 +199,21 @@ MayFollow l Takes = MayTake l.receiver
 MayFollow l Puts_back = MayPutBack l.receiver
 MayFollow l Frees = MayFree l.receiver
 
--- the lane of k places after these steps
-abbrev pub lane_after : {M : Type 0} → ℕ → List (Step M) → IndexLane M
-lane_after k [] = new_lane k
-lane_after k (e ∷ h) = after (lane_after k h) e
-
--- each step was allowed when it was made
-abbrev pub IsRun : {M : Type 0} → ℕ → List (Step M) → Type 0
-IsRun k [] = Unit {0}
-IsRun k (e ∷ h) = MayFollow (lane_after k h) e × IsRun k h
-
--- What the laws of runs speak of.
-
--- what passed through the lane in these steps
-abbrev pub traffic_of : {M : Type 0} → ℕ → List (Step M) → Traffic M
-traffic_of k h = (lane_after k h).traffic
-
--- what the sender would find by a load now
-abbrev pub sender_finds : {M : Type 0} → ℕ → List (Step M) → Room
-sender_finds k h = room_of (sender_loaded (lane_after k h).sender (lane_after k h).taken)
-
--- what the receiver would find by a load now
-abbrev pub receiver_finds : {M : Type 0} → ℕ → List (Step M) → Found
-receiver_finds k h = found_by (receiver_loaded (lane_after k h).receiver (lane_after k h).put)
-
--- the sender claims the place of this count
-abbrev pub SenderHas : {M : Type 0} → ℕ → List (Step M) → ℕ → Type 0
-SenderHas k h count = SenderClaims (lane_after k h).sender count
-
--- the receiver claims the place of this count
-abbrev pub ReceiverHas : {M : Type 0} → ℕ → List (Step M) → ℕ → Type 0
-ReceiverHas k h count = ReceiverClaims (lane_after k h).receiver count
-
--- the count whose place the sender fills next
-abbrev pub fills_next : {M : Type 0} → ℕ → List (Step M) → ℕ
-fills_next k h = fill_count (lane_after k h).sender
-
--- the count whose place the receiver takes from next
-abbrev pub takes_next : {M : Type 0} → ℕ → List (Step M) → ℕ
-takes_next k h = take_count (lane_after k h).receiver
-
--- the sender claims a place to fill, by what it loaded before
-abbrev pub sender_keeps : {M : Type 0} → ℕ → List (Step M) → Bool
-sender_keeps k h = let s = (lane_after k h).sender in nat_lt (fill_count s) (s.freed + s.capacity)
-
--- the receiver claims a place to take from, by what it loaded before
-abbrev pub receiver_keeps : {M : Type 0} → ℕ → List (Step M) → Bool
-receiver_keeps k h = let r = (lane_after k h).receiver in nat_lt (take_count r) r.published
+-- this form of a lane
+abbrev pub index_words : (M : Type 0) → Form M
+index_words M = record {
+  Lane = IndexLane M;
+  new_lane = λ k. new_lane k;
+  after = λ l e. after l e;
+  MayFollow = λ l e. MayFollow l e;
+  traffic = λ l. l.traffic;
+  sender_finds = λ l. room_of (sender_loaded l.sender l.taken);
+  receiver_finds = λ l. found_by (receiver_loaded l.receiver l.put);
+  SenderClaims = λ l count. SenderClaims l.sender count;
+  ReceiverClaims = λ l count. ReceiverClaims l.receiver count;
+  fills_next = λ l. fill_count l.sender;
+  takes_next = λ l. take_count l.receiver;
+  puts_back_next = λ l. back_count l.receiver;
+  sender_keeps = λ l. nat_lt (fill_count l.sender) (l.sender.freed + l.sender.capacity);
+  receiver_keeps = λ l. nat_lt (take_count l.receiver) l.receiver.published;
+}

@@ -1,4 +1,5 @@
 pub mod Alone
+pub mod Forms
 pub mod IndexWords
 pub mod Laws
 pub mod SlotWords

@@ -1,6 +1,5 @@
--- A lane over slot words: its two ends, and every run of their steps (this project's profile). A run is a list of steps,
--- the newest first.
-use Rattle.std.specs.Prelude.{◌≡◌, ℕ, ◌+◌, ◌%◌, ◌<◌, ◌^◌, Bool, true, false, not, ◌&&◌, List, [], ◌∷◌, if◌then◌else◌}
+-- A lane over slot words: its two ends, and what each step makes of it (this project's profile).
+use Rattle.std.specs.Prelude.{◌≡◌, ℕ, ◌+◌, ◌%◌, ◌<◌, ◌^◌, true, false, not, ◌&&◌, if◌then◌else◌}
 use Rattle.lane_core.specs.declared.slot_words.Word.{Word}
 use Rattle.lane_core.specs.declared.slot_words.SenderEnd.{SenderEnd}
 use Rattle.lane_core.specs.declared.slot_words.ReceiverEnd.{ReceiverEnd}
@@ -13,6 +12,7 @@ use Rattle.lane_core.specs.declared.answers.SenderStep.TheVariants.{Load, Fill, 
 use Rattle.lane_core.specs.declared.answers.ReceiverStep.{ReceiverStep}
 use Rattle.lane_core.specs.declared.answers.ReceiverStep.TheVariants.{Look, Take, Free}
 use Rattle.lane_core.specs.Steps.{Step, Sender_loads, Fills, Publishes, Closes, Receiver_loads, Takes, Puts_back, Frees}
+use Rattle.lane_core.specs.Forms.{Form}
 use Rattle.lane_core.specs.Traffic.{Traffic, no_traffic, with_at, put_in, published_all, closed_off, taken_out, back_in, freed_all}
 
 -- the word of a place of a new lane
@@ -195,50 +195,21 @@ MayFollow l Takes = MayTake l.receiver
 MayFollow l Puts_back = MayPutBack l.receiver
 MayFollow l Frees = MayFree l.receiver
 
--- the lane of k places after these steps
-abbrev pub lane_after : {M : Type 0} → ℕ → List (Step M) → SlotLane M
-lane_after k [] = new_lane k
-lane_after k (e ∷ h) = after (lane_after k h) e
-
--- each step was allowed when it was made
-abbrev pub IsRun : {M : Type 0} → ℕ → List (Step M) → Type 0
-IsRun k [] = Unit {0}
-IsRun k (e ∷ h) = MayFollow (lane_after k h) e × IsRun k h
-
--- What the laws of runs speak of.
-
--- what passed through the lane in these steps
-abbrev pub traffic_of : {M : Type 0} → ℕ → List (Step M) → Traffic M
-traffic_of k h = (lane_after k h).traffic
-
--- what the sender would find by a load now
-abbrev pub sender_finds : {M : Type 0} → ℕ → List (Step M) → Room
-sender_finds k h = room_in (sender_word (lane_after k h))
-
--- what the receiver would find by a load now
-abbrev pub receiver_finds : {M : Type 0} → ℕ → List (Step M) → Found
-receiver_finds k h = found_in (receiver_word (lane_after k h))
-
--- the sender claims the place of this count
-abbrev pub SenderHas : {M : Type 0} → ℕ → List (Step M) → ℕ → Type 0
-SenderHas k h count = SenderClaims (lane_after k h).sender count
-
--- the receiver claims the place of this count
-abbrev pub ReceiverHas : {M : Type 0} → ℕ → List (Step M) → ℕ → Type 0
-ReceiverHas k h count = ReceiverClaims (lane_after k h).receiver count
-
--- the count whose place the sender fills next
-abbrev pub fills_next : {M : Type 0} → ℕ → List (Step M) → ℕ
-fills_next k h = (lane_after k h).sender.put
-
--- the count whose place the receiver takes from next
-abbrev pub takes_next : {M : Type 0} → ℕ → List (Step M) → ℕ
-takes_next k h = (lane_after k h).receiver.taken
-
--- the sender claims a place to fill, by what it loaded before
-abbrev pub sender_keeps : {M : Type 0} → ℕ → List (Step M) → Bool
-sender_keeps k h = let s = (lane_after k h).sender in s.claims && not s.filled
-
--- the receiver claims a place to take from, by what it loaded before
-abbrev pub receiver_keeps : {M : Type 0} → ℕ → List (Step M) → Bool
-receiver_keeps k h = let r = (lane_after k h).receiver in r.claims && not r.emptied
+-- this form of a lane
+abbrev pub slot_words : (M : Type 0) → Form M
+slot_words M = record {
+  Lane = SlotLane M;
+  new_lane = λ k. new_lane k;
+  after = λ l e. after l e;
+  MayFollow = λ l e. MayFollow l e;
+  traffic = λ l. l.traffic;
+  sender_finds = λ l. room_in (sender_word l);
+  receiver_finds = λ l. found_in (receiver_word l);
+  SenderClaims = λ l count. SenderClaims l.sender count;
+  ReceiverClaims = λ l count. ReceiverClaims l.receiver count;
+  fills_next = λ l. l.sender.put;
+  takes_next = λ l. l.receiver.taken;
+  puts_back_next = λ l. l.receiver.taken;
+  sender_keeps = λ l. l.sender.claims && not l.sender.filled;
+  receiver_keeps = λ l. l.receiver.claims && not l.receiver.emptied;
+}

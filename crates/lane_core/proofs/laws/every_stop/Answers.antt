@@ -1,4 +1,4 @@
-use Rattle.lane_core.proofs.IndexAlone as Index
+use Rattle.lane_core.proofs.IndexLaws as Index
 use Rattle.lane_core.proofs.SlotLaws as Slot
 use Rattle.lane_core.proofs.laws.every_stop.Goals as goal
 
