@@ -1,7 +1,18 @@
 //! Message sequence charts: instances, names, messages, events, lines and charts, each within its limits.
 //!
-//! `specs/` has the definitions that every promise of this repository cites: histories, the chart of a
-//! history, the enforced order, reports and clocks.
+//! `specs/` has the definitions that every promise of this repository cites: histories (`Histories`), the chart of a
+//! history (`Charts`), the enforced order (`Order`) and reports (`Reports`).
+//!
+//! What is promised:
+//!
+//! - A name is 1 to 32 bytes by the stated rules, and anything else gets its first fault ([`Name::new`]).
+//! - A line grows by exactly the event that is pushed. It refuses its own instance (F13), then one event too many (F7),
+//!   then for want of memory (F6), and stays as it was ([`Line::push`], [`Line::push_sends`]).
+//! - A chart has 2 to 32 lines whose partners exist; other lines come back with their fault ([`Chart::new`]).
+//! - Names are added and looked up as in a list ([`Names::add`], [`Names::instance`], [`Names::name`]).
+//! - [`laws`] has what holds of the definitions, for any number of instances: a receive's report is read off its line
+//!   and one number (`report_law`), a legal history's chart has a send for each receive and no cycle (`legal_law`), and
+//!   what comes later changes nothing of it (`growth_law`).
 #![tactic(auto)]
 
 mod chart;

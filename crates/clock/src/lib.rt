@@ -1,5 +1,13 @@
-//! Vector time: a clock has one entry for each instance, the number of the instance's events that are known, and
-//! clocks are merged entry by entry (Fidge 1988, Mattern 1989).
+//! Vector time: a clock has one entry for each instance, the number of the instance's events that are known (Fidge
+//! 1988, Mattern 1989).
+//!
+//! What is promised:
+//!
+//! - A merge is the entrywise maximum ([`Clock::merge`]).
+//! - A stamp changes one entry, in a copy or in place ([`Clock::stamped`], [`Clock::stamp`]).
+//! - A difference has exactly the entries that differ, and applied to its base it gives the clock back
+//!   ([`Clock::diff_from`], [`Clock::apply`]).
+//! - No call on a clock of at most [`INLINE_ENTRIES`] entries is refused.
 #![tactic(auto)]
 
 mod clock;

@@ -1,6 +1,16 @@
 //! The offline checker: whether a chart is possible, what the enforced order puts before what, and the races of each
 //! receive. It searches backwards over what is enforced directly (the order of Alur, Holzmann, Peled 1996, in this
 //! project's profile) and reads no clock, so it checks what was found with clocks.
+//!
+//! What is promised, unless an allocation is refused:
+//!
+//! - A chart is taken exactly where it is possible; else the answer is the first receive, by instance and index, that
+//!   has no send or another name than its send, or that the order has a cycle ([`Closure::of`]).
+//! - For each two events: whether the first is before the second, and false where one isn't in the chart
+//!   ([`Closure::before`]).
+//! - The reports of all receives, by instance and index ([`Closure::races`]).
+//! - An audit accepts exactly this list, for a possible chart; else it names the first place where the lists differ
+//!   ([`audit`]).
 #![tactic(auto)]
 
 mod checking;

@@ -1,7 +1,8 @@
 //! Drawn interleavings: a schedule's commands in an order that a seed decides.
 //!
-//! Each instance makes its commands in their order. Which instance makes its next one is drawn, among those that have
-//! commands left, by the words of a generator. `specs/Interleavings.antt` says the order.
+//! What is promised ([`drawn`]): the commands come in the order that the generator's words say
+//! (`specs/Interleavings.antt`), each with its line of the text; each instance executes the same commands in the same
+//! order. The only refusal is F6.
 #![tactic(auto)]
 
 mod drawing;

@@ -1,6 +1,10 @@
 //! Texts of charts and schedules: what their readers and writers share.
 //!
-//! A writer puts bytes into any [`Out`], gathered in a buffer of a fixed size, and takes no memory.
+//! What is promised:
+//!
+//! - [`write`] writes exactly the chart's text, over any [`Out`]. Where a put fails, a beginning of the text was written,
+//!   exactly one put failed, and none was tried after it.
+//! - A text is cut into the lines and words that it has ([`next_line`], [`words_in`], [`next_word`]).
 #![tactic(auto)]
 
 mod chart_text;

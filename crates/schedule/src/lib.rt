@@ -1,7 +1,12 @@
 //! Schedules: who does what, in which order, and what that means.
 //!
-//! `specs/Meaning.antt` says what a schedule's commands do: a history, and a note for each command that is refused.
-//! `specs/ScheduleText.antt` says what a schedule's text is, and `specs/Reading.antt` what any text is read as.
+//! `specs/Meaning.antt` defines what a schedule's commands do: a history, and a note for each command that is refused.
+//! `specs/ScheduleText.antt` defines a schedule's text, and `specs/Reading.antt` what any text is read as.
+//!
+//! What is promised, unless an allocation is refused ([`Schedule::read`]): what is read is spelled so, to the byte, and
+//! within the limits; what is spelled so is read; and for anything else the answer is the first fault, in the order of
+//! `docs/FORMATS.md`. So no two schedules have one text, and the first faulty line decides, whatever follows it
+//! ([`laws`]).
 #![tactic(auto)]
 
 mod command;

@@ -1,4 +1,13 @@
 //! What the program `mscrun` does with the bytes of a file, and what it says where it can't.
+//!
+//! What is promised ([`perform`]): the bytes of the file, the command and its seed decide the output's bytes.
+//!
+//! - With status 0 or 1 exactly the text of what the schedule means was written, or exactly the races of the chart,
+//!   which is possible; 1 says that there are races.
+//! - With status 2 the refusal's line was written, or a beginning of it where standard error failed, and nothing went
+//!   to the output before it, unless a write failed (F24).
+//! - [`refused`] writes a refusal's line, or a beginning of it, and [`seed_in`] reads exactly the words of digits alone
+//!   whose number has 64 bits.
 #![tactic(auto)]
 
 mod checking;
