@@ -1,6 +1,6 @@
 /* Loaded before a program by LD_PRELOAD. The growth of memory whose number REFUSED_GROWTH gives, from 1, is refused, and
    the file that REFUSAL_FILE names is then made: where there is none, the program ended before that growth. A program
-   that has not ended after a minute is stopped. */
+   that has not ended after REFUSAL_SECONDS, or else a minute, is stopped. */
 #include <errno.h>
 #include <fcntl.h>
 #include <stddef.h>
@@ -18,7 +18,8 @@ __attribute__((constructor)) static void begin(void) {
   const char *number = getenv("REFUSED_GROWTH");
   growths = 0;
   asked = number ? atol(number) : -1;
-  alarm(60);
+  const char *seconds = getenv("REFUSAL_SECONDS");
+  alarm(seconds ? atoi(seconds) : 60);
 }
 
 static int is_refused(void) {
