@@ -22,7 +22,8 @@ use Rattle.replayer.specs.Views.{LaneView, ActorView, empty_lane, popped, after_
 use Rattle.replayer.specs.Words.{send_word, receive_word}
 use Rattle.replayer.specs.Agreement.{AreLanes, Agrees, HasActed}
 use Rattle.replayer.proofs.Kept.{sent, taken, shut-off, reopened}
-use Rattle.replayer.proofs.Scans.{IsOther, scan-others, find-same, all-same, find-found}
+use Rattle.schedule.proofs.Scanning.{IsOther, scan-others, find-found, first-other}
+use Rattle.replayer.proofs.Scans.{find-same, all-same}
 use Rattle.replayer.proofs.Words.{by_word, received, message, names-many, sends-by, sends-none, receives-by, receives-none}
 
 -- the lane from another instance is there
@@ -198,10 +199,6 @@ all-closed-same n k r actors p i a agrees at_p at_a =
     rw (at_p, mine.lanes.many)
     (all-same (lane_is_closed a.lanes) (λ q. is_closed r.history q (suc i)) (scan n (suc i) 0)
     (All-weaker (IsOther n (suc i)) (λ q. lane_is_closed a.lanes q ≡ is_closed r.history q (suc i)) (closed-same n r.history (suc i) a.lanes mine.lanes) (scan n (suc i) 0) (scan-others n (suc i) 0 (omega arith))))
-
--- where a message waits, it is another instance's
-pub first-other : (n : ℕ) (r : Run) (p q : ℕ) → r.last p ≤ n → first_waiting n r p ≡ Some q → (has_waiting r.history q p ≡ true) × IsOther n p q
-first-other n r p q known e = find-found (IsOther n p) (λ o. has_waiting r.history o p) (scan n p (r.last p)) q (scan-others n p (r.last p) known) e
 
 module _ (n k : ℕ) (r : Run) (actors : List ActorView) (p i : ℕ) (a : ActorView) (agrees : Agrees n k r actors) (at_p : p ≡ suc i) (at_a : slice_get actors i ≡ Some a) (lanes : List LaneView) (last : ℕ) (in_lanes : lanes ≡ a.lanes) (at_last : last ≡ a.last) where
   -- the search, from what is read

@@ -36,29 +36,6 @@ all-pass g t a b h counts pass = rw (range-next a b h, counts, pass)
 pub find-scan : (g : ℕ → Bool) (n p l : ℕ) → find g (scan n p l) ≡ option_or (find g (filter (λ q. not (q == p)) (range_with_len (l + 1) (n - l)))) (find g (filter (λ q. not (q == p)) (range_with_len 1 l)))
 find-scan g n p l = ap (find g) (filter-append (λ q. not (q == p)) (range_with_len (l + 1) (n - l)) (range_with_len 1 l)) ∙ find-append g (filter (λ q. not (q == p)) (range_with_len (l + 1) (n - l))) (filter (λ q. not (q == p)) (range_with_len 1 l))
 
--- one of n instances, and not p
-abbrev pub IsOther : ℕ → ℕ → ℕ → Type 0
-IsOther n p q = (1 ≤ q) × (q ≤ n) × (q ≢ p)
-
--- a range has the numbers of its bounds
-range-within : (s l : ℕ) → All (λ q. (s ≤ q) × (q < s + l)) (range_with_len s l)
-range-within s l k d h =
-    let short : k < l = omega (arith, length-range_with_len s l) in
-    rw (get_or-range_with_len s l k d short) (omega arith, omega arith)
-
--- the scan has other instances alone
-pub scan-others : (n p l : ℕ) → l ≤ n → All (IsOther n p) (scan n p l)
-scan-others n p l le k d h =
-    let bounds = inside k d h in
-    let other : (get_or (scan n p l) k d == p) ≡ false = not-true (get_or (scan n p l) k d == p) (filter_passes (λ q. not (q == p)) (range_with_len (l + 1) (n - l) ++ range_with_len 1 l) k d h) in
-    (bounds.0, bounds.1, eqb-false (get_or (scan n p l) k d) p other)
-  where
-    inside : All (λ q. (1 ≤ q) × (q ≤ n)) (scan n p l)
-    inside = All-filter (λ q. not (q == p)) (λ q. (1 ≤ q) × (q ≤ n)) (range_with_len (l + 1) (n - l) ++ range_with_len 1 l)
-        (All-append (λ q. (1 ≤ q) × (q ≤ n)) (range_with_len (l + 1) (n - l)) (range_with_len 1 l)
-        (All-weaker (λ q. (l + 1 ≤ q) × (q < l + 1 + (n - l))) (λ q. (1 ≤ q) × (q ≤ n)) (λ q b. (omega (arith, b.0), omega (arith, b.1))) (range_with_len (l + 1) (n - l)) (range-within (l + 1) (n - l)))
-        (All-weaker (λ q. (1 ≤ q) × (q < 1 + l)) (λ q. (1 ≤ q) × (q ≤ n)) (λ q b. (b.0, omega (arith, b.1))) (range_with_len 1 l) (range-within 1 l)))
-
 -- searches by tests that agree find the same
 pub find-same : (g h : ℕ → Bool) (qs : List ℕ) → All (λ q. g q ≡ h q) qs → find g qs ≡ find h qs
 find-same g h [] same = refl
@@ -68,17 +45,6 @@ find-same g h (q ∷ qs) same = rw (All-head (λ q. g q ≡ h q) q qs same, find
 pub all-same : (g h : ℕ → Bool) (qs : List ℕ) → All (λ q. g q ≡ h q) qs → list_all g qs ≡ list_all h qs
 all-same g h [] same = refl
 all-same g h (q ∷ qs) same = rw (All-head (λ q. g q ≡ h q) q qs same, all-same g h qs (All-tail (λ q. g q ≡ h q) q qs same))
-
--- what is found passes the test, and is one of those that were searched
-pub find-found : (P : ℕ → Type 0) (g : ℕ → Bool) (qs : List ℕ) (q : ℕ) → All P qs → find g qs ≡ Some q → (g q ≡ true) × P q
-find-found P g [] q all e = absurd (none-some q e)
-find-found P g (x ∷ qs) q all e = by (g x) refl e (find-found P g qs q (All-tail P x qs all))
-  where
-    by : (b : Bool) → g x ≡ b → cond b (Some x) (find g qs) ≡ Some q → (find g qs ≡ Some q → (g q ≡ true) × P q) → (g q ≡ true) × P q
-    by true it e later =
-        let same : x ≡ q = same_Some x q e in
-        (subst (λ y. g y ≡ true) same it, subst P same (All-head P x qs all))
-    by false it e later = later e
 
 -- so a search in both parts of the scan is one in the scan
 pub scan-first : (g : ℕ → Bool) (n p l : ℕ) (first second : Option ℕ) → first ≡ find g (filter (λ q. not (q == p)) (range_with_len (l + 1) (n - l))) → second ≡ find g (filter (λ q. not (q == p)) (range_with_len (0 + 1) (l - 0)))

@@ -5,5 +5,7 @@ pub mod Commands
 pub mod CommandsAgain
 pub mod FirstFault
 pub mod InstanceLine
+pub mod Legal
 pub mod Numbers
 pub mod Read
+pub mod Scanning

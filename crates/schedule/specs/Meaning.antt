@@ -1,18 +1,18 @@
 -- What a schedule means: its commands, one after the other, over a history (this project's profile).
-use Rattle.std.specs.Prelude.{ℕ, ◌+◌, ◌-◌, Bool, not, ◌==◌, List, [], ◌∷◌, ◌++◌, length, filter, find, fold, Option, None, Some, Result, Ok, Err, nat_lt, nat_le, if◌then◌else◌}
+use Rattle.std.specs.Prelude.{ℕ, ◌+◌, ◌-◌, Bool, not, ◌==◌, List, [], ◌∷◌, ◌++◌, length, filter, find, fold, Option, None, Some, Result, Ok, Err, nat_lt, nat_le, if◌then◌else◌, All}
 use Rattle.std.specs.List.{range_with_len, list_all}
 use Rattle.chart.specs.declared.history.Occurrence.{Occurrence}
 use Rattle.chart.specs.declared.history.Occurrence.TheVariants as events
 use Rattle.chart.specs.declared.line.TheConstants.{MAX_EVENTS}
 use Rattle.chart.specs.Events.{greatest_region}
-use Rattle.chart.specs.Histories.{waiting, is_closed, chart_of}
+use Rattle.chart.specs.Histories.{waiting, is_closed, chart_of, IsLegal}
 use Rattle.schedule.specs.declared.command.Action.{Action}
 use Rattle.schedule.specs.declared.command.Action.TheVariants.{Send, Receive, Any, Close, Open, Shut}
 use Rattle.schedule.specs.declared.command.Command.{Command}
 use Rattle.schedule.specs.declared.command.Note.{Note}
 use Rattle.schedule.specs.declared.command.Word.{Word}
 use Rattle.schedule.specs.declared.command.Word.TheVariants as words
-use Rattle.schedule.specs.Plans.{Plan}
+use Rattle.schedule.specs.Plans.{Plan, IsPlan, IsNumbered}
 
 -- how far a schedule has come: the history; from whom each instance received last, 0 for nobody; and each instance's open
 -- coregion, 0 for none
@@ -114,3 +114,7 @@ after n k commands = fold (step n k) start commands
 -- what a schedule means
 abbrev pub meaning : Plan → State
 meaning plan = after (length plan.names) plan.capacity plan.commands
+
+-- whatever a schedule's commands are, what they come to is a legal history over lanes of its capacity
+abbrev pub LegalLaw : Type 0
+LegalLaw = (plan : Plan) → IsPlan plan → All IsNumbered plan.commands → IsLegal (length plan.names) plan.capacity (meaning plan).run.history

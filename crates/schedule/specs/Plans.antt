@@ -24,6 +24,19 @@ HasPartner n p Shut = Unit {0}
 abbrev pub IsAmong : ℕ → Command → Type 0
 IsAmong n command = (command.actor ≤ n) × HasPartner n command.actor command.action
 
+-- the partner, if there is one, is numbered from 1 on
+abbrev pub HasNumber : Action → Type 0
+HasNumber (Send q name) = 1 ≤ q
+HasNumber (Receive q) = 1 ≤ q
+HasNumber Any = Unit {0}
+HasNumber (Close q) = 1 ≤ q
+HasNumber Open = Unit {0}
+HasNumber Shut = Unit {0}
+
+-- the command's instances are numbered from 1 on
+abbrev pub IsNumbered : Command → Type 0
+IsNumbered command = (1 ≤ command.actor) × HasNumber command.action
+
 -- what each schedule keeps
 pub record IsPlan (plan : Plan) : Type 0 where
   pub several : 2 ≤ length plan.names

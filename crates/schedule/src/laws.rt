@@ -1,4 +1,5 @@
-//! The laws of schedules' texts, each a clause of a function that does nothing.
+//! The laws of schedules, of their texts and of what they mean: each a clause of a function that does nothing.
+ghost use Rattle.schedule.specs.Meaning.{LegalLaw};
 ghost use Rattle.schedule.specs.Reading.{FirstFaultLaw};
 ghost use Rattle.schedule.specs.ScheduleText.{OneTextLaw};
 
@@ -6,4 +7,9 @@ ghost use Rattle.schedule.specs.ScheduleText.{OneTextLaw};
 pub fn text_law()
     ensures first_fault { FirstFaultLaw }
     ensures one_text { OneTextLaw }
+{}
+
+/// Whatever a schedule's commands are, what they come to is a legal history over lanes of its capacity.
+pub fn meaning_law()
+    ensures { LegalLaw }
 {}
