@@ -48,7 +48,7 @@ module _ (n k : ℕ) (w : World) (q p : ℕ) (m : Content) (stands : Stands n k 
   has_room =
       let its = stands.lanes q p in
       let many = goods_many n w.history q p in
-      omega (arith, many, length-drop (received w.history q p) (sent w.history q p), received-le n k w.history stands.legal q p, may.2, ap length its.published, its.freed, its.fits.published, its.fits.filled, its.fits.freed, its.fits.taken, its.fits.sender_places, ap length (rest q p).filled)
+      omega (arith, many, length-drop (received w.history q p) (sent w.history q p), received-le n k w.history stands.legal q p, may.2, ap length its.published, its.freed, its.fits.published, its.fits.filled, its.fits.freed, its.fits.taken, its.fits.sender_slots, ap length (rest q p).filled)
 
   pub send_fills : MayFollow n looked (Fills q p m)
   send_fills = record {

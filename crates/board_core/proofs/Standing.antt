@@ -84,14 +84,14 @@ pub record IsQuiet (before after : Traffic Parcel) : Type 0 where
   pub closed : after.closed ≡ before.closed
 
 -- nothing passes where a parcel is put back
-pub back_quiet : (t : Traffic Parcel) (xs : List Parcel) (place : ℕ) → IsQuiet t (back_in t xs place)
-back_quiet t [] place = record { published = refl; freed = refl; closed = refl }
-back_quiet t (x ∷ xs) place = record { published = refl; freed = refl; closed = refl }
+pub back_quiet : (t : Traffic Parcel) (xs : List Parcel) (slot : ℕ) → IsQuiet t (back_in t xs slot)
+back_quiet t [] slot = record { published = refl; freed = refl; closed = refl }
+back_quiet t (x ∷ xs) slot = record { published = refl; freed = refl; closed = refl }
 
 -- and what is filled stays
-pub back_filling : (t : Traffic Parcel) (xs : List Parcel) (place : ℕ) → (back_in t xs place).filling ≡ t.filling
-back_filling t [] place = refl
-back_filling t (x ∷ xs) place = refl
+pub back_filling : (t : Traffic Parcel) (xs : List Parcel) (slot : ℕ) → (back_in t xs slot).filling ≡ t.filling
+back_filling t [] slot = refl
+back_filling t (x ∷ xs) slot = refl
 
 -- a step that is no event
 pub stands_quiet : (n k : ℕ) (w : World) (q p : ℕ) (step : lane.Step Parcel) → Stands n k w → MayBeOnLane (w.lanes q p) step → IsQuiet (w.lanes q p).traffic (lane_with (w.lanes q p) step).traffic → HaveClocks (w.recorders q) p (lane_with (w.lanes q p) step).traffic.filling

@@ -7,7 +7,7 @@ use Rattle.chart.specs.Reports.{ReportView}
 -- A lane is named by its sender and its receiver.
 pub data Step : Type 0 where
   Sender_loads : (sender receiver : ℕ) → Step
-  -- it puts this message, with its clock, into the slot of a place
+  -- it puts this message, with its clock, into a slot
   Fills : (sender receiver : ℕ) → (message : Content) → Step
   -- what was filled is sent
   Publishes : (sender receiver : ℕ) → Step

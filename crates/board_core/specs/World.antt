@@ -23,7 +23,7 @@ pub record World : Type 0 where
   -- the newest event first
   pub history : List Occurrence
 
--- n instances that did nothing yet, with lanes of k places
+-- n instances that did nothing yet, with lanes of k slots
 abbrev pub new_world : ℕ → ℕ → World
 new_world n k = record { lanes = λ q p. new_lane k; recorders = λ p. new_recorder p n; regions = λ p. 0; history = [] }
 

@@ -4,7 +4,7 @@ use Rattle.std.specs.Prelude.{◌↔◌, reverse}
 use Rattle.std.proofs.lemmas.Bool.{cases_lt}
 use Rattle.std.proofs.lemmas.List.{append_assoc, append-nil, length_push, length-append}
 use Rattle.lane_core.specs.declared.answers.Room.{Room}
-use Rattle.lane_core.specs.declared.answers.Room.TheVariants.{Open, Full}
+use Rattle.lane_core.specs.declared.answers.Room.TheVariants.{Vacant, Full}
 use Rattle.lane_core.specs.declared.answers.Found.{Found}
 use Rattle.lane_core.specs.declared.answers.Found.TheVariants.{Message, Nothing, Ended}
 use Rattle.lane_core.specs.Steps.{Step, Sender_loads, Fills, Publishes, Receiver_loads, Takes, Frees}
@@ -29,8 +29,8 @@ pub record Gave {M : Type 0} (t u : Traffic M) (m : M) : Type 0 where
   pub closed : u.closed ≡ t.closed
 
 -- by a take of this message and a free, where nothing else was in the receiver's hand
-pub took : {M : Type 0} (t : Traffic M) (place : ℕ) (m : M) → t.emptying ≡ [] → t.slots place ≡ Some m → Took t (freed_all (taken_out t place)) m
-took {M} t place m hand found = record {
+pub took : {M : Type 0} (t : Traffic M) (slot : ℕ) (m : M) → t.emptying ≡ [] → t.slots slot ≡ Some m → Took t (freed_all (taken_out t slot)) m
+took {M} t slot m hand found = record {
   freed = ap (λ (o : Option M). t.freed ++ reverse (message_in o ++ t.emptying)) found ∙ ap (λ ms. t.freed ++ reverse (m ∷ ms)) hand;
   published = refl;
   emptying = refl;
@@ -38,8 +38,8 @@ took {M} t place m hand found = record {
 }
 
 -- by a fill and a publish, where nothing else was filled
-pub gave : {M : Type 0} (t : Traffic M) (place : ℕ) (m : M) → t.filling ≡ [] → Gave t (published_all (put_in t place m)) m
-gave t place m hand = record {
+pub gave : {M : Type 0} (t : Traffic M) (slot : ℕ) (m : M) → t.filling ≡ [] → Gave t (published_all (put_in t slot m)) m
+gave t slot m hand = record {
   published = ap (λ ms. t.published ++ (ms ++ m ∷ [])) hand;
   freed = refl;
   filling = refl;
@@ -153,14 +153,14 @@ module _ {M : Type 0} (form : Form M)
     (loaded : (k : ℕ) (h : List (Step M)) → 1 ≤ k → IsRun form k h → (traffic_of form k h).filling ≡ [] → length (waiting (traffic_of form k h)) < k → sender_keeps form k (Sender_loads ∷ h) ≡ true)
     (gives : (k : ℕ) (h : List (Step M)) (m : M) → 1 ≤ k → IsRun form k h → (traffic_of form k h).filling ≡ [] → (traffic_of form k h).closed ≡ false → sender_keeps form k h ≡ true → IsRun form k (Publishes ∷ Fills m ∷ h) × Gave (traffic_of form k h) (traffic_of form k (Publishes ∷ Fills m ∷ h)) m) where
   -- there is room where fewer wait
-  found_room : (k : ℕ) (h : List (Step M)) → 1 ≤ k → IsRun form k h → length (waiting (traffic_of form k h)) < k → sender_finds form k h ≡ Open
+  found_room : (k : ℕ) (h : List (Step M)) → 1 ≤ k → IsRun form k h → length (waiting (traffic_of form k h)) < k → sender_finds form k h ≡ Vacant
   found_room k h some run less = go (sender_finds form k h) (λ e. (full k h some run).0 e)
     where
-      go : (r : Room) → (r ≡ Full → length (waiting (traffic_of form k h)) ≡ k) → r ≡ Open
-      go Open right = refl
+      go : (r : Room) → (r ≡ Full → length (waiting (traffic_of form k h)) ≡ k) → r ≡ Vacant
+      go Vacant right = refl
       go Full right = absurd (let many = right refl in omega arith)
 
-  -- no place is claimed where as many wait
+  -- no slot is claimed where as many wait
   claims_full : (k : ℕ) (h : List (Step M)) → 1 ≤ k → IsRun form k h → (traffic_of form k h).filling ≡ [] → length (waiting (traffic_of form k h)) ≡ k → sender_keeps form k h ≡ false
   claims_full k h some run hand many = go (sender_keeps form k h) (λ e. claimed k h some run hand e)
     where
@@ -225,13 +225,13 @@ module _ {M : Type 0} (form : Form M)
             (λ less. absurd (omega arith)),
             (λ more. rest.3 (omega (arith, still))),
           )
-      go further Open e =
+      go further Vacant e =
           let look = looks k h run in
           onward further (Sender_loads ∷ h) look.0 look.1 (loaded k h some run hand (fewer (cases_lt (length (waiting t)) k)))
         where
           fewer : (length (waiting t) < k) ⊎ (k ≤ length (waiting t)) → length (waiting t) < k
           fewer (inl less) = less
-          fewer (inr more) = let no : Open ≡ Full = sym e ∙ (full k h some run).1 (omega (arith, bounded k h some run)) in cc
+          fewer (inr more) = let no : Vacant ≡ Full = sym e ∙ (full k h some run).1 (omega (arith, bounded k h some run)) in cc
 
       first : Further → (b : Bool) → (call.keeps && sender_keeps form k h) ≡ b → AreSent form k t (call ∷ calls) (sends form k calls (cond b (Publishes ∷ Fills m ∷ h) (send_call (sender_finds form k h) m h)))
       first further true e = onward further h run refl (both call.keeps (sender_keeps form k h) e)

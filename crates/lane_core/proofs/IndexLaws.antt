@@ -2,18 +2,18 @@
 use Rattle.std.proofs.Common.{◌≡◌, ℕ, ◌+◌, ◌/◌, ◌%◌, ◌<◌, ◌≤◌, ◌==◌, Bool, true, false, cond, List, [], ◌∷◌, length, Some, refl, sym, ap, ◌∙◌, arith}
 use Rattle.std.specs.Prelude.{◌↔◌, nat_lt}
 use Rattle.std.proofs.lemmas.Bool.{lt-ltb, ltb-true, ltb-false, false≢true}
-use Rattle.lane_core.specs.declared.answers.Room.TheVariants.{Open, Full}
+use Rattle.lane_core.specs.declared.answers.Room.TheVariants.{Vacant, Full}
 use Rattle.lane_core.specs.Alone.{ReceiverAlone, SenderAlone}
 use Rattle.lane_core.specs.Forms.{IsRun, lane_after, traffic_of, receiver_finds, sender_keeps, receiver_keeps}
-use Rattle.lane_core.specs.IndexWords.{IndexLane, MayFollow, after, fill_count, fill_place, take_count, take_place, back_count, back_place, index_words}
-use Rattle.lane_core.specs.Laws.{FreedInOrder, AtMostCapacity, NoPlaceOfBoth, FillsOwnPlace, TakesOwnMessage, PutsBackOwnMessage, NothingAfterClose, FullExactly, MessageExactly, EndedExactly}
+use Rattle.lane_core.specs.IndexWords.{IndexLane, MayFollow, after, fill_count, fill_slot, take_count, take_slot, back_count, back_slot, index_words}
+use Rattle.lane_core.specs.Laws.{FreedInOrder, AtMostCapacity, NoSlotOfBoth, FillsOwnSlot, TakesOwnMessage, PutsBackOwnMessage, NothingAfterClose, FullExactly, MessageExactly, EndedExactly}
 use Rattle.lane_core.specs.Steps.{Step, Sender_loads, Fills, Publishes, Closes, Receiver_loads, Takes, Puts_back, Frees}
 use Rattle.lane_core.specs.Traffic.{back_in, waiting}
 use Rattle.lane_core.proofs.Calls.{Took, Gave, took, gave, receiver_alone, sender_alone}
 use Rattle.lane_core.proofs.FormLaws as laws
 use Rattle.lane_core.proofs.IndexRuns.{Fits, fits, half, low, next_filled, last_taken, next_taken, taken_from}
 use Rattle.lane_core.proofs.Passing.{Holds, HasRoom, IsFoundRightly, found_rightly, count_waiting, has_next, next_empty, back_empty, put_back}
-use Rattle.lane_core.proofs.Rings.{other_place, set_there}
+use Rattle.lane_core.proofs.Rings.{other_slot, set_there}
 
 module _ {M : Type 0} where
   -- what was published, and whether the lane is closed, after a step on a closed lane
@@ -24,7 +24,7 @@ module _ {M : Type 0} where
   after_closed k l Closes f may closed = record { published = refl; closed = refl }
   after_closed k l Receiver_loads f may closed = record { published = refl; closed = closed }
   after_closed k l Takes f may closed = record { published = refl; closed = closed }
-  after_closed k l Puts_back f may closed = elim l.traffic.emptying as (λ ms. laws.StaysClosed l.traffic (back_in l.traffic ms (back_place l.receiver))) [
+  after_closed k l Puts_back f may closed = elim l.traffic.emptying as (λ ms. laws.StaysClosed l.traffic (back_in l.traffic ms (back_slot l.receiver))) [
     | [] ↦ record { published = refl; closed = closed }
     | m ∷ ms ↦ record { published = refl; closed = closed }
   ]
@@ -66,35 +66,35 @@ module _ {M : Type 0} where
   pub ended_exactly : EndedExactly (index_words M)
   ended_exactly = laws.ended_exactly (index_words M) holds room stays found_exactly
 
-  pub apart : NoPlaceOfBoth (index_words M)
-  apart k h some run c d sends receives same = let f = fits k h run in other_place k d c (omega arith) (omega arith) (sym same)
+  pub apart : NoSlotOfBoth (index_words M)
+  apart k h some run c d sends receives same = let f = fits k h run in other_slot k d c (omega arith) (omega arith) (sym same)
 
-  pub fills_own : FillsOwnPlace (index_words M)
+  pub fills_own : FillsOwnSlot (index_words M)
   fills_own k h m some run =
       let l = lane_after (index_words M) k h in
       let f = fits k h run.1 in
-      let place : fill_count l.sender % k ≡ (length l.traffic.published + length l.traffic.filling) % k = sym (ap (λ c. fill_count l.sender % c) f.sender_places) ∙ next_filled k l f in (
+      let slot : fill_count l.sender % k ≡ (length l.traffic.published + length l.traffic.filling) % k = sym (ap (λ c. fill_count l.sender % c) f.sender_slots) ∙ next_filled k l f in (
         (omega arith, run.0),
-        set_there l.traffic.slots (fill_count l.sender % l.sender.capacity) (fill_count l.sender % k) (Some m) (sym (ap (λ c. fill_count l.sender % c) f.sender_places)),
-        (λ opened. ap l.traffic.slots place ∙ next_empty k l.traffic f.holds opened (omega (arith, run.0))),
+        set_there l.traffic.slots (fill_count l.sender % l.sender.capacity) (fill_count l.sender % k) (Some m) (sym (ap (λ c. fill_count l.sender % c) f.sender_slots)),
+        (λ opened. ap l.traffic.slots slot ∙ next_empty k l.traffic f.holds opened (omega (arith, run.0))),
       )
 
   pub takes_own : TakesOwnMessage (index_words M)
   takes_own k h some run =
       let l = lane_after (index_words M) k h in
       let f = fits k h run.1 in
-      ((omega arith, run.0), has_next k l.traffic f.holds (take_count l.receiver % k) (omega (arith, run.0)) (sym (ap (λ c. take_count l.receiver % c) f.receiver_places) ∙ next_taken k l f))
+      ((omega arith, run.0), has_next k l.traffic f.holds (take_count l.receiver % k) (omega (arith, run.0)) (sym (ap (λ c. take_count l.receiver % c) f.receiver_slots) ∙ next_taken k l f))
 
   pub puts_back_own : PutsBackOwnMessage (index_words M)
   puts_back_own k h some run =
       let l = lane_after (index_words M) k h in
       let f = fits k h run.1 in
-      let place : back_count l.receiver % k ≡ back_place l.receiver = sym (ap (λ c. back_count l.receiver % c) f.receiver_places) in
+      let slot : back_count l.receiver % k ≡ back_slot l.receiver = sym (ap (λ c. back_count l.receiver % c) f.receiver_slots) in
       let hand : 0 < length l.traffic.emptying = omega (arith, run.0) in (
         (omega arith, omega (arith, run.0)),
-        ap l.traffic.slots (place ∙ last_taken k l f) ∙ back_empty k l.traffic f.holds hand,
+        ap l.traffic.slots (slot ∙ last_taken k l f) ∙ back_empty k l.traffic f.holds hand,
         refl,
-        put_back l.traffic (back_place l.receiver) (back_count l.receiver % k) place hand,
+        put_back l.traffic (back_slot l.receiver) (back_count l.receiver % k) slot hand,
       )
 
   pub full_exactly : FullExactly (index_words M)
@@ -103,8 +103,8 @@ module _ {M : Type 0} where
       l : IndexLane M
       l = lane_after (index_words M) k h
 
-      go : (b : Bool) → nat_lt l.sender.published (l.taken + l.sender.capacity) ≡ b → Fits k l → cond b Open Full ≡ Full ↔ length (waiting l.traffic) ≡ k
-      go true e f = let less : l.sender.published < l.taken + l.sender.capacity = ltb-true _ _ e in ((λ (no : Open ≡ Full). cc), (λ many. absurd (omega (arith, count_waiting l.traffic))))
+      go : (b : Bool) → nat_lt l.sender.published (l.taken + l.sender.capacity) ≡ b → Fits k l → cond b Vacant Full ≡ Full ↔ length (waiting l.traffic) ≡ k
+      go true e f = let less : l.sender.published < l.taken + l.sender.capacity = ltb-true _ _ e in ((λ (no : Vacant ≡ Full). cc), (λ many. absurd (omega (arith, count_waiting l.traffic))))
       go false e f = let more : l.taken + l.sender.capacity ≤ l.sender.published = ltb-false _ _ e in ((λ yes. omega (arith, count_waiting l.traffic)), (λ many. refl))
 
   -- A receiver or a sender that goes on alone.
@@ -127,7 +127,7 @@ module _ {M : Type 0} where
       let l = lane_after (index_words M) k h in
       let may : MayFollow l Takes = ltb-true _ _ e in
       let next = taken_from k l (fits k h run) may in
-      ((omega arith, (may, run)), (next.0, took l.traffic (take_place l.receiver) next.0 hand next.1))
+      ((omega arith, (may, run)), (next.0, took l.traffic (take_slot l.receiver) next.0 hand next.1))
 
   pub receiver_goes_on : ReceiverAlone (index_words M)
   receiver_goes_on = receiver_alone (index_words M) in_order found_exactly receiver_claimed (λ k h run. ((tt, run), refl)) receiver_loaded_claims receiver_takes
@@ -150,7 +150,7 @@ module _ {M : Type 0} where
       let l = lane_after (index_words M) k h in
       let f = fits k h run in
       let fill : MayFollow l (Fills m) = ltb-true _ _ e in
-      (((f.closed ∙ opened, omega arith), (fill, run)), gave l.traffic (fill_place l.sender) m hand)
+      (((f.closed ∙ opened, omega arith), (fill, run)), gave l.traffic (fill_slot l.sender) m hand)
 
   pub sender_goes_on : SenderAlone (index_words M)
   sender_goes_on = sender_alone (index_words M) in_order bounded full_exactly sender_claimed (λ k h run. ((tt, run), refl)) sender_loaded_claims sender_gives

@@ -10,19 +10,19 @@ use Rattle.lane_core.specs.declared.answers.Found.TheVariants.{Message, Nothing,
 use Rattle.std.proofs.lemmas.List.{append_assoc, append-nil, length_push, length-append, length-reverse, length-drop, nil_from_length}
 use Rattle.std.proofs.lemmas.Grind.{reverse_onto}
 use Rattle.lane_core.specs.Traffic.{Traffic, no_traffic, with_at, message_in, put_in, published_all, closed_off, taken_out, back_in, freed_all, waiting}
-use Rattle.lane_core.proofs.Rings.{other_place, set_there, set_other}
+use Rattle.lane_core.proofs.Rings.{other_slot, set_there, set_other}
 
--- from the place of this count on, the slots hold these messages
+-- from the slot of this count on, the slots hold these messages
 abbrev pub HasSlots : {M : Type 0} → (ℕ → Option M) → ℕ → ℕ → List M → Type 0
 HasSlots slots k n [] = Unit {0}
 HasSlots slots k n (m ∷ ms) = (slots (n % k) ≡ Some m) × HasSlots slots k (n + 1) ms
 
 -- a slot is set that has none of these messages
-has_other : {M : Type 0} (slots : ℕ → Option M) (k n : ℕ) (ms : List M) (place : ℕ) (o : Option M) → ((c : ℕ) → n ≤ c → c < n + length ms → c % k ≡ place → ⊥) → HasSlots slots k n ms → HasSlots (with_at slots place o) k n ms
-has_other slots k n [] place o other has = tt
-has_other slots k n (m ∷ ms) place o other has = (
-  set_other slots place (n % k) o (other n (omega arith) (omega arith)) ∙ has.0,
-  has_other slots k (n + 1) ms place o (λ c low high. other c (omega arith) (omega arith)) has.1,
+has_other : {M : Type 0} (slots : ℕ → Option M) (k n : ℕ) (ms : List M) (slot : ℕ) (o : Option M) → ((c : ℕ) → n ≤ c → c < n + length ms → c % k ≡ slot → ⊥) → HasSlots slots k n ms → HasSlots (with_at slots slot o) k n ms
+has_other slots k n [] slot o other has = tt
+has_other slots k n (m ∷ ms) slot o other has = (
+  set_other slots slot (n % k) o (other n (omega arith) (omega arith)) ∙ has.0,
+  has_other slots k (n + 1) ms slot o (λ c low high. other c (omega arith) (omega arith)) has.1,
 )
 
 -- one message more
@@ -42,12 +42,12 @@ between : {M : Type 0} (freed emptying : List M) (m : M) (ms : List M) → (free
 between freed emptying m ms = sym (ap (λ xs. (freed ++ xs) ++ ms) (reverse_onto emptying m []) ∙ ap (λ xs. xs ++ ms) (sym (append_assoc freed (reverse emptying) (m ∷ []))) ∙ append_assoc (freed ++ reverse emptying) (m ∷ []) ms)
 
 -- a slot that is emptied, and one that was empty
-vacated : {M : Type 0} (slots : ℕ → Option M) (place i : ℕ) → ((i ≡ place → ⊥) → slots i ≡ None) → with_at slots place None i ≡ None
-vacated slots place i empty = go (cases_eq i place)
+vacated : {M : Type 0} (slots : ℕ → Option M) (slot i : ℕ) → ((i ≡ slot → ⊥) → slots i ≡ None) → with_at slots slot None i ≡ None
+vacated slots slot i empty = go (cases_eq i slot)
   where
-    go : (i ≡ place) ⊎ (i ≡ place → ⊥) → with_at slots place None i ≡ None
-    go (inl same) = set_there slots place i None same
-    go (inr other) = set_other slots place i None other ∙ empty other
+    go : (i ≡ slot) ⊎ (i ≡ slot → ⊥) → with_at slots slot None i ≡ None
+    go (inl same) = set_there slots slot i None same
+    go (inr other) = set_other slots slot i None other ∙ empty other
 
 -- what was freed or is in the receiver's hand is a beginning of what was published, and the slots hold the rest, and then
 -- what the sender put in; nothing is in those from which the receiver has taken, nor, on an open lane, in those that are free
@@ -58,7 +58,7 @@ pub record Holds {M : Type 0} (k : ℕ) (t : Traffic M) : Type 0 where
   pub taken_empty : (c : ℕ) → length t.freed ≤ c → c < length t.freed + length t.emptying → t.slots (c % k) ≡ None
   pub free_empty : t.closed ≡ false → (c : ℕ) → length t.published + length t.filling ≤ c → c < length t.freed + k → t.slots (c % k) ≡ None
 
--- no more is published or put in than the lane has places
+-- no more is published or put in than the lane has slots
 abbrev pub HasRoom : {M : Type 0} → ℕ → Traffic M → Type 0
 HasRoom k t = length t.published + length t.filling ≤ length t.freed + k
 
@@ -79,23 +79,23 @@ module _ {M : Type 0} (k : ℕ) (t : Traffic M) (h : Holds k t) where
   count_held : reached + length (h.left ++ t.filling) ≡ length t.published + length t.filling
   count_held = omega (arith, length-append h.left t.filling, count_left k t h)
 
-  -- the sender puts a message into the slot of its next place, which is free
-  pub holds_filled : (place : ℕ) (m : M) → length t.published + length t.filling < length t.freed + k → place ≡ (length t.published + length t.filling) % k → Holds k (put_in t place m)
-  holds_filled place m room at = record {
+  -- the sender puts a message into its next slot, which is free
+  pub holds_filled : (slot : ℕ) (m : M) → length t.published + length t.filling < length t.freed + k → slot ≡ (length t.published + length t.filling) % k → Holds k (put_in t slot m)
+  holds_filled slot m room at = record {
     left = h.left;
     order = h.order;
-    slots = subst (HasSlots new k reached) (append_assoc h.left t.filling (m ∷ [])) (has_push new k reached (h.left ++ t.filling) m (has_other t.slots k reached (h.left ++ t.filling) place (Some m) other h.slots) (set_there t.slots place ((reached + length (h.left ++ t.filling)) % k) (Some m) (ap (λ c. c % k) count_held ∙ sym at)));
-    taken_empty = λ c low high. set_other t.slots place (c % k) (Some m) (λ same. other_place k c (length t.published + length t.filling) (omega (arith, count_left k t h)) (omega arith) (same ∙ at)) ∙ h.taken_empty c low high;
+    slots = subst (HasSlots new k reached) (append_assoc h.left t.filling (m ∷ [])) (has_push new k reached (h.left ++ t.filling) m (has_other t.slots k reached (h.left ++ t.filling) slot (Some m) other h.slots) (set_there t.slots slot ((reached + length (h.left ++ t.filling)) % k) (Some m) (ap (λ c. c % k) count_held ∙ sym at)));
+    taken_empty = λ c low high. set_other t.slots slot (c % k) (Some m) (λ same. other_slot k c (length t.published + length t.filling) (omega (arith, count_left k t h)) (omega arith) (same ∙ at)) ∙ h.taken_empty c low high;
     free_empty = λ opened c low high.
         let next : length t.published + length t.filling < c = omega (arith, length_push t.filling m) in
-        set_other t.slots place (c % k) (Some m) (λ same. other_place k (length t.published + length t.filling) c next (omega (arith, count_left k t h)) (sym (same ∙ at))) ∙ h.free_empty opened c (omega arith) high;
+        set_other t.slots slot (c % k) (Some m) (λ same. other_slot k (length t.published + length t.filling) c next (omega (arith, count_left k t h)) (sym (same ∙ at))) ∙ h.free_empty opened c (omega arith) high;
   }
     where
       new : ℕ → Option M
-      new = with_at t.slots place (Some m)
+      new = with_at t.slots slot (Some m)
 
-      other : (c : ℕ) → reached ≤ c → c < reached + length (h.left ++ t.filling) → c % k ≡ place → ⊥
-      other c low high same = other_place k c (length t.published + length t.filling) (omega (arith, count_held)) (omega arith) (same ∙ at)
+      other : (c : ℕ) → reached ≤ c → c < reached + length (h.left ++ t.filling) → c % k ≡ slot → ⊥
+      other c low high same = other_slot k c (length t.published + length t.filling) (omega (arith, count_held)) (omega arith) (same ∙ at)
 
   -- what was put in is published
   pub holds_published : Holds k (published_all t)
@@ -118,10 +118,10 @@ module _ {M : Type 0} (k : ℕ) (t : Traffic M) (h : Holds k t) where
   }
 
   -- the slot that is taken from next has a message
-  pub has_next : (place : ℕ) → reached < length t.published → place ≡ reached % k → (m : M) × (t.slots place ≡ Some m)
-  has_next place some at = go h.left h.slots (omega (arith, count_left k t h))
+  pub has_next : (slot : ℕ) → reached < length t.published → slot ≡ reached % k → (m : M) × (t.slots slot ≡ Some m)
+  has_next slot some at = go h.left h.slots (omega (arith, count_left k t h))
     where
-      go : (left : List M) → HasSlots t.slots k reached (left ++ t.filling) → 0 < length left → (m : M) × (t.slots place ≡ Some m)
+      go : (left : List M) → HasSlots t.slots k reached (left ++ t.filling) → 0 < length left → (m : M) × (t.slots slot ≡ Some m)
       go [] has more = absurd (omega arith)
       go (m ∷ ms) has more = (m, ap t.slots at ∙ has.0)
 
@@ -134,23 +134,23 @@ module _ {M : Type 0} (k : ℕ) (t : Traffic M) (h : Holds k t) where
       go (inr last) = absurd (other (omega arith))
 
   -- the receiver takes it
-  pub holds_taken : (place : ℕ) → reached < length t.published → HasRoom k t → place ≡ reached % k → Holds k (taken_out t place)
-  holds_taken place some room at = go h.left h.order h.slots count_held (omega (arith, count_left k t h))
+  pub holds_taken : (slot : ℕ) → reached < length t.published → HasRoom k t → slot ≡ reached % k → Holds k (taken_out t slot)
+  holds_taken slot some room at = go h.left h.order h.slots count_held (omega (arith, count_left k t h))
     where
-      go : (left : List M) → t.published ≡ (t.freed ++ reverse t.emptying) ++ left → HasSlots t.slots k reached (left ++ t.filling) → reached + length (left ++ t.filling) ≡ length t.published + length t.filling → 0 < length left → Holds k (taken_out t place)
+      go : (left : List M) → t.published ≡ (t.freed ++ reverse t.emptying) ++ left → HasSlots t.slots k reached (left ++ t.filling) → reached + length (left ++ t.filling) ≡ length t.published + length t.filling → 0 < length left → Holds k (taken_out t slot)
       go [] order has counted more = absurd (omega arith)
       go (m ∷ ms) order has counted more =
-          let found : t.slots place ≡ Some m = ap t.slots at ∙ has.0 in
+          let found : t.slots slot ≡ Some m = ap t.slots at ∙ has.0 in
           let shift : reached + 1 ≡ length t.freed + length (m ∷ t.emptying) = omega arith in
-          let kept : HasSlots (with_at t.slots place None) k (reached + 1) (ms ++ t.filling) = has_other t.slots k (reached + 1) (ms ++ t.filling) place None (λ c low high same. other_place k reached c (omega arith) (omega arith) (sym (same ∙ at))) has.1 in
-          let taken : Holds k (record t { slots = with_at t.slots place None; emptying = m ∷ t.emptying }) = record {
+          let kept : HasSlots (with_at t.slots slot None) k (reached + 1) (ms ++ t.filling) = has_other t.slots k (reached + 1) (ms ++ t.filling) slot None (λ c low high same. other_slot k reached c (omega arith) (omega arith) (sym (same ∙ at))) has.1 in
+          let taken : Holds k (record t { slots = with_at t.slots slot None; emptying = m ∷ t.emptying }) = record {
             left = ms;
             order = order ∙ between t.freed t.emptying m ms;
-            slots = subst (λ n. HasSlots (with_at t.slots place None) k n (ms ++ t.filling)) shift kept;
-            taken_empty = λ c low high. vacated t.slots place (c % k) (λ other. h.taken_empty c low (sooner c (λ last. other (ap (λ n. n % k) last ∙ sym at)) (omega arith)));
-            free_empty = λ opened c low high. vacated t.slots place (c % k) (λ other. h.free_empty opened c low high);
+            slots = subst (λ n. HasSlots (with_at t.slots slot None) k n (ms ++ t.filling)) shift kept;
+            taken_empty = λ c low high. vacated t.slots slot (c % k) (λ other. h.taken_empty c low (sooner c (λ last. other (ap (λ n. n % k) last ∙ sym at)) (omega arith)));
+            free_empty = λ opened c low high. vacated t.slots slot (c % k) (λ other. h.free_empty opened c low high);
           } in
-          subst (λ (o : Option M). Holds k (record t { slots = with_at t.slots place None; emptying = message_in o ++ t.emptying })) (sym found) taken
+          subst (λ (o : Option M). Holds k (record t { slots = with_at t.slots slot None; emptying = message_in o ++ t.emptying })) (sym found) taken
 
   -- nothing is in the slot from which it took last
   pub back_empty : 0 < length t.emptying → t.slots ((length t.freed + (length t.emptying - 1)) % k) ≡ None
@@ -161,22 +161,22 @@ module _ {M : Type 0} (k : ℕ) (t : Traffic M) (h : Holds k t) where
   next_empty opened room = h.free_empty opened (length t.published + length t.filling) (omega arith) room
 
   -- the receiver puts back what it took last
-  pub holds_back : (place : ℕ) → 0 < length t.emptying → HasRoom k t → place ≡ (length t.freed + (length t.emptying - 1)) % k → Holds k (back_in t t.emptying place)
-  holds_back place some room at = go t.emptying refl
+  pub holds_back : (slot : ℕ) → 0 < length t.emptying → HasRoom k t → slot ≡ (length t.freed + (length t.emptying - 1)) % k → Holds k (back_in t t.emptying slot)
+  holds_back slot some room at = go t.emptying refl
     where
-      go : (emptying : List M) → t.emptying ≡ emptying → Holds k (back_in t emptying place)
+      go : (emptying : List M) → t.emptying ≡ emptying → Holds k (back_in t emptying slot)
       go [] e = absurd (omega (arith, ap length e))
       go (m ∷ ms) e =
           let n : ℕ = length t.freed + length ms in
           let shift : reached ≡ n + 1 = omega (arith, ap length e) in
           let there : (length t.freed + (length t.emptying - 1)) ≡ n = omega (arith, ap length e) in
-          let kept : HasSlots (with_at t.slots place (Some m)) k (n + 1) (h.left ++ t.filling) = has_other t.slots k (n + 1) (h.left ++ t.filling) place (Some m) (λ c low high same. other_place k n c (omega arith) (omega (arith, count_held)) (sym (same ∙ at ∙ ap (λ c. c % k) there))) (subst (λ c. HasSlots t.slots k c (h.left ++ t.filling)) shift h.slots) in
+          let kept : HasSlots (with_at t.slots slot (Some m)) k (n + 1) (h.left ++ t.filling) = has_other t.slots k (n + 1) (h.left ++ t.filling) slot (Some m) (λ c low high same. other_slot k n c (omega arith) (omega (arith, count_held)) (sym (same ∙ at ∙ ap (λ c. c % k) there))) (subst (λ c. HasSlots t.slots k c (h.left ++ t.filling)) shift h.slots) in
           record {
             left = m ∷ h.left;
             order = h.order ∙ ap (λ ms. (t.freed ++ reverse ms) ++ h.left) e ∙ sym (between t.freed ms m h.left);
-            slots = (set_there t.slots place (n % k) (Some m) (sym (at ∙ ap (λ c. c % k) there)), kept);
-            taken_empty = λ c low high. set_other t.slots place (c % k) (Some m) (λ same. other_place k c n high (omega (arith, count_held, count_left k t h)) (same ∙ at ∙ ap (λ c. c % k) there)) ∙ h.taken_empty c low (omega arith);
-            free_empty = λ opened c low high. set_other t.slots place (c % k) (Some m) (λ same. other_place k n c (omega (arith, count_left k t h)) (omega arith) (sym (same ∙ at ∙ ap (λ c. c % k) there))) ∙ h.free_empty opened c low high;
+            slots = (set_there t.slots slot (n % k) (Some m) (sym (at ∙ ap (λ c. c % k) there)), kept);
+            taken_empty = λ c low high. set_other t.slots slot (c % k) (Some m) (λ same. other_slot k c n high (omega (arith, count_held, count_left k t h)) (same ∙ at ∙ ap (λ c. c % k) there)) ∙ h.taken_empty c low (omega arith);
+            free_empty = λ opened c low high. set_other t.slots slot (c % k) (Some m) (λ same. other_slot k n c (omega (arith, count_left k t h)) (omega arith) (sym (same ∙ at ∙ ap (λ c. c % k) there))) ∙ h.free_empty opened c low high;
           }
 
   -- what it took is freed
@@ -192,7 +192,7 @@ module _ {M : Type 0} (k : ℕ) (t : Traffic M) (h : Holds k t) where
       many : reached ≡ length (t.freed ++ reverse t.emptying) + 0
       many = omega (arith, length-append t.freed (reverse t.emptying), length-reverse t.emptying)
 
-      -- a place that the receiver had freed, or one of those that it frees now
+      -- a slot that the receiver had freed, or one of those that it frees now
       go : t.closed ≡ false → (c : ℕ) → length t.published + length t.filling ≤ c → c < reached + k → (c < length t.freed + k) ⊎ (length t.freed + k ≤ c) → t.slots (c % k) ≡ None
       go opened c low high (inl less) = h.free_empty opened c low less
       go opened c low high (inr more) =
@@ -200,14 +200,14 @@ module _ {M : Type 0} (k : ℕ) (t : Traffic M) (h : Holds k t) where
           let e : c ≡ d + k = omega arith in
           ap t.slots (ap (λ n. n % k) e ∙ add-mod_right d k) ∙ h.taken_empty d (omega arith) (omega arith)
 
--- what was taken last is put back into the slot of a place
-pub put_back : {M : Type 0} (t : Traffic M) (place i : ℕ) → i ≡ place → 0 < length t.emptying
-    → (m : M) × (before : List M) × (t.emptying ≡ m ∷ before) × ((back_in t t.emptying place).emptying ≡ before) × ((back_in t t.emptying place).slots i ≡ Some m)
-put_back {M} t place i same some = go t.emptying refl some
+-- what was taken last is put back into a slot
+pub put_back : {M : Type 0} (t : Traffic M) (slot i : ℕ) → i ≡ slot → 0 < length t.emptying
+    → (m : M) × (before : List M) × (t.emptying ≡ m ∷ before) × ((back_in t t.emptying slot).emptying ≡ before) × ((back_in t t.emptying slot).slots i ≡ Some m)
+put_back {M} t slot i same some = go t.emptying refl some
   where
-    go : (ms : List M) → t.emptying ≡ ms → 0 < length ms → (m : M) × (before : List M) × (t.emptying ≡ m ∷ before) × ((back_in t ms place).emptying ≡ before) × ((back_in t ms place).slots i ≡ Some m)
+    go : (ms : List M) → t.emptying ≡ ms → 0 < length ms → (m : M) × (before : List M) × (t.emptying ≡ m ∷ before) × ((back_in t ms slot).emptying ≡ before) × ((back_in t ms slot).slots i ≡ Some m)
     go [] e some = absurd (omega arith)
-    go (m ∷ ms) e some = (m, ms, e, refl, set_there t.slots place i (Some m) same)
+    go (m ∷ ms) e some = (m, ms, e, refl, set_there t.slots slot i (Some m) same)
 
 -- how many wait
 pub count_waiting : {M : Type 0} (t : Traffic M) → length (waiting t) ≡ length t.published - length t.freed

@@ -3,18 +3,18 @@ use Rattle.std.proofs.Common.{◌≡◌, ℕ, ◌+◌, ◌%◌, ◌<◌, ◌≤�
 use Rattle.std.specs.Prelude.{◌↔◌, not, nat_lt}
 use Rattle.std.proofs.Math.Bool.{and-true}
 use Rattle.std.proofs.lemmas.Bool.{lt-ltb, and_parts, false≢true}
-use Rattle.lane_core.specs.declared.answers.Room.TheVariants.{Open, Full}
+use Rattle.lane_core.specs.declared.answers.Room.TheVariants.{Vacant, Full}
 use Rattle.lane_core.specs.Alone.{ReceiverAlone, SenderAlone}
 use Rattle.lane_core.specs.Forms.{IsRun, lane_after, traffic_of, sender_finds, receiver_finds, sender_keeps, receiver_keeps}
-use Rattle.lane_core.specs.Laws.{FreedInOrder, AtMostCapacity, NoPlaceOfBoth, FillsOwnPlace, TakesOwnMessage, PutsBackOwnMessage, NothingAfterClose, FullExactly, MessageExactly, EndedExactly}
-use Rattle.lane_core.specs.SlotWords.{SlotLane, after, MayFollow, sender_place, receiver_place, sender_word, receiver_word, slot_words}
+use Rattle.lane_core.specs.Laws.{FreedInOrder, AtMostCapacity, NoSlotOfBoth, FillsOwnSlot, TakesOwnMessage, PutsBackOwnMessage, NothingAfterClose, FullExactly, MessageExactly, EndedExactly}
+use Rattle.lane_core.specs.SlotWords.{SlotLane, after, MayFollow, sender_slot, receiver_slot, sender_word, receiver_word, slot_words}
 use Rattle.lane_core.specs.Steps.{Step, Sender_loads, Fills, Publishes, Closes, Receiver_loads, Takes, Puts_back, Frees}
 use Rattle.lane_core.specs.Traffic.{back_in, waiting}
 use Rattle.lane_core.proofs.Calls.{Took, Gave, took, gave, receiver_alone, sender_alone}
 use Rattle.lane_core.proofs.FormLaws as laws
 use Rattle.lane_core.proofs.Passing.{Holds, HasRoom, IsFoundRightly, found_rightly, count_waiting, has_next, next_empty, back_empty, put_back}
-use Rattle.lane_core.proofs.Rings.{other_place, set_there}
-use Rattle.lane_core.proofs.SlotRuns.{bit, Fits, fits, word_cases, word_open, word_full, word_waits, next_there, next_place, last_place, at_sender, at_receiver}
+use Rattle.lane_core.proofs.Rings.{other_slot, set_there}
+use Rattle.lane_core.proofs.SlotRuns.{bit, Fits, fits, word_cases, word_open, word_full, word_waits, next_there, next_slot, last_slot, at_sender, at_receiver}
 
 -- a flag that stands for no message
 no_hand : (flag : Bool) → bit flag ≡ 0 → flag ≡ false
@@ -30,7 +30,7 @@ module _ {M : Type 0} where
   after_closed k l Closes f may closed = record { published = refl; closed = refl }
   after_closed k l Receiver_loads f may closed = record { published = refl; closed = closed }
   after_closed k l Takes f may closed = record { published = refl; closed = closed }
-  after_closed k l Puts_back f may closed = elim l.traffic.emptying as (λ ms. laws.StaysClosed l.traffic (back_in l.traffic ms (receiver_place l.receiver))) [
+  after_closed k l Puts_back f may closed = elim l.traffic.emptying as (λ ms. laws.StaysClosed l.traffic (back_in l.traffic ms (receiver_slot l.receiver))) [
     | [] ↦ record { published = refl; closed = closed }
     | m ∷ ms ↦ record { published = refl; closed = closed }
   ]
@@ -60,7 +60,7 @@ module _ {M : Type 0} where
           ended : length l.traffic.published ≤ length l.traffic.freed → (receiver_word l).end ≡ l.traffic.closed
           ended none =
               let same : l.receiver.taken ≡ l.sender.put = omega arith in
-              f.ends (receiver_place l.receiver) ∙ ap (λ b. l.sender.closed && b) (eq-eqb (receiver_place l.receiver) (l.sender.put % k) (at_receiver k l some f ∙ ap (λ n. n % k) same)) ∙ and-true l.sender.closed ∙ f.closed
+              f.ends (receiver_slot l.receiver) ∙ ap (λ b. l.sender.closed && b) (eq-eqb (receiver_slot l.receiver) (l.sender.put % k) (at_receiver k l some f ∙ ap (λ n. n % k) same)) ∙ and-true l.sender.closed ∙ f.closed
 
   pub in_order : FreedInOrder (slot_words M)
   in_order = laws.in_order (slot_words M) holds room stays found_exactly
@@ -77,14 +77,14 @@ module _ {M : Type 0} where
   pub ended_exactly : EndedExactly (slot_words M)
   ended_exactly = laws.ended_exactly (slot_words M) holds room stays found_exactly
 
-  pub apart : NoPlaceOfBoth (slot_words M)
+  pub apart : NoSlotOfBoth (slot_words M)
   apart k h some run c d sends receives same =
       let f = fits k h some run in
       let sender = f.sender_claims sends.0 in
       let receiver = f.receiver_claims receives.0 in
-      other_place k d c (omega (arith, receiver)) (omega (arith, sender)) (sym same)
+      other_slot k d c (omega (arith, receiver)) (omega (arith, sender)) (sym same)
 
-  pub fills_own : FillsOwnPlace (slot_words M)
+  pub fills_own : FillsOwnSlot (slot_words M)
   fills_own k h m some run =
       let l = lane_after (slot_words M) k h in
       let f = fits k h some run.1 in
@@ -92,7 +92,7 @@ module _ {M : Type 0} where
       let claimed = f.sender_claims run.0.0 in
       let counts : l.sender.put ≡ length l.traffic.published + length l.traffic.filling = omega (arith, fresh) in (
         (run.0.0, refl),
-        set_there l.traffic.slots (sender_place l.sender) (l.sender.put % k) (Some m) (sym (at_sender k l some f)),
+        set_there l.traffic.slots (sender_slot l.sender) (l.sender.put % k) (Some m) (sym (at_sender k l some f)),
         (λ opened. ap l.traffic.slots (ap (λ c. c % k) counts) ∙ next_empty k l.traffic f.holds opened (omega (arith, claimed, counts))),
       )
 
@@ -100,18 +100,18 @@ module _ {M : Type 0} where
   takes_own k h some run =
       let l = lane_after (slot_words M) k h in
       let f = fits k h some run.1 in
-      ((run.0.0, refl), has_next k l.traffic f.holds (l.receiver.taken % k) (next_there k l some f run.0.0 run.0.1) (sym (at_receiver k l some f) ∙ next_place k l some f run.0.1))
+      ((run.0.0, refl), has_next k l.traffic f.holds (l.receiver.taken % k) (next_there k l some f run.0.0 run.0.1) (sym (at_receiver k l some f) ∙ next_slot k l some f run.0.1))
 
   pub puts_back_own : PutsBackOwnMessage (slot_words M)
   puts_back_own k h some run =
       let l = lane_after (slot_words M) k h in
       let f = fits k h some run.1 in
-      let place : l.receiver.taken % k ≡ receiver_place l.receiver = sym (at_receiver k l some f) in
+      let slot : l.receiver.taken % k ≡ receiver_slot l.receiver = sym (at_receiver k l some f) in
       let hand : 0 < length l.traffic.emptying = omega (arith, ap bit run.0) in (
         (f.emptied_claims run.0, refl),
-        ap l.traffic.slots (place ∙ last_place k l some f run.0) ∙ back_empty k l.traffic f.holds hand,
+        ap l.traffic.slots (slot ∙ last_slot k l some f run.0) ∙ back_empty k l.traffic f.holds hand,
         refl,
-        put_back l.traffic (receiver_place l.receiver) (l.receiver.taken % k) place hand,
+        put_back l.traffic (receiver_slot l.receiver) (l.receiver.taken % k) slot hand,
       )
 
   pub full_exactly : FullExactly (slot_words M)
@@ -124,8 +124,8 @@ module _ {M : Type 0} where
       go f = by (word_cases k l some f)
         where
           by : (l.sender.put < l.receiver.taken + k) ⊎ (l.sender.put ≡ l.receiver.taken + k) → sender_finds (slot_words M) k h ≡ Full ↔ length (waiting l.traffic) ≡ k
-          by (inl less) = subst (λ b. cond b Full Open ≡ Full ↔ length (waiting l.traffic) ≡ k) (sym (word_open k l some f less)) ((λ (no : Open ≡ Full). cc), (λ many. absurd (omega (arith, count_waiting l.traffic))))
-          by (inr e) = subst (λ b. cond b Full Open ≡ Full ↔ length (waiting l.traffic) ≡ k) (sym (word_full k l some f e)) ((λ yes. omega (arith, count_waiting l.traffic)), (λ many. refl))
+          by (inl less) = subst (λ b. cond b Full Vacant ≡ Full ↔ length (waiting l.traffic) ≡ k) (sym (word_open k l some f less)) ((λ (no : Vacant ≡ Full). cc), (λ many. absurd (omega (arith, count_waiting l.traffic))))
+          by (inr e) = subst (λ b. cond b Full Vacant ≡ Full ↔ length (waiting l.traffic) ≡ k) (sym (word_full k l some f e)) ((λ yes. omega (arith, count_waiting l.traffic)), (λ many. refl))
 
   -- A receiver or a sender that goes on alone.
 
@@ -149,8 +149,8 @@ module _ {M : Type 0} where
       let f = fits k h some run in
       let claims : l.receiver.claims ≡ true = (and_parts l.receiver.claims (not l.receiver.emptied) e).0 in
       let fresh : l.receiver.emptied ≡ false = no_hand l.receiver.emptied (f.emptied ∙ ap length hand) in
-      let next = has_next k l.traffic f.holds (receiver_place l.receiver) (next_there k l some f claims fresh) (next_place k l some f fresh) in
-      ((refl, ((claims, fresh), run)), (next.0, took l.traffic (receiver_place l.receiver) next.0 hand next.1))
+      let next = has_next k l.traffic f.holds (receiver_slot l.receiver) (next_there k l some f claims fresh) (next_slot k l some f fresh) in
+      ((refl, ((claims, fresh), run)), (next.0, took l.traffic (receiver_slot l.receiver) next.0 hand next.1))
 
   pub receiver_goes_on : ReceiverAlone (slot_words M)
   receiver_goes_on = receiver_alone (slot_words M) in_order found_exactly receiver_claimed (λ k h run. ((tt, run), refl)) receiver_loaded_claims receiver_takes
@@ -175,7 +175,7 @@ module _ {M : Type 0} where
       let f = fits k h some run in
       let claims : l.sender.claims ≡ true = (and_parts l.sender.claims (not l.sender.filled) e).0 in
       let fresh : l.sender.filled ≡ false = no_hand l.sender.filled (f.filled ∙ ap length hand) in
-      (((f.closed ∙ opened, refl), ((claims, fresh), run)), gave l.traffic (sender_place l.sender) m hand)
+      (((f.closed ∙ opened, refl), ((claims, fresh), run)), gave l.traffic (sender_slot l.sender) m hand)
 
   pub sender_goes_on : SenderAlone (slot_words M)
   sender_goes_on = sender_alone (slot_words M) in_order bounded full_exactly sender_claimed (λ k h run. ((tt, run), refl)) sender_loaded_claims sender_gives

@@ -1,7 +1,7 @@
 -- What an end does that goes on alone: calls, one after another (this project's profile).
 use Rattle.std.specs.Prelude.{◌≡◌, ℕ, ◌-◌, ◌<◌, ◌≤◌, Bool, false, ◌&&◌, List, [], ◌∷◌, ◌++◌, length, take, if◌then◌else◌}
 use Rattle.lane_core.specs.declared.answers.Room.{Room}
-use Rattle.lane_core.specs.declared.answers.Room.TheVariants.{Open, Full}
+use Rattle.lane_core.specs.declared.answers.Room.TheVariants.{Vacant, Full}
 use Rattle.lane_core.specs.declared.answers.Found.{Found}
 use Rattle.lane_core.specs.declared.answers.Found.TheVariants.{Message, Nothing, Ended}
 use Rattle.lane_core.specs.Forms.{Form, IsRun, traffic_of, sender_finds, receiver_finds, sender_keeps, receiver_keeps}
@@ -14,7 +14,7 @@ receive_call Message h = Frees ∷ Takes ∷ Receiver_loads ∷ h
 receive_call Nothing h = Receiver_loads ∷ h
 receive_call Ended h = Receiver_loads ∷ h
 
--- the run with receives after it. For each it is given whether it may go by what was loaded before: it then makes no load
+-- the run with receives after it. For each it is given whether it may go by what was loaded earlier: it then makes no load
 -- where its end claims a message by that
 abbrev pub receives : {M : Type 0} → Form M → ℕ → List Bool → List (Step M) → List (Step M)
 receives form k [] h = h
@@ -23,10 +23,10 @@ receives form k (keeps ∷ calls) h =
 
 -- the steps of a send of this message that finds this, the newest first
 abbrev pub send_call : {M : Type 0} → Room → M → List (Step M) → List (Step M)
-send_call Open m h = Publishes ∷ Fills m ∷ Sender_loads ∷ h
+send_call Vacant m h = Publishes ∷ Fills m ∷ Sender_loads ∷ h
 send_call Full m h = Sender_loads ∷ h
 
--- a send of a message, and whether it may go by what was loaded before
+-- a send of a message, and whether it may go by what was loaded earlier
 pub record SendCall (M : Type 0) : Type 0 where
   pub message : M
   pub keeps : Bool
@@ -36,7 +36,7 @@ abbrev pub messages : {M : Type 0} → List (SendCall M) → List M
 messages [] = []
 messages (call ∷ calls) = call.message ∷ messages calls
 
--- the run with sends after it. One that may go by what was loaded before makes no load where its end claims a place by that
+-- the run with sends after it. One that may go by what was loaded earlier makes no load where its end claims a slot by that
 abbrev pub sends : {M : Type 0} → Form M → ℕ → List (SendCall M) → List (Step M) → List (Step M)
 sends form k [] h = h
 sends form k (call ∷ calls) h =
@@ -62,7 +62,7 @@ abbrev pub AreSent : {M : Type 0} → Form M → ℕ → Traffic M → List (Sen
 AreSent form k t calls h =
     IsRun form k h
     × ((traffic_of form k h).published ≡ t.published ++ take (k - length (waiting t)) (messages calls))
-    × (length calls < k - length (waiting t) → sender_finds form k h ≡ Open)
+    × (length calls < k - length (waiting t) → sender_finds form k h ≡ Vacant)
     × (k - length (waiting t) ≤ length calls → (sender_finds form k h ≡ Full) × (sender_keeps form k h ≡ false))
 
 -- of a sender between two calls that goes on alone, on an open lane

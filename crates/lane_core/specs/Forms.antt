@@ -8,7 +8,7 @@ use Rattle.lane_core.specs.Traffic.{Traffic}
 -- a form of the lanes whose messages are of the type M: what a lane is, what a step makes of it, and what its ends go by
 pub record Form (M : Type 0) : Type 1 where
   pub Lane : Type 0
-  -- with so many places
+  -- with so many slots
   pub new_lane : ℕ → Lane
   pub after : Lane → Step M → Lane
   -- the step is allowed, by its end's own numbers
@@ -18,18 +18,18 @@ pub record Form (M : Type 0) : Type 1 where
   -- what an end would find by a load now
   pub sender_finds : Lane → Room
   pub receiver_finds : Lane → Found
-  -- an end claims the place of this count
+  -- an end claims the slot of this count
   pub SenderClaims : Lane → ℕ → Type 0
   pub ReceiverClaims : Lane → ℕ → Type 0
-  -- the count whose place the sender fills next, the receiver takes from next, and it puts back into next
+  -- the count whose slot the sender fills next, the receiver takes from next, and it puts back into next
   pub fills_next : Lane → ℕ
   pub takes_next : Lane → ℕ
   pub puts_back_next : Lane → ℕ
-  -- an end claims a place to fill, or to take from, by what it loaded before
+  -- an end claims a slot to fill, or to take from, by what it loaded earlier
   pub sender_keeps : Lane → Bool
   pub receiver_keeps : Lane → Bool
 
--- the lane of k places after these steps
+-- the lane of k slots after these steps
 abbrev pub lane_after : {M : Type 0} → (form : Form M) → ℕ → List (Step M) → form.Lane
 lane_after form k [] = form.new_lane k
 lane_after form k (e ∷ h) = form.after (lane_after form k h) e

@@ -3,7 +3,7 @@ use Rattle.std.specs.Prelude.{◌≡◌, ℕ, ◌+◌, ◌-◌, ◌*◌, ◌/◌
 use Rattle.lane_core.specs.declared.index_words.SenderEnd.{SenderEnd}
 use Rattle.lane_core.specs.declared.index_words.ReceiverEnd.{ReceiverEnd}
 use Rattle.lane_core.specs.declared.answers.Room.{Room}
-use Rattle.lane_core.specs.declared.answers.Room.TheVariants.{Open, Full}
+use Rattle.lane_core.specs.declared.answers.Room.TheVariants.{Vacant, Full}
 use Rattle.lane_core.specs.declared.answers.Found.{Found}
 use Rattle.lane_core.specs.declared.answers.Found.TheVariants.{Message, Nothing, Ended}
 use Rattle.lane_core.specs.declared.answers.SenderStep.{SenderStep}
@@ -28,23 +28,23 @@ SenderFits s = (0 < s.capacity) × (s.published + s.filled < 2 ^ 62) × (s.freed
 abbrev pub sender_loaded : SenderEnd → ℕ → SenderEnd
 sender_loaded s word = record s { freed = word }
 
--- it claims the place of this count: from its count of published messages up to the last loaded one with the capacity
+-- it claims the slot of this count: from its count of published messages up to the last loaded one with the capacity
 abbrev pub SenderClaims : SenderEnd → ℕ → Type 0
 SenderClaims s count = (s.published ≤ count) × (count < s.freed + s.capacity)
 
--- what it found by its last load: room where it claims a place
+-- what it found by its last load: room where it claims a slot
 abbrev pub room_of : SenderEnd → Room
-room_of s = if nat_lt s.published (s.freed + s.capacity) then Open else Full
+room_of s = if nat_lt s.published (s.freed + s.capacity) then Vacant else Full
 
 -- the count of the next message
 abbrev pub fill_count : SenderEnd → ℕ
 fill_count s = s.published + s.filled
 
--- the place of that count
-abbrev pub fill_place : SenderEnd → ℕ
-fill_place s = fill_count s % s.capacity
+-- the slot of that count
+abbrev pub fill_slot : SenderEnd → ℕ
+fill_slot s = fill_count s % s.capacity
 
--- it may fill: the place of the next message is one that it claims
+-- it may fill: the slot of the next message is one that it claims
 abbrev pub MayFill : SenderEnd → Type 0
 MayFill s = fill_count s < s.freed + s.capacity
 
@@ -100,11 +100,11 @@ ReceiverFits r = (0 < r.capacity) × (r.freed + r.emptied < 2 ^ 62)
 abbrev pub receiver_loaded : ReceiverEnd → ℕ → ReceiverEnd
 receiver_loaded r word = record r { published = word / 2; closed = word % 2 == 1 }
 
--- it claims the place of this count: from its count of freed messages up to the last loaded one
+-- it claims the slot of this count: from its count of freed messages up to the last loaded one
 abbrev pub ReceiverClaims : ReceiverEnd → ℕ → Type 0
 ReceiverClaims r count = (r.freed ≤ count) × (count < r.published)
 
--- what it found by its last load: a message where it claims a place, and else whether the lane is closed
+-- what it found by its last load: a message where it claims a slot, and else whether the lane is closed
 abbrev pub found_by : ReceiverEnd → Found
 found_by r = if nat_lt r.freed r.published then Message else (if r.closed then Ended else Nothing)
 
@@ -112,11 +112,11 @@ found_by r = if nat_lt r.freed r.published then Message else (if r.closed then E
 abbrev pub take_count : ReceiverEnd → ℕ
 take_count r = r.freed + r.emptied
 
--- the place of that count
-abbrev pub take_place : ReceiverEnd → ℕ
-take_place r = take_count r % r.capacity
+-- the slot of that count
+abbrev pub take_slot : ReceiverEnd → ℕ
+take_slot r = take_count r % r.capacity
 
--- it may take: the place of the next message is one that it claims
+-- it may take: the slot of the next message is one that it claims
 abbrev pub MayTake : ReceiverEnd → Type 0
 MayTake r = take_count r < r.published
 
@@ -132,9 +132,9 @@ MayPutBack r = 0 < r.emptied
 abbrev pub back_count : ReceiverEnd → ℕ
 back_count r = r.freed + (r.emptied - 1)
 
--- the place of that count
-abbrev pub back_place : ReceiverEnd → ℕ
-back_place r = back_count r % r.capacity
+-- the slot of that count
+abbrev pub back_slot : ReceiverEnd → ℕ
+back_slot r = back_count r % r.capacity
 
 -- after it put that back
 abbrev pub receiver_put_back : ReceiverEnd → ReceiverEnd
@@ -180,12 +180,12 @@ new_lane k = record { put = 0; taken = 0; sender = new_sender k; receiver = new_
 -- after one step: an end's step reads its own numbers, and a load the other's word; each end stores its own word alone
 abbrev pub after : {M : Type 0} → IndexLane M → Step M → IndexLane M
 after l Sender_loads = record l { sender = sender_loaded l.sender l.taken }
-after l (Fills m) = record l { sender = sender_filled l.sender; traffic = put_in l.traffic (fill_place l.sender) m }
+after l (Fills m) = record l { sender = sender_filled l.sender; traffic = put_in l.traffic (fill_slot l.sender) m }
 after l Publishes = record l { put = publish_word l.sender; sender = sender_published l.sender; traffic = published_all l.traffic }
 after l Closes = record l { put = close_word l.sender; sender = sender_closed l.sender; traffic = closed_off l.traffic }
 after l Receiver_loads = record l { receiver = receiver_loaded l.receiver l.put }
-after l Takes = record l { receiver = receiver_took l.receiver; traffic = taken_out l.traffic (take_place l.receiver) }
-after l Puts_back = record l { receiver = receiver_put_back l.receiver; traffic = back_in l.traffic l.traffic.emptying (back_place l.receiver) }
+after l Takes = record l { receiver = receiver_took l.receiver; traffic = taken_out l.traffic (take_slot l.receiver) }
+after l Puts_back = record l { receiver = receiver_put_back l.receiver; traffic = back_in l.traffic l.traffic.emptying (back_slot l.receiver) }
 after l Frees = record l { taken = free_word l.receiver; receiver = receiver_freed l.receiver; traffic = freed_all l.traffic }
 
 -- the step is allowed, by its end's own numbers

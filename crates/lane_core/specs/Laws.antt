@@ -12,29 +12,29 @@ abbrev pub FreedInOrder : {M : Type 0} → Form M → Type 0
 FreedInOrder {M} form = (k : ℕ) (h : List (Step M)) → 1 ≤ k → IsRun form k h
     → (rest : List M) × ((traffic_of form k h).published ≡ (traffic_of form k h).freed ++ rest)
 
--- at most as many messages wait as there are places
+-- at most as many messages wait as there are slots
 abbrev pub AtMostCapacity : {M : Type 0} → Form M → Type 0
 AtMostCapacity {M} form = (k : ℕ) (h : List (Step M)) → 1 ≤ k → IsRun form k h → length (waiting (traffic_of form k h)) ≤ k
 
--- no place is claimed by both ends
-abbrev pub NoPlaceOfBoth : {M : Type 0} → Form M → Type 0
-NoPlaceOfBoth {M} form = (k : ℕ) (h : List (Step M)) → 1 ≤ k → IsRun form k h
+-- no slot is claimed by both ends
+abbrev pub NoSlotOfBoth : {M : Type 0} → Form M → Type 0
+NoSlotOfBoth {M} form = (k : ℕ) (h : List (Step M)) → 1 ≤ k → IsRun form k h
     → (c d : ℕ) → SenderHas form k h c → ReceiverHas form k h d → c % k ≡ d % k → ⊥
 
--- the sender fills the slot of a place that it claims, which then has the message; on an open lane nothing was in it
-abbrev pub FillsOwnPlace : {M : Type 0} → Form M → Type 0
-FillsOwnPlace {M} form = (k : ℕ) (h : List (Step M)) (m : M) → 1 ≤ k → IsRun form k (Fills m ∷ h)
+-- the sender fills a slot that it claims, which then has the message; on an open lane nothing was in it
+abbrev pub FillsOwnSlot : {M : Type 0} → Form M → Type 0
+FillsOwnSlot {M} form = (k : ℕ) (h : List (Step M)) (m : M) → 1 ≤ k → IsRun form k (Fills m ∷ h)
     → SenderHas form k h (fills_next form k h)
     × ((traffic_of form k (Fills m ∷ h)).slots (fills_next form k h % k) ≡ Some m)
     × ((traffic_of form k h).closed ≡ false → (traffic_of form k h).slots (fills_next form k h % k) ≡ None)
 
--- the receiver takes from a place that it claims, and there is a message
+-- the receiver takes from a slot that it claims, and there is a message
 abbrev pub TakesOwnMessage : {M : Type 0} → Form M → Type 0
 TakesOwnMessage {M} form = (k : ℕ) (h : List (Step M)) → 1 ≤ k → IsRun form k (Takes ∷ h)
     → ReceiverHas form k h (takes_next form k h)
     × ((m : M) × ((traffic_of form k h).slots (takes_next form k h % k) ≡ Some m))
 
--- the receiver puts what it took last back into the slot of a place that it claims, which was empty, and takes from there
+-- the receiver puts what it took last back into a slot that it claims, which was empty, and takes from there
 -- next
 abbrev pub PutsBackOwnMessage : {M : Type 0} → Form M → Type 0
 PutsBackOwnMessage {M} form = (k : ℕ) (h : List (Step M)) → 1 ≤ k → IsRun form k (Puts_back ∷ h)
@@ -52,7 +52,7 @@ NothingAfterClose {M} form = (k : ℕ) (h more : List (Step M)) → 1 ≤ k → 
     → ((traffic_of form k (more ++ h)).published ≡ (traffic_of form k h).published)
     × ((traffic_of form k (more ++ h)).closed ≡ true)
 
--- a load of the sender finds no free place exactly where k messages wait
+-- a load of the sender finds no free slot exactly where k messages wait
 abbrev pub FullExactly : {M : Type 0} → Form M → Type 0
 FullExactly {M} form = (k : ℕ) (h : List (Step M)) → 1 ≤ k → IsRun form k h
     → sender_finds form k h ≡ Full ↔ length (waiting (traffic_of form k h)) ≡ k

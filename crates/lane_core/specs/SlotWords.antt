@@ -4,7 +4,7 @@ use Rattle.lane_core.specs.declared.slot_words.Word.{Word}
 use Rattle.lane_core.specs.declared.slot_words.SenderEnd.{SenderEnd}
 use Rattle.lane_core.specs.declared.slot_words.ReceiverEnd.{ReceiverEnd}
 use Rattle.lane_core.specs.declared.answers.Room.{Room}
-use Rattle.lane_core.specs.declared.answers.Room.TheVariants.{Open, Full}
+use Rattle.lane_core.specs.declared.answers.Room.TheVariants.{Vacant, Full}
 use Rattle.lane_core.specs.declared.answers.Found.{Found}
 use Rattle.lane_core.specs.declared.answers.Found.TheVariants.{Message, Nothing, Ended}
 use Rattle.lane_core.specs.declared.answers.SenderStep.{SenderStep}
@@ -15,7 +15,7 @@ use Rattle.lane_core.specs.Steps.{Step, Sender_loads, Fills, Publishes, Closes, 
 use Rattle.lane_core.specs.Forms.{Form}
 use Rattle.lane_core.specs.Traffic.{Traffic, no_traffic, with_at, put_in, published_all, closed_off, taken_out, back_in, freed_all}
 
--- the word of a place of a new lane
+-- the word of a slot of a new lane
 abbrev pub new_word : Word
 new_word = record { full = false; end = false }
 
@@ -29,23 +29,23 @@ new_sender k = record { capacity = k; put = 0; claims = false; filled = false; c
 abbrev pub SenderFits : SenderEnd → Type 0
 SenderFits s = (0 < s.capacity) × (s.put < 2 ^ 62)
 
--- its next place
-abbrev pub sender_place : SenderEnd → ℕ
-sender_place s = s.put % s.capacity
+-- its next slot
+abbrev pub sender_slot : SenderEnd → ℕ
+sender_slot s = s.put % s.capacity
 
--- after it loaded this word: it claims its next place unless that is full
+-- after it loaded this word: it claims its next slot unless that is full
 abbrev pub sender_loaded : SenderEnd → Word → SenderEnd
 sender_loaded s word = record s { claims = not word.full }
 
--- it claims the place of this count
+-- it claims the slot of this count
 abbrev pub SenderClaims : SenderEnd → ℕ → Type 0
 SenderClaims s count = (s.claims ≡ true) × (count ≡ s.put)
 
--- what it finds in this word of its next place
+-- what it finds in this word of its next slot
 abbrev pub room_in : Word → Room
-room_in word = if word.full then Full else Open
+room_in word = if word.full then Full else Vacant
 
--- it may fill: it claims its next place, and has not filled it
+-- it may fill: it claims its next slot, and has not filled it
 abbrev pub MayFill : SenderEnd → Type 0
 MayFill s = (s.claims ≡ true) × (s.filled ≡ false)
 
@@ -53,7 +53,7 @@ MayFill s = (s.claims ≡ true) × (s.filled ≡ false)
 abbrev pub sender_filled : SenderEnd → SenderEnd
 sender_filled s = record s { filled = true }
 
--- it may publish: its next place is filled, and the lane is open
+-- it may publish: its next slot is filled, and the lane is open
 abbrev pub MayPublish : SenderEnd → Type 0
 MayPublish s = (s.closed ≡ false) × (s.filled ≡ true)
 
@@ -97,23 +97,23 @@ new_receiver k = record { capacity = k; taken = 0; claims = false; emptied = fal
 abbrev pub ReceiverFits : ReceiverEnd → Type 0
 ReceiverFits r = (0 < r.capacity) × (r.taken < 2 ^ 62)
 
--- its next place
-abbrev pub receiver_place : ReceiverEnd → ℕ
-receiver_place r = r.taken % r.capacity
+-- its next slot
+abbrev pub receiver_slot : ReceiverEnd → ℕ
+receiver_slot r = r.taken % r.capacity
 
--- after it loaded this word: it claims its next place where that is full
+-- after it loaded this word: it claims its next slot where that is full
 abbrev pub receiver_loaded : ReceiverEnd → Word → ReceiverEnd
 receiver_loaded r word = record r { claims = word.full }
 
--- it claims the place of this count
+-- it claims the slot of this count
 abbrev pub ReceiverClaims : ReceiverEnd → ℕ → Type 0
 ReceiverClaims r count = (r.claims ≡ true) × (count ≡ r.taken)
 
--- what it finds in this word of its next place: a message where it is full, and else whether the lane has ended
+-- what it finds in this word of its next slot: a message where it is full, and else whether the lane has ended
 abbrev pub found_in : Word → Found
 found_in word = if word.full then Message else (if word.end then Ended else Nothing)
 
--- it may take: it claims its next place, and has not taken from it
+-- it may take: it claims its next slot, and has not taken from it
 abbrev pub MayTake : ReceiverEnd → Type 0
 MayTake r = (r.claims ≡ true) × (r.emptied ≡ false)
 
@@ -154,7 +154,7 @@ MayReceive r Free = MayFree r
 -- The lane.
 
 pub record SlotLane (M : Type 0) : Type 0 where
-  -- the word of each place
+  -- the word of each slot
   pub words : ℕ → Word
   pub sender : SenderEnd
   pub receiver : ReceiverEnd
@@ -165,24 +165,24 @@ pub record SlotLane (M : Type 0) : Type 0 where
 abbrev pub new_lane : {M : Type 0} → ℕ → SlotLane M
 new_lane k = record { words = λ i. new_word; sender = new_sender k; receiver = new_receiver k; traffic = no_traffic }
 
--- the word of the sender's next place
+-- the word of the sender's next slot
 abbrev pub sender_word : {M : Type 0} → SlotLane M → Word
-sender_word l = l.words (sender_place l.sender)
+sender_word l = l.words (sender_slot l.sender)
 
--- the word of the receiver's next place
+-- the word of the receiver's next slot
 abbrev pub receiver_word : {M : Type 0} → SlotLane M → Word
-receiver_word l = l.words (receiver_place l.receiver)
+receiver_word l = l.words (receiver_slot l.receiver)
 
--- after one step: an end reads its own numbers and the word of its next place
+-- after one step: an end reads its own numbers and the word of its next slot
 abbrev pub after : {M : Type 0} → SlotLane M → Step M → SlotLane M
 after l Sender_loads = record l { sender = sender_loaded l.sender (sender_word l) }
-after l (Fills m) = record l { sender = sender_filled l.sender; traffic = put_in l.traffic (sender_place l.sender) m }
-after l Publishes = record l { words = with_at l.words (sender_place l.sender) (full_word (sender_word l)); sender = sender_published l.sender; traffic = published_all l.traffic }
-after l Closes = record l { words = with_at l.words (sender_place l.sender) (end_word (sender_word l)); sender = sender_closed l.sender; traffic = closed_off l.traffic }
+after l (Fills m) = record l { sender = sender_filled l.sender; traffic = put_in l.traffic (sender_slot l.sender) m }
+after l Publishes = record l { words = with_at l.words (sender_slot l.sender) (full_word (sender_word l)); sender = sender_published l.sender; traffic = published_all l.traffic }
+after l Closes = record l { words = with_at l.words (sender_slot l.sender) (end_word (sender_word l)); sender = sender_closed l.sender; traffic = closed_off l.traffic }
 after l Receiver_loads = record l { receiver = receiver_loaded l.receiver (receiver_word l) }
-after l Takes = record l { receiver = receiver_took l.receiver; traffic = taken_out l.traffic (receiver_place l.receiver) }
-after l Puts_back = record l { receiver = receiver_put_back l.receiver; traffic = back_in l.traffic l.traffic.emptying (receiver_place l.receiver) }
-after l Frees = record l { words = with_at l.words (receiver_place l.receiver) (free_word (receiver_word l)); receiver = receiver_freed l.receiver; traffic = freed_all l.traffic }
+after l Takes = record l { receiver = receiver_took l.receiver; traffic = taken_out l.traffic (receiver_slot l.receiver) }
+after l Puts_back = record l { receiver = receiver_put_back l.receiver; traffic = back_in l.traffic l.traffic.emptying (receiver_slot l.receiver) }
+after l Frees = record l { words = with_at l.words (receiver_slot l.receiver) (free_word (receiver_word l)); receiver = receiver_freed l.receiver; traffic = freed_all l.traffic }
 
 -- the step is allowed, by its end's own numbers and claim
 abbrev pub MayFollow : {M : Type 0} → SlotLane M → Step M → Type 0

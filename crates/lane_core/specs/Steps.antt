@@ -4,7 +4,7 @@
 -- a step of one end, where messages are of the type M: a step on a word, or a touch of a slot
 pub data Step (M : Type 0) : Type 0 where
   Sender_loads : Step M
-  -- it puts this message into the slot of a place
+  -- it puts this message into a slot
   Fills : (message : M) → Step M
   Publishes : Step M
   Closes : Step M

@@ -3,7 +3,7 @@
 use Rattle.std.specs.Prelude.{ℕ, ◌==◌, Bool, true, false, List, [], ◌∷◌, ◌++◌, length, drop, reverse, Option, None, Some, if◌then◌else◌}
 
 pub record Traffic (M : Type 0) : Type 0 where
-  -- what the slot of each place holds
+  -- what each slot holds
   pub slots : ℕ → Option M
   -- what the sender put into slots and has not published, in order
   pub filling : List M
@@ -20,18 +20,18 @@ pub record Traffic (M : Type 0) : Type 0 where
 abbrev pub no_traffic : {M : Type 0} → Traffic M
 no_traffic = record { slots = λ i. None; filling = []; emptying = []; published = []; freed = []; closed = false }
 
--- what each place has, with this at one place
+-- what each slot has, with this in one
 abbrev pub with_at : {A : Type 0} → (ℕ → A) → ℕ → A → ℕ → A
-with_at at place a i = if i == place then a else at i
+with_at at slot a i = if i == slot then a else at i
 
 -- the message of a slot, if it has one
 abbrev pub message_in : {M : Type 0} → Option M → List M
 message_in None = []
 message_in (Some m) = m ∷ []
 
--- the sender puts a message into the slot of a place
+-- the sender puts a message into a slot
 abbrev pub put_in : {M : Type 0} → Traffic M → ℕ → M → Traffic M
-put_in t place m = record t { slots = with_at t.slots place (Some m); filling = t.filling ++ m ∷ [] }
+put_in t slot m = record t { slots = with_at t.slots slot (Some m); filling = t.filling ++ m ∷ [] }
 
 -- what it put in is published
 abbrev pub published_all : {M : Type 0} → Traffic M → Traffic M
@@ -41,14 +41,14 @@ published_all t = record t { published = t.published ++ t.filling; filling = [] 
 abbrev pub closed_off : {M : Type 0} → Traffic M → Traffic M
 closed_off t = record t { filling = []; closed = true }
 
--- the receiver takes what the slot of a place holds
+-- the receiver takes what a slot holds
 abbrev pub taken_out : {M : Type 0} → Traffic M → ℕ → Traffic M
-taken_out t place = record t { slots = with_at t.slots place None; emptying = message_in (t.slots place) ++ t.emptying }
+taken_out t slot = record t { slots = with_at t.slots slot None; emptying = message_in (t.slots slot) ++ t.emptying }
 
--- the receiver puts what it took last back into the slot of a place
+-- the receiver puts what it took last back into a slot
 abbrev pub back_in : {M : Type 0} → Traffic M → List M → ℕ → Traffic M
-back_in t [] place = t
-back_in t (m ∷ ms) place = record t { slots = with_at t.slots place (Some m); emptying = ms }
+back_in t [] slot = t
+back_in t (m ∷ ms) slot = record t { slots = with_at t.slots slot (Some m); emptying = ms }
 
 -- what it took is freed
 abbrev pub freed_all : {M : Type 0} → Traffic M → Traffic M

@@ -3,9 +3,9 @@
 /// What a sender finds by a load.
 #[derive(Clone, Copy, Debug, PartialEq, Eq)]
 pub enum Room {
-    /// It claims at least one place.
-    Open,
-    /// Each place has a message that waits.
+    /// It claims at least one slot.
+    Vacant,
+    /// Each slot has a message that waits.
     Full,
 }
 
@@ -25,7 +25,7 @@ pub enum Found {
 pub enum SenderStep {
     /// It loads a word.
     Load,
-    /// It puts the message into the slot of the next place.
+    /// It puts the message into the next slot.
     Fill,
     /// It publishes what it has put into slots.
     Publish,
@@ -36,8 +36,8 @@ pub enum SenderStep {
 pub enum ReceiverStep {
     /// It loads a word.
     Look,
-    /// It takes the message out of the slot of the next place.
+    /// It takes the message out of the next slot.
     Take,
-    /// It frees the places that it has taken from.
+    /// It frees the slots that it has taken from.
     Free,
 }

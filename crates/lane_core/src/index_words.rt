@@ -2,7 +2,7 @@
 //! one more when it has closed the lane. The receiver stores the word `taken`: the count of the messages that it freed.
 //! Each end loads the other's word, keeps what it loaded, and may go on by it.
 ghost use Rattle.std.specs.Prelude.{IsTrue, ◌↔◌, ◌≡◌, ◌+◌, ◌*◌, ◌<◌, ◌≤◌, ◌^◌, false};
-ghost use Rattle.lane_core.specs.IndexWords.{new_sender, sender_loaded, room_of, fill_place, sender_filled, publish_word, sender_published, close_word, sender_closed, next_sender_step, MayFill, MayPublish, MayClose, MaySend, new_receiver, receiver_loaded, found_by, take_place, receiver_took, back_place, receiver_put_back, free_word, receiver_freed, next_receiver_step, MayTake, MayPutBack, MayFree, MayReceive, SenderFits, ReceiverFits};
+ghost use Rattle.lane_core.specs.IndexWords.{new_sender, sender_loaded, room_of, fill_slot, sender_filled, publish_word, sender_published, close_word, sender_closed, next_sender_step, MayFill, MayPublish, MayClose, MaySend, new_receiver, receiver_loaded, found_by, take_slot, receiver_took, back_slot, receiver_put_back, free_word, receiver_freed, next_receiver_step, MayTake, MayPutBack, MayFree, MayReceive, SenderFits, ReceiverFits};
 
 use crate::answers::{Found, ReceiverStep, Room, SenderStep};
 
@@ -12,7 +12,7 @@ pub const LIMIT: u64 = 0x4000_0000_0000_0000;
 /// The sender of a lane. Its numbers are counts of messages since the lane began.
 #[derive(Clone, Copy, Debug, PartialEq, Eq)]
 pub struct SenderEnd {
-    /// How many places the lane has, at least 1.
+    /// How many slots the lane has, at least 1.
     pub(crate) capacity: u64,
     /// How many messages it published.
     pub(crate) published: u64,
@@ -25,7 +25,7 @@ pub struct SenderEnd {
 }
 
 impl SenderEnd {
-    /// The sender of a new lane of so many places.
+    /// The sender of a new lane of so many slots.
     #[inline]
     pub fn new(capacity: u64) -> SenderEnd
         ensures { result ≡ new_sender capacity }
@@ -46,7 +46,7 @@ impl SenderEnd {
         taken <= u64::MAX - self.capacity
     }
 
-    /// Whether it has a place to fill, and numbers that fit.
+    /// Whether it has a slot to fill, and numbers that fit.
     pub fn can_fill(&self) -> bool
         ensures { IsTrue result ↔ (SenderFits self.now × MayFill self.now) }
     {
@@ -67,7 +67,7 @@ impl SenderEnd {
         self.fits() && !self.closed
     }
 
-    /// Whether its numbers fit: they are below 2^62, and the lane has a place.
+    /// Whether its numbers fit: they are below 2^62, and the lane has a slot.
     pub fn fits(&self) -> bool
         ensures { IsTrue result ↔ SenderFits self.now }
     {
@@ -78,7 +78,7 @@ impl SenderEnd {
             && self.capacity < LIMIT - self.freed
     }
 
-    /// The step that comes next where it has a message to send: what is filled is published, a place that it claims is
+    /// The step that comes next where it has a message to send: what is filled is published, a slot that it claims is
     /// filled, and else it loads.
     pub fn next(&self) -> SenderStep
         requires { SenderFits self.now }
@@ -94,7 +94,7 @@ impl SenderEnd {
         }
     }
 
-    /// What the word `taken` tells: it claims the places up to that count and the capacity.
+    /// What the word `taken` tells: it claims the slots up to that count and the capacity.
     pub fn load(&mut self, taken: u64) -> Room
         requires { taken + self.old.capacity < 2 ^ 64 }
         ensures after { self.new ≡ sender_loaded self.old taken }
@@ -102,22 +102,22 @@ impl SenderEnd {
     {
         self.freed = taken;
         if self.published < self.freed + self.capacity {
-            Room::Open
+            Room::Vacant
         } else {
             Room::Full
         }
     }
 
-    /// Answers the place whose slot is to be filled next, which counts as filled from then on.
+    /// Answers the slot that is to be filled next, which counts as filled from then on.
     pub fn fill(&mut self) -> u64
         requires fits { SenderFits self.old }
         requires allowed { MayFill self.old }
         ensures after { self.new ≡ sender_filled self.old }
-        ensures place { result ≡ fill_place self.old }
+        ensures slot { result ≡ fill_slot self.old }
     {
-        let place = (self.published + self.filled) % self.capacity;
+        let slot = (self.published + self.filled) % self.capacity;
         self.filled += 1;
-        place
+        slot
     }
 
     /// Answers the word `put` that publishes what is filled.
@@ -148,7 +148,7 @@ impl SenderEnd {
 /// The receiver of a lane. Its numbers are counts of messages since the lane began.
 #[derive(Clone, Copy, Debug, PartialEq, Eq)]
 pub struct ReceiverEnd {
-    /// How many places the lane has, at least 1.
+    /// How many slots the lane has, at least 1.
     pub(crate) capacity: u64,
     /// How many messages it freed.
     pub(crate) freed: u64,
@@ -161,7 +161,7 @@ pub struct ReceiverEnd {
 }
 
 impl ReceiverEnd {
-    /// The receiver of a new lane of so many places.
+    /// The receiver of a new lane of so many slots.
     #[inline]
     pub fn new(capacity: u64) -> ReceiverEnd
         ensures { result ≡ new_receiver capacity }
@@ -175,7 +175,7 @@ impl ReceiverEnd {
         }
     }
 
-    /// Whether it has a place to take from, and numbers that fit.
+    /// Whether it has a slot to take from, and numbers that fit.
     pub fn can_take(&self) -> bool
         ensures { IsTrue result ↔ (ReceiverFits self.now × MayTake self.now) }
     {
@@ -196,14 +196,14 @@ impl ReceiverEnd {
         self.fits() && 0 < self.emptied
     }
 
-    /// Whether its numbers fit: they are below 2^62, and the lane has a place.
+    /// Whether its numbers fit: they are below 2^62, and the lane has a slot.
     pub fn fits(&self) -> bool
         ensures { IsTrue result ↔ ReceiverFits self.now }
     {
         0 < self.capacity && self.freed < LIMIT && self.emptied < LIMIT - self.freed
     }
 
-    /// The step that comes next where it wants a message: what it took is freed, a place that it claims is taken from,
+    /// The step that comes next where it wants a message: what it took is freed, a slot that it claims is taken from,
     /// and else it loads.
     pub fn next(&self) -> ReceiverStep
         requires { ReceiverFits self.now }
@@ -219,7 +219,7 @@ impl ReceiverEnd {
         }
     }
 
-    /// What the word `put` tells: it claims the places up to that count; and the lane has ended where there is none and
+    /// What the word `put` tells: it claims the slots up to that count; and the lane has ended where there is none and
     /// the word says that it is closed.
     pub fn load(&mut self, put: u64) -> Found
         ensures after { self.new ≡ receiver_loaded self.old put }
@@ -236,30 +236,30 @@ impl ReceiverEnd {
         }
     }
 
-    /// Answers the place whose slot is to be taken from next, which counts as taken from then on.
+    /// Answers the slot that is to be taken from next, which counts as taken from then on.
     pub fn take(&mut self) -> u64
         requires fits { ReceiverFits self.old }
         requires allowed { MayTake self.old }
         ensures after { self.new ≡ receiver_took self.old }
-        ensures place { result ≡ take_place self.old }
+        ensures slot { result ≡ take_slot self.old }
     {
-        let place = (self.freed + self.emptied) % self.capacity;
+        let slot = (self.freed + self.emptied) % self.capacity;
         self.emptied += 1;
-        place
+        slot
     }
 
-    /// Answers the place whose slot gets back the message that was taken last. The receiver keeps its claim.
+    /// Answers the slot that gets back the message that was taken last. The receiver keeps its claim.
     pub fn put_back(&mut self) -> u64
         requires fits { ReceiverFits self.old }
         requires allowed { MayPutBack self.old }
         ensures after { self.new ≡ receiver_put_back self.old }
-        ensures place { result ≡ back_place self.old }
+        ensures slot { result ≡ back_slot self.old }
     {
         self.emptied -= 1;
         (self.freed + self.emptied) % self.capacity
     }
 
-    /// Answers the word `taken` that frees the places that it has taken from.
+    /// Answers the word `taken` that frees the slots that it has taken from.
     pub fn free(&mut self) -> u64
         requires fits { ReceiverFits self.old }
         requires allowed { MayFree self.old }

@@ -1,22 +1,22 @@
-//! The two ends over slot words: each place has a word of two bits beside its slot. The sender sets them, the receiver
-//! clears the first; an end loads the word of its own next place alone.
+//! The two ends over slot words: each slot has a word of two bits beside it. The sender sets them, the receiver
+//! clears the first; an end loads the word of its own next slot alone.
 ghost use Rattle.std.specs.Prelude.{IsTrue, ◌↔◌, ◌≡◌, ◌+◌, ◌<◌, ◌^◌, true, false};
-ghost use Rattle.lane_core.specs.SlotWords.{new_word, new_sender, sender_place, sender_loaded, room_in, sender_filled, full_word, sender_published, end_word, sender_closed, next_sender_step, MayFill, MayPublish, MayClose, MaySend, SenderFits, new_receiver, receiver_place, receiver_loaded, found_in, receiver_took, receiver_put_back, free_word, receiver_freed, next_receiver_step, MayTake, MayPutBack, MayFree, MayReceive, ReceiverFits};
+ghost use Rattle.lane_core.specs.SlotWords.{new_word, new_sender, sender_slot, sender_loaded, room_in, sender_filled, full_word, sender_published, end_word, sender_closed, next_sender_step, MayFill, MayPublish, MayClose, MaySend, SenderFits, new_receiver, receiver_slot, receiver_loaded, found_in, receiver_took, receiver_put_back, free_word, receiver_freed, next_receiver_step, MayTake, MayPutBack, MayFree, MayReceive, ReceiverFits};
 
 use crate::answers::{Found, ReceiverStep, Room, SenderStep};
 use crate::index_words::LIMIT;
 
-/// The word of a place.
+/// The word of a slot.
 #[derive(Clone, Copy, Debug, PartialEq, Eq)]
 pub struct Word {
     /// Whether the slot has a message that waits.
     pub full: bool,
-    /// Whether the lane was closed when this place was the sender's next. It may be set while the slot is full.
+    /// Whether the lane was closed when this slot was the sender's next. It may be set while the slot is full.
     pub end: bool,
 }
 
 impl Word {
-    /// The word of a place of a new lane.
+    /// The word of a slot of a new lane.
     #[inline]
     pub fn new() -> Word
         ensures { result ≡ new_word }
@@ -31,20 +31,20 @@ impl Word {
 /// The sender of a lane.
 #[derive(Clone, Copy, Debug, PartialEq, Eq)]
 pub struct SenderEnd {
-    /// How many places the lane has, at least 1.
+    /// How many slots the lane has, at least 1.
     pub(crate) capacity: u64,
     /// How many messages it published.
     pub(crate) put: u64,
-    /// Whether it claims its next place.
+    /// Whether it claims its next slot.
     pub(crate) claims: bool,
-    /// Whether it has filled that place's slot.
+    /// Whether it has filled that slot.
     pub(crate) filled: bool,
     /// Whether it closed the lane.
     pub(crate) closed: bool,
 }
 
 impl SenderEnd {
-    /// The sender of a new lane of so many places.
+    /// The sender of a new lane of so many slots.
     #[inline]
     pub fn new(capacity: u64) -> SenderEnd
         ensures { result ≡ new_sender capacity }
@@ -58,15 +58,15 @@ impl SenderEnd {
         }
     }
 
-    /// Its next place, whose word it loads and whose slot it fills.
-    pub fn place(&self) -> u64
+    /// Its next slot, whose word it loads and which it fills.
+    pub fn slot(&self) -> u64
         requires { SenderFits self.now }
-        ensures { result ≡ sender_place self.now }
+        ensures { result ≡ sender_slot self.now }
     {
         self.put % self.capacity
     }
 
-    /// Whether it has a place to fill.
+    /// Whether it has a slot to fill.
     pub fn can_fill(&self) -> bool
         ensures { IsTrue result ↔ MayFill self.now }
     {
@@ -87,14 +87,14 @@ impl SenderEnd {
         !self.closed
     }
 
-    /// Whether its count fits: it is below 2^62, and the lane has a place.
+    /// Whether its count fits: it is below 2^62, and the lane has a slot.
     pub fn fits(&self) -> bool
         ensures { IsTrue result ↔ SenderFits self.now }
     {
         0 < self.capacity && self.put < LIMIT
     }
 
-    /// The step that comes next where it has a message to send: what is filled is published, a place that it claims is
+    /// The step that comes next where it has a message to send: what is filled is published, a slot that it claims is
     /// filled, and else it loads.
     pub fn next(&self) -> SenderStep
         ensures step { result ≡ next_sender_step self.now }
@@ -109,7 +109,7 @@ impl SenderEnd {
         }
     }
 
-    /// What the word of its next place tells: it claims the place unless that is full.
+    /// What the word of its next slot tells: it claims the slot unless that is full.
     pub fn load(&mut self, word: Word) -> Room
         ensures after { self.new ≡ sender_loaded self.old word }
         ensures found { result ≡ room_in word }
@@ -119,11 +119,11 @@ impl SenderEnd {
             Room::Full
         } else {
             self.claims = true;
-            Room::Open
+            Room::Vacant
         }
     }
 
-    /// Counts the slot of its next place as filled.
+    /// Counts its next slot as filled.
     pub fn fill(&mut self)
         requires { MayFill self.old }
         ensures { self.new ≡ sender_filled self.old }
@@ -131,7 +131,7 @@ impl SenderEnd {
         self.filled = true;
     }
 
-    /// Answers what its next place's word becomes as it publishes the message there: the full bit is set.
+    /// Answers what its next slot's word becomes as it publishes the message there: the full bit is set.
     pub fn publish(&mut self, mut word: Word) -> Word
         requires fits { SenderFits self.old }
         requires allowed { MayPublish self.old }
@@ -145,7 +145,7 @@ impl SenderEnd {
         word
     }
 
-    /// Answers what its next place's word becomes as it closes the lane: the end bit is set, on a full word too.
+    /// Answers what its next slot's word becomes as it closes the lane: the end bit is set, on a full word too.
     pub fn close(&mut self, mut word: Word) -> Word
         requires { MayClose self.old }
         ensures after { self.new ≡ sender_closed self.old }
@@ -162,18 +162,18 @@ impl SenderEnd {
 /// The receiver of a lane.
 #[derive(Clone, Copy, Debug, PartialEq, Eq)]
 pub struct ReceiverEnd {
-    /// How many places the lane has, at least 1.
+    /// How many slots the lane has, at least 1.
     pub(crate) capacity: u64,
     /// How many messages it freed.
     pub(crate) taken: u64,
-    /// Whether it claims its next place.
+    /// Whether it claims its next slot.
     pub(crate) claims: bool,
-    /// Whether it has taken that place's message, and not put it back.
+    /// Whether it has taken that slot's message, and not put it back.
     pub(crate) emptied: bool,
 }
 
 impl ReceiverEnd {
-    /// The receiver of a new lane of so many places.
+    /// The receiver of a new lane of so many slots.
     #[inline]
     pub fn new(capacity: u64) -> ReceiverEnd
         ensures { result ≡ new_receiver capacity }
@@ -186,15 +186,15 @@ impl ReceiverEnd {
         }
     }
 
-    /// Its next place, whose word it loads and whose slot it takes from.
-    pub fn place(&self) -> u64
+    /// Its next slot, whose word it loads and from which it takes.
+    pub fn slot(&self) -> u64
         requires { ReceiverFits self.now }
-        ensures { result ≡ receiver_place self.now }
+        ensures { result ≡ receiver_slot self.now }
     {
         self.taken % self.capacity
     }
 
-    /// Whether it has a place to take from.
+    /// Whether it has a slot to take from.
     pub fn can_take(&self) -> bool
         ensures { IsTrue result ↔ MayTake self.now }
     {
@@ -209,14 +209,14 @@ impl ReceiverEnd {
         self.emptied
     }
 
-    /// Whether its count fits: it is below 2^62, and the lane has a place.
+    /// Whether its count fits: it is below 2^62, and the lane has a slot.
     pub fn fits(&self) -> bool
         ensures { IsTrue result ↔ ReceiverFits self.now }
     {
         0 < self.capacity && self.taken < LIMIT
     }
 
-    /// The step that comes next where it wants a message: what it took is freed, a place that it claims is taken from,
+    /// The step that comes next where it wants a message: what it took is freed, a slot that it claims is taken from,
     /// and else it loads.
     pub fn next(&self) -> ReceiverStep
         ensures step { result ≡ next_receiver_step self.now }
@@ -231,7 +231,7 @@ impl ReceiverEnd {
         }
     }
 
-    /// What the word of its next place tells: it claims a full place; and the lane has ended where the place isn't full and
+    /// What the word of its next slot tells: it claims a full slot; and the lane has ended where the slot isn't full and
     /// has the end bit.
     pub fn load(&mut self, word: Word) -> Found
         ensures after { self.new ≡ receiver_loaded self.old word }
@@ -245,7 +245,7 @@ impl ReceiverEnd {
         }
     }
 
-    /// Counts the message of its next place as taken.
+    /// Counts the message of its next slot as taken.
     pub fn take(&mut self)
         requires { MayTake self.old }
         ensures { self.new ≡ receiver_took self.old }
@@ -261,7 +261,7 @@ impl ReceiverEnd {
         self.emptied = false;
     }
 
-    /// Answers what its next place's word becomes as it frees the place: the full bit alone is cleared.
+    /// Answers what its next slot's word becomes as it frees the slot: the full bit alone is cleared.
     pub fn free(&mut self, mut word: Word) -> Word
         requires fits { ReceiverFits self.old }
         requires allowed { MayFree self.old }

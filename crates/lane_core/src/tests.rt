@@ -97,13 +97,13 @@ fn every_short_run_is_one_of_a_queue(rt: HostRuntime) -> Result<(), Fail> {
 
 /// A send by the steps that come next.
 fn send<M: Machine>(rt: &impl Abort, lane: &mut M, message: u32) -> Room {
-    let mut room = Room::Open;
+    let mut room = Room::Vacant;
     if lane.next_of_sender() == SenderStep::Load {
         if lane.step(Step::SenderLoads) == Shown::Room(Room::Full) {
             room = Room::Full;
         }
     }
-    if room == Room::Open {
+    if room == Room::Vacant {
         assert_eq!(rt; lane.next_of_sender(), SenderStep::Fill);
         assert_eq!(rt; lane.step(Step::Fills(message)), Shown::Made);
         assert_eq!(rt; lane.next_of_sender(), SenderStep::Publish);
@@ -133,7 +133,7 @@ fn fills_closes_and_drains<M: Machine>(rt: &impl Abort, capacity: u32) {
         for message in 0..capacity {
             assert_eq!(rt;
                 send(rt, &mut lane, message),
-                Room::Open,
+                Room::Vacant,
                 "message {message} of round {round}"
             );
         }

@@ -46,9 +46,9 @@ pub struct IndexLane {
     pub receiver: index_words::ReceiverEnd,
 }
 
-/// Puts a message into the slot of a place.
-fn put_in(slots: &mut [Option<u32>], place: u64, message: u32) -> Shown {
-    match slots.get_mut(place as usize) {
+/// Puts a message into a slot.
+fn put_in(slots: &mut [Option<u32>], slot: u64, message: u32) -> Shown {
+    match slots.get_mut(slot as usize) {
         Some(slot) => {
             *slot = Some(message);
             Shown::Made
@@ -57,9 +57,9 @@ fn put_in(slots: &mut [Option<u32>], place: u64, message: u32) -> Shown {
     }
 }
 
-/// Takes what the slot of a place holds.
-fn take_out(slots: &mut [Option<u32>], place: u64) -> Shown {
-    match slots.get_mut(place as usize) {
+/// Takes what a slot holds.
+fn take_out(slots: &mut [Option<u32>], slot: u64) -> Shown {
+    match slots.get_mut(slot as usize) {
         Some(slot) => {
             let message = *slot;
             *slot = None;
@@ -76,8 +76,8 @@ impl IndexLane {
                 Shown::Room(self.sender.load(self.taken))
             }
             Step::Fills(message) if self.sender.can_fill() => {
-                let place = self.sender.fill();
-                put_in(&mut self.slots, place, message)
+                let slot = self.sender.fill();
+                put_in(&mut self.slots, slot, message)
             }
             Step::Publishes if self.sender.can_publish() => {
                 self.put = self.sender.publish();
@@ -95,12 +95,12 @@ impl IndexLane {
         match step {
             Step::ReceiverLoads => Shown::Found(self.receiver.load(self.put)),
             Step::Takes if self.receiver.can_take() => {
-                let place = self.receiver.take();
-                take_out(&mut self.slots, place)
+                let slot = self.receiver.take();
+                take_out(&mut self.slots, slot)
             }
             Step::PutsBack(message) if self.receiver.can_put_back() => {
-                let place = self.receiver.put_back();
-                put_in(&mut self.slots, place, message)
+                let slot = self.receiver.put_back();
+                put_in(&mut self.slots, slot, message)
             }
             Step::Frees if self.receiver.can_free() => {
                 self.taken = self.receiver.free();
@@ -162,8 +162,8 @@ impl SlotLane {
         if !self.sender.fits() {
             return Shown::Refused;
         }
-        let place = self.sender.place();
-        let word = match self.words.get_mut(place as usize) {
+        let slot = self.sender.slot();
+        let word = match self.words.get_mut(slot as usize) {
             Some(word) => word,
             None => return Shown::Refused,
         };
@@ -171,7 +171,7 @@ impl SlotLane {
             Step::SenderLoads => Shown::Room(self.sender.load(*word)),
             Step::Fills(message) if self.sender.can_fill() => {
                 self.sender.fill();
-                put_in(&mut self.slots, place, message)
+                put_in(&mut self.slots, slot, message)
             }
             Step::Publishes if self.sender.can_publish() => {
                 *word = self.sender.publish(*word);
@@ -189,8 +189,8 @@ impl SlotLane {
         if !self.receiver.fits() {
             return Shown::Refused;
         }
-        let place = self.receiver.place();
-        let word = match self.words.get_mut(place as usize) {
+        let slot = self.receiver.slot();
+        let word = match self.words.get_mut(slot as usize) {
             Some(word) => word,
             None => return Shown::Refused,
         };
@@ -198,11 +198,11 @@ impl SlotLane {
             Step::ReceiverLoads => Shown::Found(self.receiver.load(*word)),
             Step::Takes if self.receiver.can_take() => {
                 self.receiver.take();
-                take_out(&mut self.slots, place)
+                take_out(&mut self.slots, slot)
             }
             Step::PutsBack(message) if self.receiver.can_free() => {
                 self.receiver.put_back();
-                put_in(&mut self.slots, place, message)
+                put_in(&mut self.slots, slot, message)
             }
             Step::Frees if self.receiver.can_free() => {
                 *word = self.receiver.free(*word);
@@ -271,7 +271,7 @@ impl Queue {
 
     pub fn room(&self) -> Room {
         if self.len() < self.capacity {
-            Room::Open
+            Room::Vacant
         } else {
             Room::Full
         }
