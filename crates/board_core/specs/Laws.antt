@@ -42,41 +42,53 @@ pub record IsSendOf (n : ℕ) (h : List Occurrence) (q p i j : ℕ) (x : Parcel)
 
 -- each published parcel has its send in the history's chart, and its clock is what that send knows
 abbrev pub ClockLaw : Type 0
-ClockLaw = (n k : ℕ) (steps : List Step) → IsRun n k steps → (q p i : ℕ) (x : Parcel) → slice_get (traffic_of n k steps q p).published i ≡ Some x → (j : ℕ) × IsSendOf n (history_of n k steps) q p i j x
+ClockLaw = (n k : ℕ) (steps : List Step) → IsRun n k steps → (q p i : ℕ) (x : Parcel)
+    → slice_get (traffic_of n k steps q p).published i ≡ Some x → (j : ℕ) × IsSendOf n (history_of n k steps) q p i j x
 
 -- p's receives carry the reports of the receives of its line in the history's chart, in order
 abbrev pub ReportLaw : Type 0
 ReportLaw = (n k : ℕ) (steps : List Step) → IsRun n k steps → (p : ℕ) → 1 ≤ p → p ≤ n
-    → (map (λ (report : ReportView). report.receive) (reports_of p steps) ≡ receives_of (record { instance = p; events = chart_of (history_of n k steps) p }))
+    → (map (λ (report : ReportView). report.receive) (reports_of p steps)
+    ≡ receives_of (record { instance = p; events = chart_of (history_of n k steps) p }))
     × All (IsReportIn (chart_of (history_of n k steps))) (reports_of p steps)
 
 -- each recorder has its instance's line of this chart, what the instance knows, and these reports
 abbrev pub RecorderLaw : Type 0
 RecorderLaw = (n k : ℕ) (steps : List Step) → IsRun n k steps → (p : ℕ) → 1 ≤ p → p ≤ n
-    → IsRecorder n (history_of n k steps) p ((world_after n k steps).recorders p) × (((world_after n k steps).recorders p).reports ≡ reports_of p steps)
+    → IsRecorder n (history_of n k steps) p ((world_after n k steps).recorders p)
+    × (((world_after n k steps).recorders p).reports ≡ reports_of p steps)
 
 -- Of histories that begin with another.
 
 -- what a lane carries is the messages that were sent on it, with their clocks
 abbrev pub GoodsLaw : Type 0
-GoodsLaw = (n : ℕ) (h : List Occurrence) (q p : ℕ) → (map (λ (x : Parcel). x.message) (goods n h q p) ≡ sent h q p) × (map (λ (x : Parcel). x.clock) (goods n h q p) ≡ clocks_of n h q p)
+GoodsLaw = (n : ℕ) (h : List Occurrence) (q p : ℕ)
+    → (map (λ (x : Parcel). x.message) (goods n h q p) ≡ sent h q p)
+    × (map (λ (x : Parcel). x.clock) (goods n h q p) ≡ clocks_of n h q p)
 
 -- it only grows
 abbrev pub GoodsGrowthLaw : Type 0
-GoodsGrowthLaw = (n : ℕ) (h g : List Occurrence) → Begins h g → (q p : ℕ) → (more : List Parcel) × (goods n g q p ≡ goods n h q p ++ more)
+GoodsGrowthLaw = (n : ℕ) (h g : List Occurrence) → Begins h g
+    → (q p : ℕ) → (more : List Parcel) × (goods n g q p ≡ goods n h q p ++ more)
 
 -- an instance's line and the clock of its next send stay, where the events that came are all of others
 abbrev pub OthersLaw : Type 0
-OthersLaw = (n : ℕ) (h g : List Occurrence) → Begins h g → (p : ℕ) → own g p ≡ own h p → (chart_of g p ≡ chart_of h p) × (next_clock n g p ≡ next_clock n h p)
+OthersLaw = (n : ℕ) (h g : List Occurrence) → Begins h g → (p : ℕ) → own g p ≡ own h p
+    → (chart_of g p ≡ chart_of h p) × (next_clock n g p ≡ next_clock n h p)
 
 -- a clock is still what its send knows
 abbrev pub ClockGrowthLaw : Type 0
-ClockGrowthLaw = (n k : ℕ) (h g : List Occurrence) → IsLegal n k h → Begins h g → (q j : ℕ) (clock : List ℕ) → IsEvent (chart_of h) (at q j) → IsClockOf (chart_of h) (at q j) clock → IsClockOf (chart_of g) (at q j) clock
+ClockGrowthLaw = (n k : ℕ) (h g : List Occurrence) → IsLegal n k h → Begins h g
+    → (q j : ℕ) (clock : List ℕ) → IsEvent (chart_of h) (at q j)
+    → IsClockOf (chart_of h) (at q j) clock → IsClockOf (chart_of g) (at q j) clock
 
 -- a report is still that of its receive
 abbrev pub ReportGrowthLaw : Type 0
-ReportGrowthLaw = (n k : ℕ) (h g : List Occurrence) → IsLegal n k h → Begins h g → (report : ReportView) → IsEvent (chart_of h) (at report.receive.instance report.receive.index) → IsReportIn (chart_of h) report → IsReportIn (chart_of g) report
+ReportGrowthLaw = (n k : ℕ) (h g : List Occurrence) → IsLegal n k h → Begins h g
+    → (report : ReportView) → IsEvent (chart_of h) (at report.receive.instance report.receive.index)
+    → IsReportIn (chart_of h) report → IsReportIn (chart_of g) report
 
 -- every legal history is that of a run
 abbrev pub HistoryLaw : Type 0
-HistoryLaw = (n k : ℕ) (h : List Occurrence) → IsLegal n k h → (steps : List Step) × IsRun n k steps × (history_of n k steps ≡ h)
+HistoryLaw = (n k : ℕ) (h : List Occurrence) → IsLegal n k h
+    → (steps : List Step) × IsRun n k steps × (history_of n k steps ≡ h)

@@ -24,6 +24,7 @@ next_clock n h p = with_entry (knowledge_of n h p) p (length (chart_of h p) + 1)
 -- the parcels that q sent to p, in order
 abbrev pub goods : ℕ → List Occurrence → ℕ → ℕ → List Parcel
 goods n [] q p = []
-goods n (Send a b m ∷ h) q p = if is_lane a b q p then goods n h q p ++ record { message = m; clock = next_clock n h a } ∷ [] else goods n h q p
+goods n (Send a b m ∷ h) q p =
+    if is_lane a b q p then goods n h q p ++ record { message = m; clock = next_clock n h a } ∷ [] else goods n h q p
 goods n (Receive a b c ∷ h) q p = goods n h q p
 goods n (Close a b ∷ h) q p = goods n h q p

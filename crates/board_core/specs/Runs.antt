@@ -34,7 +34,8 @@ abbrev pub AreAnswers : RecorderView → ℕ → ℕ → List Parcel → List Re
 AreAnswers r q c [] [] = Unit {0}
 AreAnswers r q c [] (report ∷ reports) = ⊥
 AreAnswers r q c (x ∷ xs) [] = ⊥
-AreAnswers r q c (x ∷ xs) (report ∷ reports) = IsReportOf r q c x.clock report × AreAnswers (after_receive r q x.message.name c x.clock report) q c xs reports
+AreAnswers r q c (x ∷ xs) (report ∷ reports) =
+    IsReportOf r q c x.clock report × AreAnswers (after_receive r q x.message.name c x.clock report) q c xs reports
 
 -- the sender of the lane from q to p may make this step of its own
 pub record MaySend (n : ℕ) (w : World) (q p : ℕ) (step : lane.Step Parcel) : Type 0 where
@@ -48,17 +49,23 @@ pub record MayReceive (n : ℕ) (w : World) (q p : ℕ) (step : lane.Step Parcel
   pub alone : ReceivesAlone w q p
   pub end : MayBeOnLane (w.lanes q p) step
 
+-- the recorder's line has room for an event for each of these parcels
+abbrev pub HasRoom : RecorderView → List Parcel → Type 0
+HasRoom r xs = length r.line.events + length xs ≤ MAX_EVENTS
+
 -- The step is allowed among n instances: by its end's own numbers, and at an event by its recorder, whose line has room
 -- for it. Nothing is sent in a coregion.
 abbrev pub MayFollow : ℕ → World → Step → Type 0
 MayFollow n w (Sender_loads q p) = MaySend n w q p lane.Sender_loads
 MayFollow n w (Fills q p m) = MaySend n w q p (lane.Fills (parcel_of w q p m))
-MayFollow n w (Publishes q p) = MaySend n w q p lane.Publishes × (w.regions q ≡ 0) × (length (w.recorders q).line.events + length (filled w q p) ≤ MAX_EVENTS)
+MayFollow n w (Publishes q p) =
+    MaySend n w q p lane.Publishes × (w.regions q ≡ 0) × HasRoom (w.recorders q) (filled w q p)
 MayFollow n w (Closes q p) = MaySend n w q p lane.Closes
 MayFollow n w (Receiver_loads q p) = MayReceive n w q p lane.Receiver_loads
 MayFollow n w (Takes q p) = MayReceive n w q p lane.Takes
 MayFollow n w (Puts_back q p) = MayReceive n w q p lane.Puts_back
-MayFollow n w (Frees q p reports) = MayReceive n w q p lane.Frees × (length (w.recorders p).line.events + length (taken w q p) ≤ MAX_EVENTS) × AreAnswers (w.recorders p) q (w.regions p) (taken w q p) reports
+MayFollow n w (Frees q p reports) =
+    MayReceive n w q p lane.Frees × HasRoom (w.recorders p) (taken w q p) × AreAnswers (w.recorders p) q (w.regions p) (taken w q p) reports
 MayFollow n w (Opens p) = (1 ≤ p) × (p ≤ n) × IsIdle w p × (w.regions p ≡ 0)
 MayFollow n w (Shuts p) = (1 ≤ p) × (p ≤ n) × IsIdle w p × (0 < w.regions p)
 

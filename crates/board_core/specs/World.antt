@@ -63,7 +63,8 @@ with_receives h p q c (x ∷ xs) = with_receives (Receive p q c ∷ h) p q c xs
 abbrev pub after_receives : RecorderView → ℕ → ℕ → List Parcel → List ReportView → RecorderView
 after_receives r q c [] reports = r
 after_receives r q c (x ∷ xs) [] = r
-after_receives r q c (x ∷ xs) (report ∷ reports) = after_receives (after_receive r q x.message.name c x.clock report) q c xs reports
+after_receives r q c (x ∷ xs) (report ∷ reports) =
+    after_receives (after_receive r q x.message.name c x.clock report) q c xs reports
 
 -- the world after a step
 abbrev pub after : World → Step → World

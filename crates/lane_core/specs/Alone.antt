@@ -40,7 +40,8 @@ messages (call ∷ calls) = call.message ∷ messages calls
 abbrev pub sends : {M : Type 0} → Form M → ℕ → List (SendCall M) → List (Step M) → List (Step M)
 sends form k [] h = h
 sends form k (call ∷ calls) h =
-    sends form k calls (if call.keeps && sender_keeps form k h then Publishes ∷ Fills call.message ∷ h else send_call (sender_finds form k h) call.message h)
+    sends form k calls (
+    if call.keeps && sender_keeps form k h then Publishes ∷ Fills call.message ∷ h else send_call (sender_finds form k h) call.message h)
 
 -- what so many receives after the run h come to, from a traffic t: they are steps that may be made, and free the first of
 -- those that waited; then a load finds a message while one of these is left, and else that the lane has ended, or nothing
@@ -67,5 +68,5 @@ AreSent form k t calls h =
 
 -- of a sender between two calls that goes on alone, on an open lane
 abbrev pub SenderAlone : {M : Type 0} → Form M → Type 0
-SenderAlone {M} form = (k : ℕ) (h : List (Step M)) → 1 ≤ k → IsRun form k h → (traffic_of form k h).filling ≡ [] → (traffic_of form k h).closed ≡ false
-    → (calls : List (SendCall M)) → AreSent form k (traffic_of form k h) calls (sends form k calls h)
+SenderAlone {M} form = (k : ℕ) (h : List (Step M)) → 1 ≤ k → IsRun form k h
+    → (traffic_of form k h).filling ≡ [] → (traffic_of form k h).closed ≡ false → (calls : List (SendCall M)) → AreSent form k (traffic_of form k h) calls (sends form k calls h)

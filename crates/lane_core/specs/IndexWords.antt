@@ -181,12 +181,23 @@ new_lane k = record { put = 0; taken = 0; sender = new_sender k; receiver = new_
 abbrev pub after : {M : Type 0} → IndexLane M → Step M → IndexLane M
 after l Sender_loads = record l { sender = sender_loaded l.sender l.taken }
 after l (Fills m) = record l { sender = sender_filled l.sender; traffic = put_in l.traffic (fill_slot l.sender) m }
-after l Publishes = record l { put = publish_word l.sender; sender = sender_published l.sender; traffic = published_all l.traffic }
+after l Publishes = record l {
+  put = publish_word l.sender;
+  sender = sender_published l.sender;
+  traffic = published_all l.traffic;
+}
 after l Closes = record l { put = close_word l.sender; sender = sender_closed l.sender; traffic = closed_off l.traffic }
 after l Receiver_loads = record l { receiver = receiver_loaded l.receiver l.put }
 after l Takes = record l { receiver = receiver_took l.receiver; traffic = taken_out l.traffic (take_slot l.receiver) }
-after l Puts_back = record l { receiver = receiver_put_back l.receiver; traffic = back_in l.traffic l.traffic.emptying (back_slot l.receiver) }
-after l Frees = record l { taken = free_word l.receiver; receiver = receiver_freed l.receiver; traffic = freed_all l.traffic }
+after l Puts_back = record l {
+  receiver = receiver_put_back l.receiver;
+  traffic = back_in l.traffic l.traffic.emptying (back_slot l.receiver);
+}
+after l Frees = record l {
+  taken = free_word l.receiver;
+  receiver = receiver_freed l.receiver;
+  traffic = freed_all l.traffic;
+}
 
 -- the step is allowed, by its end's own numbers
 abbrev pub MayFollow : {M : Type 0} → IndexLane M → Step M → Type 0

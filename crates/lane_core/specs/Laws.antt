@@ -48,7 +48,8 @@ PutsBackOwnMessage {M} form = (k : ℕ) (h : List (Step M)) → 1 ≤ k → IsRu
 
 -- what is published stays the same from the close on
 abbrev pub NothingAfterClose : {M : Type 0} → Form M → Type 0
-NothingAfterClose {M} form = (k : ℕ) (h more : List (Step M)) → 1 ≤ k → IsRun form k (more ++ h) → (traffic_of form k h).closed ≡ true
+NothingAfterClose {M} form = (k : ℕ) (h more : List (Step M)) → 1 ≤ k → IsRun form k (more ++ h)
+    → (traffic_of form k h).closed ≡ true
     → ((traffic_of form k (more ++ h)).published ≡ (traffic_of form k h).published)
     × ((traffic_of form k (more ++ h)).closed ≡ true)
 

@@ -177,12 +177,27 @@ receiver_word l = l.words (receiver_slot l.receiver)
 abbrev pub after : {M : Type 0} → SlotLane M → Step M → SlotLane M
 after l Sender_loads = record l { sender = sender_loaded l.sender (sender_word l) }
 after l (Fills m) = record l { sender = sender_filled l.sender; traffic = put_in l.traffic (sender_slot l.sender) m }
-after l Publishes = record l { words = with_at l.words (sender_slot l.sender) (full_word (sender_word l)); sender = sender_published l.sender; traffic = published_all l.traffic }
-after l Closes = record l { words = with_at l.words (sender_slot l.sender) (end_word (sender_word l)); sender = sender_closed l.sender; traffic = closed_off l.traffic }
+after l Publishes = record l {
+  words = with_at l.words (sender_slot l.sender) (full_word (sender_word l));
+  sender = sender_published l.sender;
+  traffic = published_all l.traffic;
+}
+after l Closes = record l {
+  words = with_at l.words (sender_slot l.sender) (end_word (sender_word l));
+  sender = sender_closed l.sender;
+  traffic = closed_off l.traffic;
+}
 after l Receiver_loads = record l { receiver = receiver_loaded l.receiver (receiver_word l) }
 after l Takes = record l { receiver = receiver_took l.receiver; traffic = taken_out l.traffic (receiver_slot l.receiver) }
-after l Puts_back = record l { receiver = receiver_put_back l.receiver; traffic = back_in l.traffic l.traffic.emptying (receiver_slot l.receiver) }
-after l Frees = record l { words = with_at l.words (receiver_slot l.receiver) (free_word (receiver_word l)); receiver = receiver_freed l.receiver; traffic = freed_all l.traffic }
+after l Puts_back = record l {
+  receiver = receiver_put_back l.receiver;
+  traffic = back_in l.traffic l.traffic.emptying (receiver_slot l.receiver);
+}
+after l Frees = record l {
+  words = with_at l.words (receiver_slot l.receiver) (free_word (receiver_word l));
+  receiver = receiver_freed l.receiver;
+  traffic = freed_all l.traffic;
+}
 
 -- the step is allowed, by its end's own numbers and claim
 abbrev pub MayFollow : {M : Type 0} → SlotLane M → Step M → Type 0
