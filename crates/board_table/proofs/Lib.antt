@@ -1,0 +1,14 @@
+pub mod Carried
+pub mod Growth
+pub mod Handling
+pub mod Homes
+pub mod Keeping
+pub mod OutSlots
+pub mod Places
+pub mod Receiving
+pub mod ReceiverSeats
+pub mod SenderSeats
+pub mod Sending
+pub mod Stepping
+pub mod Views
+pub mod Windows

@@ -1,0 +1,16 @@
+use Rattle.std.proofs.Common.{rules, ◌*◌, ◌+◌}
+use Rattle.atomic_table.specs.Table.{Allows}
+use Rattle.board_table.specs.Rule.{Kept}
+use Rattle.board_table.specs.Plays.{Closes}
+use Rattle.board_table.proofs.SenderSeats as seats
+use Rattle.board_table.proofs.sender.close_at.Goals as goal
+
+pub store-requires : goal.store-requires
+store-requires g c =
+    let l = c.args.lane.now in let word = c.put_word.ensures in let board = c.requires.board in
+    let slots = c.args.words.now.table_id.slots in let id = c.args.seat.now.id in let i = c.put_word.result in let me = c.args.seat.now.me in (
+      search rules,
+      search rules,
+      seats.sized (λ v n k. Allows (Kept n k) slots id me i (λ x. 2 * c.args.count + 1) (λ x w. Closes v me w)) l g.A.Site.lane c.args.words.now.key.instances c.args.words.now.key.capacity c.requires.site board.instances board.capacity
+          (seats.close l word.two word.some slots id i me c.args.count word.value c.requires.rests c.requires.count c.requires.unclosed),
+    )

@@ -1,0 +1,41 @@
+-- Where the words and slots of a board lie (this project's profile). The words are grouped by who writes them, and between
+-- two groups lie seven words that nobody uses, so that no cache line has words of two writers.
+use Rattle.std.specs.Prelude.{◌≡◌, ℕ, ◌+◌, ◌-◌, ◌*◌, ◌%◌}
+use Rattle.atomic_table.specs.Seated.{TableId}
+use Rattle.board_table.specs.declared.shape.Shape.{Shape}
+
+-- a lane of a board: of how many instances and what capacity that is, who sends on it, and who receives
+pub record LaneView : Type 0 where
+  pub instances : ℕ
+  pub capacity : ℕ
+  pub sender : ℕ
+  pub receiver : ℕ
+
+-- the words of one writer, and those that part it from the next
+abbrev pub row_length : ℕ → ℕ
+row_length n = 2 * n + 7
+
+-- the word that has how many messages q sent to p, twice, and one more when the lane is closed
+abbrev pub put_word : ℕ → ℕ → ℕ → ℕ
+put_word n q p = (q - 1) * row_length n + (p - 1)
+
+-- the word that has how many of q's messages p received
+abbrev pub taken_word : ℕ → ℕ → ℕ → ℕ
+taken_word n q p = (p - 1) * row_length n + n + (q - 1)
+
+abbrev pub word_count : ℕ → ℕ
+word_count n = n * row_length n
+
+-- the slot of the c-th message from q to p, counted from 0
+abbrev pub slot_of : ℕ → ℕ → ℕ → ℕ → ℕ → ℕ
+slot_of n k q p c = ((q - 1) * n + (p - 1)) * k + c % k
+
+abbrev pub slot_count : ℕ → ℕ → ℕ
+slot_count n k = n * n * k
+
+-- the table is that of a board of n instances, whose lanes have k places each
+pub record IsBoard (n k : ℕ) (key : Shape) (table : TableId) : Type 0 where
+  pub instances : key.instances ≡ n
+  pub capacity : key.capacity ≡ k
+  pub words : table.words ≡ word_count n
+  pub slots : table.slots ≡ slot_count n k

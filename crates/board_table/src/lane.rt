@@ -1,0 +1,83 @@
+//! The lane from one instance of a board to another, and where its words and slots lie.
+ghost use Rattle.std.specs.Prelude.{◌≡◌, ◌≢◌, ℕ, ◌≤◌, ◌<◌};
+ghost use Rattle.chart.specs.Histories.{AreTwo};
+ghost use Rattle.chart.specs.declared.instance.TheConstants.{MAX_INSTANCES};
+ghost use Rattle.board_table.specs.declared.lane.TheConstants.{MAX_CAPACITY};
+ghost use Rattle.board_table.specs.Layout.{put_word, taken_word, word_count, slot_of, slot_count};
+
+use crate::Shape;
+use chart::{InstanceNo, MAX_INSTANCES};
+use std::marker::Model;
+
+/// The most places that a lane has.
+pub const MAX_CAPACITY: usize = 64;
+
+/// A lane of a board: who sends on it, and who receives.
+#[derive(Debug, Drop)]
+pub struct Lane {
+    shape: Shape,
+    sender: InstanceNo,
+    receiver: InstanceNo,
+}
+
+impl Model for Lane {
+    ghost use Rattle.std.specs.Prelude.{◌≤◌};
+    ghost use Rattle.chart.specs.Histories.{AreTwo};
+    ghost use Rattle.chart.specs.declared.instance.TheConstants.{MAX_INSTANCES};
+    ghost use Rattle.board_table.specs.declared.lane.TheConstants.{MAX_CAPACITY};
+    ghost use Rattle.board_table.specs.Layout.{LaneView};
+
+    ghost Value = { LaneView };
+
+    ghost view = { λ l. record { instances = l.shape.instances; capacity = l.shape.capacity; sender = l.sender; receiver = l.receiver } };
+
+    ghost invariant = { λ l. AreTwo l.shape.instances l.sender l.receiver × (l.shape.instances ≤ MAX_INSTANCES) × (1 ≤ l.shape.capacity) × (l.shape.capacity ≤ MAX_CAPACITY) };
+}
+
+impl Lane {
+    /// The lane between these two instances.
+    pub fn new(shape: &Shape, sender: InstanceNo, receiver: InstanceNo) -> Lane
+        requires sized { (shape.now.instances ≤ MAX_INSTANCES) × (1 ≤ shape.now.capacity) × (shape.now.capacity ≤ MAX_CAPACITY) }
+        requires within { (sender ≤ shape.now.instances) × (receiver ≤ shape.now.instances) }
+        requires two { sender ≢ receiver }
+        ensures { result ≡ record { instances = shape.now.instances; capacity = shape.now.capacity; sender = sender; receiver = receiver } }
+    {
+        Lane {
+            shape: *shape,
+            sender,
+            receiver,
+        }
+    }
+
+    /// The word that has how many messages were sent, twice, and one more when the lane is closed.
+    pub(crate) fn put_word(&self) -> usize
+        ensures value { result ≡ put_word self.now.instances self.now.sender self.now.receiver }
+        ensures within { result < word_count self.now.instances }
+        ensures two { AreTwo self.now.instances self.now.sender self.now.receiver }
+        ensures some { 1 ≤ self.now.capacity }
+    {
+        self.sender.place() * (2 * self.shape.instances + 7) + self.receiver.place()
+    }
+
+    /// The word that has how many messages were received.
+    pub(crate) fn taken_word(&self) -> usize
+        ensures value { result ≡ taken_word self.now.instances self.now.sender self.now.receiver }
+        ensures within { result < word_count self.now.instances }
+        ensures two { AreTwo self.now.instances self.now.sender self.now.receiver }
+        ensures some { 1 ≤ self.now.capacity }
+    {
+        self.receiver.place() * (2 * self.shape.instances + 7)
+            + self.shape.instances
+            + self.sender.place()
+    }
+
+    /// The slot of the message before which so many were sent.
+    pub(crate) fn slot(&self, count: u64) -> usize
+        ensures value { result ≡ slot_of self.now.instances self.now.capacity self.now.sender self.now.receiver count }
+        ensures two { AreTwo self.now.instances self.now.sender self.now.receiver }
+        ensures some { 1 ≤ self.now.capacity }
+    {
+        (self.sender.place() * self.shape.instances + self.receiver.place()) * self.shape.capacity
+            + count as usize % self.shape.capacity
+    }
+}

@@ -1,0 +1,136 @@
+//! The rule of a board's table, and what its steps tell.
+ghost use Rattle.std.specs.Prelude.{ℕ, [], ◌∷◌};
+ghost use Rattle.board_table.specs.Layout.{LaneView};
+ghost use Rattle.board_table.specs.Knowing.{first_of, later_of, note_of};
+ghost use Rattle.board_table.specs.Plays.{ClaimsAnew, ClaimsAgain, FindsAnew, FindsAgain, Publishes, Closes, Frees, PutsBack, MeetsBeside};
+ghost use Rattle.board_table.specs.Rule.{Kept, new_helds};
+
+use crate::{Held, Packet, Shape};
+use atomic_table::{Join, Play, Split, TableRule};
+use std::collections::LinkedList;
+use std::marker::{Brand, PhantomData};
+
+/// There is one legal history that all words, all slots at home and all that seats know fit.
+pub struct BoardRule;
+
+impl TableRule<Option<Packet>, LinkedList<Held>, Shape> for BoardRule {
+    ghost holds = { λ shape. Kept shape.instances shape.capacity };
+
+    ghost first = { λ shape. new_helds shape.instances shape.capacity 1 shape.instances };
+}
+
+/// A board's table, as threads share it.
+pub type Words = atomic_table::Shared<Option<Packet>, LinkedList<Held>, Shape, BoardRule>;
+
+/// A token of no bytes, with which a post steps, and which has what it knows.
+pub type Seat = atomic_table::Seat<Option<Packet>, LinkedList<Held>>;
+
+/// Where a step is made, for the proof alone: the lane, and the coregion of a free. A call at `Brand` picks them.
+pub(crate) trait Site {
+    ghost lane: { LaneView };
+
+    ghost region: { ℕ };
+}
+
+impl Site for Brand {
+    ghost lane = { record { instances = 0; capacity = 0; sender = 0; receiver = 0 } };
+
+    ghost region = { 0 };
+}
+
+pub(crate) struct ClaimAnew<A>(PhantomData<A>);
+
+impl<A: Site> Play<Option<Packet>, LinkedList<Held>> for ClaimAnew<A> {
+    ghost then = { λ step m found w. ClaimsAnew A.lane m found w };
+}
+
+pub(crate) struct ClaimAgain<A>(PhantomData<A>);
+
+impl<A: Site> Play<Option<Packet>, LinkedList<Held>> for ClaimAgain<A> {
+    ghost then = { λ step m found w. ClaimsAgain A.lane m w };
+}
+
+pub(crate) struct FindAnew<A>(PhantomData<A>);
+
+impl<A: Site> Play<Option<Packet>, LinkedList<Held>> for FindAnew<A> {
+    ghost then = { λ step m found w. FindsAnew A.lane m found w };
+}
+
+pub(crate) struct FindAgain<A>(PhantomData<A>);
+
+impl<A: Site> Play<Option<Packet>, LinkedList<Held>> for FindAgain<A> {
+    ghost then = { λ step m found w. FindsAgain A.lane m w };
+}
+
+pub(crate) struct Publish<A>(PhantomData<A>);
+
+impl<A: Site> Play<Option<Packet>, LinkedList<Held>> for Publish<A> {
+    ghost then = { λ step m found w. Publishes A.lane m w };
+}
+
+pub(crate) struct CloseLane<A>(PhantomData<A>);
+
+impl<A: Site> Play<Option<Packet>, LinkedList<Held>> for CloseLane<A> {
+    ghost then = { λ step m found w. Closes A.lane m w };
+}
+
+pub(crate) struct Free<A>(PhantomData<A>);
+
+impl<A: Site> Play<Option<Packet>, LinkedList<Held>> for Free<A> {
+    ghost then = { λ step m found w. Frees A.lane A.region m w };
+}
+
+pub(crate) struct PutBackFilling<A>(PhantomData<A>);
+
+impl<A: Site> Play<Option<Packet>, LinkedList<Held>> for PutBackFilling<A> {
+    ghost then = { λ step m found w. PutsBack m w };
+}
+
+pub(crate) struct PutBackEmptying<A>(PhantomData<A>);
+
+impl<A: Site> Play<Option<Packet>, LinkedList<Held>> for PutBackEmptying<A> {
+    ghost then = { λ step m found w. PutsBack m w };
+}
+
+/// A seat for the first post of several.
+pub(crate) struct First;
+
+impl Split<LinkedList<Held>> for First {
+    ghost left = { later_of };
+
+    ghost right = { λ view. first_of view ∷ [] };
+}
+
+/// A note of what a post has seen, beside it.
+pub(crate) struct Copied;
+
+impl Split<LinkedList<Held>> for Copied {
+    ghost left = { λ view. view };
+
+    ghost right = { λ view. note_of (first_of view) ∷ [] };
+}
+
+/// The view of a post with that of a note behind it.
+pub(crate) struct Beside;
+
+impl Join<LinkedList<Held>> for Beside {
+    ghost both = { λ view note. first_of view ∷ first_of note ∷ [] };
+
+    ghost spent = { [] };
+}
+
+/// A note leaves the post that it stands beside.
+pub(crate) struct Parted;
+
+impl Split<LinkedList<Held>> for Parted {
+    ghost left = { λ view. first_of view ∷ [] };
+
+    ghost right = { later_of };
+}
+
+/// A post sees what the note beside it has seen, and the note what the post has.
+pub(crate) struct Meet;
+
+impl Play<Option<Packet>, LinkedList<Held>> for Meet {
+    ghost then = { λ step m found w. MeetsBeside m w };
+}

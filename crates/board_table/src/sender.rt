@@ -1,0 +1,163 @@
+//! The steps of a lane's sender.
+ghost use Rattle.std.specs.Prelude.{◌≡◌, ℕ, ◌+◌, ◌<◌, ◌≤◌, false, [], ◌∷◌, ◌++◌, length, suc};
+ghost use Rattle.chart.specs.Histories.{sent, is_closed, chart_of};
+ghost use Rattle.chart.specs.declared.line.TheConstants.{MAX_EVENTS};
+ghost use Rattle.board_table.specs.Layout.{IsBoard};
+ghost use Rattle.board_table.specs.Carrying.{AreNext, sent_base};
+ghost use Rattle.board_table.specs.Knowing.{held, packets_out, vacant_out, Rests, IsFilling};
+ghost use Rattle.board_table.specs.Plays.{ClaimsAnew, ClaimsAgain, Publishes, Closes, PutsBack};
+
+use crate::rule::{ClaimAgain, ClaimAnew, CloseLane, Publish, PutBackFilling, Site};
+use crate::{Lane, Packet, Seat, Words};
+use std::marker::Brand;
+
+/// Takes all slots that are free, by a look at how many messages were received, which it answers.
+pub fn claim_anew(words: &Words, seat: &mut Seat, lane: &Lane) -> u64
+    requires table { seat.old.table_id ≡ words.now.table_id }
+    requires board { IsBoard lane.now.instances lane.now.capacity words.now.key words.now.table_id }
+    requires rests { Rests lane.now.instances lane.now.capacity lane.now.sender seat.old.me }
+    ensures table { (seat.new.table_id ≡ seat.old.table_id) × (seat.new.id ≡ seat.old.id) }
+    ensures claims { ClaimsAnew lane.now seat.old.me result seat.new.me }
+{
+    claim_anew_at::<Brand>(words, seat, lane)
+}
+
+fn claim_anew_at<A: Site>(words: &Words, seat: &mut Seat, lane: &Lane) -> u64
+    requires site { lane.now ≡ A.lane }
+    requires table { seat.old.table_id ≡ words.now.table_id }
+    requires board { IsBoard lane.now.instances lane.now.capacity words.now.key words.now.table_id }
+    requires rests { Rests lane.now.instances lane.now.capacity lane.now.sender seat.old.me }
+    ensures table { (seat.new.table_id ≡ seat.old.table_id) × (seat.new.id ≡ seat.old.id) }
+    ensures claims { ClaimsAnew lane.now seat.old.me result seat.new.me }
+{
+    words.load::<ClaimAnew<A>>(seat, lane.taken_word())
+}
+
+/// Takes all slots that are free, by a load of the sender's own word, which is no look.
+pub fn claim_again(words: &Words, seat: &mut Seat, lane: &Lane)
+    requires table { seat.old.table_id ≡ words.now.table_id }
+    requires board { IsBoard lane.now.instances lane.now.capacity words.now.key words.now.table_id }
+    requires rests { Rests lane.now.instances lane.now.capacity lane.now.sender seat.old.me }
+    ensures table { (seat.new.table_id ≡ seat.old.table_id) × (seat.new.id ≡ seat.old.id) }
+    ensures claims { ClaimsAgain lane.now seat.old.me seat.new.me }
+{
+    claim_again_at::<Brand>(words, seat, lane);
+}
+
+fn claim_again_at<A: Site>(words: &Words, seat: &mut Seat, lane: &Lane)
+    requires site { lane.now ≡ A.lane }
+    requires table { seat.old.table_id ≡ words.now.table_id }
+    requires board { IsBoard lane.now.instances lane.now.capacity words.now.key words.now.table_id }
+    requires rests { Rests lane.now.instances lane.now.capacity lane.now.sender seat.old.me }
+    ensures table { (seat.new.table_id ≡ seat.old.table_id) × (seat.new.id ≡ seat.old.id) }
+    ensures claims { ClaimsAgain lane.now seat.old.me seat.new.me }
+{
+    words.load::<ClaimAgain<A>>(seat, lane.put_word());
+}
+
+/// Fills the first empty slot, which is that of the message before which `count` were put on the lane.
+pub fn fill(words: &Words, seat: &mut Seat, lane: &Lane, count: u64, packet: Packet)
+    requires table { seat.old.table_id ≡ words.now.table_id }
+    requires board { IsBoard lane.now.instances lane.now.capacity words.now.key words.now.table_id }
+    requires filling { IsFilling lane.now seat.old.me }
+    requires room { 0 < vacant_out seat.old.me }
+    requires count { count ≡ length (sent (held seat.old.me).seen lane.now.sender lane.now.receiver) + length (packets_out seat.old.me) }
+    ensures table { (seat.new.table_id ≡ seat.old.table_id) × (seat.new.id ≡ seat.old.id) }
+    ensures filling { IsFilling lane.now seat.new.me }
+    ensures held { held seat.new.me ≡ held seat.old.me }
+    ensures packets { packets_out seat.new.me ≡ packets_out seat.old.me ++ packet ∷ [] }
+    ensures vacant { suc (vacant_out seat.new.me) ≡ vacant_out seat.old.me }
+{
+    if words
+        .exchange(seat, lane.slot(count), Some(packet))
+        .is_some()
+    {
+        unreachable!()
+    }
+    seat.turn();
+}
+
+/// Sends what is in the slots, one message directly after another, and gives all slots back. With these, `count` messages
+/// were sent on the lane.
+pub fn publish(words: &Words, seat: &mut Seat, lane: &Lane, count: u64)
+    requires table { seat.old.table_id ≡ words.now.table_id }
+    requires board { IsBoard lane.now.instances lane.now.capacity words.now.key words.now.table_id }
+    requires filling { IsFilling lane.now seat.old.me }
+    requires count { count ≡ length (sent (held seat.old.me).seen lane.now.sender lane.now.receiver) + length (packets_out seat.old.me) }
+    requires few { count ≤ MAX_EVENTS }
+    requires unclosed { is_closed (held seat.old.me).seen lane.now.sender lane.now.receiver ≡ false }
+    requires short { length (chart_of (held seat.old.me).seen lane.now.sender) + length (packets_out seat.old.me) ≤ MAX_EVENTS }
+    requires next { AreNext lane.now.instances (sent_base lane.now.instances (held seat.old.me).seen lane.now.sender lane.now.receiver) (held seat.old.me).seen lane.now.sender lane.now.receiver (packets_out seat.old.me) }
+    ensures table { (seat.new.table_id ≡ seat.old.table_id) × (seat.new.id ≡ seat.old.id) }
+    ensures publishes { Publishes lane.now seat.old.me seat.new.me }
+{
+    publish_at::<Brand>(words, seat, lane, count);
+}
+
+fn publish_at<A: Site>(words: &Words, seat: &mut Seat, lane: &Lane, count: u64)
+    requires site { lane.now ≡ A.lane }
+    requires table { seat.old.table_id ≡ words.now.table_id }
+    requires board { IsBoard lane.now.instances lane.now.capacity words.now.key words.now.table_id }
+    requires filling { IsFilling lane.now seat.old.me }
+    requires count { count ≡ length (sent (held seat.old.me).seen lane.now.sender lane.now.receiver) + length (packets_out seat.old.me) }
+    requires few { count ≤ MAX_EVENTS }
+    requires unclosed { is_closed (held seat.old.me).seen lane.now.sender lane.now.receiver ≡ false }
+    requires short { length (chart_of (held seat.old.me).seen lane.now.sender) + length (packets_out seat.old.me) ≤ MAX_EVENTS }
+    requires next { AreNext lane.now.instances (sent_base lane.now.instances (held seat.old.me).seen lane.now.sender lane.now.receiver) (held seat.old.me).seen lane.now.sender lane.now.receiver (packets_out seat.old.me) }
+    ensures table { (seat.new.table_id ≡ seat.old.table_id) × (seat.new.id ≡ seat.old.id) }
+    ensures publishes { Publishes lane.now seat.old.me seat.new.me }
+{
+    words.store::<Publish<A>>(seat, lane.put_word(), 2 * count);
+}
+
+/// Gives all slots back, none of which is filled, by a load of the sender's own word.
+pub fn give_back_vacant(words: &Words, seat: &mut Seat, lane: &Lane)
+    requires table { seat.old.table_id ≡ words.now.table_id }
+    requires board { IsBoard lane.now.instances lane.now.capacity words.now.key words.now.table_id }
+    requires filling { IsFilling lane.now seat.old.me }
+    requires vacant { packets_out seat.old.me ≡ [] }
+    ensures table { (seat.new.table_id ≡ seat.old.table_id) × (seat.new.id ≡ seat.old.id) }
+    ensures puts_back { PutsBack seat.old.me seat.new.me }
+{
+    give_back_vacant_at::<Brand>(words, seat, lane);
+}
+
+fn give_back_vacant_at<A: Site>(words: &Words, seat: &mut Seat, lane: &Lane)
+    requires site { lane.now ≡ A.lane }
+    requires table { seat.old.table_id ≡ words.now.table_id }
+    requires board { IsBoard lane.now.instances lane.now.capacity words.now.key words.now.table_id }
+    requires filling { IsFilling lane.now seat.old.me }
+    requires vacant { packets_out seat.old.me ≡ [] }
+    ensures table { (seat.new.table_id ≡ seat.old.table_id) × (seat.new.id ≡ seat.old.id) }
+    ensures puts_back { PutsBack seat.old.me seat.new.me }
+{
+    words.load::<PutBackFilling<A>>(seat, lane.put_word());
+}
+
+/// Closes the lane, on which `count` messages were sent.
+pub fn close(words: &Words, seat: &mut Seat, lane: &Lane, count: u64)
+    requires table { seat.old.table_id ≡ words.now.table_id }
+    requires board { IsBoard lane.now.instances lane.now.capacity words.now.key words.now.table_id }
+    requires rests { Rests lane.now.instances lane.now.capacity lane.now.sender seat.old.me }
+    requires count { count ≡ length (sent (held seat.old.me).seen lane.now.sender lane.now.receiver) }
+    requires few { count ≤ MAX_EVENTS }
+    requires unclosed { is_closed (held seat.old.me).seen lane.now.sender lane.now.receiver ≡ false }
+    ensures table { (seat.new.table_id ≡ seat.old.table_id) × (seat.new.id ≡ seat.old.id) }
+    ensures closes { Closes lane.now seat.old.me seat.new.me }
+{
+    close_at::<Brand>(words, seat, lane, count);
+}
+
+fn close_at<A: Site>(words: &Words, seat: &mut Seat, lane: &Lane, count: u64)
+    requires site { lane.now ≡ A.lane }
+    requires table { seat.old.table_id ≡ words.now.table_id }
+    requires board { IsBoard lane.now.instances lane.now.capacity words.now.key words.now.table_id }
+    requires rests { Rests lane.now.instances lane.now.capacity lane.now.sender seat.old.me }
+    requires count { count ≡ length (sent (held seat.old.me).seen lane.now.sender lane.now.receiver) }
+    requires few { count ≤ MAX_EVENTS }
+    requires unclosed { is_closed (held seat.old.me).seen lane.now.sender lane.now.receiver ≡ false }
+    ensures table { (seat.new.table_id ≡ seat.old.table_id) × (seat.new.id ≡ seat.old.id) }
+    ensures closes { Closes lane.now seat.old.me seat.new.me }
+{
+    words.store::<CloseLane<A>>(seat, lane.put_word(), 2 * count + 1);
+}

@@ -1,0 +1,8 @@
+//! The size of a board.
+
+/// How many instances a board has, and how many places each of its lanes.
+#[derive(Clone, Copy, Debug, PartialEq, Eq)]
+pub struct Shape {
+    pub instances: usize,
+    pub capacity: usize,
+}
