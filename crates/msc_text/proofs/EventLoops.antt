@@ -5,45 +5,46 @@ use Rattle.std.specs.Result.{is_err}
 use Rattle.chart.specs.declared.event.Event.{Event}
 use Rattle.chart.specs.Events.{region_of}
 use Rattle.msc_text.specs.ChartText.{events_text, event_lines_text, ending}
-use Rattle.msc_text.specs.Writing.{Gathers, Stops, Adds}
-use Rattle.msc_text.proofs.Writes.{gathers_nothing, gathers_then, stops_then, stops_early, adds_then}
+use Rattle.msc_text.specs.Writing.{Buffers, Stops, Adds}
+use Rattle.msc_text.specs.declared.text_buffer.TextBuffer.{TextBuffer}
+use Rattle.msc_text.proofs.Writes.{buffers_nothing, buffers_then, stops_then, stops_early, adds_then}
 
--- some text is gathered, and with that of the events that are left, behind one in the coregion r, it is all of it
-pub record HasCome {S : Type 0} (contents : S → Option (List ℕ)) (failures : S → ℕ) (old new : S) (held held' : List ℕ) (names : List (List ℕ)) (r : ℕ) (rest : List Event) (all : List ℕ) : Type 0 where
+-- some text was added, and with that of the events that are left, behind one in the coregion r, it is all of it
+pub record HasCome {S : Type 0} (contents : S → Option (List ℕ)) (failures : S → ℕ) (old new : TextBuffer S) (names : List (List ℕ)) (r : ℕ) (rest : List Event) (all : List ℕ) : Type 0 where
   pub front : List ℕ
-  pub gathers : Gathers contents failures old new held held' front
+  pub buffers : Buffers contents failures old new front
   pub whole : front ++ events_text names r rest ≡ all
 
 module _ {S : Type 0} {contents : S → Option (List ℕ)} {failures : S → ℕ} {names : List (List ℕ)} {all : List ℕ} where
-  pub come_none : (a : S) (h : List ℕ) (r : ℕ) (rest : List Event) → events_text names r rest ≡ all → HasCome contents failures a a h h names r rest all
-  come_none a h r rest whole = record { front = []; gathers = gathers_nothing a h; whole = whole }
+  pub come_none : (a : TextBuffer S) (r : ℕ) (rest : List Event) → events_text names r rest ≡ all → HasCome contents failures a a names r rest all
+  come_none a r rest whole = record { front = []; buffers = buffers_nothing a; whole = whole }
 
   -- the next event is taken off
-  pub come_at : {a b : S} {h i : List ℕ} {r : ℕ} (xs : List Event) (k : ℕ) (m : Event) → k < length xs → m ≡ get_or xs k m → HasCome contents failures a b h i names r (drop k xs) all
-      → HasCome contents failures a b h i names r (m ∷ drop (k + 1) xs) all
-  come_at {a} {b} {h} {i} {r} xs k m below is come =
+  pub come_at : {a b : TextBuffer S} {r : ℕ} (xs : List Event) (k : ℕ) (m : Event) → k < length xs → m ≡ get_or xs k m → HasCome contents failures a b names r (drop k xs) all
+      → HasCome contents failures a b names r (m ∷ drop (k + 1) xs) all
+  come_at {a} {b} {r} xs k m below is come =
       let next : drop k xs ≡ m ∷ drop (k + 1) xs = rw (add-one, drop-cons xs k m) (ap (λ x. x ∷ drop (suc k) xs) (sym is)) in
-      subst (λ rest. HasCome contents failures a b h i names r rest all) next come
+      subst (λ rest. HasCome contents failures a b names r rest all) next come
 
   -- none is left
-  pub come_all : {a b : S} {h i : List ℕ} {r : ℕ} (xs : List Event) (k : ℕ) → length xs ≤ k → HasCome contents failures a b h i names r (drop k xs) all → HasCome contents failures a b h i names r [] all
-  come_all {a} {b} {h} {i} {r} xs k past come = subst (λ rest. HasCome contents failures a b h i names r rest all) (drop_all k xs past) come
+  pub come_all : {a b : TextBuffer S} {r : ℕ} (xs : List Event) (k : ℕ) → length xs ≤ k → HasCome contents failures a b names r (drop k xs) all → HasCome contents failures a b names r [] all
+  come_all {a} {b} {r} xs k past come = subst (λ rest. HasCome contents failures a b names r rest all) (drop_all k xs past) come
 
-  pub come_more : {a b c : S} {h i j : List ℕ} {r : ℕ} {rest : List Event} (m : Event) → HasCome contents failures a b h i names r (m ∷ rest) all → Gathers contents failures b c i j (event_lines_text names r m)
-      → HasCome contents failures a c h j names (region_of m) rest all
+  pub come_more : {a b c : TextBuffer S} {r : ℕ} {rest : List Event} (m : Event) → HasCome contents failures a b names r (m ∷ rest) all → Buffers contents failures b c (event_lines_text names r m)
+      → HasCome contents failures a c names (region_of m) rest all
   come_more {r = r} {rest = rest} m come more = record {
     front = come.front ++ event_lines_text names r m;
-    gathers = gathers_then come.gathers more;
+    buffers = buffers_then come.buffers more;
     whole = append_assoc come.front (event_lines_text names r m) (events_text names (region_of m) rest) ∙ come.whole;
   }
 
-  pub come_stops : {T E : Type 0} {a b c : S} {h i j : List ℕ} {r : ℕ} {rest : List Event} (m : Event) (result : Result T E) → is_err result ≡ true → HasCome contents failures a b h i names r (m ∷ rest) all
-      → Stops contents failures b c i j (event_lines_text names r m) → Adds contents failures a c h j result all
+  pub come_stops : {T E : Type 0} {a b c : TextBuffer S} {r : ℕ} {rest : List Event} (m : Event) (result : Result T E) → is_err result ≡ true → HasCome contents failures a b names r (m ∷ rest) all
+      → Stops contents failures b c (event_lines_text names r m) → Adds contents failures a c result all
   come_stops m (Ok x) e come stops = cc
-  come_stops {a = a} {c = c} {h = h} {j = j} {r = r} {rest = rest} m (Err x) e come stops =
-      subst (Stops contents failures a c h j) (append_assoc come.front (event_lines_text names r m) (events_text names (region_of m) rest) ∙ come.whole)
-      (stops_early (events_text names (region_of m) rest) (stops_then come.gathers stops))
+  come_stops {a = a} {c = c} {r = r} {rest = rest} m (Err x) e come stops =
+      subst (Stops contents failures a c) (append_assoc come.front (event_lines_text names r m) (events_text names (region_of m) rest) ∙ come.whole)
+      (stops_early (events_text names (region_of m) rest) (stops_then come.buffers stops))
 
-  pub come_ends : {T E : Type 0} {a b : S} {h i : List ℕ} {r : ℕ} (c : S) (j : List ℕ) (result : Result T E) → HasCome contents failures a b h i names r [] all
-      → Adds contents failures b c i j result (ending r 0) → Adds contents failures a c h j result all
-  come_ends {a = a} {h = h} {r = r} c j result come adds = subst (Adds contents failures a c h j result) come.whole (adds_then c j result (ending r 0) come.gathers adds)
+  pub come_ends : {T E : Type 0} {a b : TextBuffer S} {r : ℕ} (c : TextBuffer S) (result : Result T E) → HasCome contents failures a b names r [] all
+      → Adds contents failures b c result (ending r 0) → Adds contents failures a c result all
+  come_ends {a = a} {r = r} c result come adds = subst (Adds contents failures a c result) come.whole (adds_then c result (ending r 0) come.buffers adds)

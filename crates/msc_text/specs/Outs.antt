@@ -1,5 +1,5 @@
 -- What a contract sees of each type that takes a text.
-use Rattle.std.specs.Prelude.{ℕ, List}
+use Rattle.std.specs.Prelude.{ℕ, ◌+◌, ◌-◌, ◌^◌, min, List}
 
 -- a text in memory, and how many puts have failed
 pub record Stored : Type 0 where
@@ -10,3 +10,7 @@ pub record Stored : Type 0 where
 pub record Streamed (W : Type 0) : Type 0 where
   pub writer : W
   pub failures : ℕ
+
+-- one failure more, in a count that stops at u64::MAX
+abbrev pub one_more : ℕ → ℕ
+one_more n = min (n + 1) (2 ^ 64 - 1)

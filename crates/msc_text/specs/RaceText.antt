@@ -5,9 +5,21 @@ use Rattle.chart.specs.declared.instance.EventNo.{EventNo}
 use Rattle.chart.specs.Reports.{ReportView}
 use Rattle.msc_text.specs.ChartText.{name_at}
 
+-- race INSTANCE, and a space: the front of the line of a race of an instance of this name
+unfoldable pub race_front : List ℕ → List ℕ
+race_front name = codes "race " ++ (name ++ codes " ")
+
+-- a space, RECEIVE, and the line's end: what stands behind the earlier event
+unfoldable pub race_end : ℕ → List ℕ
+race_end receive = codes " " ++ (decimal receive ++ codes "\n")
+
+-- an earlier event between both
+unfoldable pub race_line : List ℕ → List ℕ → EventNo → List ℕ
+race_line front end earlier = front ++ (decimal earlier.index ++ end)
+
 -- race INSTANCE EARLIER RECEIVE: an earlier event of an instance of this name, and the index of a receive of it
 unfoldable pub race_text : List ℕ → ℕ → EventNo → List ℕ
-race_text name receive earlier = codes "race " ++ (name ++ (codes " " ++ (decimal earlier.index ++ (codes " " ++ (decimal receive ++ codes "\n")))))
+race_text name receive earlier = race_line (race_front name) (race_end receive) earlier
 
 -- a line for each race of a receive
 abbrev pub report_text : List (List ℕ) → ReportView → List ℕ

@@ -1,16 +1,18 @@
 //! Charts as text.
-ghost use Rattle.std.specs.Prelude.{◌≡◌, ◌<◌, length, unwrap_or, []};
+ghost use Rattle.std.specs.Prelude.{◌≡◌, ◌≤◌, length, unwrap_or, []};
+ghost use Rattle.chart.specs.declared.name.TheConstants.{MAX_NAME};
 ghost use Rattle.std.specs.List.{flat_map};
 ghost use Rattle.msc_text.specs.ChartText.{name_at, event_text, ending, beginning, event_lines_text, events_text, head_text, foot_text, line_text, begin_text, end_text, chart_text};
 ghost use Rattle.msc_text.specs.Writing.{Wrote, Adds};
 
-use crate::gathering::{Gathering, WriteError};
 use crate::out::Out;
+use crate::text_buffer::{TextBuffer, WriteError};
 use chart::{Chart, Event, InstanceNo, Line, Name, Names};
 
 /// The bytes of the name, or none.
 pub(crate) fn bytes_of(name: &Option<Name>) -> &[u8]
-    ensures { result.now ≡ unwrap_or name.now [] }
+    ensures value { result.now ≡ unwrap_or name.now [] }
+    ensures short { length result.now ≤ MAX_NAME }
 {
     match name {
         Some(name) => name.as_bytes(),
@@ -52,22 +54,20 @@ fn beginning(before: u32, region: u32) -> &'static [u8]
 /// Adds the line of an event.
 #[tactic(auto, unfolding(crate::specs::ChartText::event_text))]
 fn add_event<W: Out>(
-    gathering: &mut Gathering,
-    out: &mut W,
+    text: &mut TextBuffer<'_, W>,
     names: &Names,
     event: &Event,
 ) -> Result<(), WriteError>
-    requires { W.failures out.old < u64.MAX }
-    ensures { Adds W.contents W.failures out.old out.new gathering.old gathering.new result (event_text names.now event.now) }
+    ensures { Adds W.contents W.failures text.old text.new result (event_text names.now event.now) }
 {
     let partner = name_at(names, event.partner());
     let partner = bytes_of(&partner);
     match event {
         Event::Send { name, .. } => {
-            gathering.add_all(out, &[b"out ", name.as_bytes(), b" to ", partner, b";\n"])
+            text.add_all(&[b"out ", name.as_bytes(), b" to ", partner, b";\n"])
         }
         Event::Receive { name, .. } => {
-            gathering.add_all(out, &[b"in ", name.as_bytes(), b" from ", partner, b";\n"])
+            text.add_all(&[b"in ", name.as_bytes(), b" from ", partner, b";\n"])
         }
     }
 }
@@ -75,106 +75,93 @@ fn add_event<W: Out>(
 /// Adds an event behind one that is in the coregion `before`, with what ends that one or begins its own.
 #[tactic(auto, using(crate::proofs::Writes::joining), unfolding(crate::specs::ChartText::event_lines_text))]
 fn add_event_lines<W: Out>(
-    gathering: &mut Gathering,
-    out: &mut W,
+    text: &mut TextBuffer<'_, W>,
     names: &Names,
     before: u32,
     event: &Event,
 ) -> Result<(), WriteError>
-    requires { W.failures out.old < u64.MAX }
-    ensures { Adds W.contents W.failures out.old out.new gathering.old gathering.new result (event_lines_text names.now before event.now) }
+    ensures { Adds W.contents W.failures text.old text.new result (event_lines_text names.now before event.now) }
 {
     let region = event.region();
-    gathering.add(out, ending(before, region))?;
-    gathering.add(out, beginning(before, region))?;
-    add_event(gathering, out, names, event)
+    text.add(ending(before, region))?;
+    text.add(beginning(before, region))?;
+    add_event(text, names, event)
 }
 
 /// Adds the events of a line.
 fn add_events<W: Out>(
-    gathering: &mut Gathering,
-    out: &mut W,
+    text: &mut TextBuffer<'_, W>,
     names: &Names,
     events: &[Event],
 ) -> Result<(), WriteError>
-    requires { W.failures out.old < u64.MAX }
-    ensures { Adds W.contents W.failures out.old out.new gathering.old gathering.new result (events_text names.now 0 events.now) }
+    ensures { Adds W.contents W.failures text.old text.new result (events_text names.now 0 events.now) }
 {
     let mut before = 0;
     for event in events {
-        add_event_lines(gathering, out, names, before, event)?;
+        add_event_lines(text, names, before, event)?;
         before = event.region();
     }
-    gathering.add(out, ending(before, 0))
+    text.add(ending(before, 0))
 }
 
 #[tactic(auto, unfolding(crate::specs::ChartText::head_text))]
 fn add_head<W: Out>(
-    gathering: &mut Gathering,
-    out: &mut W,
+    text: &mut TextBuffer<'_, W>,
     names: &Names,
     instance: InstanceNo,
 ) -> Result<(), WriteError>
-    requires { W.failures out.old < u64.MAX }
-    ensures { Adds W.contents W.failures out.old out.new gathering.old gathering.new result (head_text names.now instance) }
+    ensures { Adds W.contents W.failures text.old text.new result (head_text names.now instance) }
 {
     let name = name_at(names, instance);
-    gathering.add_all(out, &[b"instance ", bytes_of(&name), b";\n"])
+    text.add_all(&[b"instance ", bytes_of(&name), b";\n"])
 }
 
 #[tactic(auto, unfolding(crate::specs::ChartText::foot_text))]
-fn add_foot<W: Out>(gathering: &mut Gathering, out: &mut W) -> Result<(), WriteError>
-    requires { W.failures out.old < u64.MAX }
-    ensures { Adds W.contents W.failures out.old out.new gathering.old gathering.new result foot_text }
+fn add_foot<W: Out>(text: &mut TextBuffer<'_, W>) -> Result<(), WriteError>
+    ensures { Adds W.contents W.failures text.old text.new result foot_text }
 {
-    gathering.add(out, b"endinstance;\n")
+    text.add(b"endinstance;\n")
 }
 
 /// Adds an instance.
 #[tactic(auto, using(crate::proofs::Writes::joining), unfolding(crate::specs::ChartText::line_text))]
 fn add_line<W: Out>(
-    gathering: &mut Gathering,
-    out: &mut W,
+    text: &mut TextBuffer<'_, W>,
     names: &Names,
     line: &Line,
 ) -> Result<(), WriteError>
-    requires { W.failures out.old < u64.MAX }
-    ensures { Adds W.contents W.failures out.old out.new gathering.old gathering.new result (line_text names.now line.now) }
+    ensures { Adds W.contents W.failures text.old text.new result (line_text names.now line.now) }
 {
-    add_head(gathering, out, names, line.instance())?;
-    add_events(gathering, out, names, line.events())?;
-    add_foot(gathering, out)
+    add_head(text, names, line.instance())?;
+    add_events(text, names, line.events())?;
+    add_foot(text)
 }
 
 fn add_lines<W: Out>(
-    gathering: &mut Gathering,
-    out: &mut W,
+    text: &mut TextBuffer<'_, W>,
     names: &Names,
     lines: &[Line],
 ) -> Result<(), WriteError>
-    requires { W.failures out.old < u64.MAX }
-    ensures { Adds W.contents W.failures out.old out.new gathering.old gathering.new result (flat_map (line_text names.now) lines.now) }
+    ensures { Adds W.contents W.failures text.old text.new result (flat_map (line_text names.now) lines.now) }
 {
     for line in lines {
-        add_line(gathering, out, names, line)?;
+        add_line(text, names, line)?;
     }
     Ok(())
 }
 
 #[tactic(auto, unfolding(crate::specs::ChartText::begin_text))]
-fn add_begin<W: Out>(gathering: &mut Gathering, out: &mut W) -> Result<(), WriteError>
-    requires { W.failures out.old < u64.MAX }
-    ensures { Adds W.contents W.failures out.old out.new gathering.old gathering.new result begin_text }
+fn add_begin<W: Out>(text: &mut TextBuffer<'_, W>) -> Result<(), WriteError>
+    ensures { Adds W.contents W.failures text.old text.new result begin_text }
 {
-    gathering.add(out, b"msc run;\n")
+    text.add(b"msc run;\n")
 }
 
 #[tactic(auto, unfolding(crate::specs::ChartText::end_text))]
-fn add_end<W: Out>(gathering: &mut Gathering, out: &mut W) -> Result<(), WriteError>
-    requires { W.failures out.old < u64.MAX }
-    ensures { Adds W.contents W.failures out.old out.new gathering.old gathering.new result end_text }
+fn add_end<W: Out>(text: &mut TextBuffer<'_, W>) -> Result<(), WriteError>
+    ensures { Adds W.contents W.failures text.old text.new result end_text }
 {
-    gathering.add(out, b"endmsc;\n")
+    text.add(b"endmsc;\n")
 }
 
 /// Adds the chart's text to one that is being written. It takes no memory.
@@ -182,18 +169,16 @@ fn add_end<W: Out>(gathering: &mut Gathering, out: &mut W) -> Result<(), WriteEr
 /// The chart has as many instances as there are names.
 #[tactic(auto, using(crate::proofs::Writes::joining), unfolding(crate::specs::ChartText::chart_text))]
 pub fn add_chart<W: Out>(
-    gathering: &mut Gathering,
-    out: &mut W,
+    text: &mut TextBuffer<'_, W>,
     names: &Names,
     chart: &Chart,
 ) -> Result<(), WriteError>
-    requires named { length names.now ≡ length chart.now }
-    requires countable { W.failures out.old < u64.MAX }
-    ensures { Adds W.contents W.failures out.old out.new gathering.old gathering.new result (chart_text names.now chart.now) }
+    requires { length names.now ≡ length chart.now }
+    ensures { Adds W.contents W.failures text.old text.new result (chart_text names.now chart.now) }
 {
-    add_begin(gathering, out)?;
-    add_lines(gathering, out, names, chart.lines())?;
-    add_end(gathering, out)
+    add_begin(text)?;
+    add_lines(text, names, chart.lines())?;
+    add_end(text)
 }
 
 /// Writes the chart's text and nothing else. It takes no memory. Where a put fails (F24), a beginning of the text was
@@ -202,11 +187,10 @@ pub fn add_chart<W: Out>(
 /// The chart has as many instances as there are names.
 #[tactic(auto, using(crate::proofs::Writes::joining))]
 pub fn write<W: Out>(names: &Names, chart: &Chart, out: &mut W) -> Result<(), WriteError>
-    requires named { length names.now ≡ length chart.now }
-    requires countable { W.failures out.old < u64.MAX }
+    requires { length names.now ≡ length chart.now }
     ensures { Wrote W.contents W.failures out.old out.new result (chart_text names.now chart.now) }
 {
-    let mut gathering = Gathering::new();
-    add_chart(&mut gathering, out, names, chart)?;
-    gathering.finish(out)
+    let mut text = TextBuffer::new(out);
+    add_chart(&mut text, names, chart)?;
+    text.finish()
 }

@@ -1,8 +1,9 @@
 //! Where a text is put.
-ghost use Rattle.std.specs.Prelude.{◌≡◌, ◌≤◌, ◌<◌, ◌+◌, ◌++◌, ℕ, List, [], take, length, Option, None, Some, IfOk, OnErr};
+ghost use Rattle.std.specs.Prelude.{◌≡◌, ◌≤◌, ◌<◌, ℕ, List, [], take, length, Option, None, Some, IfOk, OnErr};
 ghost use Rattle.std.specs.Io.KnownBytes.{Appends};
-ghost use Rattle.msc_text.specs.Outs.{Stored, Streamed};
+ghost use Rattle.msc_text.specs.Outs.{Stored, Streamed, one_more};
 
+use crate::retrying::write_some;
 use std::alloc::Global;
 use std::io::Write;
 use std::marker::Model;
@@ -27,18 +28,17 @@ pub trait Out {
     /// The bytes that it holds, where it tells them.
     ghost contents: { Self → Option (List ℕ) } = { λ _. None };
 
-    /// How many puts have failed.
+    /// How many puts have failed, a count that stops at `u64::MAX`.
     ghost failures: { Self → ℕ };
 
     /// Takes a beginning of the bytes, and answers how many they are: of a piece that isn't empty at least
     /// one byte. A fault takes none.
     fn put(&mut self, bytes: &[u8]) -> Result<usize, OutFault>
-        requires { failures self.old < u64.MAX }
         ensures count { IfOk result (λ k. (k ≤ length bytes.now) × (0 < length bytes.now → 1 ≤ k)) }
         ensures taken { IfOk result (λ k. Appends (contents self.old) (contents self.new) (take k bytes.now)
             × (failures self.new ≡ failures self.old)) }
         ensures fault { OnErr result (Appends (contents self.old) (contents self.new) []
-            × (failures self.new ≡ failures self.old + 1)) };
+            × (failures self.new ≡ one_more (failures self.old))) };
 }
 
 /// An [`Out`] over memory, which tells its bytes. A put fails where there is no memory left for it.
@@ -88,14 +88,15 @@ impl Out for MemoryOut {
         match self.bytes.extend_from_slice(bytes) {
             Ok(()) => Ok(bytes.len()),
             Err(_) => {
-                self.failures += 1;
+                self.failures = self.failures.saturating_add(1);
                 Err(OutFault::Memory)
             }
         }
     }
 }
 
-/// An [`Out`] over any writer. Each error of the writer is a fault, and so is its taking no byte.
+/// An [`Out`] over any writer. Each error of the writer is a fault, and so is its taking no byte; but a write that a
+/// signal interrupts is tried again.
 #[derive(Drop)]
 pub struct StreamOut<W> {
     writer: W,
@@ -138,14 +139,14 @@ impl<W: Write> Out for StreamOut<W> {
         if bytes.is_empty() {
             return Ok(0);
         }
-        match self.writer.write(bytes) {
+        match write_some(&mut self.writer, bytes) {
             Ok(0) => {
-                self.failures += 1;
+                self.failures = self.failures.saturating_add(1);
                 Err(OutFault::Full)
             }
             Ok(taken) => Ok(taken),
             Err(_) => {
-                self.failures += 1;
+                self.failures = self.failures.saturating_add(1);
                 Err(OutFault::Failed)
             }
         }

@@ -1,65 +1,102 @@
 //! The races of a chart as text.
-ghost use Rattle.std.specs.Prelude.{◌≡◌, ◌<◌};
+ghost use Rattle.std.specs.Prelude.{◌≡◌, ◌≤◌, length};
+ghost use Rattle.chart.specs.declared.name.TheConstants.{MAX_NAME};
 ghost use Rattle.std.specs.List.{flat_map};
-ghost use Rattle.msc_text.specs.RaceText.{race_text, report_text, races_text};
+ghost use Rattle.msc_text.specs.RaceText.{race_front, race_end, race_line, report_text, races_text};
 ghost use Rattle.msc_text.specs.Writing.{Adds};
 
 use crate::chart_text::{bytes_of, name_at};
-use crate::gathering::{Gathering, WriteError};
+use crate::held::Held;
 use crate::out::Out;
+use crate::text_buffer::{TextBuffer, WriteError};
 use chart::{EventNo, Names, Report};
 use itoa::Buffer;
 
-/// Adds the line of a race: an earlier event of the instance of this name, and the number of a receive of it.
-#[tactic(auto, unfolding(crate::specs::RaceText::race_text))]
-fn add_race<W: Out>(
-    gathering: &mut Gathering,
-    out: &mut W,
-    name: &[u8],
-    receive: u32,
-    earlier: EventNo,
-) -> Result<(), WriteError>
-    requires { W.failures out.old < u64.MAX }
-    ensures { Adds W.contents W.failures out.old out.new gathering.old gathering.new result (race_text name.now receive earlier) }
-{
-    let mut first = Buffer::new();
-    let mut second = Buffer::new();
-    let earlier = first.format(earlier.index).as_bytes();
-    let receive = second.format(receive).as_bytes();
-    gathering.add_all(out, &[b"race ", name, b" ", earlier, b" ", receive, b"\n"])
+/// The line of a race, but for the number of the earlier event: it is made once for all races of a receive.
+#[derive(Drop)]
+struct RaceLine {
+    front: Held,
+    end: Held,
+}
+
+impl RaceLine {
+    fn new() -> RaceLine {
+        RaceLine {
+            front: Held::new(),
+            end: Held::new(),
+        }
+    }
+
+    /// From now on it is that of races of the instance of this name, and of its receive of this number.
+    #[tactic(auto, unfolding(crate::specs::RaceText::race_front, crate::specs::RaceText::race_end))]
+    fn set(&mut self, name: &[u8], receive: u32)
+        requires { length name.now ≤ MAX_NAME }
+        ensures front { self.new.front ≡ race_front name.now }
+        ensures end { self.new.end ≡ race_end receive }
+    {
+        self.front.clear();
+        self.front.push(b"race ");
+        self.front.push(name);
+        self.front.push(b" ");
+        let mut digits = Buffer::new();
+        self.end.clear();
+        self.end.push(b" ");
+        self.end.push(digits.format(receive).as_bytes());
+        self.end.push(b"\n");
+    }
+
+    /// Adds the line with the number of this earlier event.
+    #[tactic(auto, unfolding(crate::specs::RaceText::race_line))]
+    fn add<W: Out>(&self, text: &mut TextBuffer<'_, W>, earlier: EventNo) -> Result<(), WriteError>
+        ensures { Adds W.contents W.failures text.old text.new result (race_line self.now.front self.now.end earlier) }
+    {
+        let mut digits = Buffer::new();
+        let index = digits.format(earlier.index).as_bytes();
+        text.add_three(self.front.as_bytes(), index, self.end.as_bytes())
+    }
+
+    /// Adds the line of each of these earlier events.
+    fn add_all<W: Out>(
+        &self,
+        text: &mut TextBuffer<'_, W>,
+        earlier: &[EventNo],
+    ) -> Result<(), WriteError>
+        ensures { Adds W.contents W.failures text.old text.new result
+            (flat_map (race_line self.now.front self.now.end) earlier.now) }
+    {
+        for event in earlier {
+            self.add(text, *event)?;
+        }
+        Ok(())
+    }
 }
 
 /// Adds a line for each race of a report.
 fn add_report<W: Out>(
-    gathering: &mut Gathering,
-    out: &mut W,
+    text: &mut TextBuffer<'_, W>,
+    line: &mut RaceLine,
     names: &Names,
     report: &Report,
 ) -> Result<(), WriteError>
-    requires { W.failures out.old < u64.MAX }
-    ensures { Adds W.contents W.failures out.old out.new gathering.old gathering.new result (report_text names.now report.now) }
+    ensures { Adds W.contents W.failures text.old text.new result (report_text names.now report.now) }
 {
     let receive = report.receive();
     let name = name_at(names, receive.instance);
-    let name = bytes_of(&name);
-    for earlier in report.earlier() {
-        add_race(gathering, out, name, receive.index, *earlier)?;
-    }
-    Ok(())
+    line.set(bytes_of(&name), receive.index);
+    line.add_all(text, report.earlier())
 }
 
 /// Adds a line for each race of these reports to a text that is being written. It takes no memory.
 pub fn add_races<W: Out>(
-    gathering: &mut Gathering,
-    out: &mut W,
+    text: &mut TextBuffer<'_, W>,
     names: &Names,
     reports: &[Report],
 ) -> Result<(), WriteError>
-    requires { W.failures out.old < u64.MAX }
-    ensures { Adds W.contents W.failures out.old out.new gathering.old gathering.new result (races_text names.now reports.now) }
+    ensures { Adds W.contents W.failures text.old text.new result (races_text names.now reports.now) }
 {
+    let mut line = RaceLine::new();
     for report in reports {
-        add_report(gathering, out, names, report)?;
+        add_report(text, &mut line, names, report)?;
     }
     Ok(())
 }

@@ -3,11 +3,12 @@ ghost use Rattle.std.specs.Prelude.{◌≡◌};
 
 use crate::sample::write_sample;
 use crate::{
-    Cause, Fault, GATHERED, Gathering, MemoryOut, Out, OutFault, StreamOut, TextError, Words,
+    BUFFERED, Cause, Fault, MemoryOut, Out, OutFault, StreamOut, TextBuffer, TextError, Words,
     WriteError, name_in, next_line, next_word, words_in,
 };
 use chart::NameError;
 use std::alloc::{AllocError, Global};
+use std::io::{self, ErrorKind, Write};
 use std::test::Fail;
 
 const SAMPLE: &[u8] = b"sample abc:\nabc 7\nabc 40\nend\n";
@@ -28,7 +29,7 @@ impl Out for Slow {
             return Ok(0);
         }
         if self.left == 0 || self.taken.push(bytes[0]).is_err() {
-            self.failures += 1;
+            self.failures = self.failures.saturating_add(1);
             return Err(OutFault::Failed);
         }
         self.left -= 1;
@@ -71,15 +72,16 @@ fn writes_to_memory(rt: HostRuntime) -> Result<(), Fail> {
 fn takes_pieces_of_any_length(rt: HostRuntime) -> Result<(), Fail> {
     let long = [b'x'; 5000];
     let mut out = MemoryOut::new(rt.alloc());
-    let mut gathering = Gathering::new();
-    let front = &long[..GATHERED - 1];
-    let full = &long[..GATHERED];
-    gathering.add_all(&mut out, &[b"", b"x", front, b"x", full, &long, b"x"])?;
-    gathering.add_number(&mut out, u64::MAX)?;
-    gathering.add_all(&mut out, &[b"a", b"", b"bc"])?;
-    gathering.finish(&mut out)?;
+    let mut text = TextBuffer::new(&mut out);
+    let front = &long[..BUFFERED - 1];
+    let full = &long[..BUFFERED];
+    text.add_all(&[b"", b"x", front, b"x", full, &long, b"x"])?;
+    text.add_number(u64::MAX)?;
+    text.add_all(&[b"a", b"", b"bc"])?;
+    text.finish()?;
+    drop(text);
     let bytes = out.into_bytes();
-    assert_eq!(rt; bytes.len(), 2 * GATHERED + 5002 + 20 + 3);
+    assert_eq!(rt; bytes.len(), 2 * BUFFERED + 5002 + 20 + 3);
     assert!(rt; bytes.ends_with(b"x18446744073709551615abc"));
     Ok(())
 }
@@ -100,6 +102,43 @@ fn a_full_stream_fails(rt: HostRuntime) {
     assert_eq!(rt; result, Err(WriteError::Put(OutFault::Full)));
     drop(out);
     assert_eq!(rt; place.as_slice(), &SAMPLE[..20]);
+}
+
+/// Is interrupted by a signal so many times, and then takes one byte a call.
+#[derive(Drop)]
+struct Interrupted {
+    times: u8,
+    taken: Vec<u8>,
+}
+
+impl Write for Interrupted {
+    fn write(&mut self, bytes: &[u8]) -> io::Result<usize> {
+        if self.times > 0 {
+            self.times -= 1;
+            return Err(io::Error::new(ErrorKind::Interrupted, "a signal"));
+        }
+        let Some(first) = bytes.first() else {
+            return Ok(0);
+        };
+        self.taken.push(*first)?;
+        self.times = 2;
+        Ok(1)
+    }
+
+    fn flush(&mut self) -> io::Result<()> {
+        Ok(())
+    }
+}
+
+#[test]
+fn interrupted_writes_are_tried_again(rt: HostRuntime) -> Result<(), Fail> {
+    let mut out = StreamOut::new(Interrupted {
+        times: 1,
+        taken: Vec::new(rt.alloc()),
+    });
+    write_sample(b"abc", &[7, 40], &mut out)?;
+    assert_eq!(rt; out.into_inner().taken.as_slice(), SAMPLE);
+    Ok(())
 }
 
 #[test]

@@ -6,7 +6,7 @@ ghost use Rattle.replayer.specs.OutcomeText.{word_text, note_text, outcome_text}
 
 use crate::outcome::Outcome;
 use itoa::Buffer;
-use msc_text::{Gathering, Out, WriteError, add_chart, add_races};
+use msc_text::{Out, TextBuffer, WriteError, add_chart, add_races};
 use schedule::{Note, Word};
 
 #[tactic(auto, unfolding(crate::specs::OutcomeText::word_text))]
@@ -26,45 +26,37 @@ fn word_of(word: &Word) -> &[u8]
 }
 
 #[tactic(auto, unfolding(crate::specs::OutcomeText::note_text))]
-fn add_note<W: Out>(gathering: &mut Gathering, out: &mut W, note: &Note) -> Result<(), WriteError>
-    requires { W.failures out.old < u64.MAX }
-    ensures { Adds W.contents W.failures out.old out.new gathering.old gathering.new result (note_text note.now) }
+fn add_note<W: Out>(text: &mut TextBuffer<'_, W>, note: &Note) -> Result<(), WriteError>
+    ensures { Adds W.contents W.failures text.old text.new result (note_text note.now) }
 {
     let mut buffer = Buffer::new();
     let line = buffer.format(note.line).as_bytes();
-    gathering.add_all(out, &[b"note ", line, b" ", word_of(&note.word), b"\n"])
+    text.add_all(&[b"note ", line, b" ", word_of(&note.word), b"\n"])
 }
 
-fn add_notes<W: Out>(
-    gathering: &mut Gathering,
-    out: &mut W,
-    notes: &[Note],
-) -> Result<(), WriteError>
-    requires { W.failures out.old < u64.MAX }
-    ensures { Adds W.contents W.failures out.old out.new gathering.old gathering.new result (flat_map note_text notes.now) }
+fn add_notes<W: Out>(text: &mut TextBuffer<'_, W>, notes: &[Note]) -> Result<(), WriteError>
+    ensures { Adds W.contents W.failures text.old text.new result (flat_map note_text notes.now) }
 {
     for note in notes {
-        add_note(gathering, out, note)?;
+        add_note(text, note)?;
     }
     Ok(())
 }
 
 #[tactic(auto, using(msc_text::proofs::Writes::joining), unfolding(crate::specs::OutcomeText::outcome_text))]
 fn add_outcome<W: Out>(
-    gathering: &mut Gathering,
-    out: &mut W,
+    text: &mut TextBuffer<'_, W>,
     outcome: &Outcome<'_>,
 ) -> Result<(), WriteError>
-    requires { W.failures out.old < u64.MAX }
-    ensures { Adds W.contents W.failures out.old out.new gathering.old gathering.new result (outcome_text outcome.now) }
+    ensures { Adds W.contents W.failures text.old text.new result (outcome_text outcome.now) }
 {
     let names = outcome.names();
     let chart = outcome.chart();
     let reports = outcome.reports();
     let notes = outcome.notes();
-    add_chart(gathering, out, names, chart)?;
-    add_races(gathering, out, names, reports)?;
-    add_notes(gathering, out, notes)
+    add_chart(text, names, chart)?;
+    add_races(text, names, reports)?;
+    add_notes(text, notes)
 }
 
 impl Outcome<'_> {
@@ -72,11 +64,10 @@ impl Outcome<'_> {
     /// (F24), a beginning of the text was written, and no other put is tried.
     #[tactic(auto, using(msc_text::proofs::Writes::joining))]
     pub fn write<W: Out>(&self, out: &mut W) -> Result<(), WriteError>
-        requires { W.failures out.old < u64.MAX }
         ensures { Wrote W.contents W.failures out.old out.new result (outcome_text self.now) }
     {
-        let mut gathering = Gathering::new();
-        add_outcome(&mut gathering, out, self)?;
-        gathering.finish(out)
+        let mut text = TextBuffer::new(out);
+        add_outcome(&mut text, self)?;
+        text.finish()
     }
 }

@@ -2,3 +2,4 @@ pub use Rattle.msc_text.specs.Writing
 pub mod Refusals
 pub mod Tasks
 pub mod Seeds
+pub mod Statuses

@@ -1,5 +1,5 @@
 -- What the program does with the bytes of a file.
-use Rattle.std.specs.Prelude.{◌≡◌, ℕ, ◌⊎◌, List, length, Option, Result, Ok, Err, if◌then◌else◌}
+use Rattle.std.specs.Prelude.{◌≡◌, ℕ, ◌⊎◌, List, length, Option, Result, Ok, Err}
 use Rattle.chart.specs.Charts.{LineView, chart_lines, IsPossible}
 use Rattle.chart.specs.Reports.{ReportView, AreReports, has_races}
 use Rattle.closure.specs.Faults.{Refuses}
@@ -14,6 +14,8 @@ use Rattle.schedule.specs.Reading.{schedule_of}
 use Rattle.interleaver.specs.Interleavings.{drawn_of}
 use Rattle.replayer.specs.Outcomes.{OutcomeView, IsOutcome}
 use Rattle.replayer.specs.OutcomeText.{outcome_text}
+use Rattle.tasks.specs.declared.status.Status.{Status}
+use Rattle.tasks.specs.Statuses.{status_in, code_of}
 use Rattle.tasks.specs.declared.error.ProgramError.{ProgramError}
 use Rattle.tasks.specs.declared.error.ProgramError.TheVariants as errors
 use Rattle.tasks.specs.declared.task.Task.{Task}
@@ -27,9 +29,9 @@ Reads (Err errors.Memory) said = Unit {0}
 Reads (Err (errors.Text fault)) said = said ≡ Err fault
 Reads (Err _) said = ⊥
 
--- the exit status: 1 where there are races, and 0 where there are none
-abbrev pub status_of : List ReportView → ℕ
-status_of reports = if has_races reports then 1 else 0
+-- what a task comes to by these reports
+abbrev pub status_of : List ReportView → Status
+status_of reports = status_in (has_races reports)
 
 -- what a seed makes of what a text says
 abbrev pub drawn_by : ℕ → Result Plan Fault → Result Plan Fault
@@ -50,7 +52,7 @@ IsRefused _ named = ⊥
 module _ {S : Type 0} (contents : S → Option (List ℕ)) (failures : S → ℕ) where
   -- the text of what the schedule comes to was written; or a beginning of it, where a put failed; or nothing, where the
   -- text says no schedule, or where memory ran out
-  abbrev pub Replays : S → S → Result ℕ ProgramError → Result Plan Fault → Type 0
+  abbrev pub Replays : S → S → Result Status ProgramError → Result Plan Fault → Type 0
   Replays old new (Ok status) said = (plan : Plan) × (o : OutcomeView) × (said ≡ Ok plan) × IsOutcome plan o × (status ≡ status_of o.reports) × Puts contents failures old new (outcome_text o)
   Replays old new (Err errors.Memory) said = new ≡ old
   Replays old new (Err (errors.Text fault)) said = (said ≡ Err fault) × (new ≡ old)
@@ -59,7 +61,7 @@ module _ {S : Type 0} (contents : S → Option (List ℕ)) (failures : S → ℕ
 
   -- the races of the chart were written, which is possible; or a beginning of them, where a put failed; or nothing, where
   -- the text says no chart, or one that is not possible, or where memory ran out
-  abbrev pub Checks : S → S → Result ℕ ProgramError → Result Named Fault → Type 0
+  abbrev pub Checks : S → S → Result Status ProgramError → Result Named Fault → Type 0
   Checks old new (Ok status) said = (named : Named) × (reports : List ReportView) × (said ≡ Ok named) × IsPossible (length named.1) (chart_lines named.1) × AreReports named.1 reports × (status ≡ status_of reports) × Puts contents failures old new (races_text named.0 reports)
   Checks old new (Err errors.Memory) said = new ≡ old
   Checks old new (Err (errors.Text fault)) said = (said ≡ Err fault) × (new ≡ old)
@@ -67,7 +69,7 @@ module _ {S : Type 0} (contents : S → Option (List ℕ)) (failures : S → ℕ
   Checks old new (Err error) said = (named : Named) × (said ≡ Ok named) × IsRefused error named × (new ≡ old)
 
   -- what the task does with the bytes
-  abbrev pub Does : Task → List ℕ → S → S → Result ℕ ProgramError → Type 0
+  abbrev pub Does : Task → List ℕ → S → S → Result Status ProgramError → Type 0
   Does Replay bytes old new done = Replays old new done (schedule_of bytes)
   Does (Random seed) bytes old new done = Replays old new done (drawn_by seed (schedule_of bytes))
   Does Check bytes old new done = Checks old new done (chart_of bytes)
@@ -76,5 +78,5 @@ module _ {S : Type 0} (contents : S → Option (List ℕ)) (failures : S → ℕ
 -- beginning
 abbrev pub Performs : {S T : Type 0} → (S → Option (List ℕ)) → (S → ℕ) → (T → Option (List ℕ)) → (T → ℕ) → Task → List ℕ → S → S → T → T → ℕ → Type 0
 Performs contents failures err_contents err_failures task bytes old new err_old err_new status =
-    (Does contents failures task bytes old new (Ok status) × (err_new ≡ err_old))
+    ((done : Status) × Does contents failures task bytes old new (Ok done) × (status ≡ code_of done) × (err_new ≡ err_old))
     ⊎ ((error : ProgramError) × Does contents failures task bytes old new (Err error) × (status ≡ 2) × Tried err_contents err_failures err_old err_new (refusal_text error))

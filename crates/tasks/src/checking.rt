@@ -1,5 +1,5 @@
 //! Checks charts: whether they are possible, and their races.
-ghost use Rattle.std.specs.Prelude.{◌≡◌, ◌≤◌, ◌<◌, ◌⊎◌, List, length, OnOk, IfErr, IfOk};
+ghost use Rattle.std.specs.Prelude.{◌≡◌, ◌≤◌, ◌⊎◌, List, length, OnOk, IfErr, IfOk};
 ghost use Rattle.chart.specs.Charts.{LineView, chart_lines, IsPossible};
 ghost use Rattle.chart.specs.Reports.{AreReports};
 ghost use Rattle.closure.specs.Faults.{Refuses};
@@ -10,10 +10,11 @@ ghost use Rattle.msc_text.specs.Writing.{Wrote};
 ghost use Rattle.tasks.specs.Tasks.{Reads, IsRefused, Checks};
 
 use crate::error::ProgramError;
+use crate::status::Status;
 use chart::{Chart, InstanceNo, Name, Names, Report, has_races};
 use closure::{ChartError, Closure};
 use msc_reader::read;
-use msc_text::{Gathering, Out, TextError, WriteError, add_races};
+use msc_text::{Out, TextBuffer, TextError, WriteError, add_races};
 use std::alloc::Global;
 
 /// The names and the chart that the text says.
@@ -31,12 +32,11 @@ fn chart_in(alloc: Global, text: &[u8]) -> Result<(Names, Chart), ProgramError>
 /// Writes the line of each race.
 #[tactic(auto, using(msc_text::proofs::Writes::joining))]
 fn write<W: Out>(names: &Names, reports: &[Report], out: &mut W) -> Result<(), WriteError>
-    requires { W.failures out.old < u64.MAX }
     ensures { Wrote W.contents W.failures out.old out.new result (races_text names.now reports.now) }
 {
-    let mut gathering = Gathering::new();
-    add_races(&mut gathering, out, names, reports)?;
-    gathering.finish(out)
+    let mut text = TextBuffer::new(out);
+    add_races(&mut text, names, reports)?;
+    text.finish()
 }
 
 /// The name of the instance, which has one.
@@ -89,15 +89,14 @@ fn races_of(alloc: Global, names: &Names, chart: &Chart) -> Result<Vec<Report>, 
     }
 }
 
-/// Checks the chart that the text says: writes its races, and answers the exit status.
-pub fn checked<W: Out>(alloc: Global, text: &[u8], out: &mut W) -> Result<u8, ProgramError>
-    requires { W.failures out.old < u64.MAX }
+/// Checks the chart that the text says: writes its races, and answers whether it has some.
+pub fn check<W: Out>(alloc: Global, text: &[u8], out: &mut W) -> Result<Status, ProgramError>
     ensures { Checks W.contents W.failures out.old out.new result (chart_of text.now) }
 {
     let (names, chart) = chart_in(alloc, text)?;
     let reports = races_of(alloc, &names, &chart)?;
     match write(&names, reports.as_slice(), out) {
-        Ok(()) => Ok(u8::from(has_races(reports.as_slice()))),
+        Ok(()) => Ok(Status::of(has_races(reports.as_slice()))),
         Err(_) => Err(ProgramError::Write),
     }
 }

@@ -15,6 +15,7 @@ mod error;
 mod refusal;
 mod replaying;
 mod seed;
+mod status;
 mod task;
 
 pub use error::ProgramError;

@@ -1,12 +1,12 @@
 //! Refusals as text.
-ghost use Rattle.std.specs.Prelude.{◌≡◌, ◌<◌};
+ghost use Rattle.std.specs.Prelude.{◌≡◌};
 ghost use Rattle.msc_text.specs.Writing.{Wrote, Adds};
 ghost use Rattle.tasks.specs.Refusals.{name_label, cause_label, label, behind_space, cause_detail, event_detail, detail, start_text, end_text, refusal_text, Tried};
 
 use crate::error::ProgramError;
 use chart::{Name, NameError};
 use itoa::Buffer;
-use msc_text::{Cause, Fault, Gathering, Out, WriteError};
+use msc_text::{Cause, Fault, Out, TextBuffer, WriteError};
 
 #[tactic(auto, unfolding(crate::specs::Refusals::name_label))]
 fn name_label(fault: NameError) -> &'static [u8]
@@ -54,115 +54,92 @@ fn label(error: &ProgramError) -> &'static [u8]
 }
 
 #[tactic(auto, unfolding(crate::specs::Refusals::behind_space))]
-fn add_number<W: Out>(gathering: &mut Gathering, out: &mut W, number: u64) -> Result<(), WriteError>
-    requires { W.failures out.old < u64.MAX }
-    ensures { Adds W.contents W.failures out.old out.new gathering.old gathering.new result (behind_space number) }
+fn add_number<W: Out>(text: &mut TextBuffer<'_, W>, number: u64) -> Result<(), WriteError>
+    ensures { Adds W.contents W.failures text.old text.new result (behind_space number) }
 {
     let mut buffer = Buffer::new();
     let digits = buffer.format(number).as_bytes();
-    gathering.add_all(out, &[b" ", digits])
+    text.add_all(&[b" ", digits])
 }
 
 #[tactic(auto, using(msc_text::proofs::Writes::joining), unfolding(crate::specs::Refusals::cause_detail))]
 fn add_cause_detail<W: Out>(
-    gathering: &mut Gathering,
-    out: &mut W,
+    text: &mut TextBuffer<'_, W>,
     line: u64,
     cause: Cause,
 ) -> Result<(), WriteError>
-    requires { W.failures out.old < u64.MAX }
-    ensures { Adds W.contents W.failures out.old out.new gathering.old gathering.new result (cause_detail line cause) }
+    ensures { Adds W.contents W.failures text.old text.new result (cause_detail line cause) }
 {
     match cause {
-        Cause::Instances | Cause::Capacity => gathering.add(out, b""),
+        Cause::Instances | Cause::Capacity => text.add(b""),
         Cause::Name(NameError::BadByte(place)) => {
-            add_number(gathering, out, line)?;
-            add_number(gathering, out, place as u64)
+            add_number(text, line)?;
+            add_number(text, place as u64)
         }
-        _ => add_number(gathering, out, line),
+        _ => add_number(text, line),
     }
 }
 
 #[tactic(auto, unfolding(crate::specs::Refusals::event_detail, crate::specs::Refusals::behind_space))]
 fn add_event<W: Out>(
-    gathering: &mut Gathering,
-    out: &mut W,
+    text: &mut TextBuffer<'_, W>,
     instance: &Name,
     index: u32,
 ) -> Result<(), WriteError>
-    requires { W.failures out.old < u64.MAX }
-    ensures { Adds W.contents W.failures out.old out.new gathering.old gathering.new result (event_detail instance.now index) }
+    ensures { Adds W.contents W.failures text.old text.new result (event_detail instance.now index) }
 {
     let mut buffer = Buffer::new();
     let digits = buffer.format(index).as_bytes();
-    gathering.add_all(out, &[b" ", instance.as_bytes(), b" ", digits])
+    text.add_all(&[b" ", instance.as_bytes(), b" ", digits])
 }
 
 #[tactic(auto, unfolding(crate::specs::Refusals::detail))]
-fn add_detail<W: Out>(
-    gathering: &mut Gathering,
-    out: &mut W,
-    error: &ProgramError,
-) -> Result<(), WriteError>
-    requires { W.failures out.old < u64.MAX }
-    ensures { Adds W.contents W.failures out.old out.new gathering.old gathering.new result (detail error.now) }
+fn add_detail<W: Out>(text: &mut TextBuffer<'_, W>, error: &ProgramError) -> Result<(), WriteError>
+    ensures { Adds W.contents W.failures text.old text.new result (detail error.now) }
 {
     match error {
-        ProgramError::Text(Fault::Line(line, cause)) => {
-            add_cause_detail(gathering, out, *line, *cause)
-        }
+        ProgramError::Text(Fault::Line(line, cause)) => { add_cause_detail(text, *line, *cause) }
         ProgramError::ReceiveWithoutSend { instance, index }
-        | ProgramError::NameMismatch { instance, index } => {
-            add_event(gathering, out, instance, *index)
-        }
-        _ => gathering.add(out, b""),
+        | ProgramError::NameMismatch { instance, index } => { add_event(text, instance, *index) }
+        _ => text.add(b""),
     }
 }
 
 #[tactic(auto, unfolding(crate::specs::Refusals::start_text))]
-fn add_start<W: Out>(gathering: &mut Gathering, out: &mut W) -> Result<(), WriteError>
-    requires { W.failures out.old < u64.MAX }
-    ensures { Adds W.contents W.failures out.old out.new gathering.old gathering.new result start_text }
+fn add_start<W: Out>(text: &mut TextBuffer<'_, W>) -> Result<(), WriteError>
+    ensures { Adds W.contents W.failures text.old text.new result start_text }
 {
-    gathering.add(out, b"refused: ")
+    text.add(b"refused: ")
 }
 
 #[tactic(auto, unfolding(crate::specs::Refusals::end_text))]
-fn add_end<W: Out>(gathering: &mut Gathering, out: &mut W) -> Result<(), WriteError>
-    requires { W.failures out.old < u64.MAX }
-    ensures { Adds W.contents W.failures out.old out.new gathering.old gathering.new result end_text }
+fn add_end<W: Out>(text: &mut TextBuffer<'_, W>) -> Result<(), WriteError>
+    ensures { Adds W.contents W.failures text.old text.new result end_text }
 {
-    gathering.add(out, b"\n")
+    text.add(b"\n")
 }
 
 #[tactic(auto, using(msc_text::proofs::Writes::joining), unfolding(crate::specs::Refusals::refusal_text))]
-fn add_refusal<W: Out>(
-    gathering: &mut Gathering,
-    out: &mut W,
-    error: &ProgramError,
-) -> Result<(), WriteError>
-    requires { W.failures out.old < u64.MAX }
-    ensures { Adds W.contents W.failures out.old out.new gathering.old gathering.new result (refusal_text error.now) }
+fn add_refusal<W: Out>(text: &mut TextBuffer<'_, W>, error: &ProgramError) -> Result<(), WriteError>
+    ensures { Adds W.contents W.failures text.old text.new result (refusal_text error.now) }
 {
-    add_start(gathering, out)?;
-    gathering.add(out, label(error))?;
-    add_detail(gathering, out, error)?;
-    add_end(gathering, out)
+    add_start(text)?;
+    text.add(label(error))?;
+    add_detail(text, error)?;
+    add_end(text)
 }
 
 #[tactic(auto, using(msc_text::proofs::Writes::joining))]
 fn write_refusal<W: Out>(error: &ProgramError, out: &mut W) -> Result<(), WriteError>
-    requires { W.failures out.old < u64.MAX }
     ensures { Wrote W.contents W.failures out.old out.new result (refusal_text error.now) }
 {
-    let mut gathering = Gathering::new();
-    add_refusal(&mut gathering, out, error)?;
-    gathering.finish(out)
+    let mut text = TextBuffer::new(out);
+    add_refusal(&mut text, error)?;
+    text.finish()
 }
 
 /// Prints the line of a refusal, and answers the exit status, which is 2 whether or not the line could be written.
 pub fn refused<V: Out>(error: &ProgramError, err: &mut V) -> u8
-    requires { V.failures err.old < u64.MAX }
     ensures status { result ≡ 2 }
     ensures line { Tried V.contents V.failures err.old err.new (refusal_text error.now) }
 {

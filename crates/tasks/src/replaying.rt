@@ -1,11 +1,12 @@
 //! Replays schedules, as their text says or in a drawn order.
-ghost use Rattle.std.specs.Prelude.{◌≡◌, ◌<◌, Result, Ok};
+ghost use Rattle.std.specs.Prelude.{◌≡◌, Result, Ok};
 ghost use Rattle.schedule.specs.Plans.{Plan};
 ghost use Rattle.schedule.specs.Reading.{schedule_of};
 ghost use Rattle.msc_text.specs.declared.fault.Fault.{Fault};
 ghost use Rattle.tasks.specs.Tasks.{Reads, drawn_by, Replays};
 
 use crate::error::ProgramError;
+use crate::status::Status;
 use interleaver::{Memory, drawn};
 use msc_text::{Out, TextError};
 use replayer::{ReplayError, replay};
@@ -33,9 +34,12 @@ fn drawn_in(alloc: Global, seed: u64, text: &[u8]) -> Result<Schedule, ProgramEr
     }
 }
 
-/// Replays a schedule, writes what comes out, and answers the exit status.
-fn written<W: Out>(alloc: Global, schedule: &Schedule, out: &mut W) -> Result<u8, ProgramError>
-    requires { W.failures out.old < u64.MAX }
+/// Replays a schedule, writes what comes out, and answers whether it has races.
+fn replay_and_write<W: Out>(
+    alloc: Global,
+    schedule: &Schedule,
+    out: &mut W,
+) -> Result<Status, ProgramError>
     ensures { (said : Result Plan Fault) → said ≡ Ok schedule.now → Replays W.contents W.failures out.old out.new result said }
 {
     let outcome = match replay(alloc, schedule) {
@@ -43,30 +47,28 @@ fn written<W: Out>(alloc: Global, schedule: &Schedule, out: &mut W) -> Result<u8
         Err(ReplayError::Memory) => return Err(ProgramError::Memory),
     };
     match outcome.write(out) {
-        Ok(()) => Ok(u8::from(outcome.has_races())),
+        Ok(()) => Ok(Status::of(outcome.has_races())),
         Err(_) => Err(ProgramError::Write),
     }
 }
 
 /// Replays the schedule that the text says.
-pub fn replayed<W: Out>(alloc: Global, text: &[u8], out: &mut W) -> Result<u8, ProgramError>
-    requires { W.failures out.old < u64.MAX }
+pub fn replay_text<W: Out>(alloc: Global, text: &[u8], out: &mut W) -> Result<Status, ProgramError>
     ensures { Replays W.contents W.failures out.old out.new result (schedule_of text.now) }
 {
     let schedule = schedule_in(alloc, text)?;
-    written(alloc, &schedule, out)
+    replay_and_write(alloc, &schedule, out)
 }
 
 /// Replays it in the order that the seed draws.
-pub fn replayed_by<W: Out>(
+pub fn replay_drawn<W: Out>(
     alloc: Global,
     seed: u64,
     text: &[u8],
     out: &mut W,
-) -> Result<u8, ProgramError>
-    requires { W.failures out.old < u64.MAX }
+) -> Result<Status, ProgramError>
     ensures { Replays W.contents W.failures out.old out.new result (drawn_by seed (schedule_of text.now)) }
 {
     let schedule = drawn_in(alloc, seed, text)?;
-    written(alloc, &schedule, out)
+    replay_and_write(alloc, &schedule, out)
 }

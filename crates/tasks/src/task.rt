@@ -1,11 +1,11 @@
 //! What the program does with the bytes of a file.
-ghost use Rattle.std.specs.Prelude.{◌<◌};
 ghost use Rattle.tasks.specs.Tasks.{Does, Performs};
 
-use crate::checking::checked;
+use crate::checking::check;
 use crate::error::ProgramError;
 use crate::refusal::refused;
-use crate::replaying::{replayed, replayed_by};
+use crate::replaying::{replay_drawn, replay_text};
+use crate::status::Status;
 use msc_text::Out;
 use std::alloc::Global;
 
@@ -20,15 +20,19 @@ pub enum Task {
     Check,
 }
 
-/// Does the task, and answers the exit status.
-fn done<W: Out>(alloc: Global, task: &Task, text: &[u8], out: &mut W) -> Result<u8, ProgramError>
-    requires { W.failures out.old < u64.MAX }
+/// Does the task, and answers what it came to.
+fn do_task<W: Out>(
+    alloc: Global,
+    task: &Task,
+    text: &[u8],
+    out: &mut W,
+) -> Result<Status, ProgramError>
     ensures { Does W.contents W.failures task.now text.now out.old out.new result }
 {
     match task {
-        Task::Replay => replayed(alloc, text, out),
-        Task::Random { seed } => replayed_by(alloc, *seed, text, out),
-        Task::Check => checked(alloc, text, out),
+        Task::Replay => replay_text(alloc, text, out),
+        Task::Random { seed } => replay_drawn(alloc, *seed, text, out),
+        Task::Check => check(alloc, text, out),
     }
 }
 
@@ -42,12 +46,10 @@ pub fn perform<W: Out, V: Out>(
     out: &mut W,
     err: &mut V,
 ) -> u8
-    requires out { W.failures out.old < u64.MAX }
-    requires err { V.failures err.old < u64.MAX }
     ensures { Performs W.contents W.failures V.contents V.failures task.now text.now out.old out.new err.old err.new result }
 {
-    match done(alloc, task, text, out) {
-        Ok(status) => status,
+    match do_task(alloc, task, text, out) {
+        Ok(status) => status.code(),
         Err(error) => refused(&error, err),
     }
 }

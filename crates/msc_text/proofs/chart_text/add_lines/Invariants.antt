@@ -1,10 +1,10 @@
 use Rattle.std.proofs.Common.{take}
 use Rattle.std.specs.List.{flat_map}
 use Rattle.msc_text.specs.ChartText.{line_text}
-use Rattle.msc_text.specs.Writing.{Gathers}
+use Rattle.msc_text.specs.Writing.{Buffers}
 use Rattle.msc_text.proofs.chart_text.add_lines.Given as goal
 
 -- the lines so far were added
 abbrev pub invariant-loop-line : goal.invariant-loop-line
 invariant-loop-line g l =
-    Gathers g.W.Out.contents g.W.Out.failures l.initial.out l.out l.initial.gathering l.gathering (flat_map (line_text l.names) (take l.line-index l.lines))
+    Buffers g.W.Out.contents g.W.Out.failures l.initial.text l.text (flat_map (line_text l.names) (take l.line-index l.lines))

@@ -1,6 +1,6 @@
 use Rattle.std.proofs.Common.{◌≡◌, ℕ, List, ◌++◌, length}
 use Rattle.msc_text.specs.Writing.{Puts}
-use Rattle.msc_text.proofs.gathering.put_all.Given as goal
+use Rattle.msc_text.proofs.text_buffer.put_all.Given as goal
 
 -- what is gone from the bytes was put
 abbrev pub invariant-loop-rest : goal.invariant-loop-rest

@@ -1,0 +1,67 @@
+//! Bytes of a text that are not yet put.
+ghost use Rattle.std.specs.Prelude.{◌≡◌, ◌≤◌, ◌+◌, ◌++◌, List, ℕ, [], take, length};
+ghost use Rattle.msc_text.specs.declared.held.TheConstants.{BUFFERED};
+
+use std::marker::Model;
+
+/// The most bytes that are held.
+pub const BUFFERED: usize = 4096;
+
+/// Bytes that are not yet put. A contract sees their list.
+#[derive(Drop)]
+pub(crate) struct Held {
+    bytes: [u8; BUFFERED],
+    len: usize,
+}
+
+impl Model for Held {
+    ghost Value = { List ℕ };
+
+    ghost view = { λ h. take h.len h.bytes };
+
+    ghost invariant = { λ h. h.len ≤ BUFFERED };
+}
+
+fn zeros() -> [u8; BUFFERED]
+    ensures { length result ≡ BUFFERED }
+{
+    [0; BUFFERED]
+}
+
+impl Held {
+    pub(crate) fn new() -> Held
+        ensures { result ≡ [] }
+    {
+        Held {
+            bytes: zeros(),
+            len: 0,
+        }
+    }
+
+    pub(crate) fn room(&self) -> usize
+        ensures { result + length self.now ≡ BUFFERED }
+    {
+        BUFFERED - self.len
+    }
+
+    pub(crate) fn as_bytes(&self) -> &[u8]
+        ensures { result.now ≡ self.now }
+    {
+        &self.bytes[..self.len]
+    }
+
+    pub(crate) fn clear(&mut self)
+        ensures { self.new ≡ [] }
+    {
+        self.len = 0;
+    }
+
+    pub(crate) fn push(&mut self, piece: &[u8])
+        requires { length self.old + length piece.now ≤ BUFFERED }
+        ensures { self.new ≡ self.old ++ piece.now }
+    {
+        let end = self.len + piece.len();
+        self.bytes[self.len..end].copy_from_slice(piece);
+        self.len = end;
+    }
+}
