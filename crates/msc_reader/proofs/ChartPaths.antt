@@ -20,16 +20,16 @@ use Rattle.msc_text.specs.declared.fault.Cause.TheVariants.{Instances}
 use Rattle.msc_text.proofs.Lookups.{instance_again, name_at_all}
 use Rattle.msc_text.proofs.Parts.{lines_again, end_again}
 use Rattle.msc_text.proofs.Results.{bind_at}
-use Rattle.msc_reader.specs.Drawings.{DrawingView, blank}
+use Rattle.msc_reader.specs.Builders.{BuilderView, blank}
 use Rattle.msc_reader.specs.HasText.{HasText, CanBeSpelled}
-use Rattle.msc_reader.specs.Reading.{look_from, draw_from, names_in, lines_in, chart_of}
-use Rattle.msc_reader.specs.declared.place.Place.TheVariants as places
-use Rattle.msc_reader.specs.declared.place.Region.TheVariants as regions
-use Rattle.msc_reader.specs.declared.place.Saying.TheVariants as sayings
+use Rattle.msc_reader.specs.Reading.{look_from, build_from, names_in, lines_in, chart_of}
+use Rattle.msc_reader.specs.declared.state.State.TheVariants as states
+use Rattle.msc_reader.specs.declared.state.Region.TheVariants as regions
+use Rattle.msc_reader.specs.declared.state.Saying.TheVariants as sayings
 use Rattle.msc_reader.proofs.EventPaths.{IsSpelled, MayFollow, spot_in, spot_behind, body_path, close_path}
 use Rattle.msc_reader.proofs.Moves.Moves.{begins, heads, ends, leaves}
 use Rattle.msc_text.proofs.NewNames.{with_name-ok}
-use Rattle.msc_reader.proofs.Paths.{Spot, Passes, Path, one_pass, path_then, look_path, draw_path, path_lacks}
+use Rattle.msc_reader.proofs.Paths.{Spot, Passes, Path, one_pass, path_then, look_path, build_path, path_lacks}
 use Rattle.msc_reader.proofs.Paths.Path.{stay, pass}
 use Rattle.msc_reader.proofs.SayingsAgain.{saying_line}
 use Rattle.msc_reader.proofs.TextSayings.{body, closing, last_from, part, chart_sayings, chart_text-is}
@@ -38,7 +38,7 @@ use Rattle.msc_reader.proofs.TextSayings.{body, closing, last_from, part, chart_
 
 -- outside of an instance, behind these lines
 abbrev spot_outside : List (List ℕ) → List LineView → Spot
-spot_outside begun lines = record { begun = begun; place = places.Outside; drawing = record { lines = lines; line = None; open_region = 0; greatest = 0 } }
+spot_outside begun lines = record { begun = begun; state = states.Outside; builder = record { lines = lines; line = None; open_region = 0; greatest = 0 } }
 
 -- a line that can be spelled, behind so many
 record IsPart (names : List (List ℕ)) (own : List ℕ) (done : ℕ) (line : LineView) : Type 0 where
@@ -52,15 +52,15 @@ record IsPart (names : List (List ℕ)) (own : List ℕ) (done : ℕ) (line : Li
 head_pass : (names begun : List (List ℕ)) (own : List ℕ) (lines : List LineView) → IsName own → (Contains begun own → ⊥) → length begun < MAX_INSTANCES → length begun ≡ length lines
     → Passes names (spot_outside begun lines) (sayings.Head own) (spot_behind (begun ++ own ∷ []) own (suc (length lines)) lines [])
 head_pass names begun own lines name absent room many =
-    let e : DrawingView = record { lines = lines; line = Some (record { instance = suc (length lines); events = [] }); open_region = 0; greatest = 0 } in
+    let e : BuilderView = record { lines = lines; line = Some (record { instance = suc (length lines); events = [] }); open_region = 0; greatest = 0 } in
     record {
       moves = heads name;
       adds = with_name-ok begun own absent (omega arith);
-      draws = ap (λ b. cond b (Err Instances) (Ok e)) (lt-leb MAX_INSTANCES (length lines) (omega arith));
+      builds = ap (λ b. cond b (Err Instances) (Ok e)) (lt-leb MAX_INSTANCES (length lines) (omega arith));
     }
 
 foot_pass : (names begun : List (List ℕ)) (own : List ℕ) (events : ℕ) (lines : List LineView) (line : LineView) (g : ℕ) → Passes names (spot_in begun own events regions.Closed lines line 0 g) sayings.Foot (spot_outside begun (lines ++ line ∷ []))
-foot_pass names begun own events lines line g = record { moves = leaves; adds = refl; draws = refl }
+foot_pass names begun own events lines line g = record { moves = leaves; adds = refl; builds = refl }
 
 part_path : (names begun : List (List ℕ)) (own : List ℕ) (lines : List LineView) (line : LineView) → IsPart names own (length lines) line → (Contains begun own → ⊥) → length begun < MAX_INSTANCES → length begun ≡ length lines
     → Path names (spot_outside begun lines) (part names line) (spot_outside (begun ++ own ∷ []) (lines ++ line ∷ []))
@@ -118,10 +118,10 @@ parts_path names front done (own ∷ back) (line ∷ rest) are is many h =
 -- ---- the whole text
 
 abbrev spot_start : Spot
-spot_start = record { begun = []; place = places.Start; drawing = blank }
+spot_start = record { begun = []; state = states.Start; builder = blank }
 
 abbrev spot_done : List (List ℕ) → List LineView → Spot
-spot_done names lines = record { begun = names; place = places.Done; drawing = record { lines = lines; line = None; open_region = 0; greatest = 0 } }
+spot_done names lines = record { begun = names; state = states.Done; builder = record { lines = lines; line = None; open_region = 0; greatest = 0 } }
 
 -- ---- what has a text has such parts
 
@@ -194,11 +194,11 @@ are_parts names lines front (own ∷ back) done (line ∷ rest) h is there many 
 -- both looks pass the whole text
 chart_path : (names : List (List ℕ)) (lines : List LineView) → HasText names lines → Path names spot_start (chart_sayings names lines) (spot_done names lines)
 chart_path names lines h =
-    let start : Passes names spot_start sayings.Begin (spot_outside [] []) = record { moves = begins; adds = refl; draws = refl } in
+    let start : Passes names spot_start sayings.Begin (spot_outside [] []) = record { moves = begins; adds = refl; builds = refl } in
     let parts = parts_path names [] [] names lines h.names_are refl refl (are_parts names lines [] names [] lines h refl refl refl) in
     let several = h.chart.several in
     let same = h.same in
-    let end : Passes names (spot_outside names lines) sayings.End (spot_done names lines) = record { moves = ends; adds = ap (λ b. cond b (Err Instances) (Ok names)) (le-ltb (length names) 2 (omega arith)); draws = refl } in
+    let end : Passes names (spot_outside names lines) sayings.End (spot_done names lines) = record { moves = ends; adds = ap (λ b. cond b (Err Instances) (Ok names)) (le-ltb (length names) 2 (omega arith)); builds = refl } in
     pass start (path_then parts (one_pass end))
 
 lines_of-text : (names : List (List ℕ)) (lines : List LineView) → HasText names lines → lines_of (chart_text names lines) ≡ map saying_line (chart_sayings names lines)
@@ -210,17 +210,17 @@ end_of-text names lines h = ap end_of (chart_text-is names lines) ∙ end_again 
 names-again : (names : List (List ℕ)) (lines : List LineView) → HasText names lines → names_in (chart_text names lines) ≡ Ok names
 unfolding names_in
 names-again names lines h =
-    ap (λ l. look_from [] places.Start 1 l (end_of (chart_text names lines))) (lines_of-text names lines h)
-    ∙ ap (look_from [] places.Start 1 (map saying_line (chart_sayings names lines))) (end_of-text names lines h)
+    ap (λ l. look_from [] states.Start 1 l (end_of (chart_text names lines))) (lines_of-text names lines h)
+    ∙ ap (look_from [] states.Start 1 (map saying_line (chart_sayings names lines))) (end_of-text names lines h)
     ∙ look_path 1 [] (chart_path names lines h)
 
-drawn-again : (names : List (List ℕ)) (lines : List LineView) → HasText names lines → lines_in names (chart_text names lines) ≡ Ok lines
+built-again : (names : List (List ℕ)) (lines : List LineView) → HasText names lines → lines_in names (chart_text names lines) ≡ Ok lines
 unfolding lines_in
-drawn-again names lines h = ap (draw_from names places.Start blank 1) (lines_of-text names lines h) ∙ draw_path 1 (chart_path names lines h)
+built-again names lines h = ap (build_from names states.Start blank 1) (lines_of-text names lines h) ∙ build_path 1 (chart_path names lines h)
 
 -- what is spelled is read
 pub chart-again : (names : List (List ℕ)) (lines : List LineView) → HasText names lines → chart_of (chart_text names lines) ≡ Ok (names, lines)
 unfolding chart_of
 chart-again names lines h =
     let bytes = chart_text names lines in
-    bind_at (names_in bytes) (λ ns. lines_in ns bytes >>= λ ls. Ok (ns, ls)) names (names-again names lines h) ∙ bind_at (lines_in names bytes) (λ ls. Ok (names, ls)) lines (drawn-again names lines h)
+    bind_at (names_in bytes) (λ ns. lines_in ns bytes >>= λ ls. Ok (ns, ls)) names (names-again names lines h) ∙ bind_at (lines_in names bytes) (λ ls. Ok (names, ls)) lines (built-again names lines h)

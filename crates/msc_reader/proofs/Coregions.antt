@@ -4,11 +4,11 @@ use Rattle.std.proofs.lemmas.Bool.{eq-eqb, ne_eqb}
 use Rattle.chart.specs.Events.{region_of, greatest_region, last_region, MayHaveRegion}
 use Rattle.chart.specs.declared.event.Event.{Event}
 use Rattle.chart.proofs.Regions.{greatest_region-push, last_region-push}
-use Rattle.msc_reader.specs.Steps.{held}
-use Rattle.msc_reader.specs.declared.place.Region.{Region}
-use Rattle.msc_reader.specs.declared.place.Region.TheVariants.{Closed, Empty, Held}
-use Rattle.msc_reader.specs.declared.place.Saying.{Saying}
-use Rattle.msc_reader.specs.declared.place.Saying.TheVariants as sayings
+use Rattle.msc_reader.specs.Steps.{after_receive}
+use Rattle.msc_reader.specs.declared.state.Region.{Region}
+use Rattle.msc_reader.specs.declared.state.Region.TheVariants.{Closed, Empty, Held}
+use Rattle.msc_reader.specs.declared.state.Saying.{Saying}
+use Rattle.msc_reader.specs.declared.state.Saying.TheVariants as sayings
 use Rattle.msc_reader.proofs.TextSayings.{closing, opening, said, event_sayings, body, last_from}
 
 -- the open coregion, or 0, of a line whose coregion has come so far
@@ -23,7 +23,7 @@ open-may Empty c line h = inr (inl h)
 open-may Held c line h = inr (inr h)
 
 -- a receive of it
-pub open-more : (region : Region) (line : List Event) (m : Event) → HasOpen region (region_of m) line → HasOpen (held region) (region_of m) (line ++ m ∷ [])
+pub open-more : (region : Region) (line : List Event) (m : Event) → HasOpen region (region_of m) line → HasOpen (after_receive region) (region_of m) (line ++ m ∷ [])
 open-more Closed line m h = h
 open-more Empty line m h = (omega arith, omega (arith, greatest_region-push line m), sym (last_region-push line m))
 open-more Held line m h = (h.0, omega (arith, greatest_region-push line m, h.1), sym (last_region-push line m))
@@ -93,7 +93,7 @@ opening-new r c other begun = let some : c ≢ 0 = omega arith in rw (ne_eqb r c
 
 -- an event of the open coregion: what is said before it, it, and what then is said
 pub tail-more : (names : List (List ℕ)) (region : Region) (line : List Event) (m : Event) → HasOpen region (region_of m) line
-    → event_sayings names (last_from 0 line) m ++ tail_of (held region) (region_of m) ≡ tail_of region (last_from 0 line) ++ said names m ∷ []
+    → event_sayings names (last_from 0 line) m ++ tail_of (after_receive region) (region_of m) ≡ tail_of region (last_from 0 line) ++ said names m ∷ []
 tail-more names Closed line m h = by (region_of m) h
   where
     by : (c : ℕ) → c ≡ 0 → (closing (last_from 0 line) c ++ (opening (last_from 0 line) c ++ said names m ∷ [])) ++ closing c 0 ≡ closing (last_from 0 line) 0 ++ said names m ∷ []

@@ -12,15 +12,15 @@ use Rattle.msc_text.specs.ChartText.{name_at}
 use Rattle.msc_text.specs.Faults.{◌>>=◌}
 use Rattle.msc_text.proofs.Results.{bind_at}
 use Rattle.msc_text.specs.Instances.{known, known_of}
-use Rattle.msc_reader.specs.Drawings.{DrawingView, pushed, greater, with_event, with_send, with_receive}
-use Rattle.msc_reader.specs.Steps.{held}
-use Rattle.msc_reader.specs.declared.place.Place.TheVariants as places
-use Rattle.msc_reader.specs.declared.place.Region.{Region}
-use Rattle.msc_reader.specs.declared.place.Region.TheVariants as regions
-use Rattle.msc_reader.specs.declared.place.Saying.{Saying}
-use Rattle.msc_reader.specs.declared.place.Saying.TheVariants as sayings
+use Rattle.msc_reader.specs.Builders.{BuilderView, pushed, greater, with_event, with_send, with_receive}
+use Rattle.msc_reader.specs.Steps.{after_receive}
+use Rattle.msc_reader.specs.declared.state.State.TheVariants as states
+use Rattle.msc_reader.specs.declared.state.Region.{Region}
+use Rattle.msc_reader.specs.declared.state.Region.TheVariants as regions
+use Rattle.msc_reader.specs.declared.state.Saying.{Saying}
+use Rattle.msc_reader.specs.declared.state.Saying.TheVariants as sayings
 use Rattle.msc_reader.proofs.Coregions.{last_from-is, last_from-push, last-within, closing-none, closing-other, closing-open, opening-none, opening-same, opening-new}
-use Rattle.msc_reader.proofs.Drawings.{greater-most}
+use Rattle.msc_reader.proofs.Builders.{greater-most}
 use Rattle.msc_reader.proofs.Moves.{IsEvent}
 use Rattle.msc_reader.proofs.Moves.Moves.{sends, receives, opens, shuts}
 use Rattle.msc_reader.proofs.Paths.{Spot, Passes, Path, one_pass, path_then}
@@ -38,7 +38,7 @@ pub record IsSpelled (names : List (List ℕ)) (own : List ℕ) (p : ℕ) (m : E
 
 -- inside the instance own
 abbrev pub spot_in : List (List ℕ) → List ℕ → ℕ → Region → List LineView → LineView → ℕ → ℕ → Spot
-spot_in begun own events region lines line c g = record { begun = begun; place = places.Inside own events region; drawing = record { lines = lines; line = Some line; open_region = c; greatest = g } }
+spot_in begun own events region lines line c g = record { begun = begun; state = states.Inside own events region; builder = record { lines = lines; line = Some line; open_region = c; greatest = g } }
 
 -- a send is outside of coregions
 abbrev MayTake : Region → Event → Type 0
@@ -48,37 +48,37 @@ MayTake region (line_events.Receive from name c) = Unit {0}
 event_of : {names : List (List ℕ)} {own : List ℕ} {p : ℕ} (events : ℕ) (m : Event) → IsSpelled names own p m → events < MAX_EVENTS → IsEvent own events (name_at names (partner_of m)) (name_of m)
 event_of events m h room = record { partner_name = h.partner_name; message_name = h.message_name; other = h.other_name; room = room }
 
-event-is : (d : DrawingView) (line : LineView) (m : Event) → d.line ≡ Some line → partner_of m ≢ line.instance → length line.events ≢ MAX_EVENTS
+event-is : (d : BuilderView) (line : LineView) (m : Event) → d.line ≡ Some line → partner_of m ≢ line.instance → length line.events ≢ MAX_EVENTS
     → with_event d d.line m ≡ Ok (record { lines = d.lines; line = Some (more_line line m); open_region = region_of m; greatest = greater (region_of m) d.greatest })
 event-is d line m there other room =
     ap (λ o. with_event d o m) there ∙ bind_at (pushed line m) (λ more. Ok (record { lines = d.lines; line = Some more; open_region = region_of m; greatest = greater (region_of m) d.greatest })) (more_line line m) (pushed-more line m other room)
 
 -- an event of the open coregion passes
 event_pass : (names begun : List (List ℕ)) (own : List ℕ) (events : ℕ) (region : Region) (lines : List LineView) (line : LineView) (g : ℕ) (m : Event) → IsSpelled names own line.instance m → events < MAX_EVENTS → length line.events ≡ events → MayTake region m
-    → Passes names (spot_in begun own events region lines line (region_of m) g) (said names m) (spot_in begun own (events + 1) (held region) lines (more_line line m) (region_of m) (greater (region_of m) g))
+    → Passes names (spot_in begun own events region lines line (region_of m) g) (said names m) (spot_in begun own (events + 1) (after_receive region) lines (more_line line m) (region_of m) (greater (region_of m) g))
 unfolding with_send with_receive known_of
 event_pass names begun own events region lines line g (line_events.Send to name) h room many may =
-    let d : DrawingView = record { lines = lines; line = Some line; open_region = 0; greatest = g } in
+    let d : BuilderView = record { lines = lines; line = Some line; open_region = 0; greatest = g } in
     let adds : Passes names (spot_in begun own events regions.Closed lines line 0 g) (sayings.Send (name_at names to) name) (spot_in begun own (events + 1) regions.Closed lines (more_line line (line_events.Send to name)) 0 (greater 0 g)) = record {
       moves = sends (event_of events (line_events.Send to name) h room);
       adds = refl;
-      draws = ap (λ o. known o >>= λ partner. with_event d d.line (line_events.Send partner name)) h.found ∙ event-is d line (line_events.Send to name) refl h.other (omega arith);
+      builds = ap (λ o. known o >>= λ partner. with_event d d.line (line_events.Send partner name)) h.found ∙ event-is d line (line_events.Send to name) refl h.other (omega arith);
     } in
-    let family : Region → Type 0 = λ r. Passes names (spot_in begun own events r lines line 0 g) (sayings.Send (name_at names to) name) (spot_in begun own (events + 1) (held r) lines (more_line line (line_events.Send to name)) 0 (greater 0 g)) in
+    let family : Region → Type 0 = λ r. Passes names (spot_in begun own events r lines line 0 g) (sayings.Send (name_at names to) name) (spot_in begun own (events + 1) (after_receive r) lines (more_line line (line_events.Send to name)) 0 (greater 0 g)) in
     subst family (sym may) adds
 event_pass names begun own events region lines line g (line_events.Receive from name c) h room many may =
-    let d : DrawingView = record { lines = lines; line = Some line; open_region = c; greatest = g } in
+    let d : BuilderView = record { lines = lines; line = Some line; open_region = c; greatest = g } in
     record {
       moves = receives (event_of events (line_events.Receive from name c) h room);
       adds = refl;
-      draws = ap (λ o. known o >>= λ partner. with_event d d.line (line_events.Receive partner name c)) h.found ∙ event-is d line (line_events.Receive from name c) refl h.other (omega arith);
+      builds = ap (λ o. known o >>= λ partner. with_event d d.line (line_events.Receive partner name c)) h.found ∙ event-is d line (line_events.Receive from name c) refl h.other (omega arith);
     }
 
 shut_pass : (names begun : List (List ℕ)) (own : List ℕ) (events : ℕ) (lines : List LineView) (line : LineView) (c g : ℕ) → Passes names (spot_in begun own events regions.Held lines line c g) sayings.Shut (spot_in begun own events regions.Closed lines line 0 g)
-shut_pass names begun own events lines line c g = record { moves = shuts; adds = refl; draws = refl }
+shut_pass names begun own events lines line c g = record { moves = shuts; adds = refl; builds = refl }
 
 open_pass : (names begun : List (List ℕ)) (own : List ℕ) (events : ℕ) (lines : List LineView) (line : LineView) (c g : ℕ) → Passes names (spot_in begun own events regions.Closed lines line c g) sayings.Open (spot_in begun own events regions.Empty lines line (g + 1) g)
-open_pass names begun own events lines line c g = record { moves = opens; adds = refl; draws = refl }
+open_pass names begun own events lines line c g = record { moves = opens; adds = refl; builds = refl }
 
 -- how far a coregion has come where r is the last event's
 abbrev pub region_at : ℕ → Region
@@ -99,9 +99,9 @@ event_path_of : (names begun : List (List ℕ)) (own : List ℕ) (events : ℕ) 
     → Path names (spot_in begun own events (region_at r) lines line r (greatest_region line.events)) (closing r c ++ (opening r c ++ said names m ∷ [])) (spot_in begun own (events + 1) (region_at c) lines (more_line line m) c (greater c (greatest_region line.events)))
 event_path_of names begun own events lines line m h room many r last c is may = by r last c is may
   where
-    event : (region : Region) (c : ℕ) → c ≡ region_of m → MayTake region m → Passes names (spot_in begun own events region lines line c (greatest_region line.events)) (said names m) (spot_in begun own (events + 1) (held region) lines (more_line line m) c (greater c (greatest_region line.events)))
+    event : (region : Region) (c : ℕ) → c ≡ region_of m → MayTake region m → Passes names (spot_in begun own events region lines line c (greatest_region line.events)) (said names m) (spot_in begun own (events + 1) (after_receive region) lines (more_line line m) c (greater c (greatest_region line.events)))
     event region c is takes =
-        let family : ℕ → Type 0 = λ x. Passes names (spot_in begun own events region lines line x (greatest_region line.events)) (said names m) (spot_in begun own (events + 1) (held region) lines (more_line line m) x (greater x (greatest_region line.events))) in
+        let family : ℕ → Type 0 = λ x. Passes names (spot_in begun own events region lines line x (greatest_region line.events)) (said names m) (spot_in begun own (events + 1) (after_receive region) lines (more_line line m) x (greater x (greatest_region line.events))) in
         subst family (sym is) (event_pass names begun own events region lines line (greatest_region line.events) m h room many takes)
 
     opened : (c : ℕ) → c ≡ greatest_region line.events + 1 → (before : ℕ) → Passes names (spot_in begun own events regions.Closed lines line before (greatest_region line.events)) sayings.Open (spot_in begun own events regions.Empty lines line c (greatest_region line.events))

@@ -15,17 +15,17 @@ use Rattle.msc_text.specs.declared.fault.Fault.TheVariants.{Line}
 use Rattle.msc_text.proofs.NewNames.{with_name-is}
 use Rattle.msc_text.proofs.Parts.{lines_joined}
 use Rattle.msc_text.proofs.Results.{bind_ok, bind_at, guard_ok, when_ok, in_line_ok, ok_is}
-use Rattle.msc_reader.specs.Drawings.{DrawingView, blank, drawn}
+use Rattle.msc_reader.specs.Builders.{BuilderView, blank, built}
 use Rattle.msc_reader.specs.HasText.{HasText, CanBeSpelled}
-use Rattle.msc_reader.specs.Reading.{names_after, finished, look_from, draw_from, names_in, lines_in, chart_of}
+use Rattle.msc_reader.specs.Reading.{names_after, finished, look_from, build_from, names_in, lines_in, chart_of}
 use Rattle.msc_reader.specs.Steps.{Step, step_of}
-use Rattle.msc_reader.specs.declared.place.Place.{Place}
-use Rattle.msc_reader.specs.declared.place.Place.TheVariants as places
-use Rattle.msc_reader.specs.declared.place.Saying.{Saying}
-use Rattle.msc_reader.specs.declared.place.Saying.TheVariants as sayings
-use Rattle.msc_reader.proofs.Onward.{Draws, Outcome, onward}
+use Rattle.msc_reader.specs.declared.state.State.{State}
+use Rattle.msc_reader.specs.declared.state.State.TheVariants as states
+use Rattle.msc_reader.specs.declared.state.Saying.{Saying}
+use Rattle.msc_reader.specs.declared.state.Saying.TheVariants as sayings
+use Rattle.msc_reader.proofs.Onward.{Builds, Outcome, onward}
 use Rattle.msc_reader.proofs.SayingsAgain.{saying_line, line-is}
-use Rattle.msc_reader.proofs.Standing.{IsInstanceEvent, IsLineAmong, State, so_far}
+use Rattle.msc_reader.proofs.Standing.{IsInstanceEvent, IsLineAmong, SoFar, so_far}
 use Rattle.msc_reader.proofs.TextSayings.{chart_sayings, spell, chart_text-is}
 
 -- ---- names that were read stay
@@ -51,39 +51,39 @@ no_bytes : (bytes : List ℕ) → length bytes ≡ 0 → bytes ≡ []
 no_bytes [] e = refl
 no_bytes (b ∷ bytes) e = absurd (omega arith)
 
-record IsFinished (begun : List (List ℕ)) (place : Place) (rest : List ℕ) (names : List (List ℕ)) : Type 0 where
-  pub place_is : place ≡ places.Done
+record IsFinished (begun : List (List ℕ)) (state : State) (rest : List ℕ) (names : List (List ℕ)) : Type 0 where
+  pub state_is : state ≡ states.Done
   pub names_are : begun ≡ names
   pub nothing : rest ≡ []
 
-is_finished : (begun : List (List ℕ)) (place : Place) (n : ℕ) (rest : List ℕ) (names : List (List ℕ)) → finished begun place n rest ≡ Ok names → IsFinished begun place rest names
-is_finished begun places.Start n rest names e = cc
-is_finished begun places.Outside n rest names e = cc
-is_finished begun (places.Inside own events region) n rest names e = cc
-is_finished begun places.Done n rest names e =
+is_finished : (begun : List (List ℕ)) (state : State) (n : ℕ) (rest : List ℕ) (names : List (List ℕ)) → finished begun state n rest ≡ Ok names → IsFinished begun state rest names
+is_finished begun states.Start n rest names e = cc
+is_finished begun states.Outside n rest names e = cc
+is_finished begun (states.Inside own events region) n rest names e = cc
+is_finished begun states.Done n rest names e =
     let g = when_ok (eqb (length rest) 0) (Line n Syntax) (Ok begun) names e in
-    record { place_is = refl; names_are = ok_is begun names g.1; nothing = no_bytes rest (eqb-true (length rest) 0 g.0) }
+    record { state_is = refl; names_are = ok_is begun names g.1; nothing = no_bytes rest (eqb-true (length rest) 0 g.0) }
 
 -- a line that the first look takes
-record Looks (begun : List (List ℕ)) (place : Place) (n : ℕ) (line : List ℕ) (lines : List (List ℕ)) (rest : List ℕ) (names : List (List ℕ)) : Type 0 where
+record Looks (begun : List (List ℕ)) (state : State) (n : ℕ) (line : List ℕ) (lines : List (List ℕ)) (rest : List ℕ) (names : List (List ℕ)) : Type 0 where
   pub step : Step
   pub more : List (List ℕ)
-  pub reads : in_line n (step_of place line) ≡ Ok step
+  pub reads : in_line n (step_of state line) ≡ Ok step
   pub adds : names_after begun step.0 ≡ Ok more
   pub others : look_from more step.1 (n + 1) lines rest ≡ Ok names
 
-looks : (begun : List (List ℕ)) (place : Place) (n : ℕ) (line : List ℕ) (lines : List (List ℕ)) (rest : List ℕ) (names : List (List ℕ)) → look_from begun place n (line ∷ lines) rest ≡ Ok names → Looks begun place n line lines rest names
+looks : (begun : List (List ℕ)) (state : State) (n : ℕ) (line : List ℕ) (lines : List (List ℕ)) (rest : List ℕ) (names : List (List ℕ)) → look_from begun state n (line ∷ lines) rest ≡ Ok names → Looks begun state n line lines rest names
 unfolding look_from
-looks begun place n line lines rest names e =
-    let a = bind_ok (in_line n (step_of place line)) (λ step. in_line n (names_after begun step.0) >>= λ more. look_from more step.1 (n + 1) lines rest) names e in
+looks begun state n line lines rest names e =
+    let a = bind_ok (in_line n (step_of state line)) (λ step. in_line n (names_after begun step.0) >>= λ more. look_from more step.1 (n + 1) lines rest) names e in
     let b = bind_ok (in_line n (names_after begun a.0.0)) (λ more. look_from more a.0.1 (n + 1) lines rest) names a.2 in
     record { step = a.0; more = b.0; reads = a.1; adds = in_line_ok n (names_after begun a.0.0) b.0 b.1; others = b.2 }
 
-look-prefix : (begun : List (List ℕ)) (place : Place) (n : ℕ) (lines : List (List ℕ)) (rest : List ℕ) (names : List (List ℕ)) → look_from begun place n lines rest ≡ Ok names → IsPrefix begun names
+look-prefix : (begun : List (List ℕ)) (state : State) (n : ℕ) (lines : List (List ℕ)) (rest : List ℕ) (names : List (List ℕ)) → look_from begun state n lines rest ≡ Ok names → IsPrefix begun names
 unfolding look_from
-look-prefix begun place n [] rest names e = same_prefix begun names (is_finished begun place n rest names e).names_are
-look-prefix begun place n (line ∷ lines) rest names e =
-    let l = looks begun place n line lines rest names e in
+look-prefix begun state n [] rest names e = same_prefix begun names (is_finished begun state n rest names e).names_are
+look-prefix begun state n (line ∷ lines) rest names e =
+    let l = looks begun state n line lines rest names e in
     let p = after-prefix begun l.more l.step.0 l.adds in
     let q = look-prefix l.more l.step.1 (n + 1) lines rest names l.others in
     record { later = p.later ++ q.later; is = q.is ∙ ap (λ x. x ++ q.later) p.is ∙ append_assoc begun p.later q.later }
@@ -91,63 +91,63 @@ look-prefix begun place n (line ∷ lines) rest names e =
 -- ---- both looks
 
 -- what is read of the lines that are left: what they say
-pub record IsRead (names : List (List ℕ)) (place : Place) (d : DrawingView) (lines : List (List ℕ)) (rest : List ℕ) (out : List LineView) : Type 0 where
-  pub last : DrawingView
-  pub state : State names names places.Done last
+pub record IsRead (names : List (List ℕ)) (state : State) (d : BuilderView) (lines : List (List ℕ)) (rest : List ℕ) (out : List LineView) : Type 0 where
+  pub last : BuilderView
+  pub made : SoFar names names states.Done last
   pub out_is : last.lines ≡ out
   pub said_all : List Saying
   pub lines_are : lines ≡ map saying_line said_all
-  pub says : so_far names places.Done last ≡ so_far names place d ++ said_all
+  pub says : so_far names states.Done last ≡ so_far names state d ++ said_all
   pub nothing : rest ≡ []
 
 -- the second look reads the lines that the first does, or finds an unknown instance
-abbrev pub Drawn : List (List ℕ) → Place → DrawingView → List (List ℕ) → List ℕ → Result (List LineView) Fault → Type 0
-Drawn names place d lines rest (Ok out) = IsRead names place d lines rest out
-Drawn names place d lines rest (Err fault) = (n : ℕ) × (fault ≡ Line n UnknownInstance)
+abbrev pub Built : List (List ℕ) → State → BuilderView → List (List ℕ) → List ℕ → Result (List LineView) Fault → Type 0
+Built names state d lines rest (Ok out) = IsRead names state d lines rest out
+Built names state d lines rest (Err fault) = (n : ℕ) × (fault ≡ Line n UnknownInstance)
 
-read_end : (names begun : List (List ℕ)) (place : Place) (d : DrawingView) (rest : List ℕ) → State names begun place d → IsFinished begun place rest names → IsRead names place d [] rest d.lines
-read_end names begun place d rest s f =
-    let done : State names names place d = subst (λ b. State names b place d) f.names_are s in
-    let state : State names names places.Done d = subst (λ p. State names names p d) f.place_is done in
-    record { last = d; state = state; out_is = refl; said_all = []; lines_are = refl; says = ap (λ p. so_far names p d) (sym f.place_is) ∙ sym (append-nil (so_far names place d)); nothing = f.nothing }
+read_end : (names begun : List (List ℕ)) (state : State) (d : BuilderView) (rest : List ℕ) → SoFar names begun state d → IsFinished begun state rest names → IsRead names state d [] rest d.lines
+read_end names begun state d rest s f =
+    let done : SoFar names names state d = subst (λ b. SoFar names b state d) f.names_are s in
+    let made : SoFar names names states.Done d = subst (λ p. SoFar names names p d) f.state_is done in
+    record { last = d; made = made; out_is = refl; said_all = []; lines_are = refl; says = ap (λ p. so_far names p d) (sym f.state_is) ∙ sym (append-nil (so_far names state d)); nothing = f.nothing }
 
-drawn_more : {names more : List (List ℕ)} {place next : Place} {d e : DrawingView} {saying : Saying} {line : List ℕ} (lines : List (List ℕ)) (rest : List ℕ) (result : Result (List LineView) Fault)
-    → line ≡ saying_line saying → Draws names more place next d saying e → Drawn names next e lines rest result → Drawn names place d (line ∷ lines) rest result
-drawn_more {names} {place = place} {d = d} {saying = saying} lines rest (Ok out) is draws r = record {
+built_more : {names more : List (List ℕ)} {state next : State} {d e : BuilderView} {saying : Saying} {line : List ℕ} (lines : List (List ℕ)) (rest : List ℕ) (result : Result (List LineView) Fault)
+    → line ≡ saying_line saying → Builds names more state next d saying e → Built names next e lines rest result → Built names state d (line ∷ lines) rest result
+built_more {names} {state = state} {d = d} {saying = saying} lines rest (Ok out) is builds r = record {
   last = r.last;
-  state = r.state;
+  made = r.made;
   out_is = r.out_is;
   said_all = saying ∷ r.said_all;
   lines_are = ap (λ l. l ∷ lines) is ∙ ap (λ ls. saying_line saying ∷ ls) r.lines_are;
-  says = r.says ∙ ap (λ l. l ++ r.said_all) draws.says ∙ append_assoc (so_far names place d) (saying ∷ []) r.said_all;
+  says = r.says ∙ ap (λ l. l ++ r.said_all) builds.says ∙ append_assoc (so_far names state d) (saying ∷ []) r.said_all;
   nothing = r.nothing;
 }
-drawn_more lines rest (Err fault) is draws r = r
+built_more lines rest (Err fault) is builds r = r
 
 -- both looks at the same lines
-pub both_look : (names begun : List (List ℕ)) (place : Place) (d : DrawingView) (n : ℕ) (lines : List (List ℕ)) (rest : List ℕ) → State names begun place d → look_from begun place n lines rest ≡ Ok names
-    → Drawn names place d lines rest (draw_from names place d n lines)
-unfolding look_from draw_from
-both_look names begun place d n [] rest s e = read_end names begun place d rest s (is_finished begun place n rest names e)
-both_look names begun place d n (line ∷ lines) rest s e =
-    let l = looks begun place n line lines rest names e in
+pub both_look : (names begun : List (List ℕ)) (state : State) (d : BuilderView) (n : ℕ) (lines : List (List ℕ)) (rest : List ℕ) → SoFar names begun state d → look_from begun state n lines rest ≡ Ok names
+    → Built names state d lines rest (build_from names state d n lines)
+unfolding look_from build_from
+both_look names begun state d n [] rest s e = read_end names begun state d rest s (is_finished begun state n rest names e)
+both_look names begun state d n (line ∷ lines) rest s e =
+    let l = looks begun state n line lines rest names e in
     let p = look-prefix l.more l.step.1 (n + 1) lines rest names l.others in
-    let said = line-is place line l.step (in_line_ok n (step_of place line) l.step l.reads) in
+    let said = line-is state line l.step (in_line_ok n (step_of state line) l.step l.reads) in
     let outcome = onward p.later s said.0 l.adds p.is in
-    let first : draw_from names place d n (line ∷ lines) ≡ (in_line n (drawn names d l.step.0) >>= λ more. draw_from names l.step.1 more (n + 1) lines) =
-    bind_at (in_line n (step_of place line)) (λ step. in_line n (drawn names d step.0) >>= λ more. draw_from names step.1 more (n + 1) lines) l.step l.reads in
-    subst (Drawn names place d (line ∷ lines) rest) (sym first) (by l said.1 (λ d2 t. both_look names l.more l.step.1 d2 (n + 1) lines rest t l.others) outcome)
+    let first : build_from names state d n (line ∷ lines) ≡ (in_line n (built names d l.step.0) >>= λ more. build_from names l.step.1 more (n + 1) lines) =
+    bind_at (in_line n (step_of state line)) (λ step. in_line n (built names d step.0) >>= λ more. build_from names step.1 more (n + 1) lines) l.step l.reads in
+    subst (Built names state d (line ∷ lines) rest) (sym first) (by l said.1 (λ d2 t. both_look names l.more l.step.1 d2 (n + 1) lines rest t l.others) outcome)
   where
-    by : (l : Looks begun place n line lines rest names) → (line ≡ saying_line l.step.0) → ((d2 : DrawingView) → State names l.more l.step.1 d2 → Drawn names l.step.1 d2 lines rest (draw_from names l.step.1 d2 (n + 1) lines)) → Outcome names l.more place l.step.1 d l.step.0
-        → Drawn names place d (line ∷ lines) rest (in_line n (drawn names d l.step.0) >>= λ more. draw_from names l.step.1 more (n + 1) lines)
-    by l is again (inl unknown) = subst (λ r. Drawn names place d (line ∷ lines) rest (in_line n r >>= λ more. draw_from names l.step.1 more (n + 1) lines)) (sym unknown) (n, refl)
-    by l is again (inr (d2, draws)) =
-        subst (λ r. Drawn names place d (line ∷ lines) rest (in_line n r >>= λ more. draw_from names l.step.1 more (n + 1) lines)) (sym draws.is_drawn)
-        (drawn_more lines rest (draw_from names l.step.1 d2 (n + 1) lines) is draws (again d2 draws.state))
+    by : (l : Looks begun state n line lines rest names) → (line ≡ saying_line l.step.0) → ((d2 : BuilderView) → SoFar names l.more l.step.1 d2 → Built names l.step.1 d2 lines rest (build_from names l.step.1 d2 (n + 1) lines)) → Outcome names l.more state l.step.1 d l.step.0
+        → Built names state d (line ∷ lines) rest (in_line n (built names d l.step.0) >>= λ more. build_from names l.step.1 more (n + 1) lines)
+    by l is again (inl unknown) = subst (λ r. Built names state d (line ∷ lines) rest (in_line n r >>= λ more. build_from names l.step.1 more (n + 1) lines)) (sym unknown) (n, refl)
+    by l is again (inr (d2, builds)) =
+        subst (λ r. Built names state d (line ∷ lines) rest (in_line n r >>= λ more. build_from names l.step.1 more (n + 1) lines)) (sym builds.is_built)
+        (built_more lines rest (build_from names l.step.1 d2 (n + 1) lines) is builds (again d2 builds.made))
 
 -- ---- from the start
 
-start_state : (names : List (List ℕ)) → State names [] places.Start blank
+start_state : (names : List (List ℕ)) → SoFar names [] states.Start blank
 start_state names = record {
   are = record { limit = omega arith; distinct = λ i j w here there. absurd (cc) };
   each = tt;
@@ -167,7 +167,7 @@ partners-within n line h = All-from_recursion _ line.events (each-as (IsInstance
 spelled-events : (n : ℕ) (line : LineView) → IsLineAmong n line → All CanBeSpelled line.events
 spelled-events n line h = All-from_recursion _ line.events (each-as (IsInstanceEvent n) CanBeSpelled line.events (λ m k. (k.first, k.named)) h.events_are)
 
-has_text : (names : List (List ℕ)) (d : DrawingView) → State names names places.Done d → HasText names d.lines
+has_text : (names : List (List ℕ)) (d : BuilderView) → SoFar names names states.Done d → HasText names d.lines
 has_text names d s =
     let same : length names ≡ length d.lines = s.stands.0 in
     let limit = s.are.limit in
@@ -196,21 +196,21 @@ pub record IsTextOf (bytes : List ℕ) (names : List (List ℕ)) (lines : List L
   pub has : HasText names lines
   pub spelled : bytes ≡ chart_text names lines
 
-text_of : (bytes : List ℕ) (names : List (List ℕ)) (lines : List LineView) → IsRead names places.Start blank (lines_of bytes) (end_of bytes) lines → IsTextOf bytes names lines
+text_of : (bytes : List ℕ) (names : List (List ℕ)) (lines : List LineView) → IsRead names states.Start blank (lines_of bytes) (end_of bytes) lines → IsTextOf bytes names lines
 text_of bytes names lines r =
     let whole : r.said_all ≡ chart_sayings names lines = sym r.says ∙ ap (chart_sayings names) r.out_is in
     record {
-      has = subst (HasText names) r.out_is (has_text names r.last r.state);
+      has = subst (HasText names) r.out_is (has_text names r.last r.made);
       spelled = text_is bytes r.said_all r.lines_are r.nothing ∙ ap spell whole ∙ sym (chart_text-is names lines);
     }
 
-from_start : (bytes : List ℕ) (names : List (List ℕ)) → names_in bytes ≡ Ok names → Drawn names places.Start blank (lines_of bytes) (end_of bytes) (lines_in names bytes)
+from_start : (bytes : List ℕ) (names : List (List ℕ)) → names_in bytes ≡ Ok names → Built names states.Start blank (lines_of bytes) (end_of bytes) (lines_in names bytes)
 unfolding names_in lines_in
-from_start bytes names e = both_look names [] places.Start blank 1 (lines_of bytes) (end_of bytes) (start_state names) e
+from_start bytes names e = both_look names [] states.Start blank 1 (lines_of bytes) (end_of bytes) (start_state names) e
 
 -- what both looks read, the text spells
 pub looks_found : (bytes : List ℕ) (names : List (List ℕ)) (lines : List LineView) → names_in bytes ≡ Ok names → lines_in names bytes ≡ Ok lines → IsTextOf bytes names lines
-looks_found bytes names lines e f = text_of bytes names lines (subst (Drawn names places.Start blank (lines_of bytes) (end_of bytes)) f (from_start bytes names e))
+looks_found bytes names lines e f = text_of bytes names lines (subst (Built names states.Start blank (lines_of bytes) (end_of bytes)) f (from_start bytes names e))
 
 pub chart_found : (bytes : List ℕ) (names : List (List ℕ)) (lines : List LineView) → chart_of bytes ≡ Ok (names, lines) → IsTextOf bytes names lines
 unfolding chart_of
@@ -222,4 +222,4 @@ chart_found bytes names lines e =
 
 -- the only fault of the second look is an instance that isn't known
 pub second_fault : (bytes : List ℕ) (names : List (List ℕ)) (fault : Fault) → names_in bytes ≡ Ok names → lines_in names bytes ≡ Err fault → (n : ℕ) × (fault ≡ Line n UnknownInstance)
-second_fault bytes names fault e f = subst (Drawn names places.Start blank (lines_of bytes) (end_of bytes)) f (from_start bytes names e)
+second_fault bytes names fault e f = subst (Built names states.Start blank (lines_of bytes) (end_of bytes)) f (from_start bytes names e)

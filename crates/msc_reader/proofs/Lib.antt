@@ -1,7 +1,7 @@
 pub mod ChartPaths
 pub mod EventPaths
 pub mod Coregions
-pub mod Drawings
+pub mod Builders
 pub mod Found
 pub mod Looks
 pub mod Moves

@@ -5,10 +5,10 @@ use Rattle.msc_text.specs.declared.fault.Fault.{Fault}
 use Rattle.msc_text.specs.declared.fault.TextError.{TextError}
 use Rattle.msc_text.specs.declared.fault.TextError.TheVariants as errors
 use Rattle.msc_text.proofs.Results.{bind_at, fails_then}
-use Rattle.msc_reader.specs.Drawings.{DrawingView, drawn}
-use Rattle.msc_reader.specs.Reading.{finished, names_after, look_from, draw_from}
+use Rattle.msc_reader.specs.Builders.{BuilderView, built}
+use Rattle.msc_reader.specs.Reading.{finished, names_after, look_from, build_from}
 use Rattle.msc_reader.specs.Steps.{Step, step_of}
-use Rattle.msc_reader.specs.declared.place.Place.{Place}
+use Rattle.msc_reader.specs.declared.state.State.{State}
 
 -- what fails is what was to be read
 pub fails_so : {A : Type 0} (error : TextError) (r s : Result A Fault) → r ≡ s → Fails error r → Fails error s
@@ -23,43 +23,43 @@ gives_so (Err error) r s e h = fails_so error r s e h
 -- ---- the first look
 
 -- the line is not read
-pub look_stops : (error : TextError) (names : List (List ℕ)) (place : Place) (n : ℕ) (line : List ℕ) (lines : List (List ℕ)) (rest : List ℕ) → Fails error (in_line n (step_of place line)) → Fails error (look_from names place n (line ∷ lines) rest)
+pub look_stops : (error : TextError) (names : List (List ℕ)) (state : State) (n : ℕ) (line : List ℕ) (lines : List (List ℕ)) (rest : List ℕ) → Fails error (in_line n (step_of state line)) → Fails error (look_from names state n (line ∷ lines) rest)
 unfolding look_from
-look_stops error names place n line lines rest h = fails_then error _ _ h
+look_stops error names state n line lines rest h = fails_then error _ _ h
 
 -- what it says doesn't fit the names
-pub look_stops_at : (error : TextError) (names : List (List ℕ)) (place : Place) (n : ℕ) (line : List ℕ) (lines : List (List ℕ)) (rest : List ℕ) (step : Step) → in_line n (step_of place line) ≡ Ok step → Fails error (in_line n (names_after names step.0))
-    → Fails error (look_from names place n (line ∷ lines) rest)
+pub look_stops_at : (error : TextError) (names : List (List ℕ)) (state : State) (n : ℕ) (line : List ℕ) (lines : List (List ℕ)) (rest : List ℕ) (step : Step) → in_line n (step_of state line) ≡ Ok step → Fails error (in_line n (names_after names step.0))
+    → Fails error (look_from names state n (line ∷ lines) rest)
 unfolding look_from
-look_stops_at error names place n line lines rest step e h = fails_so error _ _ (sym (bind_at _ _ step e)) (fails_then error _ _ h)
+look_stops_at error names state n line lines rest step e h = fails_so error _ _ (sym (bind_at _ _ step e)) (fails_then error _ _ h)
 
 -- the line is read
-pub look_goes_on : (names more : List (List ℕ)) (place : Place) (n : ℕ) (line : List ℕ) (lines : List (List ℕ)) (rest : List ℕ) (step : Step) → in_line n (step_of place line) ≡ Ok step → in_line n (names_after names step.0) ≡ Ok more
-    → look_from names place n (line ∷ lines) rest ≡ look_from more step.1 (n + 1) lines rest
+pub look_goes_on : (names more : List (List ℕ)) (state : State) (n : ℕ) (line : List ℕ) (lines : List (List ℕ)) (rest : List ℕ) (step : Step) → in_line n (step_of state line) ≡ Ok step → in_line n (names_after names step.0) ≡ Ok more
+    → look_from names state n (line ∷ lines) rest ≡ look_from more step.1 (n + 1) lines rest
 unfolding look_from
-look_goes_on names more place n line lines rest step e f = bind_at _ _ step e ∙ bind_at _ _ more f
+look_goes_on names more state n line lines rest step e f = bind_at _ _ step e ∙ bind_at _ _ more f
 
 -- no line is left
-pub look_ends : (names : List (List ℕ)) (place : Place) (n : ℕ) (rest : List ℕ) → look_from names place n [] rest ≡ finished names place n rest
+pub look_ends : (names : List (List ℕ)) (state : State) (n : ℕ) (rest : List ℕ) → look_from names state n [] rest ≡ finished names state n rest
 unfolding look_from
-look_ends names place n rest = refl
+look_ends names state n rest = refl
 
 -- ---- the second look
 
-pub draw_stops : (error : TextError) (names : List (List ℕ)) (place : Place) (d : DrawingView) (n : ℕ) (line : List ℕ) (lines : List (List ℕ)) → Fails error (in_line n (step_of place line)) → Fails error (draw_from names place d n (line ∷ lines))
-unfolding draw_from
-draw_stops error names place d n line lines h = fails_then error _ _ h
+pub build_stops : (error : TextError) (names : List (List ℕ)) (state : State) (d : BuilderView) (n : ℕ) (line : List ℕ) (lines : List (List ℕ)) → Fails error (in_line n (step_of state line)) → Fails error (build_from names state d n (line ∷ lines))
+unfolding build_from
+build_stops error names state d n line lines h = fails_then error _ _ h
 
-pub draw_stops_at : (error : TextError) (names : List (List ℕ)) (place : Place) (d : DrawingView) (n : ℕ) (line : List ℕ) (lines : List (List ℕ)) (step : Step) → in_line n (step_of place line) ≡ Ok step → Fails error (in_line n (drawn names d step.0))
-    → Fails error (draw_from names place d n (line ∷ lines))
-unfolding draw_from
-draw_stops_at error names place d n line lines step e h = fails_so error _ _ (sym (bind_at _ _ step e)) (fails_then error _ _ h)
+pub build_stops_at : (error : TextError) (names : List (List ℕ)) (state : State) (d : BuilderView) (n : ℕ) (line : List ℕ) (lines : List (List ℕ)) (step : Step) → in_line n (step_of state line) ≡ Ok step → Fails error (in_line n (built names d step.0))
+    → Fails error (build_from names state d n (line ∷ lines))
+unfolding build_from
+build_stops_at error names state d n line lines step e h = fails_so error _ _ (sym (bind_at _ _ step e)) (fails_then error _ _ h)
 
-pub draw_goes_on : (names : List (List ℕ)) (place : Place) (d more : DrawingView) (n : ℕ) (line : List ℕ) (lines : List (List ℕ)) (step : Step) → in_line n (step_of place line) ≡ Ok step → in_line n (drawn names d step.0) ≡ Ok more
-    → draw_from names place d n (line ∷ lines) ≡ draw_from names step.1 more (n + 1) lines
-unfolding draw_from
-draw_goes_on names place d more n line lines step e f = bind_at _ _ step e ∙ bind_at _ _ more f
+pub build_goes_on : (names : List (List ℕ)) (state : State) (d more : BuilderView) (n : ℕ) (line : List ℕ) (lines : List (List ℕ)) (step : Step) → in_line n (step_of state line) ≡ Ok step → in_line n (built names d step.0) ≡ Ok more
+    → build_from names state d n (line ∷ lines) ≡ build_from names step.1 more (n + 1) lines
+unfolding build_from
+build_goes_on names state d more n line lines step e f = bind_at _ _ step e ∙ bind_at _ _ more f
 
-pub draw_ends : (names : List (List ℕ)) (place : Place) (d : DrawingView) (n : ℕ) → draw_from names place d n [] ≡ Ok d.lines
-unfolding draw_from
-draw_ends names place d n = refl
+pub build_ends : (names : List (List ℕ)) (state : State) (d : BuilderView) (n : ℕ) → build_from names state d n [] ≡ Ok d.lines
+unfolding build_from
+build_ends names state d n = refl

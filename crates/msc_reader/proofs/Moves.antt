@@ -1,15 +1,15 @@
--- What may be said in each place of a chart's text, and in which words.
+-- What may be said in each state of a chart's text, and in which words.
 use Rattle.std.proofs.Common.{◌≢◌, ℕ, ◌+◌, ◌<◌, List, [], ◌∷◌, ◌++◌}
 use Rattle.std.specs.Prelude.{codes}
 use Rattle.chart.specs.Names.{IsName}
 use Rattle.chart.specs.declared.line.TheConstants.{MAX_EVENTS}
-use Rattle.msc_reader.specs.Steps.{held}
-use Rattle.msc_reader.specs.declared.place.Place.{Place}
-use Rattle.msc_reader.specs.declared.place.Place.TheVariants as places
-use Rattle.msc_reader.specs.declared.place.Region.{Region}
-use Rattle.msc_reader.specs.declared.place.Region.TheVariants as regions
-use Rattle.msc_reader.specs.declared.place.Saying.{Saying}
-use Rattle.msc_reader.specs.declared.place.Saying.TheVariants as sayings
+use Rattle.msc_reader.specs.Steps.{after_receive}
+use Rattle.msc_reader.specs.declared.state.State.{State}
+use Rattle.msc_reader.specs.declared.state.State.TheVariants as states
+use Rattle.msc_reader.specs.declared.state.Region.{Region}
+use Rattle.msc_reader.specs.declared.state.Region.TheVariants as regions
+use Rattle.msc_reader.specs.declared.state.Saying.{Saying}
+use Rattle.msc_reader.specs.declared.state.Saying.TheVariants as sayings
 
 -- an event of the instance own that has so many before it
 pub record IsEvent (own : List ℕ) (events : ℕ) (partner message : List ℕ) : Type 0 where
@@ -18,16 +18,16 @@ pub record IsEvent (own : List ℕ) (events : ℕ) (partner message : List ℕ) 
   pub other : partner ≢ own
   pub room : events < MAX_EVENTS
 
--- what may be said in a place, and the next place
-pub data Moves : Place → Saying → Place → Type 0 where
-  begins : Moves places.Start sayings.Begin places.Outside
-  heads : {own : List ℕ} → IsName own → Moves places.Outside (sayings.Head own) (places.Inside own 0 regions.Closed)
-  ends : Moves places.Outside sayings.End places.Done
-  sends : {own to name : List ℕ} {events : ℕ} → IsEvent own events to name → Moves (places.Inside own events regions.Closed) (sayings.Send to name) (places.Inside own (events + 1) regions.Closed)
-  receives : {own from name : List ℕ} {events : ℕ} {region : Region} → IsEvent own events from name → Moves (places.Inside own events region) (sayings.Receive from name) (places.Inside own (events + 1) (held region))
-  opens : {own : List ℕ} {events : ℕ} → Moves (places.Inside own events regions.Closed) sayings.Open (places.Inside own events regions.Empty)
-  shuts : {own : List ℕ} {events : ℕ} → Moves (places.Inside own events regions.Held) sayings.Shut (places.Inside own events regions.Closed)
-  leaves : {own : List ℕ} {events : ℕ} → Moves (places.Inside own events regions.Closed) sayings.Foot places.Outside
+-- what may be said in a state, and the next state
+pub data Moves : State → Saying → State → Type 0 where
+  begins : Moves states.Start sayings.Begin states.Outside
+  heads : {own : List ℕ} → IsName own → Moves states.Outside (sayings.Head own) (states.Inside own 0 regions.Closed)
+  ends : Moves states.Outside sayings.End states.Done
+  sends : {own to name : List ℕ} {events : ℕ} → IsEvent own events to name → Moves (states.Inside own events regions.Closed) (sayings.Send to name) (states.Inside own (events + 1) regions.Closed)
+  receives : {own from name : List ℕ} {events : ℕ} {region : Region} → IsEvent own events from name → Moves (states.Inside own events region) (sayings.Receive from name) (states.Inside own (events + 1) (after_receive region))
+  opens : {own : List ℕ} {events : ℕ} → Moves (states.Inside own events regions.Closed) sayings.Open (states.Inside own events regions.Empty)
+  shuts : {own : List ℕ} {events : ℕ} → Moves (states.Inside own events regions.Held) sayings.Shut (states.Inside own events regions.Closed)
+  leaves : {own : List ℕ} {events : ℕ} → Moves (states.Inside own events regions.Closed) sayings.Foot states.Outside
 
 -- a word with a semicolon behind it
 abbrev pub semi : List ℕ → List ℕ

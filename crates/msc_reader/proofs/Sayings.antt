@@ -10,19 +10,19 @@ use Rattle.msc_text.specs.declared.fault.Cause.TheVariants.{Syntax, ToItself, Li
 use Rattle.msc_text.proofs.Lookups.{same_bytes, same_itself}
 use Rattle.msc_text.proofs.Results.{bind_ok, guard_ok, when_ok, chosen, ok_is, name_is}
 use Rattle.msc_reader.specs.Keywords.{is_msc, is_run, is_instance, is_endinstance, is_out, is_to, is_in, is_from, is_concurrent, is_endconcurrent, is_endmsc}
-use Rattle.msc_reader.specs.Steps.{Step, before_semicolon, is_plain, start_by, head_of, outside_by, pair_of, names_of, held, send_of, receive_of, is_closed, event_of, alone_of, inside_by, step_by}
-use Rattle.msc_reader.specs.declared.place.Place.{Place}
-use Rattle.msc_reader.specs.declared.place.Place.TheVariants as places
-use Rattle.msc_reader.specs.declared.place.Region.{Region}
-use Rattle.msc_reader.specs.declared.place.Region.TheVariants as regions
-use Rattle.msc_reader.specs.declared.place.Saying.TheVariants as sayings
+use Rattle.msc_reader.specs.Steps.{Step, name_part, is_plain, start_by, head_of, outside_by, pair_of, names_of, after_receive, send_of, receive_of, is_closed, event_of, alone_of, inside_by, step_by}
+use Rattle.msc_reader.specs.declared.state.State.{State}
+use Rattle.msc_reader.specs.declared.state.State.TheVariants as states
+use Rattle.msc_reader.specs.declared.state.Region.{Region}
+use Rattle.msc_reader.specs.declared.state.Region.TheVariants as regions
+use Rattle.msc_reader.specs.declared.state.Saying.TheVariants as sayings
 use Rattle.msc_reader.proofs.Moves.{IsEvent, Moves, semi, saying_words}
 use Rattle.msc_reader.proofs.Moves.Moves.{begins, heads, ends, sends, receives, opens, shuts, leaves}
 use Rattle.msc_reader.proofs.Semicolons.{before_is}
 
 -- the words say what may be said
-pub record Says (place : Place) (words : List (List ℕ)) (step : Step) : Type 0 where
-  pub moves : Moves place step.0 step.1
+pub record Says (state : State) (words : List (List ℕ)) (step : Step) : Type 0 where
+  pub moves : Moves state step.0 step.1
   pub are : words ≡ saying_words step.0
 
 both : (a b : Bool) → (a && b) ≡ true → (a ≡ true) × (b ≡ true)
@@ -31,41 +31,41 @@ both false b e = cc
 
 -- ---- what is read is said so
 
-start-says : (words : List (List ℕ)) (step : Step) → start_by words ≡ Ok step → Says places.Start words step
+start-says : (words : List (List ℕ)) (step : Step) → start_by words ≡ Ok step → Says states.Start words step
 unfolding is_msc is_run
 start-says [] step e = cc
 start-says (m ∷ []) step e = cc
 start-says (m ∷ r ∷ []) step e =
-    let g = when_ok (is_msc m && is_run r) Syntax (Ok (sayings.Begin, places.Outside)) step e in
+    let g = when_ok (is_msc m && is_run r) Syntax (Ok (sayings.Begin, states.Outside)) step e in
     let k = both (is_msc m) (is_run r) g.0 in
     let one = same_bytes m (codes "msc") k.0 in
     let two = same_bytes r (codes "run;") k.1 in
-    subst (Says places.Start (m ∷ r ∷ [])) (ok_is (sayings.Begin, places.Outside) step g.1) (record { moves = begins; are = ap (λ x. x ∷ r ∷ []) one ∙ ap (λ x. codes "msc" ∷ x ∷ []) two })
+    subst (Says states.Start (m ∷ r ∷ [])) (ok_is (sayings.Begin, states.Outside) step g.1) (record { moves = begins; are = ap (λ x. x ∷ r ∷ []) one ∙ ap (λ x. codes "msc" ∷ x ∷ []) two })
 start-says (m ∷ r ∷ x ∷ words) step e = cc
 
-head-says : (k w : List ℕ) (o : Option (List ℕ)) (step : Step) → is_instance k ≡ true → before_semicolon w ≡ o → head_of o ≡ Ok step → Says places.Outside (k ∷ w ∷ []) step
+head-says : (k w : List ℕ) (o : Option (List ℕ)) (step : Step) → is_instance k ≡ true → name_part w ≡ o → head_of o ≡ Ok step → Says states.Outside (k ∷ w ∷ []) step
 unfolding head_of is_instance
 head-says k w None step word is e = cc
 head-says k w (Some name) step word is e =
-    let a = bind_ok (name_or_cause name) (λ own. Ok (sayings.Head own, places.Inside own 0 regions.Closed)) step e in
+    let a = bind_ok (name_or_cause name) (λ own. Ok (sayings.Head own, states.Inside own 0 regions.Closed)) step e in
     let named = name_is name a.0 a.1 in
     let own : IsName a.0 = subst IsName (sym named.0) named.1 in
     let one = same_bytes k (codes "instance") word in
     let two : w ≡ semi a.0 = before_is w name is ∙ ap semi (sym named.0) in
-    subst (Says places.Outside (k ∷ w ∷ [])) (ok_is (sayings.Head a.0, places.Inside a.0 0 regions.Closed) step a.2) (record { moves = heads own; are = ap (λ x. x ∷ w ∷ []) one ∙ ap (λ x. codes "instance" ∷ x ∷ []) two })
+    subst (Says states.Outside (k ∷ w ∷ [])) (ok_is (sayings.Head a.0, states.Inside a.0 0 regions.Closed) step a.2) (record { moves = heads own; are = ap (λ x. x ∷ w ∷ []) one ∙ ap (λ x. codes "instance" ∷ x ∷ []) two })
 
-end-says : (k : List ℕ) (step : Step) → cond (is_endmsc k) (Ok (sayings.End, places.Done)) (Err Syntax) ≡ Ok step → Says places.Outside (k ∷ []) step
+end-says : (k : List ℕ) (step : Step) → cond (is_endmsc k) (Ok (sayings.End, states.Done)) (Err Syntax) ≡ Ok step → Says states.Outside (k ∷ []) step
 unfolding is_endmsc
 end-says k step e =
-    let g = when_ok (is_endmsc k) Syntax (Ok (sayings.End, places.Done)) step e in
-    subst (Says places.Outside (k ∷ [])) (ok_is (sayings.End, places.Done) step g.1) (record { moves = ends; are = ap (λ x. x ∷ []) (same_bytes k (codes "endmsc;") g.0) })
+    let g = when_ok (is_endmsc k) Syntax (Ok (sayings.End, states.Done)) step e in
+    subst (Says states.Outside (k ∷ [])) (ok_is (sayings.End, states.Done) step g.1) (record { moves = ends; are = ap (λ x. x ∷ []) (same_bytes k (codes "endmsc;") g.0) })
 
-outside-says : (words : List (List ℕ)) (step : Step) → outside_by words ≡ Ok step → Says places.Outside words step
+outside-says : (words : List (List ℕ)) (step : Step) → outside_by words ≡ Ok step → Says states.Outside words step
 outside-says [] step e = cc
 outside-says (k ∷ []) step e = end-says k step e
 outside-says (k ∷ w ∷ []) step e =
-    let g = when_ok (is_instance k) Syntax (head_of (before_semicolon w)) step e in
-    head-says k w (before_semicolon w) step g.0 refl g.1
+    let g = when_ok (is_instance k) Syntax (head_of (name_part w)) step e in
+    head-says k w (name_part w) step g.0 refl g.1
 outside-says (k ∷ w ∷ x ∷ words) step e = cc
 
 -- two words are the names of an event
@@ -97,7 +97,7 @@ pair-names own events m p w pair is e =
       };
     })
 
-names-names : (own : List ℕ) (events : ℕ) (m w : List ℕ) (o : Option (List ℕ)) (pair : List ℕ × List ℕ) → before_semicolon w ≡ o → names_of own events m o ≡ Ok pair → AreNames own events m w pair
+names-names : (own : List ℕ) (events : ℕ) (m w : List ℕ) (o : Option (List ℕ)) (pair : List ℕ × List ℕ) → name_part w ≡ o → names_of own events m o ≡ Ok pair → AreNames own events m w pair
 unfolding names_of
 names-names own events m w None pair is e = cc
 names-names own events m w (Some p) pair is e =
@@ -107,34 +107,34 @@ names-names own events m w (Some p) pair is e =
 four : {a a' b b' c c' d d' : List ℕ} → a ≡ a' → b ≡ b' → c ≡ c' → d ≡ d' → a ∷ b ∷ c ∷ d ∷ [] ≡ a' ∷ b' ∷ c' ∷ d' ∷ []
 four p q r s = cc
 
-send-says : (own : List ℕ) (events : ℕ) (k m t w : List ℕ) (step : Step) → is_out k ≡ true → is_to t ≡ true → send_of own events m w ≡ Ok step → Says (places.Inside own events regions.Closed) (k ∷ m ∷ t ∷ w ∷ []) step
+send-says : (own : List ℕ) (events : ℕ) (k m t w : List ℕ) (step : Step) → is_out k ≡ true → is_to t ≡ true → send_of own events m w ≡ Ok step → Says (states.Inside own events regions.Closed) (k ∷ m ∷ t ∷ w ∷ []) step
 unfolding send_of is_out is_to
 send-says own events k m t w step word other e =
-    let a = bind_ok (names_of own events m (before_semicolon w)) (λ pair. Ok (sayings.Send pair.1 pair.0, places.Inside own (events + 1) regions.Closed)) step e in
-    let names = names-names own events m w (before_semicolon w) a.0 refl a.1 in
-    subst (Says (places.Inside own events regions.Closed) (k ∷ m ∷ t ∷ w ∷ [])) (ok_is (sayings.Send a.0.1 a.0.0, places.Inside own (events + 1) regions.Closed) step a.2)
+    let a = bind_ok (names_of own events m (name_part w)) (λ pair. Ok (sayings.Send pair.1 pair.0, states.Inside own (events + 1) regions.Closed)) step e in
+    let names = names-names own events m w (name_part w) a.0 refl a.1 in
+    subst (Says (states.Inside own events regions.Closed) (k ∷ m ∷ t ∷ w ∷ [])) (ok_is (sayings.Send a.0.1 a.0.0, states.Inside own (events + 1) regions.Closed) step a.2)
     (record { moves = sends names.event; are = four (same_bytes k (codes "out") word) names.message (same_bytes t (codes "to") other) names.partner })
 
-receive-says : (own : List ℕ) (events : ℕ) (region : Region) (k m t w : List ℕ) (step : Step) → is_in k ≡ true → is_from t ≡ true → receive_of own events region m w ≡ Ok step → Says (places.Inside own events region) (k ∷ m ∷ t ∷ w ∷ []) step
+receive-says : (own : List ℕ) (events : ℕ) (region : Region) (k m t w : List ℕ) (step : Step) → is_in k ≡ true → is_from t ≡ true → receive_of own events region m w ≡ Ok step → Says (states.Inside own events region) (k ∷ m ∷ t ∷ w ∷ []) step
 unfolding receive_of is_in is_from
 receive-says own events region k m t w step word other e =
-    let a = bind_ok (names_of own events m (before_semicolon w)) (λ pair. Ok (sayings.Receive pair.1 pair.0, places.Inside own (events + 1) (held region))) step e in
-    let names = names-names own events m w (before_semicolon w) a.0 refl a.1 in
-    subst (Says (places.Inside own events region) (k ∷ m ∷ t ∷ w ∷ [])) (ok_is (sayings.Receive a.0.1 a.0.0, places.Inside own (events + 1) (held region)) step a.2)
+    let a = bind_ok (names_of own events m (name_part w)) (λ pair. Ok (sayings.Receive pair.1 pair.0, states.Inside own (events + 1) (after_receive region))) step e in
+    let names = names-names own events m w (name_part w) a.0 refl a.1 in
+    subst (Says (states.Inside own events region) (k ∷ m ∷ t ∷ w ∷ [])) (ok_is (sayings.Receive a.0.1 a.0.0, states.Inside own (events + 1) (after_receive region)) step a.2)
     (record { moves = receives names.event; are = four (same_bytes k (codes "in") word) names.message (same_bytes t (codes "from") other) names.partner })
 
 no_send : (b : Bool) → (b && false) ≡ true → ⊥
 no_send true e = cc
 no_send false e = cc
 
-sends-says : (own : List ℕ) (events : ℕ) (region : Region) (k m t w : List ℕ) (step : Step) → (is_out k && is_to t && is_closed region) ≡ true → send_of own events m w ≡ Ok step → Says (places.Inside own events region) (k ∷ m ∷ t ∷ w ∷ []) step
+sends-says : (own : List ℕ) (events : ℕ) (region : Region) (k m t w : List ℕ) (step : Step) → (is_out k && is_to t && is_closed region) ≡ true → send_of own events m w ≡ Ok step → Says (states.Inside own events region) (k ∷ m ∷ t ∷ w ∷ []) step
 sends-says own events regions.Closed k m t w step test e =
     let two = both (is_out k) (is_to t) (both (is_out k && is_to t) true test).0 in
     send-says own events k m t w step two.0 two.1 e
 sends-says own events regions.Empty k m t w step test e = absurd (no_send (is_out k && is_to t) test)
 sends-says own events regions.Held k m t w step test e = absurd (no_send (is_out k && is_to t) test)
 
-event-says : (own : List ℕ) (events : ℕ) (region : Region) (k m t w : List ℕ) (step : Step) → event_of own events region k m t w ≡ Ok step → Says (places.Inside own events region) (k ∷ m ∷ t ∷ w ∷ []) step
+event-says : (own : List ℕ) (events : ℕ) (region : Region) (k m t w : List ℕ) (step : Step) → event_of own events region k m t w ≡ Ok step → Says (states.Inside own events region) (k ∷ m ∷ t ∷ w ∷ []) step
 unfolding event_of
 event-says own events region k m t w step e =
     elim (chosen (is_in k && is_from t) (receive_of own events region m w) (cond (is_out k && is_to t && is_closed region) (send_of own events m w) (Err Syntax)) (Ok step) e) [
@@ -142,20 +142,20 @@ event-says own events region k m t w step e =
       | inr b ↦ (let g = when_ok (is_out k && is_to t && is_closed region) Syntax (send_of own events m w) step b.1 in sends-says own events region k m t w step g.0 g.1)
     ]
 
-alone-says : (own : List ℕ) (events : ℕ) (region : Region) (k : List ℕ) (step : Step) → alone_of own events region k ≡ Ok step → Says (places.Inside own events region) (k ∷ []) step
+alone-says : (own : List ℕ) (events : ℕ) (region : Region) (k : List ℕ) (step : Step) → alone_of own events region k ≡ Ok step → Says (states.Inside own events region) (k ∷ []) step
 unfolding alone_of is_endinstance is_concurrent is_endconcurrent
 alone-says own events regions.Closed k step e =
-    elim (chosen (is_endinstance k) (Ok (sayings.Foot, places.Outside)) (cond (is_concurrent k) (Ok (sayings.Open, places.Inside own events regions.Empty)) (Err Syntax)) (Ok step) e) [
-      | inl a ↦ subst (Says (places.Inside own events regions.Closed) (k ∷ [])) (ok_is (sayings.Foot, places.Outside) step a.1) (record { moves = leaves; are = ap (λ x. x ∷ []) (same_bytes k (codes "endinstance;") a.0) })
-      | inr b ↦ (let g = when_ok (is_concurrent k) Syntax (Ok (sayings.Open, places.Inside own events regions.Empty)) step b.1 in
-          subst (Says (places.Inside own events regions.Closed) (k ∷ [])) (ok_is (sayings.Open, places.Inside own events regions.Empty) step g.1) (record { moves = opens; are = ap (λ x. x ∷ []) (same_bytes k (codes "concurrent;") g.0) }))
+    elim (chosen (is_endinstance k) (Ok (sayings.Foot, states.Outside)) (cond (is_concurrent k) (Ok (sayings.Open, states.Inside own events regions.Empty)) (Err Syntax)) (Ok step) e) [
+      | inl a ↦ subst (Says (states.Inside own events regions.Closed) (k ∷ [])) (ok_is (sayings.Foot, states.Outside) step a.1) (record { moves = leaves; are = ap (λ x. x ∷ []) (same_bytes k (codes "endinstance;") a.0) })
+      | inr b ↦ (let g = when_ok (is_concurrent k) Syntax (Ok (sayings.Open, states.Inside own events regions.Empty)) step b.1 in
+          subst (Says (states.Inside own events regions.Closed) (k ∷ [])) (ok_is (sayings.Open, states.Inside own events regions.Empty) step g.1) (record { moves = opens; are = ap (λ x. x ∷ []) (same_bytes k (codes "concurrent;") g.0) }))
     ]
 alone-says own events regions.Empty k step e = cc
 alone-says own events regions.Held k step e =
-    let g = when_ok (is_endconcurrent k) Syntax (Ok (sayings.Shut, places.Inside own events regions.Closed)) step e in
-    subst (Says (places.Inside own events regions.Held) (k ∷ [])) (ok_is (sayings.Shut, places.Inside own events regions.Closed) step g.1) (record { moves = shuts; are = ap (λ x. x ∷ []) (same_bytes k (codes "endconcurrent;") g.0) })
+    let g = when_ok (is_endconcurrent k) Syntax (Ok (sayings.Shut, states.Inside own events regions.Closed)) step e in
+    subst (Says (states.Inside own events regions.Held) (k ∷ [])) (ok_is (sayings.Shut, states.Inside own events regions.Closed) step g.1) (record { moves = shuts; are = ap (λ x. x ∷ []) (same_bytes k (codes "endconcurrent;") g.0) })
 
-inside-says : (own : List ℕ) (events : ℕ) (region : Region) (words : List (List ℕ)) (step : Step) → inside_by own events region words ≡ Ok step → Says (places.Inside own events region) words step
+inside-says : (own : List ℕ) (events : ℕ) (region : Region) (words : List (List ℕ)) (step : Step) → inside_by own events region words ≡ Ok step → Says (states.Inside own events region) words step
 inside-says own events region [] step e = cc
 inside-says own events region (k ∷ []) step e = alone-says own events region k step e
 inside-says own events region (k ∷ m ∷ []) step e = cc
@@ -163,9 +163,9 @@ inside-says own events region (k ∷ m ∷ t ∷ []) step e = cc
 inside-says own events region (k ∷ m ∷ t ∷ w ∷ []) step e = event-says own events region k m t w step e
 inside-says own events region (k ∷ m ∷ t ∷ w ∷ x ∷ words) step e = cc
 
--- what a line is read as, its words say, and it may be said in its place
-pub step-says : (place : Place) (words : List (List ℕ)) (step : Step) → step_by place words ≡ Ok step → Says place words step
-step-says places.Start words step e = start-says words step e
-step-says places.Outside words step e = outside-says words step e
-step-says (places.Inside own events region) words step e = inside-says own events region words step e
-step-says places.Done words step e = cc
+-- what a line is read as, its words say, and it may be said in its state
+pub step-says : (state : State) (words : List (List ℕ)) (step : Step) → step_by state words ≡ Ok step → Says state words step
+step-says states.Start words step e = start-says words step e
+step-says states.Outside words step e = outside-says words step e
+step-says (states.Inside own events region) words step e = inside-says own events region words step e
+step-says states.Done words step e = cc

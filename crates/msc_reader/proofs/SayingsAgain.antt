@@ -13,13 +13,13 @@ use Rattle.msc_text.proofs.Parts.{lacks_if, lacks_append}
 use Rattle.msc_text.proofs.Results.{bind_at, name_again}
 use Rattle.msc_text.proofs.Spacing.{IsPlain, ArePlain, plain_name, spaced_again, spaced_lacks, is_spaced}
 use Rattle.msc_reader.specs.Keywords.{is_msc, is_run, is_instance, is_endinstance, is_out, is_to, is_in, is_from, is_concurrent, is_endconcurrent, is_endmsc}
-use Rattle.msc_reader.specs.Steps.{Step, before_semicolon, head_of, pair_of, names_of, held, send_of, receive_of, event_of, alone_of, step_by, step_of}
-use Rattle.msc_reader.specs.declared.place.Place.{Place}
-use Rattle.msc_reader.specs.declared.place.Place.TheVariants as places
-use Rattle.msc_reader.specs.declared.place.Region.{Region}
-use Rattle.msc_reader.specs.declared.place.Region.TheVariants as regions
-use Rattle.msc_reader.specs.declared.place.Saying.{Saying}
-use Rattle.msc_reader.specs.declared.place.Saying.TheVariants as sayings
+use Rattle.msc_reader.specs.Steps.{Step, name_part, head_of, pair_of, names_of, after_receive, send_of, receive_of, event_of, alone_of, step_by, step_of}
+use Rattle.msc_reader.specs.declared.state.State.{State}
+use Rattle.msc_reader.specs.declared.state.State.TheVariants as states
+use Rattle.msc_reader.specs.declared.state.Region.{Region}
+use Rattle.msc_reader.specs.declared.state.Region.TheVariants as regions
+use Rattle.msc_reader.specs.declared.state.Saying.{Saying}
+use Rattle.msc_reader.specs.declared.state.Saying.TheVariants as sayings
 use Rattle.msc_reader.proofs.Moves.{IsEvent, Moves, semi, saying_words}
 use Rattle.msc_reader.proofs.Moves.Moves.{begins, heads, ends, sends, receives, opens, shuts, leaves}
 use Rattle.msc_reader.proofs.Sayings.{step-says}
@@ -27,17 +27,17 @@ use Rattle.msc_reader.proofs.Semicolons.{before_again, plain_again}
 
 -- ---- by the words
 
-start-again : step_by places.Start (saying_words sayings.Begin) ≡ Ok (sayings.Begin, places.Outside)
+start-again : step_by states.Start (saying_words sayings.Begin) ≡ Ok (sayings.Begin, states.Outside)
 unfolding is_msc is_run
 start-again = refl
 
-end-again : step_by places.Outside (saying_words sayings.End) ≡ Ok (sayings.End, places.Done)
+end-again : step_by states.Outside (saying_words sayings.End) ≡ Ok (sayings.End, states.Done)
 unfolding is_endmsc
 end-again = refl
 
-head-again : (own : List ℕ) → IsName own → step_by places.Outside (saying_words (sayings.Head own)) ≡ Ok (sayings.Head own, places.Inside own 0 regions.Closed)
+head-again : (own : List ℕ) → IsName own → step_by states.Outside (saying_words (sayings.Head own)) ≡ Ok (sayings.Head own, states.Inside own 0 regions.Closed)
 unfolding is_instance head_of
-head-again own h = ap head_of (before_again own h) ∙ bind_at (name_or_cause own) (λ o. Ok (sayings.Head o, places.Inside o 0 regions.Closed)) own (name_again own h)
+head-again own h = ap head_of (before_again own h) ∙ bind_at (name_or_cause own) (λ o. Ok (sayings.Head o, states.Inside o 0 regions.Closed)) own (name_again own h)
 
 not_same : (a b : List ℕ) → a ≢ b → bytes_eq a b ≡ false
 not_same a b other = by (bytes_eq a b) refl
@@ -54,34 +54,34 @@ pair-again own events partner message h =
     ∙ ap (λ b. cond b (Err ToItself) (cond (nat_le MAX_EVENTS events) (Err LineFull) (Ok (message, partner)))) (not_same partner own h.other)
     ∙ ap (λ b. cond b (Err LineFull) (Ok (message, partner))) (lt-leb MAX_EVENTS events h.room)
 
-names-again : (own : List ℕ) (events : ℕ) (partner message : List ℕ) → IsEvent own events partner message → names_of own events message (before_semicolon (semi partner)) ≡ Ok (message, partner)
+names-again : (own : List ℕ) (events : ℕ) (partner message : List ℕ) → IsEvent own events partner message → names_of own events message (name_part (semi partner)) ≡ Ok (message, partner)
 unfolding names_of
 names-again own events partner message h =
     ap (names_of own events message) (before_again partner h.partner_name) ∙ ap (λ b. cond b (pair_of own events message partner) (Err Syntax)) (plain_again message h.message_name) ∙ pair-again own events partner message h
 
 send-again : (own to name : List ℕ) (events : ℕ) → IsEvent own events to name
-    → step_by (places.Inside own events regions.Closed) (saying_words (sayings.Send to name)) ≡ Ok (sayings.Send to name, places.Inside own (events + 1) regions.Closed)
+    → step_by (states.Inside own events regions.Closed) (saying_words (sayings.Send to name)) ≡ Ok (sayings.Send to name, states.Inside own (events + 1) regions.Closed)
 unfolding event_of send_of is_out is_to is_in is_from
-send-again own to name events h = bind_at (names_of own events name (before_semicolon (semi to))) (λ pair. Ok (sayings.Send pair.1 pair.0, places.Inside own (events + 1) regions.Closed)) (name, to) (names-again own events to name h)
+send-again own to name events h = bind_at (names_of own events name (name_part (semi to))) (λ pair. Ok (sayings.Send pair.1 pair.0, states.Inside own (events + 1) regions.Closed)) (name, to) (names-again own events to name h)
 
 receive-again : (own from name : List ℕ) (events : ℕ) (region : Region) → IsEvent own events from name
-    → step_by (places.Inside own events region) (saying_words (sayings.Receive from name)) ≡ Ok (sayings.Receive from name, places.Inside own (events + 1) (held region))
+    → step_by (states.Inside own events region) (saying_words (sayings.Receive from name)) ≡ Ok (sayings.Receive from name, states.Inside own (events + 1) (after_receive region))
 unfolding event_of receive_of is_in is_from
-receive-again own from name events region h = bind_at (names_of own events name (before_semicolon (semi from))) (λ pair. Ok (sayings.Receive pair.1 pair.0, places.Inside own (events + 1) (held region))) (name, from) (names-again own events from name h)
+receive-again own from name events region h = bind_at (names_of own events name (name_part (semi from))) (λ pair. Ok (sayings.Receive pair.1 pair.0, states.Inside own (events + 1) (after_receive region))) (name, from) (names-again own events from name h)
 
-open-again : (own : List ℕ) (events : ℕ) → step_by (places.Inside own events regions.Closed) (saying_words sayings.Open) ≡ Ok (sayings.Open, places.Inside own events regions.Empty)
+open-again : (own : List ℕ) (events : ℕ) → step_by (states.Inside own events regions.Closed) (saying_words sayings.Open) ≡ Ok (sayings.Open, states.Inside own events regions.Empty)
 unfolding alone_of is_endinstance is_concurrent
 open-again own events = refl
 
-shut-again : (own : List ℕ) (events : ℕ) → step_by (places.Inside own events regions.Held) (saying_words sayings.Shut) ≡ Ok (sayings.Shut, places.Inside own events regions.Closed)
+shut-again : (own : List ℕ) (events : ℕ) → step_by (states.Inside own events regions.Held) (saying_words sayings.Shut) ≡ Ok (sayings.Shut, states.Inside own events regions.Closed)
 unfolding alone_of is_endconcurrent
 shut-again own events = refl
 
-foot-again : (own : List ℕ) (events : ℕ) → step_by (places.Inside own events regions.Closed) (saying_words sayings.Foot) ≡ Ok (sayings.Foot, places.Outside)
+foot-again : (own : List ℕ) (events : ℕ) → step_by (states.Inside own events regions.Closed) (saying_words sayings.Foot) ≡ Ok (sayings.Foot, states.Outside)
 unfolding alone_of is_endinstance
 foot-again own events = refl
 
-words-again : {place next : Place} {saying : Saying} → Moves place saying next → step_by place (saying_words saying) ≡ Ok (saying, next)
+words-again : {state next : State} {saying : Saying} → Moves state saying next → step_by state (saying_words saying) ≡ Ok (saying, next)
 words-again begins = start-again
 words-again (heads {own} h) = head-again own h
 words-again ends = end-again
@@ -102,7 +102,7 @@ plain_semi name h =
     let two = plain_name name h in
     (lacks_append 32 name (59 ∷ []) two.0 (lacks_if 32 (59 ∷ []) refl), lacks_append 10 name (59 ∷ []) two.1 (lacks_if 10 (59 ∷ []) refl))
 
-plain-words : {place next : Place} {saying : Saying} → Moves place saying next → ArePlain (saying_words saying)
+plain-words : {state next : State} {saying : Saying} → Moves state saying next → ArePlain (saying_words saying)
 plain-words begins = ((lacks_if 32 (codes "msc") refl, lacks_if 10 (codes "msc") refl), ((lacks_if 32 (codes "run;") refl, lacks_if 10 (codes "run;") refl), tt))
 plain-words (heads {own} h) = ((lacks_if 32 (codes "instance") refl, lacks_if 10 (codes "instance") refl), (plain_semi own h, tt))
 plain-words ends = ((lacks_if 32 (codes "endmsc;") refl, lacks_if 10 (codes "endmsc;") refl), tt)
@@ -123,17 +123,17 @@ said-again sayings.Foot h = spaced_again _ _ h
 said-again sayings.End h = spaced_again _ _ h
 
 -- a line is read as what it says
-pub line-again : {place next : Place} {saying : Saying} → Moves place saying next → step_of place (saying_line saying) ≡ Ok (saying, next)
+pub line-again : {state next : State} {saying : Saying} → Moves state saying next → step_of state (saying_line saying) ≡ Ok (saying, next)
 unfolding step_of
-line-again {place} {next} {saying} move = ap (step_by place) (said-again saying (plain-words move)) ∙ words-again move
+line-again {state} {next} {saying} move = ap (step_by state) (said-again saying (plain-words move)) ∙ words-again move
 
 -- it has no line feed
-pub line-lacks : {place next : Place} {saying : Saying} → Moves place saying next → Lacks 10 (saying_line saying)
+pub line-lacks : {state next : State} {saying : Saying} → Moves state saying next → Lacks 10 (saying_line saying)
 line-lacks {saying = saying} move = spaced_lacks (saying_words saying) (plain-words move)
 
 -- and is no other
-pub line-is : (place : Place) (line : List ℕ) (step : Step) → step_of place line ≡ Ok step → Moves place step.0 step.1 × (line ≡ saying_line step.0)
+pub line-is : (state : State) (line : List ℕ) (step : Step) → step_of state line ≡ Ok step → Moves state step.0 step.1 × (line ≡ saying_line step.0)
 unfolding step_of
-line-is place line step e =
-    let says = step-says place (words_of line) step e in
+line-is state line step e =
+    let says = step-says state (words_of line) step e in
     (says.moves, is_spaced line ∙ ap (join_with_byte 32) says.are)

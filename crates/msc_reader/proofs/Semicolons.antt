@@ -11,7 +11,7 @@ use Rattle.std.proofs.lemmas.List.Sums.{position_or_len_is}
 use Rattle.chart.specs.Names.{IsName}
 use Rattle.msc_text.specs.Lines.{Lacks}
 use Rattle.msc_text.proofs.Results.{name_has_no_semicolon, name_some}
-use Rattle.msc_reader.specs.Steps.{is_semicolon, is_other, before_at, before_semicolon, is_plain}
+use Rattle.msc_reader.specs.Steps.{is_semicolon, is_other, name_part_at, name_part, is_plain}
 use Rattle.msc_reader.proofs.Moves.{semi}
 
 either_not : (a b : Bool) (x y : Option (List ℕ)) (w : List ℕ) → cond (a || not b) None x ≡ Some w → (b ≡ true) × (x ≡ Some w)
@@ -19,22 +19,22 @@ either_not true b x y w e = cc
 either_not false true x y w e = (refl, e)
 either_not false false x y w e = cc
 
-cut : (word name : List ℕ) (o : Option ℕ) → position is_semicolon word ≡ o → before_at word o ≡ Some name → word ≡ semi name
+cut : (word name : List ℕ) (o : Option ℕ) → position is_semicolon word ≡ o → name_part_at word o ≡ Some name → word ≡ semi name
 cut word name None is e = cc
-cut word name (Some place) is e =
-    let at = position-Some is_semicolon word place 0 is in
-    let two = either_not (eqb place 0) (eqb (place + 1) (length word)) (Some (take place word)) None name e in
-    let last : place + 1 ≡ length word = eqb-true _ _ two.0 in
-    let byte : get_or word place 0 ≡ 59 = eqb-true _ _ at.1 in
-    let front : take place word ≡ name = cc in
-    let below : place < length word = at.0 in
-    let none : drop (place + 1) word ≡ [] = drop_all (place + 1) word (omega arith) in
-    let back : drop place word ≡ get_or word place 0 ∷ drop (place + 1) word = rw (add-one, drop-cons word place 0) refl in
-    sym (take-append-drop place word) ∙ ap (λ l. l ++ drop place word) front ∙ ap (λ l. name ++ l) (back ∙ ap (λ b. b ∷ drop (place + 1) word) byte ∙ ap (λ l. 59 ∷ l) none)
+cut word name (Some state) is e =
+    let at = position-Some is_semicolon word state 0 is in
+    let two = either_not (eqb state 0) (eqb (state + 1) (length word)) (Some (take state word)) None name e in
+    let last : state + 1 ≡ length word = eqb-true _ _ two.0 in
+    let byte : get_or word state 0 ≡ 59 = eqb-true _ _ at.1 in
+    let front : take state word ≡ name = cc in
+    let below : state < length word = at.0 in
+    let none : drop (state + 1) word ≡ [] = drop_all (state + 1) word (omega arith) in
+    let back : drop state word ≡ get_or word state 0 ∷ drop (state + 1) word = rw (add-one, drop-cons word state 0) refl in
+    sym (take-append-drop state word) ∙ ap (λ l. l ++ drop state word) front ∙ ap (λ l. name ++ l) (back ∙ ap (λ b. b ∷ drop (state + 1) word) byte ∙ ap (λ l. 59 ∷ l) none)
 
 -- what stands before the semicolon, and the semicolon, are the word
-pub before_is : (word name : List ℕ) → before_semicolon word ≡ Some name → word ≡ semi name
-unfolding before_semicolon
+pub before_is : (word name : List ℕ) → name_part word ≡ Some name → word ≡ semi name
+unfolding name_part
 before_is word name e = cut word name (position is_semicolon word) refl e
 
 semicolon_at : (name : List ℕ) → Lacks 59 name → position_or_len is_semicolon (semi name) ≡ length name
@@ -45,12 +45,12 @@ semicolon_at name h =
     (λ k below. ap is_semicolon (get_or_append_left name (59 ∷ []) 0 k below) ∙ each k 0 below)
     (λ _. ap is_semicolon (get_or-append_seam name 59 [] 0))
 
-found_at : (word : List ℕ) (place : ℕ) → position_or_len is_semicolon word ≡ place → place < length word → position is_semicolon word ≡ Some place
-found_at word place is below = rw (is, lt-ltb place (length word) below) refl
+found_at : (word : List ℕ) (state : ℕ) → position_or_len is_semicolon word ≡ state → state < length word → position is_semicolon word ≡ Some state
+found_at word state is below = rw (is, lt-ltb state (length word) below) refl
 
 -- a name is read before its semicolon
-pub before_again : (name : List ℕ) → IsName name → before_semicolon (semi name) ≡ Some name
-unfolding before_semicolon
+pub before_again : (name : List ℕ) → IsName name → name_part (semi name) ≡ Some name
+unfolding name_part
 before_again name h =
     let long : length (semi name) ≡ length name + 1 = length-append name (59 ∷ []) in
     let at = found_at (semi name) (length name) (semicolon_at name (name_has_no_semicolon name h)) (omega arith) in

@@ -1,4 +1,4 @@
--- Where the second look at a text stands: what was said so far, and what is drawn of it.
+-- Where the second look at a text stands: what was said so far, and what is built of it.
 use Rattle.std.proofs.Common.{◌≡◌, ◌≢◌, ℕ, suc, ◌+◌, ◌<◌, ◌≤◌, List, [], ◌∷◌, ◌++◌, length, Option, Some, None, Ok, refl, sym, ap, ◌∙◌, arith, append_assoc, length-append}
 use Rattle.std.specs.List.{flat_map, AllByRecursion}
 use Rattle.std.proofs.lemmas.Bool.{ne_eqb}
@@ -12,18 +12,18 @@ use Rattle.chart.specs.declared.line.TheConstants.{MAX_EVENTS}
 use Rattle.chart.proofs.Regions.{greatest_region-push}
 use Rattle.msc_text.specs.ChartText.{name_at}
 use Rattle.msc_text.proofs.Results.{bind_at}
-use Rattle.msc_reader.specs.Drawings.{DrawingView, blank, pushed, greater, with_event}
-use Rattle.msc_reader.specs.Steps.{held}
-use Rattle.msc_reader.specs.declared.place.Place.{Place}
-use Rattle.msc_reader.specs.declared.place.Place.TheVariants as places
-use Rattle.msc_reader.specs.declared.place.Region.{Region}
-use Rattle.msc_reader.specs.declared.place.Saying.{Saying}
-use Rattle.msc_reader.specs.declared.place.Saying.TheVariants as sayings
+use Rattle.msc_reader.specs.Builders.{BuilderView, blank, pushed, greater, with_event}
+use Rattle.msc_reader.specs.Steps.{after_receive}
+use Rattle.msc_reader.specs.declared.state.State.{State}
+use Rattle.msc_reader.specs.declared.state.State.TheVariants as states
+use Rattle.msc_reader.specs.declared.state.Region.{Region}
+use Rattle.msc_reader.specs.declared.state.Saying.{Saying}
+use Rattle.msc_reader.specs.declared.state.Saying.TheVariants as sayings
 use Rattle.msc_reader.proofs.Coregions.{HasOpen, open-may, open-more, tail_of, last_from-push, body-push, tail-more}
-use Rattle.msc_reader.proofs.Drawings.{greater-most}
+use Rattle.msc_reader.proofs.Builders.{greater-most}
 use Rattle.msc_reader.proofs.TextSayings.{said, event_sayings, body, last_from, part}
 
--- ---- what is drawn
+-- ---- what is built
 
 -- an event among n instances
 pub record IsInstanceEvent (n : ℕ) (m : Event) : Type 0 where
@@ -36,8 +36,8 @@ pub record IsLineAmong (n : ℕ) (line : LineView) : Type 0 where
   pub line_is : IsLine line
   pub events_are : AllByRecursion (IsInstanceEvent n) line.events
 
--- the line that is being drawn is of the instance own, with so many events
-pub record IsInside (names : List (List ℕ)) (own : List ℕ) (events : ℕ) (region : Region) (d : DrawingView) (line : LineView) : Type 0 where
+-- the line that is being built is of the instance own, with so many events
+pub record IsInside (names : List (List ℕ)) (own : List ℕ) (events : ℕ) (region : Region) (d : BuilderView) (line : LineView) : Type 0 where
   pub there : d.line ≡ Some line
   pub next : line.instance ≡ suc (length d.lines)
   pub owner : name_at names line.instance ≡ own
@@ -46,20 +46,20 @@ pub record IsInside (names : List (List ℕ)) (own : List ℕ) (events : ℕ) (r
   pub open_is : HasOpen region d.open_region line.events
   pub among : IsLineAmong (length names) line
 
--- what is drawn, by the place
-abbrev pub Stands : List (List ℕ) → List (List ℕ) → Place → DrawingView → Type 0
-Stands names begun places.Start d = (begun ≡ []) × (d ≡ blank)
-Stands names begun places.Outside d = (d.line ≡ None) × (length begun ≡ length d.lines)
-Stands names begun (places.Inside own events region) d = (length begun ≡ suc (length d.lines)) × ((line : LineView) × IsInside names own events region d line)
-Stands names begun places.Done d = (length begun ≡ length d.lines) × (2 ≤ length begun)
+-- what is built, by the state
+abbrev pub Stands : List (List ℕ) → List (List ℕ) → State → BuilderView → Type 0
+Stands names begun states.Start d = (begun ≡ []) × (d ≡ blank)
+Stands names begun states.Outside d = (d.line ≡ None) × (length begun ≡ length d.lines)
+Stands names begun (states.Inside own events region) d = (length begun ≡ suc (length d.lines)) × ((line : LineView) × IsInside names own events region d line)
+Stands names begun states.Done d = (length begun ≡ length d.lines) × (2 ≤ length begun)
 
--- what both looks have made of the lines so far: the names of the instances that have begun, of all in names, and what is drawn
-pub record State (names begun : List (List ℕ)) (place : Place) (d : DrawingView) : Type 0 where
+-- what both looks have made of the lines so far: the names of the instances that have begun, of all in names, and what is built
+pub record SoFar (names begun : List (List ℕ)) (state : State) (d : BuilderView) : Type 0 where
   pub are : AreNames begun
   pub each : AllByRecursion IsName begun
   pub numbered : IsNumbered d.lines
   pub among : AllByRecursion (IsLineAmong (length names)) d.lines
-  pub stands : Stands names begun place d
+  pub stands : Stands names begun state d
 
 -- ---- what was said
 
@@ -67,11 +67,11 @@ abbrev pub inside_said : List (List ℕ) → List ℕ → Region → Option Line
 inside_said names own region None = []
 inside_said names own region (Some line) = sayings.Head own ∷ (body names 0 line.events ++ tail_of region (last_from 0 line.events))
 
-abbrev pub so_far : List (List ℕ) → Place → DrawingView → List Saying
-so_far names places.Start d = []
-so_far names places.Outside d = sayings.Begin ∷ flat_map (part names) d.lines
-so_far names (places.Inside own events region) d = sayings.Begin ∷ (flat_map (part names) d.lines ++ inside_said names own region d.line)
-so_far names places.Done d = sayings.Begin ∷ (flat_map (part names) d.lines ++ sayings.End ∷ [])
+abbrev pub so_far : List (List ℕ) → State → BuilderView → List Saying
+so_far names states.Start d = []
+so_far names states.Outside d = sayings.Begin ∷ flat_map (part names) d.lines
+so_far names (states.Inside own events region) d = sayings.Begin ∷ (flat_map (part names) d.lines ++ inside_said names own region d.line)
+so_far names states.Done d = sayings.Begin ∷ (flat_map (part names) d.lines ++ sayings.End ∷ [])
 
 -- ---- lists that grow
 
@@ -85,7 +85,7 @@ name_at-there (y ∷ xs) x ys = name_at-there xs x ys
 
 -- ---- one more event
 
-pub record Pushes (names : List (List ℕ)) (own : List ℕ) (events : ℕ) (region : Region) (d : DrawingView) (line : LineView) (m : Event) : Type 0 where
+pub record Pushes (names : List (List ℕ)) (own : List ℕ) (events : ℕ) (region : Region) (d : BuilderView) (line : LineView) (m : Event) : Type 0 where
   pub inside : IsInside names own events region d line
   pub open_is : HasOpen region (region_of m) line.events
   pub other : partner_of m ≢ line.instance
@@ -95,21 +95,21 @@ pub record Pushes (names : List (List ℕ)) (own : List ℕ) (events : ℕ) (reg
 abbrev pub more_line : LineView → Event → LineView
 more_line line m = record line { events = line.events ++ m ∷ [] }
 
-abbrev pub more_drawn : DrawingView → LineView → Event → DrawingView
-more_drawn d line m = record { lines = d.lines; line = Some (more_line line m); open_region = region_of m; greatest = greater (region_of m) d.greatest }
+abbrev pub more_built : BuilderView → LineView → Event → BuilderView
+more_built d line m = record { lines = d.lines; line = Some (more_line line m); open_region = region_of m; greatest = greater (region_of m) d.greatest }
 
 pub pushed-more : (line : LineView) (m : Event) → partner_of m ≢ line.instance → length line.events ≢ MAX_EVENTS → pushed line m ≡ Ok (more_line line m)
 unfolding pushed
 pushed-more line m other room = rw (ne_eqb (partner_of m) line.instance other, ne_eqb (length line.events) MAX_EVENTS room) refl
 
-pub event-drawn : {names : List (List ℕ)} {own : List ℕ} {events : ℕ} {region : Region} {d : DrawingView} {line : LineView} {m : Event} → Pushes names own events region d line m → with_event d d.line m ≡ Ok (more_drawn d line m)
-event-drawn {d = d} {line = line} {m = m} p =
+pub event-built : {names : List (List ℕ)} {own : List ℕ} {events : ℕ} {region : Region} {d : BuilderView} {line : LineView} {m : Event} → Pushes names own events region d line m → with_event d d.line m ≡ Ok (more_built d line m)
+event-built {d = d} {line = line} {m = m} p =
     let many = p.inside.many in
     let room = p.room in
     ap (λ o. with_event d o m) p.inside.there ∙ bind_at (pushed line m) (λ more. Ok (record { lines = d.lines; line = Some more; open_region = region_of m; greatest = greater (region_of m) d.greatest })) (more_line line m) (pushed-more line m p.other (omega arith))
 
-pub event-inside : {names : List (List ℕ)} {own : List ℕ} {events : ℕ} {region : Region} {d : DrawingView} {line : LineView} {m : Event} → Pushes names own events region d line m
-    → IsInside names own (events + 1) (held region) (more_drawn d line m) (more_line line m)
+pub event-inside : {names : List (List ℕ)} {own : List ℕ} {events : ℕ} {region : Region} {d : BuilderView} {line : LineView} {m : Event} → Pushes names own events region d line m
+    → IsInside names own (events + 1) (after_receive region) (more_built d line m) (more_line line m)
 event-inside {names} {own} {events} {region} {d} {line} {m} p =
     let i = p.inside in
     let many = i.many in
@@ -128,16 +128,16 @@ event-inside {names} {own} {events} {region} {d} {line} {m} p =
       };
     }
 
-pub event-said : {names : List (List ℕ)} {own : List ℕ} {events : ℕ} {region : Region} {d : DrawingView} {line : LineView} {m : Event} → Pushes names own events region d line m
-    → so_far names (places.Inside own (events + 1) (held region)) (more_drawn d line m) ≡ so_far names (places.Inside own events region) d ++ said names m ∷ []
+pub event-said : {names : List (List ℕ)} {own : List ℕ} {events : ℕ} {region : Region} {d : BuilderView} {line : LineView} {m : Event} → Pushes names own events region d line m
+    → so_far names (states.Inside own (events + 1) (after_receive region)) (more_built d line m) ≡ so_far names (states.Inside own events region) d ++ said names m ∷ []
 event-said {names} {own} {events} {region} {d} {line} {m} p =
     let r = last_from 0 line.events in
     let front = flat_map (part names) d.lines in
     let b = body names 0 line.events in
-    let grown : body names 0 (line.events ++ m ∷ []) ++ tail_of (held region) (last_from 0 (line.events ++ m ∷ [])) ≡ (b ++ tail_of region r) ++ said names m ∷ [] =
-    ap (λ l. l ++ tail_of (held region) (last_from 0 (line.events ++ m ∷ []))) (body-push names 0 line.events m)
-    ∙ ap (λ c. (b ++ event_sayings names r m) ++ tail_of (held region) c) (last_from-push 0 line.events m)
-    ∙ append_assoc b (event_sayings names r m) (tail_of (held region) (region_of m))
+    let grown : body names 0 (line.events ++ m ∷ []) ++ tail_of (after_receive region) (last_from 0 (line.events ++ m ∷ [])) ≡ (b ++ tail_of region r) ++ said names m ∷ [] =
+    ap (λ l. l ++ tail_of (after_receive region) (last_from 0 (line.events ++ m ∷ []))) (body-push names 0 line.events m)
+    ∙ ap (λ c. (b ++ event_sayings names r m) ++ tail_of (after_receive region) c) (last_from-push 0 line.events m)
+    ∙ append_assoc b (event_sayings names r m) (tail_of (after_receive region) (region_of m))
     ∙ ap (λ l. b ++ l) (tail-more names region line.events m p.open_is)
     ∙ sym (append_assoc b (tail_of region r) (said names m ∷ [])) in
     ap (λ l. sayings.Begin ∷ (front ++ (sayings.Head own ∷ l))) grown

@@ -8,8 +8,8 @@ use Rattle.chart.specs.declared.event.Event.{Event}
 use Rattle.chart.specs.declared.event.Event.TheVariants as line_events
 use Rattle.msc_text.specs.ChartText.{name_at, event_text, ending, beginning, event_lines_text, events_text, head_text, foot_text, line_text, begin_text, end_text, chart_text}
 use Rattle.msc_text.specs.Lines.{ended}
-use Rattle.msc_reader.specs.declared.place.Saying.{Saying}
-use Rattle.msc_reader.specs.declared.place.Saying.TheVariants.{Begin, Head, Send, Receive, Open, Shut, Foot, End}
+use Rattle.msc_reader.specs.declared.state.Saying.{Saying}
+use Rattle.msc_reader.specs.declared.state.Saying.TheVariants.{Begin, Head, Send, Receive, Open, Shut, Foot, End}
 use Rattle.msc_reader.proofs.SayingsAgain.{saying_line}
 
 -- what ends the coregion r, where what comes next is in c

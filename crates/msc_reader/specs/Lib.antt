@@ -5,7 +5,7 @@ pub use Rattle.chart.specs.NameSets
 pub use Rattle.msc_text.specs.ChartText
 pub use Rattle.msc_text.specs.Faults
 pub use Rattle.msc_text.specs.Lines
-pub mod Drawings
+pub mod Builders
 pub mod HasText
 pub mod Keywords
 pub mod Reading

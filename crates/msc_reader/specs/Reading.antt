@@ -8,12 +8,12 @@ use Rattle.msc_text.specs.declared.fault.Cause.{Cause}
 use Rattle.msc_text.specs.declared.fault.Cause.TheVariants.{Instances, Syntax}
 use Rattle.msc_text.specs.declared.fault.Fault.{Fault}
 use Rattle.msc_text.specs.declared.fault.Fault.TheVariants.{Line, Unfinished}
-use Rattle.msc_reader.specs.Drawings.{DrawingView, blank, drawn}
+use Rattle.msc_reader.specs.Builders.{BuilderView, blank, built}
 use Rattle.msc_reader.specs.Steps.{step_of}
-use Rattle.msc_reader.specs.declared.place.Place.{Place}
-use Rattle.msc_reader.specs.declared.place.Place.TheVariants.{Start, Outside, Inside, Done}
-use Rattle.msc_reader.specs.declared.place.Saying.{Saying}
-use Rattle.msc_reader.specs.declared.place.Saying.TheVariants.{Begin, Head, Send, Receive, Open, Shut, Foot, End}
+use Rattle.msc_reader.specs.declared.state.State.{State}
+use Rattle.msc_reader.specs.declared.state.State.TheVariants.{Start, Outside, Inside, Done}
+use Rattle.msc_reader.specs.declared.state.Saying.{Saying}
+use Rattle.msc_reader.specs.declared.state.Saying.TheVariants.{Begin, Head, Send, Receive, Open, Shut, Foot, End}
 
 -- the names after a line, or what is wrong with them
 abbrev pub names_after : List (List ℕ) → Saying → Result (List (List ℕ)) Cause
@@ -27,27 +27,27 @@ names_after names Foot = Ok names
 names_after names End = if nat_lt (length names) 2 then Err Instances else Ok names
 
 -- where the whole lines end, before line n: whether the chart has ended, and nothing follows
-abbrev pub finished : List (List ℕ) → Place → ℕ → List ℕ → Result (List (List ℕ)) Fault
+abbrev pub finished : List (List ℕ) → State → ℕ → List ℕ → Result (List (List ℕ)) Fault
 finished names Start n rest = Err Unfinished
 finished names Outside n rest = Err Unfinished
 finished names (Inside own events region) n rest = Err Unfinished
 finished names Done n rest = if length rest == 0 then Ok names else Err (Line n Syntax)
 
 -- the first look: the names of the instances, from line n on
-unfoldable pub look_from : List (List ℕ) → Place → ℕ → List (List ℕ) → List ℕ → Result (List (List ℕ)) Fault
-look_from names place n [] rest = finished names place n rest
-look_from names place n (line ∷ lines) rest = do
-  step ← in_line n (step_of place line)
+unfoldable pub look_from : List (List ℕ) → State → ℕ → List (List ℕ) → List ℕ → Result (List (List ℕ)) Fault
+look_from names state n [] rest = finished names state n rest
+look_from names state n (line ∷ lines) rest = do
+  step ← in_line n (step_of state line)
   more ← in_line n (names_after names step.0)
   look_from more step.1 (n + 1) lines rest
 
--- the second look: what is drawn, from line n on
-unfoldable pub draw_from : List (List ℕ) → Place → DrawingView → ℕ → List (List ℕ) → Result (List LineView) Fault
-draw_from names place d n [] = Ok d.lines
-draw_from names place d n (line ∷ lines) = do
-  step ← in_line n (step_of place line)
-  more ← in_line n (drawn names d step.0)
-  draw_from names step.1 more (n + 1) lines
+-- the second look: what is built, from line n on
+unfoldable pub build_from : List (List ℕ) → State → BuilderView → ℕ → List (List ℕ) → Result (List LineView) Fault
+build_from names state d n [] = Ok d.lines
+build_from names state d n (line ∷ lines) = do
+  step ← in_line n (step_of state line)
+  more ← in_line n (built names d step.0)
+  build_from names step.1 more (n + 1) lines
 
 -- the instances' names that the text says
 unfoldable pub names_in : List ℕ → Result (List (List ℕ)) Fault
@@ -55,7 +55,7 @@ names_in bytes = look_from [] Start 1 (lines_of bytes) (end_of bytes)
 
 -- their lines
 unfoldable pub lines_in : List (List ℕ) → List ℕ → Result (List LineView) Fault
-lines_in names bytes = draw_from names Start blank 1 (lines_of bytes)
+lines_in names bytes = build_from names Start blank 1 (lines_of bytes)
 
 -- both are what is read
 abbrev pub are_read : List (List ℕ) → List LineView → Result (List (List ℕ) × List LineView) Fault

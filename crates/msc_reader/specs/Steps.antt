@@ -7,16 +7,16 @@ use Rattle.msc_text.specs.Lines.{words_of, name_or_cause}
 use Rattle.msc_text.specs.declared.fault.Cause.{Cause}
 use Rattle.msc_text.specs.declared.fault.Cause.TheVariants.{Syntax, ToItself, LineFull}
 use Rattle.msc_reader.specs.Keywords.{is_msc, is_run, is_instance, is_endinstance, is_out, is_to, is_in, is_from, is_concurrent, is_endconcurrent, is_endmsc}
-use Rattle.msc_reader.specs.declared.place.Place.{Place}
-use Rattle.msc_reader.specs.declared.place.Place.TheVariants as places
-use Rattle.msc_reader.specs.declared.place.Region.{Region}
-use Rattle.msc_reader.specs.declared.place.Region.TheVariants as regions
-use Rattle.msc_reader.specs.declared.place.Saying.{Saying}
-use Rattle.msc_reader.specs.declared.place.Saying.TheVariants as sayings
+use Rattle.msc_reader.specs.declared.state.State.{State}
+use Rattle.msc_reader.specs.declared.state.State.TheVariants as states
+use Rattle.msc_reader.specs.declared.state.Region.{Region}
+use Rattle.msc_reader.specs.declared.state.Region.TheVariants as regions
+use Rattle.msc_reader.specs.declared.state.Saying.{Saying}
+use Rattle.msc_reader.specs.declared.state.Saying.TheVariants as sayings
 
 -- what a line says, and what stands before the next one
 abbrev pub Step : Type 0
-Step = Saying × Place
+Step = Saying × State
 
 abbrev pub is_semicolon : ℕ → Bool
 is_semicolon b = b == 59
@@ -26,13 +26,13 @@ abbrev pub is_other : ℕ → Bool
 is_other b = not (is_semicolon b)
 
 -- what stands before the word's last byte, where that is its only semicolon, and something does
-abbrev pub before_at : List ℕ → Option ℕ → Option (List ℕ)
-before_at word None = None
-before_at word (Some place) = if place == 0 || not (place + 1 == length word) then None else Some (take place word)
+abbrev pub name_part_at : List ℕ → Option ℕ → Option (List ℕ)
+name_part_at word None = None
+name_part_at word (Some index) = if index == 0 || not (index + 1 == length word) then None else Some (take index word)
 
 -- what stands before the semicolon of NAME;
-unfoldable pub before_semicolon : List ℕ → Option (List ℕ)
-before_semicolon word = before_at word (position is_semicolon word)
+unfoldable pub name_part : List ℕ → Option (List ℕ)
+name_part word = name_part_at word (position is_semicolon word)
 
 -- the word has a byte at least, and no semicolon
 unfoldable pub is_plain : List ℕ → Bool
@@ -40,7 +40,7 @@ is_plain word = not (length word == 0) && list_all is_other word
 
 -- the text's first line, by its words
 abbrev pub start_by : List (List ℕ) → Result Step Cause
-start_by (m ∷ r ∷ []) = if is_msc m && is_run r then Ok (sayings.Begin, places.Outside) else Err Syntax
+start_by (m ∷ r ∷ []) = if is_msc m && is_run r then Ok (sayings.Begin, states.Outside) else Err Syntax
 start_by _ = Err Syntax
 
 -- an instance begins
@@ -48,12 +48,12 @@ unfoldable pub head_of : Option (List ℕ) → Result Step Cause
 head_of None = Err Syntax
 head_of (Some word) = do
   own ← name_or_cause word
-  Ok (sayings.Head own, places.Inside own 0 regions.Closed)
+  Ok (sayings.Head own, states.Inside own 0 regions.Closed)
 
 -- a line outside of an instance, by its words
 abbrev pub outside_by : List (List ℕ) → Result Step Cause
-outside_by (k ∷ []) = if is_endmsc k then Ok (sayings.End, places.Done) else Err Syntax
-outside_by (k ∷ w ∷ []) = if is_instance k then head_of (before_semicolon w) else Err Syntax
+outside_by (k ∷ []) = if is_endmsc k then Ok (sayings.End, states.Done) else Err Syntax
+outside_by (k ∷ w ∷ []) = if is_instance k then head_of (name_part w) else Err Syntax
 outside_by _ = Err Syntax
 
 -- an event's message and partner, of the instance own with so many events
@@ -69,22 +69,22 @@ names_of own events message None = Err Syntax
 names_of own events message (Some partner) = if is_plain message then pair_of own events message partner else Err Syntax
 
 -- a coregion with one more receive
-abbrev pub held : Region → Region
-held regions.Closed = regions.Closed
-held regions.Empty = regions.Held
-held regions.Held = regions.Held
+abbrev pub after_receive : Region → Region
+after_receive regions.Closed = regions.Closed
+after_receive regions.Empty = regions.Held
+after_receive regions.Held = regions.Held
 
 -- out MESSAGE to NAME;
 unfoldable pub send_of : List ℕ → ℕ → List ℕ → List ℕ → Result Step Cause
 send_of own events m w = do
-  pair ← names_of own events m (before_semicolon w)
-  Ok (sayings.Send pair.1 pair.0, places.Inside own (events + 1) regions.Closed)
+  pair ← names_of own events m (name_part w)
+  Ok (sayings.Send pair.1 pair.0, states.Inside own (events + 1) regions.Closed)
 
 -- in MESSAGE from NAME;
 unfoldable pub receive_of : List ℕ → ℕ → Region → List ℕ → List ℕ → Result Step Cause
 receive_of own events region m w = do
-  pair ← names_of own events m (before_semicolon w)
-  Ok (sayings.Receive pair.1 pair.0, places.Inside own (events + 1) (held region))
+  pair ← names_of own events m (name_part w)
+  Ok (sayings.Receive pair.1 pair.0, states.Inside own (events + 1) (after_receive region))
 
 -- sends stand outside of coregions
 abbrev pub is_closed : Region → Bool
@@ -101,10 +101,10 @@ event_of own events region k m t w =
 -- a line of one word inside an instance
 unfoldable pub alone_of : List ℕ → ℕ → Region → List ℕ → Result Step Cause
 alone_of own events regions.Closed k =
-    if is_endinstance k then Ok (sayings.Foot, places.Outside) else (
-    if is_concurrent k then Ok (sayings.Open, places.Inside own events regions.Empty) else Err Syntax)
+    if is_endinstance k then Ok (sayings.Foot, states.Outside) else (
+    if is_concurrent k then Ok (sayings.Open, states.Inside own events regions.Empty) else Err Syntax)
 alone_of own events regions.Empty k = Err Syntax
-alone_of own events regions.Held k = if is_endconcurrent k then Ok (sayings.Shut, places.Inside own events regions.Closed) else Err Syntax
+alone_of own events regions.Held k = if is_endconcurrent k then Ok (sayings.Shut, states.Inside own events regions.Closed) else Err Syntax
 
 -- a line inside an instance, by its words
 abbrev pub inside_by : List ℕ → ℕ → Region → List (List ℕ) → Result Step Cause
@@ -113,12 +113,12 @@ inside_by own events region (k ∷ m ∷ t ∷ w ∷ []) = event_of own events r
 inside_by own events region _ = Err Syntax
 
 -- a line by its words
-abbrev pub step_by : Place → List (List ℕ) → Result Step Cause
-step_by places.Start words = start_by words
-step_by places.Outside words = outside_by words
-step_by (places.Inside own events region) words = inside_by own events region words
-step_by places.Done words = Err Syntax
+abbrev pub step_by : State → List (List ℕ) → Result Step Cause
+step_by states.Start words = start_by words
+step_by states.Outside words = outside_by words
+step_by (states.Inside own events region) words = inside_by own events region words
+step_by states.Done words = Err Syntax
 
 -- what the line says, and where the next one stands
-unfoldable pub step_of : Place → List ℕ → Result Step Cause
-step_of place line = step_by place (words_of line)
+unfoldable pub step_of : State → List ℕ → Result Step Cause
+step_of state line = step_by state (words_of line)

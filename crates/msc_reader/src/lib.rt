@@ -6,11 +6,11 @@
 //! ([`laws`]).
 #![tactic(auto)]
 
-mod drawing;
+mod builder;
 mod keyword;
 pub mod laws;
-mod place;
 mod reading;
+mod state;
 mod step;
 
 pub use reading::read;

@@ -7,8 +7,8 @@ ghost use Rattle.msc_text.specs.Lines.{lines_of, end_of};
 ghost use Rattle.msc_reader.specs.HasText.{HasText};
 ghost use Rattle.msc_reader.specs.Reading.{names_after, finished, names_in, lines_in, are_read, chart_of};
 
-use crate::drawing::Drawing;
-use crate::place::{Place, Saying};
+use crate::builder::Builder;
+use crate::state::{Saying, State};
 use crate::step::step_in;
 use chart::{Chart, Line, Names};
 use msc_text::{Cause, Fault, TextError, add_name, at_line, fault_at, next_line};
@@ -26,12 +26,12 @@ fn add_names(number: u64, names: &mut Names, saying: Saying) -> Result<(), TextE
 }
 
 /// Whether the chart has ended before line `number`, and nothing follows.
-fn finish(number: u64, names: Names, place: Place, rest: &[u8]) -> Result<Names, TextError>
-    ensures { Gives (λ n. n) result (finished names place number rest.now) }
+fn finish(number: u64, names: Names, state: State, rest: &[u8]) -> Result<Names, TextError>
+    ensures { Gives (λ n. n) result (finished names state number rest.now) }
 {
-    match place {
-        Place::Done if rest.is_empty() => Ok(names),
-        Place::Done => Err(fault_at(number, Cause::Syntax)),
+    match state {
+        State::Done if rest.is_empty() => Ok(names),
+        State::Done => Err(fault_at(number, Cause::Syntax)),
         _ => Err(TextError::Fault(Fault::Unfinished)),
     }
 }
@@ -41,16 +41,16 @@ fn names_in(alloc: Global, bytes: &[u8]) -> Result<Names, TextError>
     ensures { Gives (λ n. n) result (names_in bytes.now) }
 {
     let mut names = Names::new(alloc);
-    let mut place = Place::Start;
+    let mut state = State::Start;
     let mut rest = bytes;
     let mut number = 1;
     'lines: loop {
         match next_line(rest) {
-            None => return finish(number, names, place, rest),
+            None => return finish(number, names, state, rest),
             Some((line, after)) => {
-                let (saying, next) = at_line(number, step_in(place, line))?;
+                let (saying, next) = at_line(number, step_in(state, line))?;
                 add_names(number, &mut names, saying)?;
-                place = next;
+                state = next;
                 rest = after;
                 number += 1;
             }
@@ -63,17 +63,17 @@ fn lines_in(alloc: Global, names: &Names, bytes: &[u8]) -> Result<Vec<Line>, Tex
     ensures lines { Gives (λ l. l.items) result (lines_in names.now bytes.now) }
     ensures numbered { IfOk result (λ l. IsNumbered l.items) }
 {
-    let mut drawing = Drawing::new(alloc);
-    let mut place = Place::Start;
+    let mut builder = Builder::new(alloc);
+    let mut state = State::Start;
     let mut rest = bytes;
     let mut number = 1;
     'lines: loop {
         match next_line(rest) {
-            None => return Ok(drawing.into_lines()),
+            None => return Ok(builder.into_lines()),
             Some((line, after)) => {
-                let (saying, next) = at_line(number, step_in(place, line))?;
-                drawing = drawing.with(alloc, names, number, saying)?;
-                place = next;
+                let (saying, next) = at_line(number, step_in(state, line))?;
+                builder = builder.with(alloc, names, number, saying)?;
+                state = next;
                 rest = after;
                 number += 1;
             }
@@ -94,7 +94,7 @@ fn parts_in(alloc: Global, bytes: &[u8]) -> Result<(Names, Vec<Line>), TextError
 
 /// The names and the chart that the text says, or its first fault. It takes time in proportion to the text.
 ///
-/// The lines are looked at from the top. F20 refuses a line that has no form that its place allows. Then the first of F1
+/// The lines are looked at from the top. F20 refuses a line that has no form that its state allows. Then the first of F1
 /// to F4 that applies refuses a word that is no name, F22 an instance's name that was given before, F8 the 33rd instance,
 /// F13 an event whose partner is its own instance, F7 the 4,097th event of an instance, F8 the end of a chart of fewer
 /// than two instances, and F20 whatever follows the end. Where no line has a fault and the chart didn't end, the answer

@@ -2,14 +2,14 @@
 ghost use Rattle.std.specs.Prelude.{◌≡◌, ◌<◌, length, position, Some, None, IfSome, IsOk, MatchOption};
 ghost use Rattle.std.specs.List.{list_all};
 ghost use Rattle.chart.specs.declared.line.TheConstants.{MAX_EVENTS};
-ghost use Rattle.msc_reader.specs.Steps.{is_semicolon, is_other, before_semicolon, is_plain, start_by, head_of, outside_by, pair_of, names_of, held, is_closed, send_of, receive_of, event_of, alone_of, inside_by, step_of};
+ghost use Rattle.msc_reader.specs.Steps.{is_semicolon, is_other, name_part, is_plain, start_by, head_of, outside_by, pair_of, names_of, after_receive, is_closed, send_of, receive_of, event_of, alone_of, inside_by, step_of};
 ghost use Rattle.msc_text.specs.Lines.{words_of};
 
 use crate::keyword::{
     is_concurrent, is_endconcurrent, is_endinstance, is_endmsc, is_from, is_in, is_instance,
     is_msc, is_out, is_run, is_to,
 };
-use crate::place::{Place, Region, Saying};
+use crate::state::{Region, Saying, State};
 use chart::{MAX_EVENTS, Name};
 use msc_text::{Cause, Words, name_in, words_in};
 
@@ -19,27 +19,27 @@ fn is_semicolon(byte: u8) -> bool
     byte == b';'
 }
 
-/// The first semicolon's place.
-fn place_of_semicolon(word: &[u8]) -> Option<usize>
+/// The first semicolon's index, from 0.
+fn index_of_semicolon(word: &[u8]) -> Option<usize>
     ensures value { result ≡ position is_semicolon word.now }
-    ensures within { IfSome result (λ place. place < length word.now) }
+    ensures within { IfSome result (λ index. index < length word.now) }
 {
     word.iter().position(|b| is_semicolon(*b))
 }
 
 /// What stands before the semicolon of `NAME;`. The name has a byte at least, and the semicolon is the word's last byte
 /// and its only one.
-#[tactic(auto, unfolding(crate::specs::Steps::before_semicolon))]
-fn before_semicolon(word: &[u8]) -> Option<&[u8]>
-    ensures { MatchOption result (before_semicolon word.now ≡ None) (λ name. before_semicolon word.now ≡ Some name.now) }
+#[tactic(auto, unfolding(crate::specs::Steps::name_part))]
+fn name_part(word: &[u8]) -> Option<&[u8]>
+    ensures { MatchOption result (name_part word.now ≡ None) (λ name. name_part word.now ≡ Some name.now) }
 {
-    match place_of_semicolon(word) {
+    match index_of_semicolon(word) {
         None => None,
-        Some(place) => {
-            if place == 0 || place + 1 != word.len() {
+        Some(index) => {
+            if index == 0 || index + 1 != word.len() {
                 return None;
             }
-            Some(&word[..place])
+            Some(&word[..index])
         }
     }
 }
@@ -65,21 +65,21 @@ fn is_plain(word: &[u8]) -> bool
 }
 
 /// The text's first line, or F20.
-fn start_in(line: &[u8]) -> Result<(Saying, Place), Cause>
+fn start_in(line: &[u8]) -> Result<(Saying, State), Cause>
     ensures { result ≡ start_by (words_of line.now) }
 {
     match words_in(line) {
-        Words::Two(msc, run) if is_msc(msc) && is_run(run) => Ok((Saying::Begin, Place::Outside)),
+        Words::Two(msc, run) if is_msc(msc) && is_run(run) => Ok((Saying::Begin, State::Outside)),
         _ => Err(Cause::Syntax),
     }
 }
 
 /// `instance NAME;`, or F20, or the first of F1 to F4 that applies.
 #[tactic(auto, unfolding(crate::specs::Steps::head_of))]
-fn head_in(word: &[u8]) -> Result<(Saying, Place), Cause>
-    ensures { result ≡ head_of (before_semicolon word.now) }
+fn head_in(word: &[u8]) -> Result<(Saying, State), Cause>
+    ensures { result ≡ head_of (name_part word.now) }
 {
-    let Some(word) = before_semicolon(word) else {
+    let Some(word) = name_part(word) else {
         return Err(Cause::Syntax);
     };
     let own = name_in(word)?;
@@ -87,11 +87,11 @@ fn head_in(word: &[u8]) -> Result<(Saying, Place), Cause>
 }
 
 /// A line outside of an instance.
-fn outside_in(line: &[u8]) -> Result<(Saying, Place), Cause>
+fn outside_in(line: &[u8]) -> Result<(Saying, State), Cause>
     ensures { result ≡ outside_by (words_of line.now) }
 {
     match words_in(line) {
-        Words::One(word) if is_endmsc(word) => Ok((Saying::End, Place::Done)),
+        Words::One(word) if is_endmsc(word) => Ok((Saying::End, State::Done)),
         Words::Two(word, name) if is_instance(word) => head_in(name),
         _ => Err(Cause::Syntax),
     }
@@ -118,18 +118,18 @@ fn pair_in(own: Name, events: usize, message: &[u8], partner: &[u8]) -> Result<(
 /// The same, where the words may have no form (F20).
 #[tactic(auto, unfolding(crate::specs::Steps::names_of))]
 fn names_in(own: Name, events: usize, message: &[u8], word: &[u8]) -> Result<(Name, Name), Cause>
-    ensures names { result ≡ names_of own events message.now (before_semicolon word.now) }
+    ensures names { result ≡ names_of own events message.now (name_part word.now) }
     ensures room { IsOk result → events < MAX_EVENTS }
 {
-    match before_semicolon(word) {
+    match name_part(word) {
         Some(partner) if is_plain(message) => pair_in(own, events, message, partner),
         _ => Err(Cause::Syntax),
     }
 }
 
 /// A coregion with one more receive.
-fn held(region: Region) -> Region
-    ensures { result ≡ held region }
+fn after_receive(region: Region) -> Region
+    ensures { result ≡ after_receive region }
 {
     match region {
         Region::Closed => Region::Closed,
@@ -148,7 +148,7 @@ fn is_closed(region: Region) -> bool
 
 /// `out MESSAGE to NAME;`.
 #[tactic(auto, unfolding(crate::specs::Steps::send_of))]
-fn send_in(own: Name, events: usize, message: &[u8], word: &[u8]) -> Result<(Saying, Place), Cause>
+fn send_in(own: Name, events: usize, message: &[u8], word: &[u8]) -> Result<(Saying, State), Cause>
     ensures { result ≡ send_of own events message.now word.now }
 {
     let (name, to) = names_in(own, events, message, word)?;
@@ -164,19 +164,19 @@ fn receive_in(
     region: Region,
     message: &[u8],
     word: &[u8],
-) -> Result<(Saying, Place), Cause>
+) -> Result<(Saying, State), Cause>
     ensures { result ≡ receive_of own events region message.now word.now }
 {
     let (name, from) = names_in(own, events, message, word)?;
-    let next = inside(own, events + 1, held(region));
+    let next = inside(own, events + 1, after_receive(region));
     Ok((Saying::Receive { from, name }, next))
 }
 
 /// Inside the instance `own`.
-fn inside(own: Name, events: usize, region: Region) -> Place
-    ensures { result ≡ Place.Inside own events region }
+fn inside(own: Name, events: usize, region: Region) -> State
+    ensures { result ≡ State.Inside own events region }
 {
-    Place::Inside {
+    State::Inside {
         own,
         events,
         region,
@@ -185,11 +185,11 @@ fn inside(own: Name, events: usize, region: Region) -> Place
 
 /// A line of one word inside an instance.
 #[tactic(auto, unfolding(crate::specs::Steps::alone_of))]
-fn alone_in(own: Name, events: usize, region: Region, word: &[u8]) -> Result<(Saying, Place), Cause>
+fn alone_in(own: Name, events: usize, region: Region, word: &[u8]) -> Result<(Saying, State), Cause>
     ensures { result ≡ alone_of own events region word.now }
 {
     match region {
-        Region::Closed if is_endinstance(word) => Ok((Saying::Foot, Place::Outside)),
+        Region::Closed if is_endinstance(word) => Ok((Saying::Foot, State::Outside)),
         Region::Closed if is_concurrent(word) => {
             Ok((Saying::Open, inside(own, events, Region::Empty)))
         }
@@ -207,7 +207,7 @@ fn inside_in(
     events: usize,
     region: Region,
     line: &[u8],
-) -> Result<(Saying, Place), Cause>
+) -> Result<(Saying, State), Cause>
     ensures { result ≡ inside_by own events region (words_of line.now) }
 {
     match words_in(line) {
@@ -225,17 +225,17 @@ fn inside_in(
 
 /// What the line says, and where the next one stands, or the first fault of the line by itself.
 #[tactic(auto, unfolding(crate::specs::Steps::step_of))]
-pub(crate) fn step_in(place: Place, line: &[u8]) -> Result<(Saying, Place), Cause>
-    ensures { result ≡ step_of place line.now }
+pub(crate) fn step_in(state: State, line: &[u8]) -> Result<(Saying, State), Cause>
+    ensures { result ≡ step_of state line.now }
 {
-    match place {
-        Place::Start => start_in(line),
-        Place::Outside => outside_in(line),
-        Place::Inside {
+    match state {
+        State::Start => start_in(line),
+        State::Outside => outside_in(line),
+        State::Inside {
             own,
             events,
             region,
         } => inside_in(own, events, region, line),
-        Place::Done => Err(Cause::Syntax),
+        State::Done => Err(Cause::Syntax),
     }
 }

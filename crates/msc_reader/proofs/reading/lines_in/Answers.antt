@@ -3,37 +3,37 @@ use Rattle.std.proofs.lemmas.Result.{err_from_is_err_and}
 use Rattle.msc_text.specs.Faults.{in_line}
 use Rattle.msc_reader.specs.Reading.{lines_in}
 use Rattle.msc_reader.specs.Steps.{step_of}
-use Rattle.msc_reader.proofs.Looks.{fails_so, draw_stops, draw_stops_at, draw_goes_on, draw_ends}
+use Rattle.msc_reader.proofs.Looks.{fails_so, build_stops, build_stops_at, build_goes_on, build_ends}
 use Rattle.msc_reader.proofs.reading.lines_in.Goals as goal
 
 pub lines-init : goal.lines-init
 unfolding lines_in
-lines-init c = record { so_far = rw c.new-drawing.ensures refl; number = omega arith }
+lines-init c = record { so_far = rw c.new-builder.ensures refl; number = omega arith }
 
 pub returns-in-None-clause-lines : goal.returns-in-None-clause-lines
 returns-in-None-clause-lines c =
     let so_far = rw c.in-None.ensures.no_line at c.lines.invariant.so_far in
-    sym so_far ∙ draw_ends _ _ _ _ ∙ ap Ok (sym c.into_lines.ensures.lines)
+    sym so_far ∙ build_ends _ _ _ _ ∙ ap Ok (sym c.into_lines.ensures.lines)
 
 pub returns-in_err-saying-in-Some-clause-lines : goal.returns-in_err-saying-in-Some-clause-lines
 returns-in_err-saying-in-Some-clause-lines c =
     let p = err_from_is_err_and c.from_residual.result c.from_residual.ensures.1 in
     let so_far = rw c.in-Some.ensures.line at c.lines.invariant.so_far in
     let failed = rw c.step_in.ensures at c.in_err-saying-in-Some.ensures in
-    rw (p.1, p.2) (fails_so _ _ _ so_far (draw_stops _ _ _ _ _ _ _ failed))
+    rw (p.1, p.2) (fails_so _ _ _ so_far (build_stops _ _ _ _ _ _ _ failed))
 
-pub returns-in_err-drawing-in-Some-clause-lines : goal.returns-in_err-drawing-in-Some-clause-lines
-returns-in_err-drawing-in-Some-clause-lines c =
-    let p = err_from_is_err_and c.from_residual-in_err-drawing-in-Some.result c.from_residual-in_err-drawing-in-Some.ensures.1 in
+pub returns-in_err-builder-in-Some-clause-lines : goal.returns-in_err-builder-in-Some-clause-lines
+returns-in_err-builder-in-Some-clause-lines c =
+    let p = err_from_is_err_and c.from_residual-in_err-builder-in-Some.result c.from_residual-in_err-builder-in-Some.ensures.1 in
     let so_far = rw c.in-Some.ensures.line at c.lines.invariant.so_far in
-    let step : in_line c.lines.number (step_of c.lines.place c.in-Some.line.now) ≡ Ok (c.in_ok-saying-in-Some.saying, c.in_ok-saying-in-Some.next) = sym (ap (in_line c.lines.number) c.step_in.ensures) ∙ c.in_ok-saying-in-Some.ensures in
-    rw (p.1, p.2) (fails_so _ _ _ so_far (draw_stops_at _ _ _ _ _ _ _ _ step c.in_err-drawing-in-Some.ensures))
+    let step : in_line c.lines.number (step_of c.lines.state c.in-Some.line.now) ≡ Ok (c.in_ok-saying-in-Some.saying, c.in_ok-saying-in-Some.next) = sym (ap (in_line c.lines.number) c.step_in.ensures) ∙ c.in_ok-saying-in-Some.ensures in
+    rw (p.1, p.2) (fails_so _ _ _ so_far (build_stops_at _ _ _ _ _ _ _ _ step c.in_err-builder-in-Some.ensures))
 
 pub lines-preserved : goal.lines-preserved
 lines-preserved c =
     let so_far = rw c.in-Some.ensures.line at c.lines.invariant.so_far in
-    let step : in_line c.lines.number (step_of c.lines.place c.in-Some.line.now) ≡ Ok (c.in_ok-saying-in-Some.saying, c.in_ok-saying-in-Some.next) = sym (ap (in_line c.lines.number) c.step_in.ensures) ∙ c.in_ok-saying-in-Some.ensures in
+    let step : in_line c.lines.number (step_of c.lines.state c.in-Some.line.now) ≡ Ok (c.in_ok-saying-in-Some.saying, c.in_ok-saying-in-Some.next) = sym (ap (in_line c.lines.number) c.step_in.ensures) ∙ c.in_ok-saying-in-Some.ensures in
     record {
-      so_far = sym (draw_goes_on _ _ _ _ _ _ _ _ step c.in_ok-drawing-in-Some.ensures) ∙ so_far;
+      so_far = sym (build_goes_on _ _ _ _ _ _ _ _ step c.in_ok-builder-in-Some.ensures) ∙ so_far;
       number = omega (arith, c.in-Some.ensures.shorter);
     }

@@ -1,11 +1,11 @@
 use Rattle.std.proofs.Common.{◌≡◌, ◌+◌, ◌≤◌, length}
 use Rattle.msc_text.specs.Lines.{lines_of}
-use Rattle.msc_reader.specs.Reading.{draw_from, lines_in}
+use Rattle.msc_reader.specs.Reading.{build_from, lines_in}
 use Rattle.msc_reader.proofs.reading.lines_in.Given as goal
 
 abbrev pub invariant-lines : goal.invariant-lines
 invariant-lines l = record {
-  so_far : draw_from l.names l.place l.drawing l.number (lines_of l.rest) ≡ lines_in l.names l.bytes;
+  so_far : build_from l.names l.state l.builder l.number (lines_of l.rest) ≡ lines_in l.names l.bytes;
   number : l.number + length l.rest ≤ 1 + length l.bytes;
 }
 

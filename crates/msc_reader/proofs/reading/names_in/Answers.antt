@@ -27,13 +27,13 @@ pub returns-in_err-add_names-in-Some : goal.returns-in_err-add_names-in-Some
 returns-in_err-add_names-in-Some c =
     let p = err_from_is_err_and c.from_residual-in_err-add_names-in-Some.result c.from_residual-in_err-add_names-in-Some.ensures.1 in
     let so_far = rw c.in-Some.ensures.line at c.lines.invariant.so_far in
-    let step : in_line c.lines.number (step_of c.lines.place c.in-Some.line.now) ≡ Ok (c.in_ok-saying-in-Some.saying, c.in_ok-saying-in-Some.next) = sym (ap (in_line c.lines.number) c.step_in.ensures) ∙ c.in_ok-saying-in-Some.ensures in
+    let step : in_line c.lines.number (step_of c.lines.state c.in-Some.line.now) ≡ Ok (c.in_ok-saying-in-Some.saying, c.in_ok-saying-in-Some.next) = sym (ap (in_line c.lines.number) c.step_in.ensures) ∙ c.in_ok-saying-in-Some.ensures in
     rw (p.1, p.2) (fails_so _ _ _ so_far (look_stops_at _ _ _ _ _ _ _ _ step c.in_err-add_names-in-Some.ensures))
 
 pub lines-preserved : goal.lines-preserved
 lines-preserved c =
     let so_far = rw c.in-Some.ensures.line at c.lines.invariant.so_far in
-    let step : in_line c.lines.number (step_of c.lines.place c.in-Some.line.now) ≡ Ok (c.in_ok-saying-in-Some.saying, c.in_ok-saying-in-Some.next) = sym (ap (in_line c.lines.number) c.step_in.ensures) ∙ c.in_ok-saying-in-Some.ensures in
+    let step : in_line c.lines.number (step_of c.lines.state c.in-Some.line.now) ≡ Ok (c.in_ok-saying-in-Some.saying, c.in_ok-saying-in-Some.next) = sym (ap (in_line c.lines.number) c.step_in.ensures) ∙ c.in_ok-saying-in-Some.ensures in
     record {
       so_far = rw (← c.in-Some.ensures.end) (sym (look_goes_on _ _ _ _ _ _ _ _ step c.in_ok-add_names-in-Some.ensures) ∙ so_far);
       number = omega (arith, c.in-Some.ensures.shorter);

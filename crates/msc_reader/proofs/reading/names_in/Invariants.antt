@@ -5,7 +5,7 @@ use Rattle.msc_reader.proofs.reading.names_in.Given as goal
 
 abbrev pub invariant-lines : goal.invariant-lines
 invariant-lines l = record {
-  so_far : look_from l.names l.place l.number (lines_of l.rest) (end_of l.rest) ≡ names_in l.bytes;
+  so_far : look_from l.names l.state l.number (lines_of l.rest) (end_of l.rest) ≡ names_in l.bytes;
   number : l.number + length l.rest ≤ 1 + length l.bytes;
 }
 

@@ -1,4 +1,4 @@
--- What a drawing keeps when an event is added.
+-- What a builder keeps when an event is added.
 use Rattle.std.proofs.Common.{◌≡◌, ℕ, suc, ◌+◌, ◌≤◌, cond, eqb, max, List, [], ◌∷◌, ◌++◌, length, Some, Ok, Err, sym, subst, ap, ◌∙◌, ◌⊎◌, inl, inr, arith, refl, zero}
 use Rattle.std.proofs.lemmas.List.{length-append}
 use Rattle.std.proofs.lemmas.Bool.{eqb-false, ne_eqb}
@@ -10,7 +10,7 @@ use Rattle.chart.proofs.Regions.{greatest_region-push, may_be-small, may-again}
 use Rattle.msc_text.specs.Faults.{in_line}
 use Rattle.msc_text.specs.declared.fault.Cause.TheVariants.{ToItself, LineFull}
 use Rattle.msc_text.proofs.Results.{guard_ok, in_line_ok}
-use Rattle.msc_reader.specs.Drawings.{DrawingView, IsDrawing, IsNextLine, pushed, greater}
+use Rattle.msc_reader.specs.Builders.{BuilderView, IsBuilder, IsNextLine, pushed, greater}
 
 -- an event that a line takes is its last then, and there was room
 pub record HasPushed (line more : LineView) (m : Event) : Type 0 where
@@ -55,17 +55,17 @@ event-next lines open_region greatest line m old may room =
       short = omega (arith, room);
     }
 
--- a drawing with one more event is one
-pub IsDrawing-event : (n : ℕ) (d : DrawingView) (line more : LineView) (m : Event) → IsDrawing d → d.line ≡ Some line → (region_of m ≡ 0) ⊎ (region_of m ≡ d.open_region) → in_line n (pushed line m) ≡ Ok more
-    → IsDrawing (record { lines = d.lines; line = Some more; open_region = region_of m; greatest = greater (region_of m) d.greatest })
-IsDrawing-event n d line more m drawing there region e =
+-- a builder with one more event is one
+pub IsBuilder-event : (n : ℕ) (d : BuilderView) (line more : LineView) (m : Event) → IsBuilder d → d.line ≡ Some line → (region_of m ≡ 0) ⊎ (region_of m ≡ d.open_region) → in_line n (pushed line m) ≡ Ok more
+    → IsBuilder (record { lines = d.lines; line = Some more; open_region = region_of m; greatest = greater (region_of m) d.greatest })
+IsBuilder-event n d line more m builder there region e =
     let push = pushed_ok line more m (in_line_ok n (pushed line m) more e) in
-    let old : IsNextLine (length d.lines) d.open_region d.greatest line = rw there at drawing.line in
+    let old : IsNextLine (length d.lines) d.open_region d.greatest line = rw there at builder.line in
     let may : MayHaveRegion line.events (region_of m) = may_have old region in
     let next = event-next (length d.lines) d.open_region d.greatest line m old may push.room in
     let few : greater (region_of m) d.greatest ≤ MAX_EVENTS = omega (arith, next.most, next.few, next.short) in
-    let family : LineView → Type 0 = λ l. IsDrawing (record { lines = d.lines; line = Some l; open_region = region_of m; greatest = greater (region_of m) d.greatest }) in
-    subst family (sym push.is) (record { numbered = drawing.numbered; few = few; line = next })
+    let family : LineView → Type 0 = λ l. IsBuilder (record { lines = d.lines; line = Some l; open_region = region_of m; greatest = greater (region_of m) d.greatest }) in
+    subst family (sym push.is) (record { numbered = builder.numbered; few = few; line = next })
   where
     may_have : IsNextLine (length d.lines) d.open_region d.greatest line → (region_of m ≡ 0) ⊎ (region_of m ≡ d.open_region) → MayHaveRegion line.events (region_of m)
     may_have old (inl none) = inl none

@@ -1,21 +1,21 @@
-//! What the lines of a chart's text draw, once all names are known.
+//! What the lines of a chart's text build, once all names are known.
 ghost use Rattle.std.specs.Prelude.{◌≡◌, ◌+◌, ◌⊎◌, ◌≤◌, if◌then◌else◌};
 ghost use Rattle.chart.specs.Charts.{IsNumbered};
 ghost use Rattle.chart.specs.Events.{region_of, MayHaveRegion};
 ghost use Rattle.msc_text.specs.Faults.{Gives, in_line};
-ghost use Rattle.msc_reader.specs.Drawings.{blank, pushed, greater, with_event, with_head, with_foot, with_send, with_receive, drawn};
+ghost use Rattle.msc_reader.specs.Builders.{blank, pushed, greater, with_event, with_head, with_foot, with_send, with_receive, built};
 
-use crate::place::Saying;
+use crate::state::Saying;
 use chart::{Event, InstanceNo, Line, LineError, MAX_INSTANCES, Name, Names};
 use msc_text::{Cause, TextError, at_line, fault_at, known_in};
 use std::alloc::Global;
 use std::marker::Model;
 
-/// The lines that are drawn so far, and that which is being drawn. A contract sees a record of its fields.
+/// A chart that is being built: the lines that are whole so far, and that which is being built. A contract sees a record of its fields.
 #[derive(Debug, Drop)]
-pub(crate) struct Drawing {
+pub(crate) struct Builder {
     lines: Vec<Line>,
-    /// The line that is being drawn, inside an instance.
+    /// The line that is being built, inside an instance.
     line: Option<Line>,
     /// Its coregion that is open, or 0.
     open_region: u32,
@@ -23,18 +23,18 @@ pub(crate) struct Drawing {
     greatest: u32,
 }
 
-impl Model for Drawing {
-    ghost use Rattle.msc_reader.specs.Drawings.{DrawingView, IsDrawing};
+impl Model for Builder {
+    ghost use Rattle.msc_reader.specs.Builders.{BuilderView, IsBuilder};
 
-    ghost Value = { DrawingView };
+    ghost Value = { BuilderView };
 
     ghost view = { λ d. record { lines = d.lines.items; line = d.line; open_region = d.open_region; greatest = d.greatest } };
 
-    ghost invariant = { λ d. IsDrawing (record { lines = d.lines.items; line = d.line; open_region = d.open_region; greatest = d.greatest }) };
+    ghost invariant = { λ d. IsBuilder (record { lines = d.lines.items; line = d.line; open_region = d.open_region; greatest = d.greatest }) };
 }
 
 /// Adds an event to the line, which may have its coregion.
-#[tactic(auto, unfolding(crate::specs::Drawings::pushed))]
+#[tactic(auto, unfolding(crate::specs::Builders::pushed))]
 fn push(number: u64, line: &mut Line, event: Event) -> Result<(), TextError>
     requires { MayHaveRegion line.old.events (region_of event) }
     ensures { Gives (λ _. line.new) result (in_line number (pushed line.old event)) }
@@ -54,12 +54,12 @@ fn greater(region: u32, greatest: u32) -> u32
     if region == 0 { greatest } else { region }
 }
 
-impl Drawing {
-    /// Nothing is drawn yet. It takes no memory.
-    pub(crate) fn new(alloc: Global) -> Drawing
+impl Builder {
+    /// Nothing is built yet. It takes no memory.
+    pub(crate) fn new(alloc: Global) -> Builder
         ensures { result ≡ blank }
     {
-        Drawing {
+        Builder {
             lines: Vec::new(alloc),
             line: None,
             open_region: 0,
@@ -72,20 +72,20 @@ impl Drawing {
         ensures lines { result.items ≡ self.lines }
         ensures numbered { IsNumbered result.items }
     {
-        let Drawing { lines, .. } = self;
+        let Builder { lines, .. } = self;
         lines
     }
 
     /// The next instance's line begins.
-    fn with_head(self, alloc: Global, number: u64) -> Result<Drawing, TextError>
+    fn with_head(self, alloc: Global, number: u64) -> Result<Builder, TextError>
         ensures { Gives (λ d. d) result (in_line number (with_head self)) }
     {
-        let Drawing { lines, .. } = self;
+        let Builder { lines, .. } = self;
         if lines.len() >= MAX_INSTANCES {
             return Err(fault_at(number, Cause::Instances));
         }
         let instance = InstanceNo::at_place(lines.len());
-        Ok(Drawing {
+        Ok(Builder {
             lines,
             line: Some(Line::new(alloc, instance)),
             open_region: 0,
@@ -93,11 +93,11 @@ impl Drawing {
         })
     }
 
-    /// The line that is being drawn is whole.
-    fn with_foot(self, number: u64) -> Result<Drawing, TextError>
+    /// The line that is being built is whole.
+    fn with_foot(self, number: u64) -> Result<Builder, TextError>
         ensures { Gives (λ d. d) result (in_line number (with_foot self self.line)) }
     {
-        let Drawing {
+        let Builder {
             mut lines,
             line,
             ..
@@ -106,7 +106,7 @@ impl Drawing {
             return Err(fault_at(number, Cause::Syntax));
         };
         lines.push(line)?;
-        Ok(Drawing {
+        Ok(Builder {
             lines,
             line: None,
             open_region: 0,
@@ -114,12 +114,12 @@ impl Drawing {
         })
     }
 
-    /// The line that is being drawn gets an event, in the open coregion or in none.
-    fn with_event(self, number: u64, event: Event) -> Result<Drawing, TextError>
+    /// The line that is being built gets an event, in the open coregion or in none.
+    fn with_event(self, number: u64, event: Event) -> Result<Builder, TextError>
         requires { (region_of event ≡ 0) ⊎ (region_of event ≡ self.open_region) }
         ensures { Gives (λ d. d) result (in_line number (with_event self self.line event)) }
     {
-        let Drawing {
+        let Builder {
             lines,
             line,
             greatest,
@@ -130,7 +130,7 @@ impl Drawing {
         };
         push(number, &mut line, event)?;
         let region = event.region();
-        Ok(Drawing {
+        Ok(Builder {
             lines,
             line: Some(line),
             open_region: region,
@@ -139,7 +139,7 @@ impl Drawing {
     }
 
     /// A coregion begins, the next of its line.
-    fn opened(mut self) -> Drawing
+    fn with_coregion(mut self) -> Builder
         ensures { result ≡ record self { open_region = self.greatest + 1 } }
     {
         self.open_region = self.greatest + 1;
@@ -147,7 +147,7 @@ impl Drawing {
     }
 
     /// No coregion is open.
-    fn shut(mut self) -> Drawing
+    fn without_coregion(mut self) -> Builder
         ensures { result ≡ record self { open_region = 0 } }
     {
         self.open_region = 0;
@@ -155,14 +155,14 @@ impl Drawing {
     }
 
     /// A send.
-    #[tactic(auto, unfolding(crate::specs::Drawings::with_send))]
+    #[tactic(auto, unfolding(crate::specs::Builders::with_send))]
     fn with_send(
         self,
         names: &Names,
         number: u64,
         to: Name,
         name: Name,
-    ) -> Result<Drawing, TextError>
+    ) -> Result<Builder, TextError>
         ensures { Gives (λ d. d) result (in_line number (with_send names.now self to name)) }
     {
         let to = at_line(number, known_in(names, to))?;
@@ -170,14 +170,14 @@ impl Drawing {
     }
 
     /// A receive, which is in the open coregion.
-    #[tactic(auto, unfolding(crate::specs::Drawings::with_receive))]
+    #[tactic(auto, unfolding(crate::specs::Builders::with_receive))]
     fn with_receive(
         self,
         names: &Names,
         number: u64,
         from: Name,
         name: Name,
-    ) -> Result<Drawing, TextError>
+    ) -> Result<Builder, TextError>
         ensures { Gives (λ d. d) result (in_line number (with_receive names.now self from name)) }
     {
         let from = at_line(number, known_in(names, from))?;
@@ -185,23 +185,23 @@ impl Drawing {
         self.with_event(number, Event::Receive { from, name, region })
     }
 
-    /// What is drawn with what one more line says.
+    /// What is built with what one more line says.
     pub(crate) fn with(
         self,
         alloc: Global,
         names: &Names,
         number: u64,
         saying: Saying,
-    ) -> Result<Drawing, TextError>
-        ensures { Gives (λ d. d) result (in_line number (drawn names.now self saying)) }
+    ) -> Result<Builder, TextError>
+        ensures { Gives (λ d. d) result (in_line number (built names.now self saying)) }
     {
         match saying {
             Saying::Begin | Saying::End => Ok(self),
             Saying::Head(_) => self.with_head(alloc, number),
             Saying::Send { to, name } => self.with_send(names, number, to, name),
             Saying::Receive { from, name } => self.with_receive(names, number, from, name),
-            Saying::Open => Ok(self.opened()),
-            Saying::Shut => Ok(self.shut()),
+            Saying::Open => Ok(self.with_coregion()),
+            Saying::Shut => Ok(self.without_coregion()),
             Saying::Foot => self.with_foot(number),
         }
     }

@@ -1,4 +1,4 @@
-//! Where in a chart's text a line stands.
+//! What a reader of a chart's text knows between two lines.
 
 use chart::Name;
 
@@ -13,9 +13,9 @@ pub(crate) enum Region {
     Held,
 }
 
-/// What stands before a line.
+/// The reader's state between two lines: what it has read.
 #[derive(Clone, Copy, Debug)]
-pub(crate) enum Place {
+pub(crate) enum State {
     /// Nothing.
     Start,
     /// The text's first line, and whole instances.

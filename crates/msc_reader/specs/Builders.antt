@@ -1,4 +1,4 @@
--- The second look at a chart's text: what its lines draw, now that all names are known (this project's profile).
+-- The second look at a chart's text: what its lines build, now that all names are known (this project's profile).
 use Rattle.std.specs.Prelude.{◌≡◌, ℕ, suc, ◌+◌, ◌≤◌, ◌==◌, List, [], ◌∷◌, ◌++◌, length, Option, None, Some, Result, Ok, Err, nat_le, MatchOption, if◌then◌else◌}
 use Rattle.chart.specs.Charts.{LineView, IsNumbered}
 use Rattle.chart.specs.Events.{partner_of, region_of, greatest_region, MayHaveRegion}
@@ -10,19 +10,19 @@ use Rattle.msc_text.specs.Faults.{◌>>=◌}
 use Rattle.msc_text.specs.Instances.{known_of}
 use Rattle.msc_text.specs.declared.fault.Cause.{Cause}
 use Rattle.msc_text.specs.declared.fault.Cause.TheVariants.{Syntax, Instances, ToItself, LineFull}
-use Rattle.msc_reader.specs.declared.place.Saying.{Saying}
-use Rattle.msc_reader.specs.declared.place.Saying.TheVariants.{Begin, Head, Send, Receive, Open, Shut, Foot, End}
+use Rattle.msc_reader.specs.declared.state.Saying.{Saying}
+use Rattle.msc_reader.specs.declared.state.Saying.TheVariants.{Begin, Head, Send, Receive, Open, Shut, Foot, End}
 
--- the lines that are drawn whole, and that which is being drawn, if there is one; its open coregion and the greatest that it
+-- the lines that are built whole, and that which is being built, if there is one; its open coregion and the greatest that it
 -- has, each 0 where there is none
-pub record DrawingView : Type 0 where
+pub record BuilderView : Type 0 where
   pub lines : List LineView
   pub line : Option LineView
   pub open_region : ℕ
   pub greatest : ℕ
 
--- nothing is drawn
-abbrev pub blank : DrawingView
+-- nothing is built
+abbrev pub blank : BuilderView
 blank = record { lines = []; line = None; open_region = 0; greatest = 0 }
 
 -- the line with an event more
@@ -35,47 +35,47 @@ pushed line m =
 abbrev pub greater : ℕ → ℕ → ℕ
 greater region greatest = if region == 0 then greatest else region
 
--- the line that is being drawn gets an event
-abbrev pub with_event : DrawingView → Option LineView → Event → Result DrawingView Cause
+-- the line that is being built gets an event
+abbrev pub with_event : BuilderView → Option LineView → Event → Result BuilderView Cause
 with_event d None m = Err Syntax
 with_event d (Some line) m = do
   more ← pushed line m
   Ok (record { lines = d.lines; line = Some more; open_region = region_of m; greatest = greater (region_of m) d.greatest })
 
 -- the next instance's line begins
-abbrev pub with_head : DrawingView → Result DrawingView Cause
+abbrev pub with_head : BuilderView → Result BuilderView Cause
 with_head d =
     if nat_le MAX_INSTANCES (length d.lines) then Err Instances else Ok (record { lines = d.lines; line = Some (record { instance = suc (length d.lines); events = [] }); open_region = 0; greatest = 0 })
 
--- the line that is being drawn is whole
-abbrev pub with_foot : DrawingView → Option LineView → Result DrawingView Cause
+-- the line that is being built is whole
+abbrev pub with_foot : BuilderView → Option LineView → Result BuilderView Cause
 with_foot d None = Err Syntax
 with_foot d (Some line) = Ok (record { lines = d.lines ++ line ∷ []; line = None; open_region = 0; greatest = 0 })
 
 -- a send
-unfoldable pub with_send : List (List ℕ) → DrawingView → List ℕ → List ℕ → Result DrawingView Cause
+unfoldable pub with_send : List (List ℕ) → BuilderView → List ℕ → List ℕ → Result BuilderView Cause
 with_send names d to name = do
   partner ← known_of names to
   with_event d d.line (line_events.Send partner name)
 
 -- a receive, which is in the open coregion
-unfoldable pub with_receive : List (List ℕ) → DrawingView → List ℕ → List ℕ → Result DrawingView Cause
+unfoldable pub with_receive : List (List ℕ) → BuilderView → List ℕ → List ℕ → Result BuilderView Cause
 with_receive names d from name = do
   partner ← known_of names from
   with_event d d.line (line_events.Receive partner name d.open_region)
 
--- what is drawn with what one more line says
-abbrev pub drawn : List (List ℕ) → DrawingView → Saying → Result DrawingView Cause
-drawn names d Begin = Ok d
-drawn names d (Head own) = with_head d
-drawn names d (Send to name) = with_send names d to name
-drawn names d (Receive from name) = with_receive names d from name
-drawn names d Open = Ok (record d { open_region = d.greatest + 1 })
-drawn names d Shut = Ok (record d { open_region = 0 })
-drawn names d Foot = with_foot d d.line
-drawn names d End = Ok d
+-- what is built with what one more line says
+abbrev pub built : List (List ℕ) → BuilderView → Saying → Result BuilderView Cause
+built names d Begin = Ok d
+built names d (Head own) = with_head d
+built names d (Send to name) = with_send names d to name
+built names d (Receive from name) = with_receive names d from name
+built names d Open = Ok (record d { open_region = d.greatest + 1 })
+built names d Shut = Ok (record d { open_region = 0 })
+built names d Foot = with_foot d d.line
+built names d End = Ok d
 
--- what a line keeps that is being drawn behind so many lines, with this open coregion and this greatest
+-- what a line keeps that is being built behind so many lines, with this open coregion and this greatest
 pub record IsNextLine (lines open_region greatest : ℕ) (line : LineView) : Type 0 where
   pub next : line.instance ≡ suc lines
   pub may : MayHaveRegion line.events open_region
@@ -83,8 +83,8 @@ pub record IsNextLine (lines open_region greatest : ℕ) (line : LineView) : Typ
   pub few : greatest_region line.events ≤ length line.events
   pub short : length line.events ≤ MAX_EVENTS
 
--- what a drawing keeps
-pub record IsDrawing (d : DrawingView) : Type 0 where
+-- what a builder keeps
+pub record IsBuilder (d : BuilderView) : Type 0 where
   pub numbered : IsNumbered d.lines
   pub few : d.greatest ≤ MAX_EVENTS
   pub line : MatchOption d.line (Unit {0}) (IsNextLine (length d.lines) d.open_region d.greatest)
