@@ -1,14 +1,18 @@
 //! What it costs to read the text of a chart, to search it and to write it again. With the word `time` behind the file's
 //! name it tells the times on standard error and writes the text to standard output, and else it tells what it would time.
+//! With the words `make` and `token`, `mixed` or `bursts` it writes the text of a large chart with such traffic.
 #![tactic(auto)]
 
 ghost use Rattle.std.specs.Prelude.{◌≡◌, length, IfOk};
+
+mod patterns;
 
 use anyhow::bail;
 use chart::{Chart, Names};
 use closure::Closure;
 use msc_reader::read;
 use msc_text::{StreamOut, write};
+use patterns::{Pattern, pattern_in, write_chart};
 use std::alloc::Global;
 use std::convert::AsStr;
 use std::rt::{Env, Files};
@@ -91,12 +95,27 @@ fn time_writing<R: Clock + AllocGlobal + Print>(
     median(took)
 }
 
+/// Writes the chart with this traffic to standard output.
+fn make<R: Print>(rt: &R, pattern: Pattern) -> anyhow::Result<()> {
+    let mut out = StreamOut::new(io::writer(rt));
+    if write_chart(pattern, &mut out).is_err() {
+        bail!("the chart could not be written");
+    }
+    Ok(())
+}
+
 fn main(rt: HostRuntime) -> anyhow::Result<()> {
     let words: Vec<String> = env::args(&rt)?.collect(rt.alloc())?;
     let (file, is_timed) = match words.as_slice() {
         [_, file] => (file.as_str(), false),
         [_, file, word] if word.as_str() == "time" => (file.as_str(), true),
-        _ => bail!("the words are FILE or FILE time"),
+        [_, word, name] if word.as_str() == "make" => {
+            let Some(pattern) = pattern_in(name.as_str()) else {
+                bail!("the traffic is token, mixed or bursts");
+            };
+            return make(&rt, pattern);
+        }
+        _ => bail!("the words are FILE, FILE time or make TRAFFIC"),
     };
     let text = fs::read(&rt, file)?;
     let (names, chart) = chart_in(rt.alloc(), text.as_slice())?;
