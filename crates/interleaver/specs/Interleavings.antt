@@ -22,7 +22,7 @@ are_some (c ∷ cs) = true
 abbrev pub with_some : ℕ → List Command → List ℕ
 with_some n commands = filter (λ p. are_some (own commands p)) (range_with_len 1 n)
 
--- whose turn the word w draws: of the m instances that have commands left, the one at place w mod m, from 0
+-- whose turn the word w draws: of the m instances that have commands left, the one with number w mod m among them, from 0
 abbrev pub turn : ℕ → List Command → ℕ → ℕ
 turn n left w = slice_index (with_some n left) (w % length (with_some n left))
 

@@ -81,8 +81,8 @@ fn drawn_commands(
 /// The schedule with its commands in the order that the seed draws, each with its line of the text.
 ///
 /// The seed makes a generator, [`Lcg64Xsh32`]. While commands are left, m instances have some left, in rising order of
-/// their numbers: with the generator's next word w, the instance at place w mod m, from 0, makes its next command. It takes
-/// time in proportion to the commands.
+/// their numbers: with the generator's next word w, the instance with number w mod m among them, from 0, makes its next
+/// command. It takes time in proportion to the commands.
 ///
 /// F6: it fails only where there is no memory.
 pub fn drawn(alloc: Global, schedule: &Schedule, seed: u64) -> Result<Schedule, Memory>

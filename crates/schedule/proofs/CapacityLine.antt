@@ -29,7 +29,7 @@ places_are n k e =
     let both = and_parts (leb 1 n) (leb n MAX_CAPACITY) a.0 in
     (ok_is n k a.1, leb-true 1 n both.0, leb-true n MAX_CAPACITY both.1)
 
--- the digits say so many places
+-- the digits say so many slots
 record SayPlaces (digits : List ℕ) (k : ℕ) : Type 0 where
   pub first : 1 ≤ k
   pub last : k ≤ MAX_CAPACITY
@@ -82,7 +82,7 @@ is_digit_again a low high = and_from (leb 48 a) (leb a 57) (le-leb 48 a low) (le
 places_again : (n : ℕ) → 1 ≤ n → n ≤ MAX_CAPACITY → places n ≡ Ok n
 places_again n first last = cond-true (leb 1 n && leb n MAX_CAPACITY) (Ok n) (Err Capacity) (and_from (leb 1 n) (leb n MAX_CAPACITY) (le-leb 1 n first) (le-leb n MAX_CAPACITY last))
 
--- the bytes are a number, which says so many places, and are plain
+-- the bytes are a number, which says so many slots, and are plain
 record AreDigits (digits : List ℕ) (k : ℕ) : Type 0 where
   pub number : is_number digits ≡ true
   pub says : places_of digits ≡ Ok k
@@ -128,7 +128,7 @@ digits_again k first last = elim (cases_lt k 10) [
 
 -- ---- the line
 
--- line 2 says so many places
+-- line 2 says so many slots
 pub record AreSaidPlaces (line : List ℕ) (k : ℕ) : Type 0 where
   pub first : 1 ≤ k
   pub last : k ≤ MAX_CAPACITY

@@ -12,7 +12,7 @@ use Rattle.msc_text.specs.declared.fault.Cause.TheVariants.{Syntax, ToItself}
 use Rattle.msc_text.proofs.Lookups.{IsNamed, instance_is, same_bytes}
 use Rattle.msc_text.proofs.Results.{bind_ok, guard_ok, in_line_ok, name_is, when_ok, chosen, ok_is}
 use Rattle.msc_text.specs.Instances.{known, known_of}
-use Rattle.schedule.specs.Deeds.{Deed, pair_of, partners_of, send_of, receive_of, close_of, alone_of, by_two, by_three, deed_by, deed_of}
+use Rattle.schedule.specs.ActionLines.{ActorAction, pair_of, partners_of, send_of, receive_of, close_of, alone_of, by_two, by_three, action_by, action_of}
 use Rattle.schedule.specs.Keywords.{is_send, is_receive, is_any, is_close, is_concurrent, is_endconcurrent}
 use Rattle.schedule.specs.Plans.{IsAmong, HasPartner}
 use Rattle.schedule.specs.Reading.{command_at, commands_from}
@@ -24,11 +24,11 @@ use Rattle.msc_text.proofs.Spacing.{is_spaced}
 
 -- ---- what is read is spelled so
 
--- the words say the deed, which is one of the instances' and can be spelled
-record Says (names words : List (List ℕ)) (deed : Deed) : Type 0 where
-  pub among : (deed.0 ≤ length names) × HasPartner (length names) deed.0 deed.1
-  pub spelled : (1 ≤ deed.0) × CanBeNamed deed.1
-  pub are : words ≡ name_at names deed.0 ∷ action_words names deed.1
+-- the words say the acting, which is one of the instances' and can be spelled
+record Says (names words : List (List ℕ)) (acting : ActorAction) : Type 0 where
+  pub among : (acting.0 ≤ length names) × HasPartner (length names) acting.0 acting.1
+  pub spelled : (1 ≤ acting.0) × CanBeNamed acting.1
+  pub are : words ≡ name_at names acting.0 ∷ action_words names acting.1
 
 -- two instances of these names, which are not the same
 record ArePartners (names : List (List ℕ)) (x y : List ℕ) (pair : ℕ × ℕ) : Type 0 where
@@ -73,16 +73,16 @@ same_three : {x x' k y y' : List ℕ} {words others : List (List ℕ)} → x' �
 same_three p q r = cc
 
 -- an action with a partner
-partner-says : (names : List (List ℕ)) (x k y : List ℕ) (others : List (List ℕ)) (r : Result (ℕ × ℕ) Cause) (action : ℕ → Action) (deed : Deed)
+partner-says : (names : List (List ℕ)) (x k y : List ℕ) (others : List (List ℕ)) (r : Result (ℕ × ℕ) Cause) (action : ℕ → Action) (acting : ActorAction)
     → ((q : ℕ) → action_words names (action q) ≡ k ∷ name_at names q ∷ others)
     → ((p q : ℕ) → q ≤ length names → p ≢ q → HasPartner (length names) p (action q))
     → ((q : ℕ) → 1 ≤ q → CanBeNamed (action q))
     → ((pair : ℕ × ℕ) → r ≡ Ok pair → ArePartners names x y pair)
-    → (r >>= λ pair. Ok (pair.0, action pair.1)) ≡ Ok deed → Says names (x ∷ k ∷ y ∷ others) deed
-partner-says names x k y others r action deed words has can are e =
-    let a = bind_ok r (λ pair. Ok (pair.0, action pair.1)) deed e in
+    → (r >>= λ pair. Ok (pair.0, action pair.1)) ≡ Ok acting → Says names (x ∷ k ∷ y ∷ others) acting
+partner-says names x k y others r action acting words has can are e =
+    let a = bind_ok r (λ pair. Ok (pair.0, action pair.1)) acting e in
     let two = are a.0 a.1 in
-    subst (Says names (x ∷ k ∷ y ∷ others)) (ok_is (a.0.0, action a.0.1) deed a.2) (record {
+    subst (Says names (x ∷ k ∷ y ∷ others)) (ok_is (a.0.0, action a.0.1) acting a.2) (record {
       among = (two.actor.last, has a.0.0 a.0.1 two.partner.last two.other);
       spelled = (two.actor.first, can a.0.1 two.partner.first);
       are = same_three two.actor.has two.partner.has (words a.0.1);
@@ -91,70 +91,70 @@ partner-says names x k y others r action deed words has can are e =
 send_words : {v m : List ℕ} (names : List (List ℕ)) (q : ℕ) → v ≡ m → action_words names (Send q v) ≡ codes "send" ∷ name_at names q ∷ m ∷ []
 send_words names q e = ap (λ v. action_words names (Send q v)) e
 
-send-says : (names : List (List ℕ)) (x y m a b c : List ℕ) (deed : Deed) → name_or_cause x ≡ Ok a → name_or_cause y ≡ Ok b → (c ≡ m) × IsName m → (pair_of names a b >>= λ pair. Ok (pair.0, Send pair.1 c)) ≡ Ok deed
-    → Says names (x ∷ codes "send" ∷ y ∷ m ∷ []) deed
-send-says names x y m a b c deed p q message e =
-    partner-says names x (codes "send") y (m ∷ []) (pair_of names a b) (λ r. Send r c) deed
+send-says : (names : List (List ℕ)) (x y m a b c : List ℕ) (acting : ActorAction) → name_or_cause x ≡ Ok a → name_or_cause y ≡ Ok b → (c ≡ m) × IsName m → (pair_of names a b >>= λ pair. Ok (pair.0, Send pair.1 c)) ≡ Ok acting
+    → Says names (x ∷ codes "send" ∷ y ∷ m ∷ []) acting
+send-says names x y m a b c acting p q message e =
+    partner-says names x (codes "send") y (m ∷ []) (pair_of names a b) (λ r. Send r c) acting
     (λ r. send_words names r message.0)
     (λ p r within other. (within, other))
     (λ r first. (first, subst IsName (sym message.0) message.1))
     (λ pair. partners-read names x y a b pair p q) e
 
-send_of-says : (names : List (List ℕ)) (x y m : List ℕ) (deed : Deed) → send_of names x y m ≡ Ok deed → Says names (x ∷ codes "send" ∷ y ∷ m ∷ []) deed
+send_of-says : (names : List (List ℕ)) (x y m : List ℕ) (acting : ActorAction) → send_of names x y m ≡ Ok acting → Says names (x ∷ codes "send" ∷ y ∷ m ∷ []) acting
 unfolding send_of
-send_of-says names x y m deed e =
-    let a = bind_ok (name_or_cause x) (λ actor. name_or_cause y >>= λ partner. name_or_cause m >>= λ name. pair_of names actor partner >>= λ pair. Ok (pair.0, Send pair.1 name)) deed e in
-    let b = bind_ok (name_or_cause y) (λ partner. name_or_cause m >>= λ name. pair_of names a.0 partner >>= λ pair. Ok (pair.0, Send pair.1 name)) deed a.2 in
-    let c = bind_ok (name_or_cause m) (λ name. pair_of names a.0 b.0 >>= λ pair. Ok (pair.0, Send pair.1 name)) deed b.2 in
-    send-says names x y m a.0 b.0 c.0 deed a.1 b.1 (name_is m c.0 c.1) c.2
+send_of-says names x y m acting e =
+    let a = bind_ok (name_or_cause x) (λ actor. name_or_cause y >>= λ partner. name_or_cause m >>= λ name. pair_of names actor partner >>= λ pair. Ok (pair.0, Send pair.1 name)) acting e in
+    let b = bind_ok (name_or_cause y) (λ partner. name_or_cause m >>= λ name. pair_of names a.0 partner >>= λ pair. Ok (pair.0, Send pair.1 name)) acting a.2 in
+    let c = bind_ok (name_or_cause m) (λ name. pair_of names a.0 b.0 >>= λ pair. Ok (pair.0, Send pair.1 name)) acting b.2 in
+    send-says names x y m a.0 b.0 c.0 acting a.1 b.1 (name_is m c.0 c.1) c.2
 
-receive_of-says : (names : List (List ℕ)) (x y : List ℕ) (deed : Deed) → receive_of names x y ≡ Ok deed → Says names (x ∷ codes "receive" ∷ y ∷ []) deed
+receive_of-says : (names : List (List ℕ)) (x y : List ℕ) (acting : ActorAction) → receive_of names x y ≡ Ok acting → Says names (x ∷ codes "receive" ∷ y ∷ []) acting
 unfolding receive_of
-receive_of-says names x y deed e =
-    partner-says names x (codes "receive") y [] (partners_of names x y) (λ q. Receive q) deed (λ q. refl) (λ p q within other. (within, other)) (λ q first. first) (partners_of-partners names x y) e
+receive_of-says names x y acting e =
+    partner-says names x (codes "receive") y [] (partners_of names x y) (λ q. Receive q) acting (λ q. refl) (λ p q within other. (within, other)) (λ q first. first) (partners_of-partners names x y) e
 
-close_of-says : (names : List (List ℕ)) (x y : List ℕ) (deed : Deed) → close_of names x y ≡ Ok deed → Says names (x ∷ codes "close" ∷ y ∷ []) deed
+close_of-says : (names : List (List ℕ)) (x y : List ℕ) (acting : ActorAction) → close_of names x y ≡ Ok acting → Says names (x ∷ codes "close" ∷ y ∷ []) acting
 unfolding close_of
-close_of-says names x y deed e =
-    partner-says names x (codes "close") y [] (partners_of names x y) (λ q. Close q) deed (λ q. refl) (λ p q within other. (within, other)) (λ q first. first) (partners_of-partners names x y) e
+close_of-says names x y acting e =
+    partner-says names x (codes "close") y [] (partners_of names x y) (λ q. Close q) acting (λ q. refl) (λ p q within other. (within, other)) (λ q first. first) (partners_of-partners names x y) e
 
 -- an action with no partner
-alone_of-says : (names : List (List ℕ)) (x k : List ℕ) (action : Action) (deed : Deed) → action_words names action ≡ k ∷ [] → ((p : ℕ) → HasPartner (length names) p action) → CanBeNamed action → alone_of names x action ≡ Ok deed
-    → Says names (x ∷ k ∷ []) deed
+alone_of-says : (names : List (List ℕ)) (x k : List ℕ) (action : Action) (acting : ActorAction) → action_words names action ≡ k ∷ [] → ((p : ℕ) → HasPartner (length names) p action) → CanBeNamed action → alone_of names x action ≡ Ok acting
+    → Says names (x ∷ k ∷ []) acting
 unfolding alone_of
-alone_of-says names x k action deed words has can e =
-    let a = bind_ok (name_or_cause x) (λ actor. known_of names actor >>= λ by. Ok (by, action)) deed e in
-    let b = bind_ok (known_of names a.0) (λ by. Ok (by, action)) deed a.2 in
+alone_of-says names x k action acting words has can e =
+    let a = bind_ok (name_or_cause x) (λ actor. known_of names actor >>= λ by. Ok (by, action)) acting e in
+    let b = bind_ok (known_of names a.0) (λ by. Ok (by, action)) acting a.2 in
     let by = known_of-named names a.0 b.0 b.1 in
-    subst (Says names (x ∷ k ∷ [])) (ok_is (b.0, action) deed b.2)
+    subst (Says names (x ∷ k ∷ [])) (ok_is (b.0, action) acting b.2)
     (record { among = (by.last, has b.0); spelled = (by.first, can); are = same_two (by.has ∙ (name_is x a.0 a.1).0) words })
 
 -- a line of two words
-by_two-says : (names : List (List ℕ)) (x k : List ℕ) (deed : Deed) → by_two names x k ≡ Ok deed → Says names (x ∷ k ∷ []) deed
+by_two-says : (names : List (List ℕ)) (x k : List ℕ) (acting : ActorAction) → by_two names x k ≡ Ok acting → Says names (x ∷ k ∷ []) acting
 unfolding by_two is_any is_concurrent is_endconcurrent
-by_two-says names x k deed e =
-    elim (chosen (is_any k) (alone_of names x Any) (cond (is_concurrent k) (alone_of names x Open) (cond (is_endconcurrent k) (alone_of names x Shut) (Err Syntax))) (Ok deed) e) [
-      | inl any ↦ keyword (codes "any") any.0 (alone_of-says names x (codes "any") Any deed refl (λ p. tt) tt any.1)
-      | inr a ↦ elim (chosen (is_concurrent k) (alone_of names x Open) (cond (is_endconcurrent k) (alone_of names x Shut) (Err Syntax)) (Ok deed) a.1) [
-        | inl open_it ↦ keyword (codes "concurrent") open_it.0 (alone_of-says names x (codes "concurrent") Open deed refl (λ p. tt) tt open_it.1)
-        | inr b ↦ let shut = when_ok (is_endconcurrent k) Syntax (alone_of names x Shut) deed b.1 in keyword (codes "endconcurrent") shut.0 (alone_of-says names x (codes "endconcurrent") Shut deed refl (λ p. tt) tt shut.1)
+by_two-says names x k acting e =
+    elim (chosen (is_any k) (alone_of names x Any) (cond (is_concurrent k) (alone_of names x Open) (cond (is_endconcurrent k) (alone_of names x Shut) (Err Syntax))) (Ok acting) e) [
+      | inl any ↦ keyword (codes "any") any.0 (alone_of-says names x (codes "any") Any acting refl (λ p. tt) tt any.1)
+      | inr a ↦ elim (chosen (is_concurrent k) (alone_of names x Open) (cond (is_endconcurrent k) (alone_of names x Shut) (Err Syntax)) (Ok acting) a.1) [
+        | inl open_it ↦ keyword (codes "concurrent") open_it.0 (alone_of-says names x (codes "concurrent") Open acting refl (λ p. tt) tt open_it.1)
+        | inr b ↦ let shut = when_ok (is_endconcurrent k) Syntax (alone_of names x Shut) acting b.1 in keyword (codes "endconcurrent") shut.0 (alone_of-says names x (codes "endconcurrent") Shut acting refl (λ p. tt) tt shut.1)
       ]
     ]
   where
-    keyword : (word : List ℕ) → bytes_eq k word ≡ true → Says names (x ∷ word ∷ []) deed → Says names (x ∷ k ∷ []) deed
-    keyword word same says = subst (λ w. Says names (x ∷ w ∷ []) deed) (sym (same_bytes k word same)) says
+    keyword : (word : List ℕ) → bytes_eq k word ≡ true → Says names (x ∷ word ∷ []) acting → Says names (x ∷ k ∷ []) acting
+    keyword word same says = subst (λ w. Says names (x ∷ w ∷ []) acting) (sym (same_bytes k word same)) says
 
 -- of three
-by_three-says : (names : List (List ℕ)) (x k y : List ℕ) (deed : Deed) → by_three names x k y ≡ Ok deed → Says names (x ∷ k ∷ y ∷ []) deed
+by_three-says : (names : List (List ℕ)) (x k y : List ℕ) (acting : ActorAction) → by_three names x k y ≡ Ok acting → Says names (x ∷ k ∷ y ∷ []) acting
 unfolding by_three is_receive is_close
-by_three-says names x k y deed e =
-    elim (chosen (is_receive k) (receive_of names x y) (cond (is_close k) (close_of names x y) (Err Syntax)) (Ok deed) e) [
-      | inl a ↦ keyword (codes "receive") a.0 (receive_of-says names x y deed a.1)
-      | inr b ↦ let close = when_ok (is_close k) Syntax (close_of names x y) deed b.1 in keyword (codes "close") close.0 (close_of-says names x y deed close.1)
+by_three-says names x k y acting e =
+    elim (chosen (is_receive k) (receive_of names x y) (cond (is_close k) (close_of names x y) (Err Syntax)) (Ok acting) e) [
+      | inl a ↦ keyword (codes "receive") a.0 (receive_of-says names x y acting a.1)
+      | inr b ↦ let close = when_ok (is_close k) Syntax (close_of names x y) acting b.1 in keyword (codes "close") close.0 (close_of-says names x y acting close.1)
     ]
   where
-    keyword : (word : List ℕ) → bytes_eq k word ≡ true → Says names (x ∷ word ∷ y ∷ []) deed → Says names (x ∷ k ∷ y ∷ []) deed
-    keyword word same says = subst (λ w. Says names (x ∷ w ∷ y ∷ []) deed) (sym (same_bytes k word same)) says
+    keyword : (word : List ℕ) → bytes_eq k word ≡ true → Says names (x ∷ word ∷ y ∷ []) acting → Says names (x ∷ k ∷ y ∷ []) acting
+    keyword word same says = subst (λ w. Says names (x ∷ w ∷ y ∷ []) acting) (sym (same_bytes k word same)) says
 
 last_test : (x y z w : Bool) → (x || y || z || not w) ≡ false → w ≡ true
 last_test true y z w e = cc
@@ -164,21 +164,21 @@ last_test false false false true e = refl
 last_test false false false false e = cc
 
 -- of four
-by_four-says : (names : List (List ℕ)) (x k y m : List ℕ) (deed : Deed) → deed_by names (x ∷ k ∷ y ∷ m ∷ []) ≡ Ok deed → Says names (x ∷ k ∷ y ∷ m ∷ []) deed
+by_four-says : (names : List (List ℕ)) (x k y m : List ℕ) (acting : ActorAction) → action_by names (x ∷ k ∷ y ∷ m ∷ []) ≡ Ok acting → Says names (x ∷ k ∷ y ∷ m ∷ []) acting
 unfolding is_send
-by_four-says names x k y m deed e =
-    let g = guard_ok (eqb (length x) 0 || eqb (length y) 0 || eqb (length m) 0 || not (is_send k)) Syntax (send_of names x y m) deed e in
+by_four-says names x k y m acting e =
+    let g = guard_ok (eqb (length x) 0 || eqb (length y) 0 || eqb (length m) 0 || not (is_send k)) Syntax (send_of names x y m) acting e in
     let same = same_bytes k (codes "send") (last_test (eqb (length x) 0) (eqb (length y) 0) (eqb (length m) 0) (is_send k) g.0) in
-    subst (λ w. Says names (x ∷ w ∷ y ∷ m ∷ []) deed) (sym same) (send_of-says names x y m deed g.1)
+    subst (λ w. Says names (x ∷ w ∷ y ∷ m ∷ []) acting) (sym same) (send_of-says names x y m acting g.1)
 
 -- of any number
-deed_by-says : (names words : List (List ℕ)) (deed : Deed) → deed_by names words ≡ Ok deed → Says names words deed
-deed_by-says names [] deed e = absurd cc
-deed_by-says names (x ∷ []) deed e = absurd cc
-deed_by-says names (x ∷ k ∷ []) deed e = by_two-says names x k deed (guard_ok (eqb (length x) 0) Syntax (by_two names x k) deed e).1
-deed_by-says names (x ∷ k ∷ y ∷ []) deed e = by_three-says names x k y deed (guard_ok (eqb (length x) 0 || eqb (length y) 0) Syntax (by_three names x k y) deed e).1
-deed_by-says names (x ∷ k ∷ y ∷ m ∷ []) deed e = by_four-says names x k y m deed e
-deed_by-says names (x ∷ k ∷ y ∷ m ∷ z ∷ words) deed e = absurd cc
+action_by-says : (names words : List (List ℕ)) (acting : ActorAction) → action_by names words ≡ Ok acting → Says names words acting
+action_by-says names [] acting e = absurd cc
+action_by-says names (x ∷ []) acting e = absurd cc
+action_by-says names (x ∷ k ∷ []) acting e = by_two-says names x k acting (guard_ok (eqb (length x) 0) Syntax (by_two names x k) acting e).1
+action_by-says names (x ∷ k ∷ y ∷ []) acting e = by_three-says names x k y acting (guard_ok (eqb (length x) 0 || eqb (length y) 0) Syntax (by_three names x k y) acting e).1
+action_by-says names (x ∷ k ∷ y ∷ m ∷ []) acting e = by_four-says names x k y m acting e
+action_by-says names (x ∷ k ∷ y ∷ m ∷ z ∷ words) acting e = absurd cc
 
 -- the commands are of the instances, can be spelled, and are numbered from n, and the lines say them
 pub record AreSaid (names : List (List ℕ)) (n : ℕ) (lines : List (List ℕ)) (commands : List Command) : Type 0 where
@@ -195,10 +195,10 @@ record IsSaid (names : List (List ℕ)) (n : ℕ) (line : List ℕ) (command : C
   pub is : line ≡ command_line names command
 
 command_at-said : (names : List (List ℕ)) (n : ℕ) (line : List ℕ) (command : Command) → command_at names n line ≡ Ok command → IsSaid names n line command
-unfolding command_at deed_of
+unfolding command_at action_of
 command_at-said names n line command e =
-    let a = bind_ok (in_line n (deed_of names line)) (λ deed. Ok (record { line = n; actor = deed.0; action = deed.1 })) command e in
-    let says = deed_by-says names (words_of line) a.0 (in_line_ok n (deed_of names line) a.0 a.1) in
+    let a = bind_ok (in_line n (action_of names line)) (λ acting. Ok (record { line = n; actor = acting.0; action = acting.1 })) command e in
+    let says = action_by-says names (words_of line) a.0 (in_line_ok n (action_of names line) a.0 a.1) in
     subst (IsSaid names n line) (ok_is (record { line = n; actor = a.0.0; action = a.0.1 }) command a.2)
     (record { among = says.among; spelled = says.spelled; numbered = refl; is = is_spaced line ∙ ap spaced says.are })
 

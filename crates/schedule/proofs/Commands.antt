@@ -6,7 +6,7 @@ use Rattle.msc_text.specs.declared.fault.Fault.{Fault}
 use Rattle.msc_text.specs.declared.fault.Fault.TheVariants.{Unfinished}
 use Rattle.msc_text.specs.declared.fault.TextError.{TextError}
 use Rattle.msc_text.specs.declared.fault.TextError.TheVariants as errors
-use Rattle.schedule.specs.Deeds.{Deed, deed_of}
+use Rattle.schedule.specs.ActionLines.{ActorAction, action_of}
 use Rattle.schedule.specs.Reading.{command_at, commands_from, commands_of, with_end}
 use Rattle.schedule.specs.declared.command.Command.{Command}
 use Rattle.msc_text.proofs.Results.{bind_at, fails_then}
@@ -21,28 +21,28 @@ regroup front command (Ok commands) = ap Ok (sym (append_assoc front (command �
 regroup front command (Err fault) = refl
 
 -- the command of a line that is read
-command_is : (names : List (List ℕ)) (n : ℕ) (line : List ℕ) (deed : Deed) → in_line n (deed_of names line) ≡ Ok deed → command_at names n line ≡ Ok (record { line = n; actor = deed.0; action = deed.1 })
+command_is : (names : List (List ℕ)) (n : ℕ) (line : List ℕ) (acting : ActorAction) → in_line n (action_of names line) ≡ Ok acting → command_at names n line ≡ Ok (record { line = n; actor = acting.0; action = acting.1 })
 unfolding command_at
-command_is names n line deed e = bind_at _ (λ d. Ok (record { line = n; actor = d.0; action = d.1 })) deed e
+command_is names n line acting e = bind_at _ (λ d. Ok (record { line = n; actor = d.0; action = d.1 })) acting e
 
 -- a line that is read
-pub goes_on : (front : List Command) (names : List (List ℕ)) (n : ℕ) (line : List ℕ) (lines : List (List ℕ)) (deed : Deed) (total : Result (List Command) Fault) → in_line n (deed_of names line) ≡ Ok deed
-    → with_front front (commands_from names n (line ∷ lines)) ≡ total → with_front (front ++ record { line = n; actor = deed.0; action = deed.1 } ∷ []) (commands_from names (n + 1) lines) ≡ total
+pub goes_on : (front : List Command) (names : List (List ℕ)) (n : ℕ) (line : List ℕ) (lines : List (List ℕ)) (acting : ActorAction) (total : Result (List Command) Fault) → in_line n (action_of names line) ≡ Ok acting
+    → with_front front (commands_from names n (line ∷ lines)) ≡ total → with_front (front ++ record { line = n; actor = acting.0; action = acting.1 } ∷ []) (commands_from names (n + 1) lines) ≡ total
 unfolding commands_from
-goes_on front names n line lines deed total e so_far =
-    let command : Command = record { line = n; actor = deed.0; action = deed.1 } in
-    let one = bind_at (command_at names n line) (λ command. commands_from names (n + 1) lines >>= λ commands. Ok (command ∷ commands)) command (command_is names n line deed e) in
+goes_on front names n line lines acting total e so_far =
+    let command : Command = record { line = n; actor = acting.0; action = acting.1 } in
+    let one = bind_at (command_at names n line) (λ command. commands_from names (n + 1) lines >>= λ commands. Ok (command ∷ commands)) command (command_is names n line acting e) in
     sym (regroup front command (commands_from names (n + 1) lines)) ∙ sym (ap (with_front front) one) ∙ so_far
 
 -- a line that is not read decides
-pub ends : (error : TextError) (front : List Command) (names : List (List ℕ)) (n : ℕ) (line : List ℕ) (lines : List (List ℕ)) (total : Result (List Command) Fault) → Fails error (in_line n (deed_of names line))
+pub ends : (error : TextError) (front : List Command) (names : List (List ℕ)) (n : ℕ) (line : List ℕ) (lines : List (List ℕ)) (total : Result (List Command) Fault) → Fails error (in_line n (action_of names line))
     → with_front front (commands_from names n (line ∷ lines)) ≡ total → Fails error total
 unfolding commands_from command_at
 ends errors.Memory front names n line lines total h so_far = tt
 ends (errors.Fault fault) front names n line lines total h so_far =
     sym so_far ∙ fails_then (errors.Fault fault) _ (λ commands. Ok (front ++ commands))
     (fails_then (errors.Fault fault) _ (λ command. commands_from names (n + 1) lines >>= λ commands. Ok (command ∷ commands))
-    (fails_then (errors.Fault fault) _ (λ deed. Ok (record { line = n; actor = deed.0; action = deed.1 })) h))
+    (fails_then (errors.Fault fault) _ (λ acting. Ok (record { line = n; actor = acting.0; action = acting.1 })) h))
 
 -- no line is left
 pub is_done : (front : List Command) (names : List (List ℕ)) (n : ℕ) (total : Result (List Command) Fault) → with_front front (commands_from names n []) ≡ total → total ≡ Ok front

@@ -13,7 +13,7 @@ use Rattle.msc_text.proofs.Lookups.{instance_again, name_at_all}
 use Rattle.msc_text.proofs.Parts.{lacks_if}
 use Rattle.msc_text.proofs.Results.{bind_at, name_again, name_some}
 use Rattle.msc_text.specs.Instances.{known, known_of}
-use Rattle.schedule.specs.Deeds.{pair_of, partners_of, send_of, receive_of, close_of, alone_of, by_two, by_three, deed_by, deed_of}
+use Rattle.schedule.specs.ActionLines.{pair_of, partners_of, send_of, receive_of, close_of, alone_of, by_two, by_three, action_by, action_of}
 use Rattle.schedule.specs.Keywords.{is_send, is_receive, is_any, is_close, is_concurrent, is_endconcurrent}
 use Rattle.schedule.specs.Plans.{IsAmong, HasPartner}
 use Rattle.schedule.specs.Reading.{command_at, commands_from}
@@ -115,31 +115,31 @@ module _ (names : List (List ℕ)) (are : AreNames names) (named : All IsName na
   some p first last = name_some (name_at names p) (is_name p first last)
 
   -- a line of two words
-  two_again : (p : ℕ) (k : List ℕ) (action : Action) → by_two names (name_at names p) k ≡ alone_of names (name_at names p) action → 1 ≤ p → p ≤ length names → deed_by names (name_at names p ∷ k ∷ []) ≡ Ok (p, action)
+  two_again : (p : ℕ) (k : List ℕ) (action : Action) → by_two names (name_at names p) k ≡ alone_of names (name_at names p) action → 1 ≤ p → p ≤ length names → action_by names (name_at names p ∷ k ∷ []) ≡ Ok (p, action)
   two_again p k action by first last =
       cond-false (eqb (length (name_at names p)) 0) (Err Syntax) (by_two names (name_at names p) k) (some p first last) ∙ by ∙ alone_again p action first last
 
   -- of three
   three_again : (p q : ℕ) (k : List ℕ) (action : Action) → by_three names (name_at names p) k (name_at names q) ≡ Ok (p, action) → 1 ≤ p → p ≤ length names → 1 ≤ q → q ≤ length names
-      → deed_by names (name_at names p ∷ k ∷ name_at names q ∷ []) ≡ Ok (p, action)
+      → action_by names (name_at names p ∷ k ∷ name_at names q ∷ []) ≡ Ok (p, action)
   three_again p q k action by first last first' last' =
       let x : List ℕ = name_at names p in
       let y : List ℕ = name_at names q in
       cond-false (eqb (length x) 0 || eqb (length y) 0) (Err Syntax) (by_three names x k y) (not_empty_three (eqb (length x) 0) (eqb (length y) 0) (some p first last) (some q first' last')) ∙ by
 
   -- of any number
-  deed_again : (p : ℕ) (action : Action) → 1 ≤ p → p ≤ length names → HasPartner (length names) p action → CanBeNamed action → deed_by names (name_at names p ∷ action_words names action) ≡ Ok (p, action)
-  deed_again p (Send q m) first last has can =
+  action_again : (p : ℕ) (action : Action) → 1 ≤ p → p ≤ length names → HasPartner (length names) p action → CanBeNamed action → action_by names (name_at names p ∷ action_words names action) ≡ Ok (p, action)
+  action_again p (Send q m) first last has can =
       let x : List ℕ = name_at names p in
       let y : List ℕ = name_at names q in
       cond-false (eqb (length x) 0 || eqb (length y) 0 || eqb (length m) 0 || not (is_send (codes "send"))) (Err Syntax) (send_of names x y m)
       (not_empty_four (eqb (length x) 0) (eqb (length y) 0) (eqb (length m) 0) (is_send (codes "send")) (some p first last) (some q can.0 has.0) (name_some m can.1) send_by)
       ∙ send_again p q m first last can.0 has.0 has.1 can.1
-  deed_again p (Receive q) first last has can = three_again p q (codes "receive") (Receive q) (receive_by (name_at names p) (name_at names q) ∙ receive_again p q first last can has.0 has.1) first last can has.0
-  deed_again p Any first last has can = two_again p (codes "any") Any (any_by (name_at names p)) first last
-  deed_again p (Close q) first last has can = three_again p q (codes "close") (Close q) (close_by (name_at names p) (name_at names q) ∙ close_again p q first last can has.0 has.1) first last can has.0
-  deed_again p Open first last has can = two_again p (codes "concurrent") Open (open_by (name_at names p)) first last
-  deed_again p Shut first last has can = two_again p (codes "endconcurrent") Shut (shut_by (name_at names p)) first last
+  action_again p (Receive q) first last has can = three_again p q (codes "receive") (Receive q) (receive_by (name_at names p) (name_at names q) ∙ receive_again p q first last can has.0 has.1) first last can has.0
+  action_again p Any first last has can = two_again p (codes "any") Any (any_by (name_at names p)) first last
+  action_again p (Close q) first last has can = three_again p q (codes "close") (Close q) (close_by (name_at names p) (name_at names q) ∙ close_again p q first last can has.0 has.1) first last can has.0
+  action_again p Open first last has can = two_again p (codes "concurrent") Open (open_by (name_at names p)) first last
+  action_again p Shut first last has can = two_again p (codes "endconcurrent") Shut (shut_by (name_at names p)) first last
 
   -- the words have neither a space nor a line feed
   plain_instance : (p : ℕ) → 1 ≤ p → p ≤ length names → IsPlain (name_at names p)
@@ -158,15 +158,15 @@ module _ (names : List (List ℕ)) (are : AreNames names) (named : All IsName na
 
   -- ---- the lines of the commands
 
-  deed_line_again : (command : Command) → IsAmong (length names) command → CanBeSpelled command → deed_of names (command_line names command) ≡ Ok (command.actor, command.action)
-  unfolding deed_of
-  deed_line_again command among can =
-      ap (deed_by names) (spaced_again (name_at names command.actor) (action_words names command.action) (plain_command command among can)) ∙ deed_again command.actor command.action can.0 among.0 among.1 can.1
+  action_line_again : (command : Command) → IsAmong (length names) command → CanBeSpelled command → action_of names (command_line names command) ≡ Ok (command.actor, command.action)
+  unfolding action_of
+  action_line_again command among can =
+      ap (action_by names) (spaced_again (name_at names command.actor) (action_words names command.action) (plain_command command among can)) ∙ action_again command.actor command.action can.0 among.0 among.1 can.1
 
   command_again : (n : ℕ) (command : Command) → IsAmong (length names) command → CanBeSpelled command → command.line ≡ n → command_at names n (command_line names command) ≡ Ok command
   unfolding command_at
   command_again n command among can numbered =
-      bind_at (in_line n (deed_of names (command_line names command))) (λ deed. Ok (record { line = n; actor = deed.0; action = deed.1 })) (command.actor, command.action) (ap (in_line n) (deed_line_again command among can))
+      bind_at (in_line n (action_of names (command_line names command))) (λ acting. Ok (record { line = n; actor = acting.0; action = acting.1 })) (command.actor, command.action) (ap (in_line n) (action_line_again command among can))
       ∙ ap (λ m. Ok (record { line = m; actor = command.actor; action = command.action })) (sym numbered)
 
   -- one after the other

@@ -63,11 +63,11 @@ abbrev pub number_from : ℕ → List ℕ → ℕ
 number_from n [] = n
 number_from n (b ∷ bs) = number_from (10 * n + (b - 48)) bs
 
--- so many places, if a lane may have them
+-- so many slots, if a lane may have them
 abbrev pub places : ℕ → Result ℕ Cause
 places n = if nat_le 1 n && nat_le n MAX_CAPACITY then Ok n else Err Capacity
 
--- the places that the digits say
+-- the slots that the digits say
 unfoldable pub places_of : List ℕ → Result ℕ Cause
 places_of digits = places (number_from 0 digits)
 

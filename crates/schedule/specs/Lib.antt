@@ -7,7 +7,7 @@ pub use Rattle.chart.specs.NameSets
 pub use Rattle.msc_text.specs.Faults
 pub use Rattle.msc_text.specs.Instances
 pub use Rattle.msc_text.specs.Lines
-pub mod Deeds
+pub mod ActionLines
 pub mod FirstLines
 pub mod Keywords
 pub mod Meaning

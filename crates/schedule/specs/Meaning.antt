@@ -74,7 +74,7 @@ receives_any n r p None = if are_closed n r p then Err words.Ended else Err word
 abbrev pub closes : Run → ℕ → ℕ → Result Run Word
 closes r p q = if is_closed r.history p q then Err words.Closed else Ok (happens r (events.Close p q))
 
--- a coregion that begins is one above the greatest of the line
+-- a coregion that begins is one more than the greatest of the line
 abbrev pub opens : Run → ℕ → Result Run Word
 opens r p =
     if nat_lt 0 (r.region p) then Err words.Open else Ok (record { history = r.history; last = r.last; region = changed r.region p (greatest_region (chart_of r.history p) + 1) })
@@ -83,7 +83,7 @@ abbrev pub shuts : Run → ℕ → Result Run Word
 shuts r p =
     if nat_lt 0 (r.region p) then Ok (record { history = r.history; last = r.last; region = changed r.region p 0 }) else Err words.NotOpen
 
--- among n instances with lanes of k places
+-- among n instances with lanes of k slots
 abbrev pub acts : ℕ → ℕ → Run → ℕ → Action → Result Run Word
 acts n k r p (Send q name) = sends k r p q name
 acts n k r p (Receive q) = receives r p q

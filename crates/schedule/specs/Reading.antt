@@ -5,7 +5,7 @@ use Rattle.msc_text.specs.Lines.{lines_of, end_of}
 use Rattle.msc_text.specs.declared.fault.Cause.{Cause}
 use Rattle.msc_text.specs.declared.fault.Fault.{Fault}
 use Rattle.msc_text.specs.declared.fault.Fault.TheVariants.{Line, Unfinished}
-use Rattle.schedule.specs.Deeds.{deed_of}
+use Rattle.schedule.specs.ActionLines.{action_of}
 use Rattle.schedule.specs.FirstLines.{names_of, capacity_of}
 use Rattle.schedule.specs.Plans.{Plan}
 use Rattle.schedule.specs.declared.command.Command.{Command}
@@ -18,8 +18,8 @@ next_of (line ∷ lines) = Ok (line, lines)
 -- the command of line n
 unfoldable pub command_at : List (List ℕ) → ℕ → List ℕ → Result Command Fault
 command_at names n line = do
-  deed ← in_line n (deed_of names line)
-  Ok (record { line = n; actor = deed.0; action = deed.1 })
+  said ← in_line n (action_of names line)
+  Ok (record { line = n; actor = said.0; action = said.1 })
 
 -- the commands of line n and of those after it
 unfoldable pub commands_from : List (List ℕ) → ℕ → List (List ℕ) → Result (List Command) Fault

@@ -32,7 +32,7 @@ pub struct Command {
 /// The word of the note that a refused command leaves.
 #[derive(Clone, Copy, Debug, PartialEq, Eq)]
 pub enum Word {
-    /// F11: as many messages wait on the lane as it has places.
+    /// F11: as many messages wait on the lane as it has slots.
     Full,
     /// No message waits, and a lane that could bring one is open.
     Nothing,

@@ -106,14 +106,14 @@ fn is_number(word: &[u8]) -> bool
     }
 }
 
-/// So many places, or F9.
+/// So many slots, or F9.
 fn places_in(number: u8) -> Result<Capacity, Cause>
     ensures { result ≡ places number }
 {
     Capacity::new(usize::from(number)).ok_or(Cause::Capacity)
 }
 
-/// The places that the digits say, or F9. A number of three digits is above each capacity.
+/// The slots that the digits say, or F9. A number of three digits is greater than each capacity.
 #[tactic(auto, unfolding(crate::specs::FirstLines::places_of, crate::specs::FirstLines::is_number))]
 fn places_of(digits: &[u8]) -> Result<Capacity, Cause>
     requires { IsTrue (is_number digits.now) }

@@ -9,8 +9,8 @@
 //! ([`laws`]).
 #![tactic(auto)]
 
+mod action_line;
 mod command;
-mod deed;
 mod first_lines;
 mod keyword;
 pub mod laws;

@@ -6,8 +6,8 @@ ghost use Rattle.schedule.specs.Plans.{Plan};
 ghost use Rattle.schedule.specs.Reading.{next_of, commands_of, schedule_of};
 ghost use Rattle.schedule.specs.ScheduleText.{schedule_text, HasText};
 
+use crate::action_line::read_action;
 use crate::command::Command;
-use crate::deed::deed_in;
 use crate::first_lines::{capacity_in, names_in};
 use crate::schedule::{Capacity, Schedule};
 use chart::Names;
@@ -36,7 +36,7 @@ fn commands_in(alloc: Global, names: &Names, bytes: &[u8]) -> Result<Vec<Command
         match next_line(rest) {
             None => break,
             Some((line, after)) => {
-                let (actor, action) = at_line(number, deed_in(names, line))?;
+                let (actor, action) = at_line(number, read_action(names, line))?;
                 commands.push(Command {
                     line: number,
                     actor,

@@ -7,10 +7,10 @@ use crate::command::Command;
 use chart::Names;
 use std::marker::Model;
 
-/// The most places that a lane has.
+/// The most slots that a lane has.
 pub const MAX_CAPACITY: usize = 64;
 
-/// How many places each lane has, from 1 to [`MAX_CAPACITY`]. A contract sees it as the number.
+/// how many slots each lane has, from 1 to [`MAX_CAPACITY`]. A contract sees it as the number.
 #[derive(Clone, Copy, Debug, PartialEq, Eq, PartialOrd, Ord, Hash)]
 pub struct Capacity {
     places: u8,
@@ -30,7 +30,7 @@ impl Model for Capacity {
 }
 
 impl Capacity {
-    /// The capacity of so many places, which are from 1 to [`MAX_CAPACITY`].
+    /// The capacity of so many slots, which are from 1 to [`MAX_CAPACITY`].
     pub fn new(places: usize) -> Option<Capacity>
         ensures { SomeIff result ((1 ≤ places) × (places ≤ MAX_CAPACITY)) places }
     {

@@ -2,7 +2,7 @@ use Rattle.std.proofs.Common.{◌≡◌, Ok, sym, ◌∙◌, ap, subst, arith}
 use Rattle.std.proofs.lemmas.Bool.{eqb-true, eqb-false}
 use Rattle.std.proofs.lemmas.Result.{err_from_is_err_and}
 use Rattle.msc_text.specs.Faults.{in_line, Fails}
-use Rattle.schedule.specs.Deeds.{deed_of}
+use Rattle.schedule.specs.ActionLines.{action_of}
 use Rattle.schedule.proofs.Commands.{goes_on, ends, is_done, all_read, not_ended, line_fails}
 use Rattle.schedule.proofs.reading.commands_in.Goals as goal
 
@@ -11,15 +11,15 @@ returns-in_err-actor-in-Some c =
     let p = err_from_is_err_and c.from_residual.result c.from_residual.ensures.1 in
     let so_far = rw c.in-Some.ensures.line at c.lines.invariant.so_far in
     let error = c.in_err-actor-in-Some.field-0.0 in
-    let failed = subst (λ r. Fails error (in_line c.lines.number r)) c.deed_in.ensures c.in_err-actor-in-Some.ensures in
+    let failed = subst (λ r. Fails error (in_line c.lines.number r)) c.read_action.ensures c.in_err-actor-in-Some.ensures in
     rw (p.1, p.2) (line_fails error _ _ _ (ends error c.lines.commands.items c.args.names.now c.lines.number c.in-Some.line.now _ _ failed so_far))
 
 pub lines-preserved : goal.lines-preserved
 lines-preserved c =
     let so_far = rw c.in-Some.ensures.line at c.lines.invariant.so_far in
-    let deed : in_line c.lines.number (deed_of c.args.names.now c.in-Some.line.now) ≡ Ok (c.in_ok-actor-in-Some.actor, c.in_ok-actor-in-Some.action) = sym (ap (in_line c.lines.number) c.deed_in.ensures) ∙ c.in_ok-actor-in-Some.ensures in
+    let acting : in_line c.lines.number (action_of c.args.names.now c.in-Some.line.now) ≡ Ok (c.in_ok-actor-in-Some.actor, c.in_ok-actor-in-Some.action) = sym (ap (in_line c.lines.number) c.read_action.ensures) ∙ c.in_ok-actor-in-Some.ensures in
     record {
-      so_far = rw c.in_ok-push-in-Some.ensures.items (goes_on c.lines.commands.items c.args.names.now c.lines.number c.in-Some.line.now _ _ _ deed so_far);
+      so_far = rw c.in_ok-push-in-Some.ensures.items (goes_on c.lines.commands.items c.args.names.now c.lines.number c.in-Some.line.now _ _ _ acting so_far);
       end = sym c.in-Some.ensures.end ∙ c.lines.invariant.end;
       number = omega (arith, c.in-Some.ensures.shorter);
     }

@@ -10,8 +10,8 @@ use Rattle.schedule.specs.declared.command.Action.{Action}
 use Rattle.schedule.specs.declared.command.Action.TheVariants.{Send, Receive, Any, Close, Open, Shut}
 
 -- an instance, and its action
-abbrev pub Deed : Type 0
-Deed = ℕ × Action
+abbrev pub ActorAction : Type 0
+ActorAction = ℕ × Action
 
 -- two instances, which are not the same
 unfoldable pub pair_of : List (List ℕ) → List ℕ → List ℕ → Result (ℕ × ℕ) Cause
@@ -28,7 +28,7 @@ partners_of names a b = do
   pair_of names actor partner
 
 -- NAME send NAME MESSAGE
-unfoldable pub send_of : List (List ℕ) → List ℕ → List ℕ → List ℕ → Result Deed Cause
+unfoldable pub send_of : List (List ℕ) → List ℕ → List ℕ → List ℕ → Result ActorAction Cause
 send_of names a b m = do
   actor ← name_or_cause a
   partner ← name_or_cause b
@@ -37,44 +37,44 @@ send_of names a b m = do
   Ok (pair.0, Send pair.1 name)
 
 -- NAME receive NAME
-unfoldable pub receive_of : List (List ℕ) → List ℕ → List ℕ → Result Deed Cause
+unfoldable pub receive_of : List (List ℕ) → List ℕ → List ℕ → Result ActorAction Cause
 receive_of names a b = do
   pair ← partners_of names a b
   Ok (pair.0, Receive pair.1)
 
 -- NAME close NAME
-unfoldable pub close_of : List (List ℕ) → List ℕ → List ℕ → Result Deed Cause
+unfoldable pub close_of : List (List ℕ) → List ℕ → List ℕ → Result ActorAction Cause
 close_of names a b = do
   pair ← partners_of names a b
   Ok (pair.0, Close pair.1)
 
 -- an action with no partner: NAME any, NAME concurrent, NAME endconcurrent
-unfoldable pub alone_of : List (List ℕ) → List ℕ → Action → Result Deed Cause
+unfoldable pub alone_of : List (List ℕ) → List ℕ → Action → Result ActorAction Cause
 alone_of names a action = do
   actor ← name_or_cause a
   by ← known_of names actor
   Ok (by, action)
 
 -- a line of two words, the first of which has a byte at least
-unfoldable pub by_two : List (List ℕ) → List ℕ → List ℕ → Result Deed Cause
+unfoldable pub by_two : List (List ℕ) → List ℕ → List ℕ → Result ActorAction Cause
 by_two names a k =
     if is_any k then alone_of names a Any else (
     if is_concurrent k then alone_of names a Open else (
     if is_endconcurrent k then alone_of names a Shut else Err Syntax))
 
 -- of three words, the first and the last of which do
-unfoldable pub by_three : List (List ℕ) → List ℕ → List ℕ → List ℕ → Result Deed Cause
+unfoldable pub by_three : List (List ℕ) → List ℕ → List ℕ → List ℕ → Result ActorAction Cause
 by_three names a k b =
     if is_receive k then receive_of names a b else (
     if is_close k then close_of names a b else Err Syntax)
 
 -- by the words of the line: none is empty
-abbrev pub deed_by : List (List ℕ) → List (List ℕ) → Result Deed Cause
-deed_by names (a ∷ k ∷ []) = if length a == 0 then Err Syntax else by_two names a k
-deed_by names (a ∷ k ∷ b ∷ []) = if length a == 0 || length b == 0 then Err Syntax else by_three names a k b
-deed_by names (a ∷ k ∷ b ∷ m ∷ []) = if length a == 0 || length b == 0 || length m == 0 || not (is_send k) then Err Syntax else send_of names a b m
-deed_by names _ = Err Syntax
+abbrev pub action_by : List (List ℕ) → List (List ℕ) → Result ActorAction Cause
+action_by names (a ∷ k ∷ []) = if length a == 0 then Err Syntax else by_two names a k
+action_by names (a ∷ k ∷ b ∷ []) = if length a == 0 || length b == 0 then Err Syntax else by_three names a k b
+action_by names (a ∷ k ∷ b ∷ m ∷ []) = if length a == 0 || length b == 0 || length m == 0 || not (is_send k) then Err Syntax else send_of names a b m
+action_by names _ = Err Syntax
 
 -- what the line says
-unfoldable pub deed_of : List (List ℕ) → List ℕ → Result Deed Cause
-deed_of names line = deed_by names (words_of line)
+unfoldable pub action_of : List (List ℕ) → List ℕ → Result ActorAction Cause
+action_of names line = action_by names (words_of line)
