@@ -1,0 +1,13 @@
+pub mod Claiming
+pub mod Closes
+pub mod DidLemmas
+pub mod EndLemmas
+pub mod Finding
+pub mod Meetings
+pub mod NoteLemmas
+pub mod OneReceive
+pub mod OneSend
+pub mod Openings
+pub mod PostLemmas
+pub mod ReceiveAnswers
+pub mod SendAnswers

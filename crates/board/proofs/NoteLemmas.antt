@@ -1,0 +1,66 @@
+-- A post that has met a note.
+use Rattle.std.proofs.Common.{◌≡◌, ℕ, ◌+◌, ◌≤◌, List, [], ◌∷◌, length, refl, sym, ap, ◌∙◌, subst, arith}
+use Rattle.atomic_table.specs.Seated.{TableId}
+use Rattle.chart.specs.declared.history.Occurrence.{Occurrence}
+use Rattle.chart.specs.Events.{greatest_region}
+use Rattle.chart.specs.Histories.{own, chart_of, IsLegal, Begins}
+use Rattle.line_recorder.specs.Recorders.{RecorderView}
+use Rattle.board_core.proofs.OwnEvents.{same_line, same_instance}
+use Rattle.board_table.specs.declared.held.Held.{Held}
+use Rattle.board_table.specs.declared.shape.Shape.{Shape}
+use Rattle.board_table.specs.Knowing.{Mine, held, many_out, Rests}
+use Rattle.board_table.specs.Knowing as knowing
+use Rattle.board_table.specs.Plays.{Meets}
+use Rattle.board.specs.declared.ends.Outgoing.{Outgoing}
+use Rattle.board.specs.declared.ends.Incoming.{Incoming}
+use Rattle.board.specs.Known.{IsPost, view_of}
+use Rattle.board.specs.Views.{PostView}
+use Rattle.board.specs.Meeting.{Hears}
+use Rattle.board.proofs.EndLemmas.{ends_later}
+
+module _ (key : Shape) (table chair chair_after : TableId) (m w : Mine) (n k p : ℕ) (r : RecorderView) (region greatest : ℕ) (outgoing : List Outgoing) (incoming : List Incoming) (post : IsPost key table chair m n k p r region greatest outgoing incoming) (note : Held) (same : knowing.IsPost (held m).instances (held m).capacity (held m).number w) (meets : Meets (held m).instances (held m).capacity (held m) note (held w)) where
+  met_legal : IsLegal n k (held w).seen
+  met_legal = subst (λ z. IsLegal z k (held w).seen) post.rests.post.instances (subst (λ z. IsLegal (held m).instances z (held w).seen) post.rests.post.capacity meets.legal)
+
+  met_own : own (held w).seen p ≡ (held m).made
+  met_own = subst (λ z. own (held w).seen z ≡ (held m).made) post.rests.post.number meets.own
+
+  pub post_met : chair_after ≡ chair → w.1 ≡ m.1 → IsPost key table chair_after w n k p r region greatest outgoing incoming
+  post_met seated slots =
+      let its : own (held w).seen p ≡ own (held m).seen p = met_own ∙ sym post.made in
+      let line = same_line n (held m).seen (held w).seen meets.later p its in
+      record {
+        chair_is = seated ∙ post.chair_is;
+        board = post.board;
+        sized = post.sized;
+        least = post.least;
+        most = post.most;
+        rests = record {
+          post = record {
+            alone = same.alone;
+            instances = same.instances ∙ post.rests.post.instances;
+            capacity = same.capacity ∙ post.rests.post.capacity;
+            number = same.number ∙ post.rests.post.number;
+          };
+          hold = ap (λ (e : Held). many_out e.hold) meets.rest ∙ post.rests.hold;
+          slots = slots ∙ post.rests.slots;
+        };
+        knows = record {
+          legal = met_legal;
+          own = same_instance n (held m).seen (held w).seen meets.later k p r region post.knows.legal its post.knows.own;
+          greatest_is = post.knows.greatest_is ∙ ap greatest_region (sym line);
+          few_regions = let same_length = ap length line in omega (arith, post.knows.few_regions);
+          ends = ends_later n k (held m).seen (held w).seen p 0 0 outgoing incoming post.knows.legal meets.later its post.knows.ends;
+        };
+        made = met_own ∙ sym (ap (λ (e : Held). e.made) meets.rest);
+      }
+
+  pub post_hears : Hears note.seen (view_of table m n k p region) (view_of table w n k p region)
+  post_hears = record {
+    rest = ap (λ (e : Held). view_of table (e ∷ [], []) n k p region) meets.rest;
+    seen = meets.seen;
+    later = meets.later;
+    later_told = meets.later_note;
+    legal = met_legal;
+    own = met_own;
+  }

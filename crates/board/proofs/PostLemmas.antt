@@ -1,0 +1,104 @@
+-- A post before and after a call.
+use Rattle.std.proofs.Common.{◌≡◌, ◌≢◌, ℕ, suc, max, ◌+◌, ◌-◌, ◌<◌, ◌≤◌, inl, inr, ◌⊎◌, zero, Bool, true, false, cond, List, [], ◌∷◌, ◌++◌, length, take, drop, set, refl, sym, ap, ap₂, ◌∙◌, subst, arith}
+use Rattle.std.proofs.lemmas.Bool.{eq-eqb, ne_eqb}
+use Rattle.std.proofs.lemmas.List.{length-set, length_push}
+use Rattle.std.specs.Prelude.{slice_get, Option, None, Some}
+use Rattle.atomic_table.specs.Seated.{TableId}
+use Rattle.chart.specs.declared.history.Occurrence.{Occurrence}
+use Rattle.chart.specs.declared.history.Occurrence.TheVariants.{Send, Receive, Close}
+use Rattle.chart.specs.declared.line.TheConstants.{MAX_EVENTS}
+use Rattle.chart.specs.Messages.{Content}
+use Rattle.chart.specs.Events.{send_event, greatest_region, MayHaveRegion}
+use Rattle.chart.specs.Histories.{own, sent, received, is_closed, chart_of, IsLegal, Begins}
+use Rattle.chart.proofs.Histories.{closed_own}
+use Rattle.chart.proofs.Regions.{greatest_region-push}
+use Rattle.chart.proofs.Sends.{line_after_send}
+use Rattle.line_recorder.specs.Recorders.{RecorderView}
+use Rattle.line_recorder.specs.Recording.{IsRecorder}
+use Rattle.board_core.proofs.OwnEvents.{same_line}
+use Rattle.board_table.specs.declared.held.Held.{Held}
+use Rattle.board_table.specs.declared.shape.Shape.{Shape}
+use Rattle.board_table.specs.Knowing.{Mine, held, Rests}
+use Rattle.board.specs.declared.ends.Outgoing.{Outgoing}
+use Rattle.board.specs.declared.ends.Incoming.{Incoming}
+use Rattle.board.specs.Known.{IsOutgoing, IsIncoming, AreEndsBut, AreEnds, Knows, IsPost, Did}
+use Rattle.board.proofs.EndLemmas.{ends_later, ends_sent, ends_received, ends_closed, ends_but}
+use Rattle.board.proofs.OneSend.{saw_same, line_saw}
+
+-- an element of a list in which one was put is this one, or another that was there before
+pub at_set : {X : Type 0} (xs : List X) (j i : ℕ) (e o : X) → slice_get (set xs j e) i ≡ Some o → ((i ≡ j) × (e ≡ o)) ⊎ ((i ≢ j) × (slice_get xs i ≡ Some o))
+at_set [] j i e o at_i = absurd (none_there at_i)
+  where
+    none_there : None ≡ Some o → ⊥
+    none_there never = cc
+at_set (x ∷ xs) zero zero e o at_i = inl (refl, cc)
+at_set (x ∷ xs) zero (suc i) e o at_i = inr ((λ same. cc), at_i)
+at_set (x ∷ xs) (suc j) zero e o at_i = inr ((λ same. cc), at_i)
+at_set (x ∷ xs) (suc j) (suc i) e o at_i = go (at_set xs j i e o at_i)
+  where
+    go : ((i ≡ j) × (e ≡ o)) ⊎ ((i ≢ j) × (slice_get xs i ≡ Some o)) → ((suc i ≡ suc j) × (e ≡ o)) ⊎ ((suc i ≢ suc j) × (slice_get xs i ≡ Some o))
+    go (inl (here, same)) = inl (ap suc here, same)
+    go (inr (ne, there)) = inr ((λ same. ne (omega arith)), there)
+
+-- an end is put in its place
+pub with_outgoing : (n : ℕ) (h : List Occurrence) (p j : ℕ) (e : Outgoing) (outgoing : List Outgoing) (incoming : List Incoming) → j < length outgoing → AreEndsBut n h p (suc j) 0 outgoing incoming → IsOutgoing n h p (suc j) e → AreEnds n h p (set outgoing j e) incoming
+with_outgoing n h p j e outgoing incoming within old its = record {
+  as_many = length-set outgoing j e ∙ old.as_many;
+  of_each = old.of_each;
+  sends = λ i o ne other at_i. go i o ne (at_set outgoing j i e o at_i);
+  takes = old.takes;
+}
+  where
+    go : (i : ℕ) (o : Outgoing) → suc i ≢ p → ((i ≡ j) × (e ≡ o)) ⊎ ((i ≢ j) × (slice_get outgoing i ≡ Some o)) → IsOutgoing n h p (suc i) o
+    go i o ne (inl (here, same)) = subst (λ (x : ℕ). IsOutgoing n h p (suc x) o) (sym here) (subst (λ (x : Outgoing). IsOutgoing n h p (suc j) x) same its)
+    go i o ne (inr (other, there)) = old.sends i o ne (λ same. other (omega arith)) there
+
+module _ (key : Shape) (table chair chair_after : TableId) (m w : Mine) (n k p : ℕ) (r u : RecorderView) (region greatest : ℕ) (outgoing : List Outgoing) (incoming : List Incoming) (post : IsPost key table chair m n k p r region greatest outgoing incoming) (seated : chair_after ≡ chair) (rests : Rests n k p w) (recorder : IsRecorder n (held w).seen p u) (j : ℕ) (e : Outgoing) (within : j < length outgoing) (end : IsOutgoing n (held w).seen p (suc j) e) where
+  -- the call that touched this end saw, and made nothing
+  pub post_saw : Did n k p (held m) (held w) (held w).seen [] → IsPost key table chair_after w n k p u region greatest (set outgoing j e) incoming
+  post_saw did =
+      let same = saw_same n k p (held m) (held w) post.knows.legal post.made did in
+      let line = line_saw n k p (held m) (held w) post.knows.legal post.made did in
+      let others = ends_later n k (held m).seen (held w).seen p (suc j) 0 outgoing incoming post.knows.legal did.later same (ends_but n (held m).seen p (suc j) 0 outgoing incoming post.knows.ends) in
+      record {
+        chair_is = seated ∙ post.chair_is;
+        board = post.board;
+        sized = post.sized;
+        least = post.least;
+        most = post.most;
+        rests = rests;
+        knows = record {
+          legal = did.legal;
+          own = record { recorder = recorder; may = subst (λ l. MayHaveRegion l region) (sym line) post.knows.own.may };
+          greatest_is = post.knows.greatest_is ∙ ap greatest_region (sym line);
+          few_regions = let same_length = ap length line in omega (arith, post.knows.few_regions);
+          ends = with_outgoing n (held w).seen p j e outgoing incoming within others end;
+        };
+        made = did.own;
+      }
+
+  -- it sent a message
+  pub post_sent : (before : List Occurrence) (c : Content) → region ≡ 0 → Did n k p (held m) (held w) before (Send p (suc j) c ∷ []) → IsPost key table chair_after w n k p u region greatest (set outgoing j e) incoming
+  post_sent before c outside did =
+      let same : own before p ≡ own (held m).seen p = did.own_before ∙ sym post.made in
+      let line : chart_of (held w).seen p ≡ chart_of (held m).seen p ++ send_event (suc j) c.name ∷ [] =
+      ap (λ h. chart_of h p) did.seen ∙ line_after_send before p (suc j) c ∙ ap (λ l. l ++ send_event (suc j) c.name ∷ []) (same_line n (held m).seen before did.later p same) in
+      let others = ends_later n k (held m).seen before p (suc j) 0 outgoing incoming post.knows.legal did.later same (ends_but n (held m).seen p (suc j) 0 outgoing incoming post.knows.ends) in
+      let now : AreEndsBut n (held w).seen p (suc j) 0 outgoing incoming = subst (λ h. AreEndsBut n h p (suc j) 0 outgoing incoming) (sym did.seen) (ends_sent n before p (suc j) 0 c outgoing incoming others) in
+      let regions = greatest_region-push (chart_of (held m).seen p) (send_event (suc j) c.name) in
+      record {
+        chair_is = seated ∙ post.chair_is;
+        board = post.board;
+        sized = post.sized;
+        least = post.least;
+        most = post.most;
+        rests = rests;
+        knows = record {
+          legal = did.legal;
+          own = record { recorder = recorder; may = inl outside };
+          greatest_is = let g = post.knows.greatest_is in let i = ap greatest_region line in omega (arith, regions);
+          few_regions = let i = ap length line in omega (arith, post.knows.few_regions, length_push (chart_of (held m).seen p) (send_event (suc j) c.name));
+          ends = with_outgoing n (held w).seen p j e outgoing incoming within now end;
+        };
+        made = did.own;
+      }

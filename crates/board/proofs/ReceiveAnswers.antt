@@ -1,0 +1,156 @@
+-- What a post's receive leaves and answers.
+use Rattle.std.proofs.Common.{◌≡◌, ◌≢◌, ℕ, suc, max, ◌+◌, ◌-◌, ◌<◌, ◌≤◌, inl, inr, ◌⊎◌, Bool, List, [], ◌∷◌, ◌++◌, length, drop, set, get_or, refl, sym, ap, ◌∙◌, subst, arith}
+use Rattle.std.proofs.lemmas.List.{length-set, length_push}
+use Rattle.std.proofs.lemmas.Option.{slice_get-get_or}
+use Rattle.std.specs.Prelude.{slice_get, Option, Some}
+use Rattle.atomic_table.specs.Seated.{TableId}
+use Rattle.chart.specs.declared.history.Occurrence.{Occurrence}
+use Rattle.chart.specs.declared.history.Occurrence.TheVariants.{Receive}
+use Rattle.chart.specs.declared.line.TheConstants.{MAX_EVENTS}
+use Rattle.chart.specs.Messages.{Content}
+use Rattle.chart.specs.Events.{receive_event, greatest_region, MayHaveRegion}
+use Rattle.chart.specs.Histories.{own, waiting, chart_of, Begins}
+use Rattle.chart.proofs.Histories.{begins_onward}
+use Rattle.chart.proofs.Regions.{greatest_region-push, may_be-small, may-again}
+use Rattle.chart.proofs.Sends.{line_after_receive}
+use Rattle.line_recorder.specs.Recorders.{RecorderView}
+use Rattle.line_recorder.specs.Recording.{IsRecorder}
+use Rattle.board_core.proofs.OwnEvents.{same_line}
+use Rattle.board_table.specs.declared.held.Held.{Held}
+use Rattle.board_table.specs.declared.shape.Shape.{Shape}
+use Rattle.board_table.specs.Layout.{LaneView}
+use Rattle.board_table.specs.Knowing.{Mine, held, Rests}
+use Rattle.board.specs.declared.answer.Arrival.{Arrival}
+use Rattle.board.specs.declared.ends.Outgoing.{Outgoing}
+use Rattle.board.specs.declared.ends.Incoming.{Incoming}
+use Rattle.board.specs.declared.error.TakeError.{TakeError}
+use Rattle.board.specs.declared.error.TakeError.TheVariants.{NoSuchInstance, ToItself, LineFull, Memory}
+use Rattle.board.specs.Views.{IsPartner}
+use Rattle.board.specs.Known.{IsIncoming, AreEndsBut, AreEnds, IsPost, Did, view_of}
+use Rattle.board.specs.Found.{HasNone}
+use Rattle.board.specs.Receipts.{IsReceived, IsUnreceived}
+use Rattle.board.specs.Taking.{IsGot, IsFoundEmpty, IsUntaken}
+use Rattle.board.proofs.EndLemmas.{ends_later, ends_received, ends_but}
+use Rattle.board.proofs.OneSend.{saw_same, line_saw, recorder_saw}
+use Rattle.board.proofs.PostLemmas.{at_set}
+use Rattle.board.proofs.SendAnswers.{did_makes}
+
+-- the call saw, and then did this
+pub did_onward : (n k p : ℕ) (e f g : Held) (before events : List Occurrence) → Did n k p e f f.seen [] → Did n k p f g before events → Did n k p e g before events
+did_onward n k p e f g before events saw did = record {
+  later = begins_onward e.seen f.seen before saw.later did.later;
+  legal_before = did.legal_before;
+  own_before = did.own_before ∙ saw.made;
+  seen = did.seen;
+  made = did.made ∙ ap (λ xs. events ++ xs) saw.made;
+  legal = did.legal;
+  own = did.own;
+  looks = omega (arith, saw.looks, did.looks);
+}
+
+-- an end is put in its place
+with_incoming : (n : ℕ) (h : List Occurrence) (p j : ℕ) (e : Incoming) (outgoing : List Outgoing) (incoming : List Incoming) → j < length incoming → AreEndsBut n h p 0 (suc j) outgoing incoming → IsIncoming n h p (suc j) e → AreEnds n h p outgoing (set incoming j e)
+with_incoming n h p j e outgoing incoming within old its = record {
+  as_many = old.as_many;
+  of_each = length-set incoming j e ∙ old.of_each;
+  sends = old.sends;
+  takes = λ i o ne other at_i. go i o ne (at_set incoming j i e o at_i);
+}
+  where
+    go : (i : ℕ) (o : Incoming) → suc i ≢ p → ((i ≡ j) × (e ≡ o)) ⊎ ((i ≢ j) × (slice_get incoming i ≡ Some o)) → IsIncoming n h p (suc i) o
+    go i o ne (inl (here, same)) = subst (λ (x : ℕ). IsIncoming n h p (suc x) o) (sym here) (subst (λ (x : Incoming). IsIncoming n h p (suc j) x) same its)
+    go i o ne (inr (other, there)) = old.takes i o ne (λ same. other (omega arith)) there
+
+module _ (key : Shape) (table chair : TableId) (m : Mine) (n k p : ℕ) (r : RecorderView) (region greatest : ℕ) (outgoing : List Outgoing) (incoming : List Incoming) (post : IsPost key table chair m n k p r region greatest outgoing incoming) where
+  -- the end of the lane from an instance
+  pub incoming_at : (from j : ℕ) (i : Incoming) → from ≡ suc j → from ≢ p → from ≤ n → i ≡ get_or incoming j i → IsIncoming n (held m).seen p from i
+  incoming_at from j i place ne most read =
+      let within : j < length incoming = let many = post.knows.ends.of_each in omega (arith, place, most) in
+      let its : IsIncoming n (held m).seen p (suc j) i = post.knows.ends.takes j i (λ e. ne (place ∙ e)) (λ e. absurd (omega arith)) (slice_get-get_or incoming j i within ∙ ap Some (sym read)) in
+      subst (λ (x : ℕ). IsIncoming n (held m).seen p x i) (sym place) its
+
+  pub partner : (from j : ℕ) → from ≡ suc j → from ≢ p → from ≤ n → IsPartner (view_of table m n k p region) from
+  partner from j place ne most = (post.least, post.most, omega (arith, place), most, λ e. ne (sym e))
+
+  -- what it has when it saw s
+  module _ (s : Mine) (did : Did n k p (held m) (held s) (held s).seen []) where
+    pub recorder_then : IsRecorder n (held s).seen p r
+    recorder_then = recorder_saw n k p (held m) (held s) post.knows.legal post.made did r post.knows.own.recorder
+
+    pub region_then : MayHaveRegion (chart_of (held s).seen p) region
+    region_then = subst (λ l. MayHaveRegion l region) (sym (line_saw n k p (held m) (held s) post.knows.legal post.made did)) post.knows.own.may
+
+  module _ (chair_after : TableId) (w : Mine) (u : RecorderView) (seated : chair_after ≡ chair) (rests : Rests n k p w) (recorder : IsRecorder n (held w).seen p u) (j : ℕ) (e : Incoming) (within : j < length incoming) (end : IsIncoming n (held w).seen p (suc j) e) where
+    -- the call that touched this end saw, and made nothing
+    pub post_looked : Did n k p (held m) (held w) (held w).seen [] → IsPost key table chair_after w n k p u region greatest outgoing (set incoming j e)
+    post_looked did =
+        let same = saw_same n k p (held m) (held w) post.knows.legal post.made did in
+        let line = line_saw n k p (held m) (held w) post.knows.legal post.made did in
+        let others = ends_later n k (held m).seen (held w).seen p 0 (suc j) outgoing incoming post.knows.legal did.later same (ends_but n (held m).seen p 0 (suc j) outgoing incoming post.knows.ends) in
+        record {
+          chair_is = seated ∙ post.chair_is;
+          board = post.board;
+          sized = post.sized;
+          least = post.least;
+          most = post.most;
+          rests = rests;
+          knows = record {
+            legal = did.legal;
+            own = record { recorder = recorder; may = subst (λ l. MayHaveRegion l region) (sym line) post.knows.own.may };
+            greatest_is = post.knows.greatest_is ∙ ap greatest_region (sym line);
+            few_regions = let same_length = ap length line in omega (arith, post.knows.few_regions);
+            ends = with_incoming n (held w).seen p j e outgoing incoming within others end;
+          };
+          made = did.own;
+        }
+
+    -- it received a message
+    pub post_received : (before : List Occurrence) (x : Content) (rest : List Content) → waiting before (suc j) p ≡ x ∷ rest → Did n k p (held m) (held w) before (Receive p (suc j) region ∷ []) → IsPost key table chair_after w n k p u region (max greatest region) outgoing (set incoming j e)
+    post_received before x rest first did =
+        let same : own before p ≡ own (held m).seen p = did.own_before ∙ sym post.made in
+        let event = receive_event (suc j) x.name region in
+        let line : chart_of (held w).seen p ≡ chart_of (held m).seen p ++ receive_event (suc j) x.name region ∷ [] =
+        ap (λ h. chart_of h p) did.seen ∙ line_after_receive before p (suc j) region x rest first ∙ ap (λ l. l ++ receive_event (suc j) x.name region ∷ []) (same_line n (held m).seen before did.later p same) in
+        let others = ends_later n k (held m).seen before p 0 (suc j) outgoing incoming post.knows.legal did.later same (ends_but n (held m).seen p 0 (suc j) outgoing incoming post.knows.ends) in
+        let now : AreEndsBut n (held w).seen p 0 (suc j) outgoing incoming = subst (λ h. AreEndsBut n h p 0 (suc j) outgoing incoming) (sym did.seen) (ends_received n before p (suc j) 0 region outgoing incoming others) in
+        let regions = greatest_region-push (chart_of (held m).seen p) (receive_event (suc j) x.name region) in
+        let small = may_be-small (chart_of (held m).seen p) region post.knows.own.may in
+        record {
+          chair_is = seated ∙ post.chair_is;
+          board = post.board;
+          sized = post.sized;
+          least = post.least;
+          most = post.most;
+          rests = rests;
+          knows = record {
+            legal = did.legal;
+            own = record { recorder = recorder; may = subst (λ l. MayHaveRegion l region) (sym line) (may-again (chart_of (held m).seen p) (receive_event (suc j) x.name region) post.knows.own.may) };
+            greatest_is = ap (λ g. max g region) post.knows.greatest_is ∙ sym regions ∙ sym (ap greatest_region line);
+            few_regions = let i = ap length line in omega (arith, small, post.knows.greatest_is, post.knows.few_regions, length_push (chart_of (held m).seen p) (receive_event (suc j) x.name region));
+            ends = with_incoming n (held w).seen p j e outgoing incoming within now end;
+          };
+          made = did.own;
+        }
+
+  -- What it answers.
+  module _ (from : ℕ) (two : IsPartner (view_of table m n k p region) from) where
+    abbrev lane : LaneView
+    lane = record { instances = n; capacity = k; sender = from; receiver = p }
+
+    pub found_empty : (w : Mine) (its_end : Bool) → HasNone lane its_end m w → IsFoundEmpty (view_of table m n k p region) from its_end (view_of table w n k p region)
+    found_empty w its_end none = record { two = two; waits = none.waits; closed = none.closed; before = none.before; looked = none.looked }
+
+    pub untaken : (s w : Mine) (error : TakeError) → IsUnreceived lane s w error → IsUntaken (view_of table m n k p region) from error (view_of table w n k p region)
+    untaken s w NoSuchInstance none = absurd none.cause
+    untaken s w ToItself none = absurd none.cause
+    untaken s w LineFull none = (record { two = two; waits = none.waits }, none.cause)
+    untaken s w Memory none = (record { two = two; waits = none.waits }, none.cause)
+
+    pub got : (s w : Mine) (arrival : Arrival) → Did n k p (held m) (held s) (held s).seen [] → IsReceived lane region s arrival w → IsGot (view_of table m n k p region) from arrival (view_of table w n k p region)
+    got s w arrival saw its = record {
+      two = two;
+      makes = (drop 1 (held w).seen, its.first.0, did_makes table m w n k p region (drop 1 (held w).seen) (Receive p from region ∷ []) (did_onward n k p (held m) (held s) (held w) (drop 1 (held w).seen) (Receive p from region ∷ []) saw its.did), its.first.1);
+      sender = its.sender;
+      receive = its.receive;
+      report = its.report;
+    }

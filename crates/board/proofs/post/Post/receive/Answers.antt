@@ -1,0 +1,84 @@
+use Rattle.std.proofs.Common.{rules, ◌≡◌, ◌≢◌, ◌≤◌, ◌<◌, ◌+◌, ◌∙◌, ℕ, suc, max, List, [], ◌∷◌, length, true, false, refl, sym, ap, subst, arith}
+use Rattle.std.proofs.lemmas.Bool.{eqb-false}
+use Rattle.board_table.specs.Knowing.{held}
+use Rattle.board.proofs.SendAnswers.{did_sound}
+use Rattle.board.proofs.ReceiveAnswers.{did_onward, incoming_at, partner, recorder_then, region_then, post_looked, post_received, got}
+use Rattle.board.proofs.post.Post.receive.Goals as goal
+
+pub find_messages-requires-clause-end : goal.find_messages-requires-clause-end
+find_messages-requires-clause-end c =
+    let ne : c.args.from ≢ c.self.inside.number = eqb-false _ _ (sym c.if-eq.ensures) in
+    rw c.new-lane.ensures (incoming_at _ _ _ _ _ _ _ _ _ _ _ _ c.self.invariant c.args.from c.place.result c.index_mut-end.result.now c.place.ensures.value ne (omega arith) c.index_mut-end.ensures.value)
+
+pub invariant_of-self : goal.invariant_of-self
+invariant_of-self c =
+    let post = c.self.invariant in
+    let did = rw c.new-lane.ensures at c.find_messages.ensures.did in
+    let within : c.place.result < length c.self.inside.incoming.items = omega (arith, post.knows.ends.of_each, c.place.ensures.value) in
+    let end = rw (c.new-lane.ensures, c.place.ensures.value) at c.find_messages.ensures.end in
+    let rests = rw c.new-lane.ensures at c.in-Nothing.ensures.found.rests in
+    post_looked _ _ _ _ _ _ _ _ _ _ _ _ post _ _ _ c.find_messages.ensures.table rests (recorder_then _ _ _ _ _ _ _ _ _ _ _ _ post c.find_messages.new.seat.me did) c.place.result _ within end did
+
+pub invariant_of-self-in-Ended : goal.invariant_of-self-in-Ended
+invariant_of-self-in-Ended c =
+    let post = c.self.invariant in
+    let did = rw c.new-lane.ensures at c.find_messages.ensures.did in
+    let within : c.place.result < length c.self.inside.incoming.items = omega (arith, post.knows.ends.of_each, c.place.ensures.value) in
+    let end = rw (c.new-lane.ensures, c.place.ensures.value) at c.find_messages.ensures.end in
+    let rests = rw c.new-lane.ensures at c.in-Ended.ensures.found.rests in
+    post_looked _ _ _ _ _ _ _ _ _ _ _ _ post _ _ _ c.find_messages.ensures.table rests (recorder_then _ _ _ _ _ _ _ _ _ _ _ _ post c.find_messages.new.seat.me did) c.place.result _ within end did
+
+pub receive_one-requires-clause-recorder : goal.receive_one-requires-clause-recorder
+receive_one-requires-clause-recorder c =
+    let did = rw c.new-lane.ensures at c.find_messages.ensures.did in
+    rw c.new-lane.ensures (recorder_then _ _ _ _ _ _ _ _ _ _ _ _ c.self.invariant c.find_messages.new.seat.me did)
+
+pub receive_one-requires-clause-coregion : goal.receive_one-requires-clause-coregion
+receive_one-requires-clause-coregion c =
+    let did = rw c.new-lane.ensures at c.find_messages.ensures.did in
+    rw c.new-lane.ensures (region_then _ _ _ _ _ _ _ _ _ _ _ _ c.self.invariant c.find_messages.new.seat.me did)
+
+pub invariant_of-self-in_err-arrival : goal.invariant_of-self-in_err-arrival
+invariant_of-self-in_err-arrival c =
+    let post = c.self.invariant in
+    let did = rw c.new-lane.ensures at c.find_messages.ensures.did in
+    let within : c.place.result < length c.self.inside.incoming.items = omega (arith, post.knows.ends.of_each, c.place.ensures.value) in
+    let rests = rw c.new-lane.ensures at c.receive_one.ensures.rests in
+    let recorder = rw c.new-lane.ensures at c.receive_one.ensures.recorder in
+    let end = rw (c.new-lane.ensures, c.place.ensures.value) at c.receive_one.ensures.end in
+    let unmade = rw c.new-lane.ensures at c.in_err-arrival.ensures.err in
+    let then_ = did_onward _ _ _ (held c.self.inside.seat.me) (held c.find_messages.new.seat.me) (held c.receive_one.new.seat.me) _ _ did unmade.did in
+    post_looked _ _ _ _ _ _ _ _ _ _ _ _ post _ _ _ (c.receive_one.ensures.table ∙ c.find_messages.ensures.table) rests recorder c.place.result _ within end then_
+
+pub returns-in_err-arrival-clause-sound : goal.returns-in_err-arrival-clause-sound
+returns-in_err-arrival-clause-sound c =
+    let did = rw c.new-lane.ensures at c.find_messages.ensures.did in
+    let unmade = rw c.new-lane.ensures at c.in_err-arrival.ensures.err in
+    let then_ = did_onward _ _ _ (held c.self.inside.seat.me) (held c.find_messages.new.seat.me) (held c.receive_one.new.seat.me) _ _ did unmade.did in
+    rw (← c.self.view_is) (did_sound c.self.inside.words.now.table_id c.self.inside.seat.me c.receive_one.new.seat.me _ _ _ c.self.inside.region _ _ then_ c.self.inside.region)
+
+pub invariant_of-self-2 : goal.invariant_of-self-2
+invariant_of-self-2 c =
+    let post = c.self.invariant in
+    let did = rw c.new-lane.ensures at c.find_messages.ensures.did in
+    let within : c.place.result < length c.self.inside.incoming.items = omega (arith, post.knows.ends.of_each, c.place.ensures.value) in
+    let rests = rw c.new-lane.ensures at c.receive_one.ensures.rests in
+    let recorder = rw c.new-lane.ensures at c.receive_one.ensures.recorder in
+    let end = rw (c.new-lane.ensures, c.place.ensures.value) at c.receive_one.ensures.end in
+    let made = rw (c.new-lane.ensures, c.place.ensures.value) at c.in_ok-arrival.ensures.ok in
+    let then_ = did_onward _ _ _ (held c.self.inside.seat.me) (held c.find_messages.new.seat.me) (held c.receive_one.new.seat.me) _ _ did made.did in
+    rw c.max-self-inside.ensures (post_received _ _ _ _ _ _ _ _ _ _ _ _ post _ _ _ (c.receive_one.ensures.table ∙ c.find_messages.ensures.table) rests recorder c.place.result _ within end _ _ _ made.first.1 then_)
+
+pub returns-clause-sound : goal.returns-clause-sound
+returns-clause-sound c =
+    let did = rw c.new-lane.ensures at c.find_messages.ensures.did in
+    let made = rw (c.new-lane.ensures, c.place.ensures.value) at c.in_ok-arrival.ensures.ok in
+    let then_ = did_onward _ _ _ (held c.self.inside.seat.me) (held c.find_messages.new.seat.me) (held c.receive_one.new.seat.me) _ _ did made.did in
+    rw (← c.self.view_is) (did_sound c.self.inside.words.now.table_id c.self.inside.seat.me c.receive_one.new.seat.me _ _ _ c.self.inside.region _ _ then_ c.self.inside.region)
+
+pub returns-clause-answer : goal.returns-clause-answer
+returns-clause-answer c =
+    let ne : c.args.from ≢ c.self.inside.number = eqb-false _ _ (sym c.if-eq.ensures) in
+    let did = rw c.new-lane.ensures at c.find_messages.ensures.did in
+    let made = rw c.new-lane.ensures at c.in_ok-arrival.ensures.ok in
+    rw (← c.self.view_is) (got _ _ _ _ _ _ _ _ _ _ _ _ c.self.invariant c.args.from (partner _ _ _ _ _ _ _ _ _ _ _ _ c.self.invariant c.args.from c.place.result c.place.ensures.value ne (omega arith)) c.find_messages.new.seat.me c.receive_one.new.seat.me _ did made)

@@ -1,0 +1,63 @@
+use Rattle.std.proofs.Common.{rules, ◌≡◌, ◌≢◌, ◌≤◌, ◌<◌, ◌+◌, ◌∙◌, ℕ, suc, List, [], ◌∷◌, length, true, false, refl, sym, ap, subst, arith}
+use Rattle.chart.specs.declared.instance.EventNo.{EventNo}
+use Rattle.board_table.specs.Knowing.{held}
+use Rattle.board.specs.Known.{IsOutgoing, view_of}
+use Rattle.board.specs.Sending.{MayPass}
+use Rattle.board.proofs.PostLemmas.{post_saw, post_sent}
+use Rattle.board.proofs.SendAnswers.{outgoing_at, unclosed, unsent, did_sound, did_makes, did_stays}
+use Rattle.board.proofs.post.Post.send.Goals as goal
+use Rattle.board.proofs.post.Post.send.Goals.{in-Ok, in-Err}
+
+pub send_one-requires-clause-end : goal.send_one-requires-clause-end
+send_one-requires-clause-end c =
+    let may = rw (← c.self.view_is) at c.in_default.ensures.none in
+    rw c.new-lane.ensures (outgoing_at _ _ _ _ _ _ _ _ _ _ _ _ c.self.invariant c.args.to c.place.result c.index_mut-end.result.now c.place.ensures.value (λ e. may.may.two.4 (sym e)) may.may.two.3 c.index_mut-end.ensures.value)
+
+pub send_one-requires-clause-unclosed : goal.send_one-requires-clause-unclosed
+send_one-requires-clause-unclosed c =
+    let may = rw (← c.self.view_is) at c.in_default.ensures.none in
+    rw c.new-lane.ensures (unclosed _ _ _ _ c.self.inside.seat.me _ _ _ _ _ _ _ _ c.self.invariant c.args.to may)
+
+pub invariant_of-self : goal.invariant_of-self
+invariant_of-self c =
+    let may = rw (← c.self.view_is) at c.in_default.ensures.none in
+    let rests = rw c.new-lane.ensures at c.send_one.ensures.rests in
+    let recorder = rw c.new-lane.ensures at c.send_one.ensures.recorder in
+    let end = rw (c.new-lane.ensures, c.place.ensures.value) at c.send_one.ensures.end in
+    let within : c.place.result < length c.self.inside.outgoing.items = omega (arith, c.self.invariant.knows.ends.as_many, c.place.ensures.value, may.may.two.3) in
+    elim c.match-send_one.branch [
+      | in-Ok w ↦
+          let did = rw (c.new-lane.ensures, c.place.ensures.value) at w.in-Ok.ensures.ok in
+          post_sent _ _ _ _ _ _ _ _ _ _ _ _ _ _ _ c.self.invariant c.send_one.ensures.table rests recorder c.place.result _ within end _ c.args.message may.may.outside did
+      | in-Err w ↦
+          let unmade = rw c.new-lane.ensures at w.in-Err.ensures.err in
+          post_saw _ _ _ _ _ _ _ _ _ _ _ _ _ _ _ c.self.invariant c.send_one.ensures.table rests recorder c.place.result _ within end unmade.1.did
+    ]
+
+pub returns-clause-sound : goal.returns-clause-sound
+returns-clause-sound c =
+    elim c.match-send_one.branch [
+      | in-Ok w ↦
+          let did = rw c.new-lane.ensures at w.in-Ok.ensures.ok in
+          rw (← c.self.view_is) (did_sound c.self.inside.words.now.table_id c.self.inside.seat.me c.send_one.new.seat.me _ _ _ c.self.inside.region _ _ did c.self.inside.region)
+      | in-Err w ↦
+          let unmade = rw c.new-lane.ensures at w.in-Err.ensures.err in
+          rw (← c.self.view_is) (did_sound c.self.inside.words.now.table_id c.self.inside.seat.me c.send_one.new.seat.me _ _ _ c.self.inside.region _ _ unmade.1.did c.self.inside.region)
+    ]
+
+pub returns-clause-answer : goal.returns-clause-answer
+returns-clause-answer c =
+    let may = rw (← c.self.view_is) at c.in_default.ensures.none in
+    let recorder = rw c.new-lane.ensures at c.send_one.ensures.recorder in
+    elim c.match-send_one.branch [
+      | in-Ok w ↦
+          let did = rw c.new-lane.ensures at w.in-Ok.ensures.ok in
+          rw (w.result-is, ← c.self.view_is) (record {
+            may = may.may;
+            makes = (_, did_makes c.self.inside.words.now.table_id c.self.inside.seat.me c.send_one.new.seat.me _ _ _ c.self.inside.region _ _ did);
+            event = ap (λ (i : ℕ). record { instance = c.self.inside.number; index = i }) (w.len.ensures.value ∙ ap (λ l. length l.events) (w.line.ensures ∙ recorder.line));
+          })
+      | in-Err w ↦
+          let unmade = rw c.new-lane.ensures at w.in-Err.ensures.err in
+          rw (w.result-is, ← c.self.view_is) (unmade.0, did_stays c.self.inside.words.now.table_id c.self.inside.seat.me c.send_one.new.seat.me _ _ _ c.self.inside.region unmade.1.did, unsent _ _ _ _ c.send_one.new.seat.me _ _ _ _ _ _ _ _ c.self.invariant c.args.to may c.new-lane.result c.new-lane.ensures _ unmade.1.did w.in-Err.ensures.err.1.cause)
+    ]

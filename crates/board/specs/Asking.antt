@@ -1,0 +1,11 @@
+-- What asking a board for its posts answers (this project's profile).
+use Rattle.std.specs.Prelude.{◌≡◌, true, false, List, Result, Ok, Err}
+use Rattle.board.specs.declared.error.PostsError.{PostsError}
+use Rattle.board.specs.declared.error.PostsError.TheVariants.{PostsTaken, Memory}
+use Rattle.board.specs.Boards.{BoardState, AreNewPosts}
+use Rattle.board.specs.Views.{PostView}
+
+-- why it gives none: F10 exactly where they were asked for before
+abbrev pub IsUngiven : BoardState → PostsError → Type 0
+IsUngiven old PostsTaken = old.asked ≡ true
+IsUngiven old Memory = old.asked ≡ false

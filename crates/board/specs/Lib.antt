@@ -1,0 +1,12 @@
+pub mod Asking
+pub mod Boards
+pub mod Closing
+pub mod Found
+pub mod Known
+pub mod Meeting
+pub mod Parts
+pub mod Receipts
+pub mod Sending
+pub mod Taking
+pub mod TakingMany
+pub mod Views

@@ -1,0 +1,77 @@
+-- What a send answers (this project's profile, after ITU-T Z.120).
+use Rattle.std.specs.Prelude.{◌≡◌, ℕ, ◌+◌, ◌<◌, ◌≤◌, true, false, List, [], ◌∷◌, ◌++◌, length, map, reverse, Result, Ok, Err}
+use Rattle.chart.specs.declared.history.Occurrence.{Occurrence}
+use Rattle.chart.specs.declared.history.Occurrence.TheVariants.{Send}
+use Rattle.chart.specs.declared.instance.EventNo.{EventNo}
+use Rattle.chart.specs.declared.line.TheConstants.{MAX_EVENTS}
+use Rattle.chart.specs.Messages.{Content}
+use Rattle.chart.specs.Histories.{waiting, is_closed}
+use Rattle.board.specs.declared.answer.Sent.{Sent}
+use Rattle.board.specs.declared.error.SendError.{SendError}
+use Rattle.board.specs.declared.error.SendError.TheVariants.{NoSuchInstance, ToItself, InCoregion, Closed, TooMany, LineFull, Full, Memory}
+use Rattle.board.specs.Views.{PostView, line_of, last_event, Makes, Stays, IsPartner}
+
+-- no cause stands in the way but those of the line, of the lane's places and of memory
+pub record MaySend (old : PostView) (to : ℕ) : Type 0 where
+  pub two : IsPartner old to
+  pub outside : old.region ≡ 0
+  pub opened : is_closed old.made old.number to ≡ false
+
+-- so many more messages than one call may send find no place: as many wait as leave too few, in what was seen too, and this
+-- comes of a look
+pub record IsFull (old : PostView) (to many : ℕ) (new : PostView) : Type 0 where
+  pub waits : new.board.capacity < length (waiting new.seen new.number to) + many
+  pub opened : is_closed new.seen new.number to ≡ false
+  pub before : old.board.capacity < length (waiting old.seen old.number to) + many
+  pub looked : old.looks < new.looks
+
+-- so many messages find places
+abbrev pub HasRoom : PostView → ℕ → ℕ → Type 0
+HasRoom post to many = length (waiting post.seen post.number to) + many ≤ post.board.capacity
+
+-- why these many messages aren't sent, by one call that takes lists or by one that doesn't
+abbrev pub IsUnsent : PostView → ℕ → ℕ → SendError → PostView → Type 0
+IsUnsent old to many NoSuchInstance new = old.board.size < to
+IsUnsent old to many ToItself new = to ≡ old.number
+IsUnsent old to many InCoregion new = IsPartner old to × (0 < old.region)
+IsUnsent old to many Closed new = IsPartner old to × (old.region ≡ 0) × (is_closed old.made old.number to ≡ true)
+IsUnsent old to many TooMany new = MaySend old to × (old.board.capacity < many)
+IsUnsent old to many LineFull new = MaySend old to × (many ≤ old.board.capacity) × (MAX_EVENTS < length (line_of new) + many)
+IsUnsent old to many Full new = MaySend old to × (many ≤ old.board.capacity) × (length (line_of new) + many ≤ MAX_EVENTS) × IsFull old to many new
+IsUnsent old to many Memory new = MaySend old to × (many ≤ old.board.capacity) × (length (line_of new) + many ≤ MAX_EVENTS)
+
+-- the message was sent, last of all that was seen
+pub record IsSent (old : PostView) (to : ℕ) (message : Content) (sent : Sent) (new : PostView) : Type 0 where
+  pub may : MaySend old to
+  pub makes : (before : List Occurrence) × Makes old before (Send new.number to message ∷ []) new
+  pub event : sent.event ≡ last_event new
+
+-- what a send of the message to an instance answers
+abbrev pub Sends : PostView → ℕ → Content → Result Sent (Content × SendError) → PostView → Type 0
+Sends old to message (Ok sent) new = IsSent old to message sent new
+Sends old to message (Err (back, error)) new = (back ≡ message) × Stays old new × IsUnsent old to 1 error new
+
+-- these sends, the newest first
+abbrev pub sends_of : ℕ → ℕ → List Content → List Occurrence
+sends_of p to messages = reverse (map (Send p to) messages)
+
+-- so many events of p's line from an index on
+abbrev pub numbered : ℕ → ℕ → List Content → List EventNo
+numbered p index [] = []
+numbered p index (m ∷ ms) = record { instance = p; index = index } ∷ numbered p (index + 1) ms
+
+-- the messages were sent, one directly after another, last of all that was seen
+pub record AreSent (old : PostView) (to : ℕ) (messages : List Content) (sents : List Sent) (new : PostView) : Type 0 where
+  pub may : MaySend old to
+  pub makes : (before : List Occurrence) × Makes old before (sends_of new.number to messages) new
+  pub events : map (λ (sent : Sent). sent.event) sents ≡ numbered new.number (length (line_of old) + 1) messages
+
+-- what a send of several messages at once answers
+abbrev pub SendsAll : PostView → ℕ → List Content → Result (List Sent) (List Content × SendError) → PostView → Type 0
+SendsAll old to messages (Ok sents) new = AreSent old to messages sents new
+SendsAll old to messages (Err (back, error)) new = (back ≡ messages) × Stays old new × IsUnsent old to (length messages) error new
+
+-- nothing but the lane's places and memory stands in the way of one message
+pub record MayPass (old : PostView) (to : ℕ) : Type 0 where
+  pub may : MaySend old to
+  pub short : length (line_of old) < MAX_EVENTS

@@ -1,0 +1,52 @@
+//! What calls answer.
+use crate::error::TakeError;
+use chart::{EventNo, InstanceNo, Message, Report};
+
+/// A message was sent.
+#[derive(Clone, Copy, Debug, PartialEq, Eq)]
+pub struct Sent {
+    /// Its event, the last of the sender's line.
+    pub event: EventNo,
+}
+
+/// A message came, with the races of its receive.
+#[derive(Debug, Drop)]
+pub struct Arrival {
+    pub from: InstanceNo,
+    pub message: Message,
+    /// The report of the receive, which is the last event of the receiver's line.
+    pub report: Report,
+}
+
+/// What a receive finds.
+#[derive(Debug, Drop)]
+pub enum Taken {
+    /// The first message that waited.
+    Got(Arrival),
+    /// None waits, and the lane is open.
+    Nothing,
+    /// None waits, and the lane is closed: none will come.
+    Ended,
+}
+
+/// Why a receive of several messages takes no more.
+#[derive(Clone, Copy, Debug, PartialEq, Eq)]
+pub enum Stop {
+    /// It got as many as it was asked for.
+    Asked,
+    /// It got all that waited when it looked.
+    NoMore,
+    /// The next message, which is still the first of its lane, was refused for this.
+    Refused(TakeError),
+}
+
+/// What a receive of several messages finds.
+#[derive(Debug, Drop)]
+pub enum TakenMany {
+    /// One message or more, the first that waited, in their order.
+    Got { arrivals: Vec<Arrival>, stop: Stop },
+    /// None waits, and the lane is open.
+    Nothing,
+    /// None waits, and the lane is closed: none will come.
+    Ended,
+}

@@ -1,0 +1,88 @@
+//! Boards.
+ghost use Rattle.std.specs.Prelude.{◌≡◌, ◌≤◌, true, false, IfOk, IfErr, IfSome, IfNone};
+ghost use Rattle.chart.specs.declared.instance.TheConstants.{MAX_INSTANCES};
+ghost use Rattle.board_table.specs.declared.lane.TheConstants.{MAX_CAPACITY};
+ghost use Rattle.board.specs.Boards.{MakesBoard, AreNewPosts, IsWholeSeat};
+ghost use Rattle.board.specs.Asking.{IsUngiven};
+
+use crate::error::{BoardError, PostsError};
+use crate::opening::deal_posts;
+use crate::post::Post;
+use board_table::{BoardTable, MAX_CAPACITY, Seat, Shape, open};
+use chart::MAX_INSTANCES;
+use std::alloc::Global;
+use std::marker::Model;
+
+/// A board of instances, each with a lane to each other one.
+///
+/// A contract sees which board it is, and whether its posts were asked for.
+#[derive(Drop)]
+pub struct Board {
+    alloc: Global,
+    shape: Shape,
+    table: BoardTable,
+    /// The seat of all posts, until they are asked for.
+    seat: Option<Seat>,
+}
+
+impl Model for Board {
+    ghost use Rattle.std.specs.Prelude.{IfSome};
+    ghost use Rattle.board_table.specs.Layout.{IsBoard};
+    ghost use Rattle.board.specs.Known.{IsSized};
+    ghost use Rattle.board.specs.Boards.{BoardState, IsWholeSeat, is_gone};
+
+    ghost Value = { BoardState };
+
+    ghost view = { λ board. record { board = record { table = board.table.shared.table_id; size = board.shape.instances; capacity = board.shape.capacity }; asked = is_gone board.seat } };
+
+    ghost invariant = { λ board. IsSized board.shape.instances board.shape.capacity × IsBoard board.shape.instances board.shape.capacity board.table.shared.key board.table.shared.table_id × IfSome board.seat (λ seat. IsWholeSeat board.shape.instances board.shape.capacity board.table.shared.table_id seat.table_id seat.me) };
+}
+
+impl Board {
+    /// A board of so many instances, whose lanes have so many places each. The first of F8, F9 and F6 refuses it.
+    pub fn new(alloc: Global, instances: usize, capacity: usize) -> Result<Board, BoardError>
+        ensures made { MakesBoard instances capacity result }
+    {
+        if instances < 2 || instances > MAX_INSTANCES {
+            return Err(BoardError::Instances);
+        }
+        if capacity < 1 || capacity > MAX_CAPACITY {
+            return Err(BoardError::Capacity);
+        }
+        let shape = Shape {
+            instances,
+            capacity,
+        };
+        let (table, seat) = open(alloc, &shape)?;
+        Ok(Board {
+            alloc,
+            shape,
+            table,
+            seat: Some(seat),
+        })
+    }
+
+    /// The posts, in order of their instances. F10: they were asked for before. F6: a growth was refused, and from then on
+    /// every call is answered F10.
+    pub fn posts(&mut self) -> Result<Vec<Post<'_>>, PostsError>
+        ensures ok { IfOk result (λ posts. (self.old.asked ≡ false) × AreNewPosts self.old.board posts.items) }
+        ensures err { IfErr result (λ error. IsUngiven self.old error) }
+    {
+        let Some(seat) = self.take_seat() else {
+            return Err(PostsError::PostsTaken);
+        };
+        let alloc = self.alloc;
+        let shape = self.shape;
+        let posts = deal_posts(&self.table.shared, seat, alloc, shape)?;
+        Ok(posts)
+    }
+
+    /// The seat of all posts, if it is still there.
+    fn take_seat(&mut self) -> Option<Seat>
+        ensures asked { self.new ≡ record self.old { asked = true } }
+        ensures some { IfSome result (λ seat. (self.old.asked ≡ false) × IsWholeSeat self.old.board.size self.old.board.capacity self.old.board.table seat.table_id seat.me) }
+        ensures none { IfNone result (self.old.asked ≡ true) }
+    {
+        self.seat.take()
+    }
+}

@@ -1,0 +1,32 @@
+//! How a post closes lanes.
+ghost use Rattle.board.specs.Views.{Sound};
+ghost use Rattle.board.specs.Closing.{Closes};
+
+use crate::error::CloseError;
+use crate::post::Post;
+use board_table::{Lane, close};
+use chart::InstanceNo;
+
+impl<'a> Post<'a> {
+    /// Closes the lane to an instance, be it full or not: nothing more is sent on it. It is the first of F14, F13 and F12 that
+    /// refuses it, and then nothing has changed. It takes no memory.
+    pub fn close(&mut self, to: InstanceNo) -> Result<(), CloseError>
+        ensures sound { Sound self.old self.new }
+        ensures answer { Closes self.old to result self.new }
+    {
+        if to.number() > self.shape.instances {
+            return Err(CloseError::NoSuchInstance);
+        }
+        if to == self.number {
+            return Err(CloseError::ToItself);
+        }
+        let lane = Lane::new(&self.shape, self.number, to);
+        let end = &mut self.outgoing[to.place()];
+        if end.closed {
+            return Err(CloseError::Closed);
+        }
+        close(self.words, &mut self.seat, &lane, end.put);
+        end.closed = true;
+        Ok(())
+    }
+}

@@ -1,0 +1,35 @@
+//! A board on running threads: instances pass messages over lanes without a lock, and each receive reports its races.
+//!
+//! A [`Board`] gives each instance its [`Post`], which can be moved to a thread. What each call of a post answers stands in a
+//! legal history that begins with all that this post had seen, and has of its own just what its calls made. A receive gets
+//! the first message that waited, and its report is exactly that of the chart of this history. Posts that [`meet`] have then
+//! seen one history. `specs/Views.antt` says what a contract sees of a post; `Sending`, `Taking`, `Closing` and `Meeting` say
+//! what each call answers.
+//!
+//! Messages carry what changed in their sender's clock since the one before on their lane (Singhal and Kshemkalyani 1992).
+//! Each end keeps the number that it loaded last, and looks again only where that leaves no place, or no message.
+#![tactic(auto)]
+
+mod answer;
+mod board;
+mod close;
+mod ends;
+mod error;
+mod meeting;
+mod opening;
+mod post;
+mod receive;
+mod receiving;
+mod send;
+mod sending;
+
+pub use answer::{Arrival, Sent, Stop, Taken, TakenMany};
+pub use board::Board;
+pub use error::{
+    BoardError, CloseError, MeetError, Memory, PostsError, RegionError, SendError, TakeError,
+};
+pub use meeting::{meet, meet_all};
+pub use post::Post;
+
+#[cfg(test)]
+mod tests;

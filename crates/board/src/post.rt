@@ -1,0 +1,90 @@
+//! The post of an instance.
+ghost use Rattle.std.specs.Prelude.{◌≡◌, ◌+◌, ◌<◌, ◌↔◌, Ok, Err, OnOk, OnErr};
+ghost use Rattle.chart.specs.Events.{greatest_region};
+ghost use Rattle.board.specs.Views.{line_of};
+ghost use Rattle.board.specs.declared.error.RegionError.TheVariants.{CoregionOpen, CoregionNotOpen};
+
+use crate::ends::{Incoming, Outgoing};
+use crate::error::RegionError;
+use board_table::{Seat, Shape, Words};
+use chart::{InstanceNo, Line};
+use line_recorder::Recorder;
+use std::alloc::Global;
+use std::marker::Model;
+
+/// What an instance of a board acts by: it sends, receives and closes lanes. It can be moved to a thread.
+///
+/// A contract sees its board, its number, the history that it has seen and the events that its own calls made, how often
+/// it looked at what others wrote, and its open coregion. After each call what is seen is a legal history that begins with
+/// what was seen before, and the post's own events in it are those that its calls made.
+#[derive(Drop)]
+pub struct Post<'a> {
+    pub(crate) words: &'a Words,
+    pub(crate) seat: Seat,
+    pub(crate) alloc: Global,
+    pub(crate) shape: Shape,
+    pub(crate) number: InstanceNo,
+    pub(crate) recorder: Recorder,
+    /// By the other instance's place.
+    pub(crate) outgoing: Vec<Outgoing>,
+    pub(crate) incoming: Vec<Incoming>,
+    /// The open coregion, 0 for none.
+    pub(crate) region: u32,
+    /// The greatest coregion of the line, 0 for none.
+    pub(crate) greatest: u32,
+}
+
+impl<'a> Model for Post<'a> {
+    ghost use Rattle.board.specs.Views.{PostView};
+    ghost use Rattle.board.specs.Known.{IsPost, view_of};
+
+    ghost Value = { PostView };
+
+    ghost view = { λ post. view_of post.words.now.table_id post.seat.me post.shape.instances post.shape.capacity post.number post.region };
+
+    ghost invariant = { λ post. IsPost post.words.now.key post.words.now.table_id post.seat.table_id post.seat.me post.shape.instances post.shape.capacity post.number post.recorder post.region post.greatest post.outgoing.items post.incoming.items };
+}
+
+impl<'a> Post<'a> {
+    /// The post's number among the instances of its board.
+    pub fn number(&self) -> InstanceNo
+        ensures { result ≡ self.now.number }
+    {
+        self.number
+    }
+
+    /// Its line in the chart of what it has seen. It takes no memory.
+    pub fn line(&self) -> &Line
+        ensures { result.now ≡ record { instance = self.now.number; events = line_of self.now } }
+    {
+        self.recorder.line()
+    }
+
+    /// Opens a coregion, which its receives are in from now on. F28: one is open. It takes no memory and looks at nothing.
+    pub fn open_coregion(&mut self) -> Result<(), RegionError>
+        ensures ok { OnOk result (self.new ≡ record self.old { region = greatest_region (line_of self.old) + 1 }) }
+        ensures open { (result ≡ Err RegionError.CoregionOpen) ↔ (0 < self.old.region) }
+        ensures not_open { (result ≡ Err RegionError.CoregionNotOpen) → ⊥ }
+        ensures err { OnErr result (self.new ≡ self.old) }
+    {
+        if self.region > 0 {
+            return Err(RegionError::CoregionOpen);
+        }
+        self.region = self.greatest + 1;
+        Ok(())
+    }
+
+    /// Closes the coregion that is open. F29: none is. It takes no memory and looks at nothing.
+    pub fn close_coregion(&mut self) -> Result<(), RegionError>
+        ensures ok { OnOk result (self.new ≡ record self.old { region = 0 }) }
+        ensures not_open { (result ≡ Err RegionError.CoregionNotOpen) ↔ (self.old.region ≡ 0) }
+        ensures open { (result ≡ Err RegionError.CoregionOpen) → ⊥ }
+        ensures err { OnErr result (self.new ≡ self.old) }
+    {
+        if self.region == 0 {
+            return Err(RegionError::CoregionNotOpen);
+        }
+        self.region = 0;
+        Ok(())
+    }
+}

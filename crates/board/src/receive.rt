@@ -1,0 +1,47 @@
+//! A post's receives, one at a time.
+ghost use Rattle.std.specs.Prelude.{◌≡◌};
+ghost use Rattle.board.specs.Views.{Sound};
+ghost use Rattle.board.specs.Taking.{Takes};
+
+use crate::answer::Taken;
+use crate::error::TakeError;
+use crate::post::Post;
+use crate::receiving::{Found, find_messages, receive_one};
+use board_table::Lane;
+use chart::InstanceNo;
+
+impl<'a> Post<'a> {
+    /// Receives the first message that waits on the lane from an instance. F14 and F13 refuse it; then it is nothing, or the
+    /// end, where no message waits, and this comes only after a look; then F7 and F6 refuse it, and the message is still the
+    /// first of its lane.
+    pub fn receive(&mut self, from: InstanceNo) -> Result<Taken, TakeError>
+        ensures sound { Sound self.old self.new }
+        ensures answer { Takes self.old from result self.new }
+    {
+        if from.number() > self.shape.instances {
+            return Err(TakeError::NoSuchInstance);
+        }
+        if from == self.number {
+            return Err(TakeError::ToItself);
+        }
+        let lane = Lane::new(&self.shape, from, self.number);
+        let end = &mut self.incoming[from.place()];
+        match find_messages(self.words, &mut self.seat, &lane, end) {
+            Found::Nothing => return Ok(Taken::Nothing),
+            Found::Ended => return Ok(Taken::Ended),
+            Found::Messages => {}
+        }
+        let arrival = receive_one(
+            self.words,
+            &mut self.seat,
+            &lane,
+            self.alloc,
+            &mut self.recorder,
+            end,
+            from,
+            self.region,
+        )?;
+        self.greatest = self.greatest.max(self.region);
+        Ok(Taken::Got(arrival))
+    }
+}

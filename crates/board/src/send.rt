@@ -1,0 +1,72 @@
+//! A post's sends, one at a time.
+ghost use Rattle.std.specs.Prelude.{◌≡◌, ◌+◌, ◌<◌, ◌≤◌, IfSome, IfNone};
+ghost use Rattle.chart.specs.declared.line.TheConstants.{MAX_EVENTS};
+ghost use Rattle.board.specs.Views.{Sound};
+ghost use Rattle.board.specs.Sending.{Sends, MayPass, IsUnsent};
+
+use crate::answer::Sent;
+use crate::error::SendError;
+use crate::post::Post;
+use crate::sending::send_one;
+use board_table::Lane;
+use chart::{EventNo, InstanceNo, MAX_EVENTS, Message};
+
+impl<'a> Post<'a> {
+    /// Sends a message. It is the first of F14, F13, F30, F12, F7, F11 and F6 that refuses it: then it comes back, and nothing
+    /// has changed but that more may be seen.
+    ///
+    /// F11 comes only after a look at what the receiver has received.
+    pub fn send(&mut self, to: InstanceNo, message: Message) -> Result<Sent, (Message, SendError)>
+        ensures sound { Sound self.old self.new }
+        ensures answer { Sends self.old to message result self.new }
+    {
+        if let Some(error) = self.sends_nothing(to) {
+            return Err((message, error));
+        }
+        let lane = Lane::new(&self.shape, self.number, to);
+        let capacity = self.shape.capacity;
+        let end = &mut self.outgoing[to.place()];
+        match send_one(
+            self.words,
+            &mut self.seat,
+            &lane,
+            self.alloc,
+            &mut self.recorder,
+            end,
+            to,
+            capacity,
+            message,
+        ) {
+            Ok(()) => Ok(Sent {
+                event: EventNo {
+                    instance: self.number,
+                    index: self.recorder.line().len() as u32,
+                },
+            }),
+            Err(refused) => Err(refused),
+        }
+    }
+
+    /// The first cause why it sends nothing to this instance, whatever waits there.
+    fn sends_nothing(&self, to: InstanceNo) -> Option<SendError>
+        ensures none { IfNone result (MayPass self.now to) }
+        ensures some { IfSome result (λ error. IsUnsent self.now to 1 error self.now) }
+    {
+        if to.number() > self.shape.instances {
+            return Some(SendError::NoSuchInstance);
+        }
+        if to == self.number {
+            return Some(SendError::ToItself);
+        }
+        if self.region > 0 {
+            return Some(SendError::InCoregion);
+        }
+        if self.outgoing[to.place()].closed {
+            return Some(SendError::Closed);
+        }
+        if self.recorder.line().len() >= MAX_EVENTS {
+            return Some(SendError::LineFull);
+        }
+        None
+    }
+}

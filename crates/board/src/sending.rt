@@ -1,0 +1,130 @@
+//! Sends.
+ghost use Rattle.std.specs.Prelude.{◌≡◌, ◌≢◌, ◌+◌, ◌<◌, ◌≤◌, true, false, [], ◌∷◌, length, drop, All, Ok, Err, OnOk, OnErr, IfOk, IfErr, IsErr};
+ghost use Rattle.chart.specs.Histories.{own, is_closed, chart_of, AreTwo, IsLegal};
+ghost use Rattle.chart.specs.declared.history.Occurrence.TheVariants as occurrence;
+ghost use Rattle.chart.specs.declared.line.TheConstants.{MAX_EVENTS};
+ghost use Rattle.clock.specs.Diffs.{apply_diff};
+ghost use Rattle.line_recorder.specs.Recorders.{send_clock, after_send};
+ghost use Rattle.line_recorder.specs.Recording.{IsRecorder};
+ghost use Rattle.board_table.specs.Layout.{IsBoard};
+ghost use Rattle.board_table.specs.Knowing.{held, packets_out, vacant_out, Rests, IsFilling};
+ghost use Rattle.board.specs.Known.{IsOutgoing, Did};
+ghost use Rattle.board.specs.Parts.{HasPlaces, HasNoPlaces, IsUnmade};
+
+use crate::ends::Outgoing;
+use crate::error::SendError;
+use board_table::{
+    Lane, Packet, Seat, Words, claim_again, claim_anew, fill, give_back_vacant, publish,
+};
+use chart::{InstanceNo, MAX_EVENTS, Message, Name};
+use clock::{Clock, Diff};
+use line_recorder::Recorder;
+use std::alloc::{AllocError, Global};
+
+/// Takes all places of the lane that are free, if there are so many, and else none. It looks at the receiver's word only where
+/// the number that is known leaves too few.
+pub(crate) fn claim_places(
+    words: &Words,
+    seat: &mut Seat,
+    lane: &Lane,
+    end: &mut Outgoing,
+    capacity: usize,
+    many: usize,
+) -> bool
+    requires table { seat.old.table_id ≡ words.now.table_id }
+    requires board { IsBoard lane.now.instances lane.now.capacity words.now.key words.now.table_id }
+    requires rests { Rests lane.now.instances lane.now.capacity lane.now.sender seat.old.me }
+    requires legal { IsLegal lane.now.instances lane.now.capacity (held seat.old.me).seen }
+    requires end { IsOutgoing lane.now.instances (held seat.old.me).seen lane.now.sender lane.now.receiver end.old }
+    requires own { own (held seat.old.me).seen lane.now.sender ≡ (held seat.old.me).made }
+    requires few { end.old.put ≤ MAX_EVENTS }
+    requires capacity { capacity ≡ lane.now.capacity }
+    requires many { many ≤ 64 }
+    ensures table { seat.new.table_id ≡ seat.old.table_id }
+    ensures did { Did lane.now.instances lane.now.capacity lane.now.sender (held seat.old.me) (held seat.new.me) (held seat.new.me).seen [] }
+    ensures end { IsOutgoing lane.now.instances (held seat.new.me).seen lane.now.sender lane.now.receiver end.new }
+    ensures yes { result ≡ true → HasPlaces lane.now many seat.new.me }
+    ensures no { result ≡ false → HasNoPlaces lane.now many seat.old.me seat.new.me }
+{
+    if end.put - end.known_taken + many as u64 <= capacity as u64 {
+        claim_again(words, seat, lane);
+        return true;
+    }
+    end.known_taken = claim_anew(words, seat, lane);
+    if end.put - end.known_taken + many as u64 <= capacity as u64 {
+        return true;
+    }
+    give_back_vacant(words, seat, lane);
+    false
+}
+
+/// Records a send, and answers what changed in the clock since the base.
+///
+/// F6: it fails only where there is no memory, and then nothing is recorded.
+fn record(
+    alloc: Global,
+    recorder: &mut Recorder,
+    base: &Clock,
+    to: InstanceNo,
+    name: Name,
+) -> Result<Diff, AllocError>
+    requires one { to ≤ length recorder.old.knowledge }
+    requires other { to ≢ recorder.old.line.instance }
+    requires base { length base.now ≡ length recorder.old.knowledge }
+    requires room { length recorder.old.line.events < MAX_EVENTS }
+    ensures ok { OnOk result (recorder.new ≡ after_send recorder.old to name) }
+    ensures clock { IfOk result (λ diff. apply_diff base.now diff ≡ send_clock recorder.old) }
+    ensures within { IfOk result (All (λ change. change.instance ≤ length base.now)) }
+    ensures err { OnErr result (recorder.new ≡ recorder.old) }
+{
+    let diff = recorder.next_clock()?.diff_from(alloc, base)?;
+    match recorder.send(to, name) {
+        Ok(_) => Ok(diff),
+        Err(_) => Err(AllocError),
+    }
+}
+
+/// Sends a message on an open lane, whose sender's line has room for it.
+pub(crate) fn send_one(
+    words: &Words,
+    seat: &mut Seat,
+    lane: &Lane,
+    alloc: Global,
+    recorder: &mut Recorder,
+    end: &mut Outgoing,
+    to: InstanceNo,
+    capacity: usize,
+    message: Message,
+) -> Result<(), (Message, SendError)>
+    requires table { seat.old.table_id ≡ words.now.table_id }
+    requires board { IsBoard lane.now.instances lane.now.capacity words.now.key words.now.table_id }
+    requires rests { Rests lane.now.instances lane.now.capacity lane.now.sender seat.old.me }
+    requires legal { IsLegal lane.now.instances lane.now.capacity (held seat.old.me).seen }
+    requires own { own (held seat.old.me).seen lane.now.sender ≡ (held seat.old.me).made }
+    requires recorder { IsRecorder lane.now.instances (held seat.old.me).seen lane.now.sender recorder.old }
+    requires end { IsOutgoing lane.now.instances (held seat.old.me).seen lane.now.sender lane.now.receiver end.old }
+    requires unclosed { is_closed (held seat.old.me).seen lane.now.sender lane.now.receiver ≡ false }
+    requires short { length (chart_of (held seat.old.me).seen lane.now.sender) < MAX_EVENTS }
+    requires two { AreTwo lane.now.instances lane.now.sender lane.now.receiver }
+    requires to { to ≡ lane.now.receiver }
+    requires capacity { capacity ≡ lane.now.capacity }
+    ensures table { seat.new.table_id ≡ seat.old.table_id }
+    ensures rests { Rests lane.now.instances lane.now.capacity lane.now.sender seat.new.me }
+    ensures recorder { IsRecorder lane.now.instances (held seat.new.me).seen lane.now.sender recorder.new }
+    ensures end { IsOutgoing lane.now.instances (held seat.new.me).seen lane.now.sender lane.now.receiver end.new }
+    ensures ok { OnOk result (Did lane.now.instances lane.now.capacity lane.now.sender (held seat.old.me) (held seat.new.me) (drop 1 (held seat.new.me).seen) (occurrence.Send lane.now.sender lane.now.receiver message ∷ [])) }
+    ensures err { IfErr result (λ error. (error.0 ≡ message) × IsUnmade lane.now seat.old.me seat.new.me error.1) }
+{
+    if !claim_places(words, seat, lane, end, capacity, 1) {
+        return Err((message, SendError::Full));
+    }
+    let Ok(diff) = record(alloc, recorder, &end.base, to, message.name()) else {
+        give_back_vacant(words, seat, lane);
+        return Err((message, SendError::Memory));
+    };
+    end.base.apply(&diff);
+    fill(words, seat, lane, end.put, Packet { message, diff });
+    end.put += 1;
+    publish(words, seat, lane, end.put);
+    Ok(())
+}
