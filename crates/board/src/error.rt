@@ -15,7 +15,7 @@ pub enum BoardError {
     /// F8: fewer than 2 instances, or more than [`chart::MAX_INSTANCES`].
     #[error("a board has 2 to 32 instances")]
     Instances,
-    /// F9: lanes of no place, or of more than [`crate::MAX_CAPACITY`].
+    /// F9: lanes of no place, or of more than [`board_table::MAX_CAPACITY`].
     #[error("a lane has 1 to 64 places")]
     Capacity,
     /// F6: a growth was refused.
@@ -37,7 +37,7 @@ pub enum PostsError {
 /// Why nothing is sent: the first of these that applies.
 #[derive(Clone, Copy, Debug, PartialEq, Eq, Error)]
 pub enum SendError {
-    /// F14: the receiver's number is above the board's.
+    /// F14: the receiver's number is greater than the board's size.
     #[error("the board has no such instance")]
     NoSuchInstance,
     /// F13: the receiver is the sender.
@@ -49,7 +49,7 @@ pub enum SendError {
     /// F12: this post closed the lane.
     #[error("the lane is closed")]
     Closed,
-    /// F27: more messages at once than the lane has places. Only [`crate::Post::send_all`] answers it.
+    /// F27: more messages at once than the lane has places. A send of one message never answers it.
     #[error("more messages than the lane has places")]
     TooMany,
     /// F7: the line would get more than [`chart::MAX_EVENTS`] events.
@@ -66,7 +66,7 @@ pub enum SendError {
 /// Why nothing is received: the first of these that applies.
 #[derive(Clone, Copy, Debug, PartialEq, Eq, Error)]
 pub enum TakeError {
-    /// F14: the sender's number is above the board's.
+    /// F14: the sender's number is greater than the board's size.
     #[error("the board has no such instance")]
     NoSuchInstance,
     /// F13: the sender is the receiver.
@@ -83,7 +83,7 @@ pub enum TakeError {
 /// Why a lane isn't closed: the first of these that applies.
 #[derive(Clone, Copy, Debug, PartialEq, Eq, Error)]
 pub enum CloseError {
-    /// F14: the receiver's number is above the board's.
+    /// F14: the receiver's number is greater than the board's size.
     #[error("the board has no such instance")]
     NoSuchInstance,
     /// F13: the receiver is the sender.
