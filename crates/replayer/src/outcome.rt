@@ -8,7 +8,7 @@ use schedule::Note;
 use std::marker::Model;
 
 /// What a schedule comes to: its instances' names, the chart of what happened, the report of each receive by
-/// instance and index, and a note for each command that was refused or found nothing, in the order of the commands. A
+/// instance and index, and a note for each command that was refused or found nothing, by line. A
 /// contract sees a record of these. There are as many names as lines.
 #[derive(Debug, Drop)]
 pub struct Outcome<'a> {
@@ -76,7 +76,7 @@ impl<'a> Outcome<'a> {
         has_races(self.reports())
     }
 
-    /// The notes, in the order of the commands that left them.
+    /// The notes, by the lines of the commands that left them.
     pub fn notes(&self) -> &[Note]
         ensures { result.now ≡ self.now.notes }
     {
