@@ -1,66 +1,14 @@
 //! mscrun: reads the command line and one file, and hands the file's bytes to the library.
 #![tactic(auto)]
 
-ghost use Rattle.std.specs.Prelude.{◌≡◌, ◌↔◌, ◌⊎◌};
-ghost use Rattle.clap.specs.Words.{kind_of};
-
-use clap::error::ErrorKind;
-use clap::{Arg, ArgAction, ArgMatches, Command, Error};
+use command_line::{CommandLineError, Request, requested};
 use msc_text::StreamOut;
-use std::alloc::{AllocError, Global};
+use std::alloc::Global;
 use std::convert::AsStr;
 use std::process::ExitCode;
 use std::rt::{Env, Files};
 use std::{env, fs, io};
 use tasks::{ProgramError, Task, perform, refused, seed_in};
-
-/// The word for the file that a command reads.
-fn file_word<'a>(alloc: Global) -> Arg<'a> {
-    Arg::new(alloc, "FILE")
-        .required(true)
-        .action(ArgAction::Set)
-}
-
-/// A command with a FILE and nothing else.
-fn file_command<'a>(alloc: Global, name: &'static str) -> Result<Command<'a>, AllocError> {
-    Command::new(alloc, name)
-        .disable_help_flag(true)
-        .arg(file_word(alloc))
-}
-
-/// `random FILE --seed N`.
-fn random_command<'a>(alloc: Global) -> Result<Command<'a>, AllocError> {
-    let seed = Arg::new(alloc, "seed")
-        .long("seed")
-        .required(true)
-        .action(ArgAction::Set);
-    Command::new(alloc, "random")
-        .disable_help_flag(true)
-        .arg(file_word(alloc))?
-        .arg(seed)
-}
-
-/// The command line that the program understands. Help, the version, no command and an unknown one are all mistakes.
-fn command_line<'a>(alloc: Global) -> Result<Command<'a>, AllocError> {
-    Command::new(alloc, "mscrun")
-        .disable_help_flag(true)
-        .disable_help_subcommand(true)
-        .subcommand_required(true)
-        .subcommand(file_command(alloc, "replay")?)?
-        .subcommand(random_command(alloc)?)?
-        .subcommand(file_command(alloc, "check")?)
-}
-
-/// A command line that doesn't parse is G1, or F6 where memory ran out.
-fn usage(error: &Error) -> ProgramError
-    ensures memory { (result ≡ ProgramError.Memory) ↔ (kind_of error.now ≡ ErrorKind.OutOfMemory) }
-    ensures usage { (result ≡ ProgramError.Usage) ⊎ (result ≡ ProgramError.Memory) }
-{
-    match error.kind() {
-        ErrorKind::OutOfMemory => ProgramError::Memory,
-        _ => ProgramError::Usage,
-    }
-}
 
 /// What the system refused is F6 where memory ran out, and else the other refusal.
 fn cause(error: &io::Error, other: ProgramError) -> ProgramError {
@@ -70,29 +18,32 @@ fn cause(error: &io::Error, other: ProgramError) -> ProgramError {
     }
 }
 
-/// The task that a command's words ask for.
-fn task_of(command: &str, words: &ArgMatches) -> Option<Task> {
-    match command {
-        "replay" => Some(Task::Replay),
-        "check" => Some(Task::Check),
-        "random" => {
-            let seed = seed_in(words.get_str("seed")?)?;
-            Some(Task::Random { seed })
-        }
-        _ => None,
+/// The refusal of a command line.
+fn refusal(error: CommandLineError) -> ProgramError {
+    match error {
+        CommandLineError::Usage => ProgramError::Usage,
+        CommandLineError::Memory => ProgramError::Memory,
+    }
+}
+
+/// The task that is asked for, and its file. G1: the seed isn't one.
+fn task_of(request: Request) -> Result<(Task, &str), ProgramError> {
+    match request {
+        Request::Replay { file } => Ok((Task::Replay, file)),
+        Request::Check { file } => Ok((Task::Check, file)),
+        Request::Random { file, seed } => match seed_in(seed) {
+            Some(seed) => Ok((Task::Random { seed }, file)),
+            None => Err(ProgramError::Usage),
+        },
     }
 }
 
 /// What is asked for, and the file.
 fn task_in<'a, S: AsStr>(alloc: Global, words: &'a [S]) -> Result<(Task, &'a str), ProgramError> {
-    let command = command_line(alloc).map_err(|_| ProgramError::Memory)?;
-    let matches = command
-        .try_get_matches_from(words)
-        .map_err(|error| usage(&error))?;
-    let (command, words) = matches.subcommand().ok_or(ProgramError::Usage)?;
-    let task = task_of(command, words).ok_or(ProgramError::Usage)?;
-    let file = words.get_str("FILE").ok_or(ProgramError::Usage)?;
-    Ok((task, file))
+    match requested(alloc, words) {
+        Ok(request) => task_of(request),
+        Err(error) => Err(refusal(error)),
+    }
 }
 
 fn words_of<R: Env + AllocGlobal>(rt: &R) -> Result<Vec<String>, ProgramError> {
@@ -105,7 +56,7 @@ fn bytes_of<R: Files + AllocGlobal>(rt: &R, file: &str) -> Result<Vec<u8>, Progr
 }
 
 /// What is asked for, and the bytes of the file.
-fn request<R: Env + Files + AllocGlobal>(rt: &R) -> Result<(Task, Vec<u8>), ProgramError> {
+fn read_request<R: Env + Files + AllocGlobal>(rt: &R) -> Result<(Task, Vec<u8>), ProgramError> {
     let words = words_of(rt)?;
     let (task, file) = task_in(rt.alloc(), words.as_slice())?;
     let bytes = bytes_of(rt, file)?;
@@ -116,7 +67,7 @@ fn main(rt: HostRuntime) -> ExitCode {
     let mut out = StreamOut::new(io::writer(&rt));
     let stderr = rt.stderr();
     let mut err = StreamOut::new(io::writer(&stderr));
-    let status = match request(&rt) {
+    let status = match read_request(&rt) {
         Ok((task, bytes)) => perform(rt.alloc(), &task, bytes.as_slice(), &mut out, &mut err),
         Err(error) => refused(&error, &mut err),
     };
@@ -127,10 +78,6 @@ fn main(rt: HostRuntime) -> ExitCode {
 mod tests {
     use super::*;
     use std::process::Abort;
-
-    fn misses(rt: &impl Abort, alloc: Global, words: &[&str]) {
-        assert!(rt; matches!(task_in(alloc, words), Err(ProgramError::Usage)));
-    }
 
     fn task_asked(alloc: Global, words: &[&str]) -> Option<Task> {
         match task_in(alloc, words) {
@@ -145,28 +92,30 @@ mod tests {
         assert_eq!(rt; task, Some(Task::Random { seed }));
     }
 
+    /// The words aren't a command line.
+    fn misses(rt: &impl Abort, alloc: Global, words: &[&str]) {
+        assert!(rt; matches!(task_in(alloc, words), Err(ProgramError::Usage)));
+    }
+
     /// The seed is none.
     fn misses_seed(rt: &impl Abort, alloc: Global, word: &str) {
         misses(rt, alloc, &["mscrun", "random", "a file", "--seed", word]);
     }
 
     #[test]
-    fn command_lines(rt: HostRuntime) {
+    fn tasks_of_command_lines(rt: HostRuntime) {
         let words = ["mscrun", "replay", "a file"];
         assert!(rt; matches!(task_in(rt.alloc(), &words), Ok((Task::Replay, "a file"))));
         let words = ["mscrun", "check", "a file"];
         assert!(rt; matches!(task_in(rt.alloc(), &words), Ok((Task::Check, "a file"))));
-        misses(&rt, rt.alloc(), &["mscrun", "check"]);
-        misses(&rt, rt.alloc(), &["mscrun", "check", "one", "--seed", "7"]);
-        misses(&rt, rt.alloc(), &["mscrun"]);
-        misses(&rt, rt.alloc(), &["mscrun", "replay"]);
-        misses(&rt, rt.alloc(), &["mscrun", "replay", "one", "two"]);
-        misses(&rt, rt.alloc(), &["mscrun", "replay", "--help"]);
-        misses(&rt, rt.alloc(), &["mscrun", "Replay", "one"]);
-        misses(&rt, rt.alloc(), &["mscrun", "one"]);
+        let words = ["mscrun", "random", "a file", "--seed", "7"];
+        assert!(rt;
+            matches!(
+                task_in(rt.alloc(), &words),
+                Ok((Task::Random { seed: 7 }, "a file"))
+            )
+        );
         misses(&rt, rt.alloc(), &["mscrun", "help"]);
-        misses(&rt, rt.alloc(), &["mscrun", "--help"]);
-        misses(&rt, rt.alloc(), &["mscrun", "--version"]);
     }
 
     #[test]
@@ -186,32 +135,5 @@ mod tests {
         misses_seed(&rt, rt.alloc(), "0x7");
         misses_seed(&rt, rt.alloc(), "1_000");
         misses_seed(&rt, rt.alloc(), "seven");
-    }
-
-    #[test]
-    fn random_command_lines(rt: HostRuntime) {
-        let words = ["mscrun", "random", "--seed", "7", "a file"];
-        assert!(rt;
-            matches!(
-                task_in(rt.alloc(), &words),
-                Ok((Task::Random { seed: 7 }, "a file"))
-            )
-        );
-        misses(&rt, rt.alloc(), &["mscrun", "random"]);
-        misses(&rt, rt.alloc(), &["mscrun", "random", "one"]);
-        misses(&rt, rt.alloc(), &["mscrun", "random", "--seed", "7"]);
-        misses(&rt, rt.alloc(), &["mscrun", "random", "one", "--seed"]);
-        misses(
-            &rt,
-            rt.alloc(),
-            &["mscrun", "random", "one", "two", "--seed", "7"],
-        );
-        misses(
-            &rt,
-            rt.alloc(),
-            &["mscrun", "random", "one", "--seed", "7", "--seed", "7"],
-        );
-        misses(&rt, rt.alloc(), &["mscrun", "random", "one", "--see", "7"]);
-        misses(&rt, rt.alloc(), &["mscrun", "replay", "one", "--seed", "7"]);
     }
 }
