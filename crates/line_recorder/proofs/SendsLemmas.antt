@@ -1,8 +1,6 @@
 -- Several sends at once are those sends one after another.
-use Rattle.std.proofs.Common.{◌≡◌, ℕ, zero, suc, ◌+◌, true, List, [], ◌∷◌, ◌++◌, length, map, refl, sym, ap, ◌∙◌, arith, append_assoc, append-nil}
+use Rattle.std.proofs.Common.{◌≡◌, ℕ, zero, suc, ◌+◌, List, [], ◌∷◌, ◌++◌, length, map, refl, sym, ap, ◌∙◌, arith, append_assoc, append-nil}
 use Rattle.std.proofs.lemmas.List.{length-append, set-set}
-use Rattle.std.proofs.lemmas.Bool.{false≢true}
-use Rattle.std.specs.Prelude.{Result, Ok, Err, OnOk, is_ok}
 use Rattle.chart.specs.Charts.{LineView}
 use Rattle.chart.specs.Events.{send_event}
 use Rattle.clock.specs.Clocks.{with_entry}
@@ -49,8 +47,3 @@ after_sends_is r to (name ∷ names) =
 pub is_after_sends : (r : RecorderView) (to : ℕ) (names : List (List ℕ)) (line : LineView) (known : List ℕ) → line ≡ record { instance = r.line.instance; events = r.line.events ++ map (send_event to) names } → known ≡ known_after r (length names)
     → ◌≡◌ {A = RecorderView} (record { line = line; knowledge = known; reports = r.reports }) (after_sends r to names)
 is_after_sends r to names line known is_line is_known = rw (after_sends_is r to names, is_line, is_known) refl
-
--- what holds at a success holds where there is one
-pub at_ok : {T E P : Type 0} (r : Result T E) → true ≡ is_ok r → OnOk r P → P
-at_ok (Ok x) same h = h
-at_ok (Err e) same h = absurd (false≢true (sym same))

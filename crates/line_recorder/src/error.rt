@@ -1,7 +1,9 @@
 //! Why an event isn't recorded.
-ghost use Rattle.line_recorder.specs.declared.error.RecordError.TheVariants.{Memory};
-ghost use Rattle.std.specs.Prelude.{◌≡◌};
+ghost use Rattle.chart.specs.declared.line.LineError.{LineError};
+ghost use Rattle.line_recorder.specs.declared.error.RecordError.TheVariants.{LineFull, Memory};
+ghost use Rattle.std.specs.Prelude.{◌≡◌, ◌↔◌};
 
+use chart::LineError;
 use std::alloc::AllocError;
 use thiserror::Error;
 
@@ -21,5 +23,19 @@ impl From<AllocError> for RecordError {
 
     fn from(_e: AllocError) -> RecordError {
         RecordError::Memory
+    }
+}
+
+/// What a line refuses, but for its own instance as partner, which no recorder's call gives it.
+impl From<LineError> for RecordError {
+    ghost use Rattle.chart.specs.declared.line.LineError.TheVariants as line;
+
+    ghost from_gives = { λ e r. (r ≡ LineFull) ↔ (e ≡ line.LineFull) };
+
+    fn from(e: LineError) -> RecordError {
+        match e {
+            LineError::LineFull => RecordError::LineFull,
+            LineError::ToItself | LineError::Memory => RecordError::Memory,
+        }
     }
 }

@@ -118,9 +118,7 @@ impl Recorder {
         let own = self.line.instance();
         let index = self.line.len() as u32 + 1;
         let mut clock = self.knowledge.copied(self.alloc)?;
-        self.line
-            .push(Event::Send { to, name })
-            .map_err(|_| RecordError::Memory)?;
+        self.line.push(Event::Send { to, name })?;
         self.knowledge.stamp(own, index);
         clock.stamp(own, index);
         Ok(clock)
@@ -145,9 +143,7 @@ impl Recorder {
         }
         let clocks = self.next_clocks(names.len())?;
         let known = self.known_after(names.len())?;
-        self.line
-            .push_sends(to, names)
-            .map_err(|_| RecordError::Memory)?;
+        self.line.push_sends(to, names)?;
         self.knowledge = known;
         Ok(clocks)
     }
@@ -217,9 +213,7 @@ impl Recorder {
         let report = Report::new(receive, earlier);
         let copy = copy_of(self.alloc, &report)?;
         self.reports.reserve(1)?;
-        self.line
-            .push(Event::Receive { from, name, region })
-            .map_err(|_| RecordError::Memory)?;
+        self.line.push(Event::Receive { from, name, region })?;
         self.knowledge.merge(clock);
         self.reports.push_reserved(report);
         Ok(copy)
