@@ -5,6 +5,7 @@ pub mod EndLemmas
 pub mod Finding
 pub mod Meetings
 pub mod NoteLemmas
+pub mod OneBoard
 pub mod OneReceive
 pub mod OneSend
 pub mod Openings

@@ -1,4 +1,12 @@
 //! Two senders whose messages race, refusals of a send, and messages of a lane in order.
+ghost use Rattle.std.specs.Prelude.{◌≡◌};
+
+mod growths;
+mod meetings;
+mod refusals;
+mod schedules;
+mod threads;
+
 use crate::*;
 use chart::{InstanceNo, Message, Name};
 use std::alloc::Global;
@@ -23,7 +31,9 @@ fn send(
     post: &mut Post,
     to: usize,
     name: &[u8],
-) -> Result<u32, SendError> {
+) -> Result<u32, SendError>
+    ensures { post.new.board ≡ post.old.board }
+{
     let to = instance(rt, to);
     match post.send(to, message(rt, alloc, name)) {
         Ok(sent) => Ok(sent.event.index),

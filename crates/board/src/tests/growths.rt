@@ -1,0 +1,121 @@
+//! Calls whose growth is refused: each is made once more, and then answers in full. A test ends with a growth of its own, whose
+//! refusal tells that each one before it was refused in an earlier run of the test. Posts of nine instances take memory for
+//! each clock, those of two don't.
+use super::{instance, message};
+use crate::*;
+use chart::{InstanceNo, Name};
+use std::alloc::Global;
+use std::process::Abort;
+use std::test::Fail;
+
+fn board_of(rt: &impl Abort, alloc: Global, instances: usize) -> Board {
+    match Board::new(alloc, instances, 2) {
+        Ok(board) => board,
+        Err(error) => {
+            assert_eq!(rt; error, BoardError::Memory);
+            Board::new(alloc, instances, 2).expect(rt, "a board")
+        }
+    }
+}
+
+/// A board whose posts are refused gives none from then on, and a new one gives them.
+fn posts_of(rt: &impl Abort, alloc: Global, instances: usize) {
+    let mut board = board_of(rt, alloc, instances);
+    let refused = board.posts().map(|posts| posts.len());
+    assert!(rt; matches!(board.posts(), Err(PostsError::PostsTaken)));
+    match refused {
+        Ok(many) => assert_eq!(rt; many, instances),
+        Err(error) => {
+            assert_eq!(rt; error, PostsError::Memory);
+            let mut board = board_of(rt, alloc, instances);
+            assert_eq!(rt; board.posts().expect(rt, "the posts").len(), instances);
+        }
+    }
+}
+
+/// Sends a message of this name, once more where memory was refused: that changed nothing.
+fn sends(rt: &impl Abort, alloc: Global, post: &mut Post, to: InstanceNo, name: &[u8]) {
+    let events = post.line().len();
+    let sent = match post.send(to, message(rt, alloc, name)) {
+        Ok(sent) => sent,
+        Err((back, error)) => {
+            assert_eq!(rt; error, SendError::Memory);
+            assert!(rt; back.name() == Name::new(name).expect(rt, "a name"));
+            assert_eq!(rt; post.line().len(), events);
+            match post.send(to, back) {
+                Ok(sent) => sent,
+                Err(_) => panic!(rt; "a message"),
+            }
+        }
+    };
+    assert_eq!(rt; sent.event.index as usize, post.line().len());
+    assert!(rt; post.line().len() > events);
+}
+
+/// Receives a message of this name with so many races, once more where memory was refused: that changed nothing.
+fn gets(rt: &impl Abort, post: &mut Post, from: InstanceNo, name: &[u8], races: usize) {
+    let events = post.line().len();
+    let taken = match post.receive(from) {
+        Ok(taken) => taken,
+        Err(error) => {
+            assert_eq!(rt; error, TakeError::Memory);
+            assert_eq!(rt; post.line().len(), events);
+            post.receive(from).expect(rt, "a message")
+        }
+    };
+    let Taken::Got(arrival) = taken else {
+        panic!(rt; "no message came")
+    };
+    assert!(rt; arrival.message.name() == Name::new(name).expect(rt, "a name"));
+    assert_eq!(rt; arrival.report.earlier().len(), races);
+}
+
+/// Two messages from the first instance of so many to the second, and one back that crosses the second of them.
+fn exchange(rt: &impl Abort, alloc: Global, instances: usize) -> Result<(), Fail> {
+    let first = instance(rt, 1);
+    let second = instance(rt, 2);
+    let mut board = board_of(rt, alloc, instances);
+    let Ok(mut posts) = board.posts() else {
+        return Ok(());
+    };
+    assert!(rt; posts.len() >= 2);
+    sends(rt, alloc, &mut posts[0], second, b"x");
+    sends(rt, alloc, &mut posts[0], second, b"y");
+    gets(rt, &mut posts[1], first, b"x", 0);
+    sends(rt, alloc, &mut posts[1], first, b"z");
+    gets(rt, &mut posts[0], second, b"z", 1);
+    gets(rt, &mut posts[1], first, b"y", 1);
+    Ok(())
+}
+
+#[test]
+fn refused_growths_of_posts_of_two(rt: HostRuntime) -> Result<(), Fail> {
+    let alloc = rt.alloc();
+    posts_of(&rt, alloc, 2);
+    Vec::<u8>::with_capacity(alloc, 1).map_err(|_| "every growth was refused")?;
+    Ok(())
+}
+
+#[test]
+fn refused_growths_of_posts_of_nine(rt: HostRuntime) -> Result<(), Fail> {
+    let alloc = rt.alloc();
+    posts_of(&rt, alloc, 9);
+    Vec::<u8>::with_capacity(alloc, 1).map_err(|_| "every growth was refused")?;
+    Ok(())
+}
+
+#[test]
+fn refused_growths_among_two(rt: HostRuntime) -> Result<(), Fail> {
+    let alloc = rt.alloc();
+    exchange(&rt, alloc, 2)?;
+    Vec::<u8>::with_capacity(alloc, 1).map_err(|_| "every growth was refused")?;
+    Ok(())
+}
+
+#[test]
+fn refused_growths_among_nine(rt: HostRuntime) -> Result<(), Fail> {
+    let alloc = rt.alloc();
+    exchange(&rt, alloc, 9)?;
+    Vec::<u8>::with_capacity(alloc, 1).map_err(|_| "every growth was refused")?;
+    Ok(())
+}
