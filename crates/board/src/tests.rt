@@ -1,6 +1,7 @@
 //! Two senders whose messages race, refusals of a send, and messages of a lane in order.
 ghost use Rattle.std.specs.Prelude.{◌≡◌};
 
+mod differences;
 mod growths;
 mod meetings;
 mod refusals;
