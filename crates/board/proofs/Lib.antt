@@ -11,4 +11,5 @@ pub mod OneSend
 pub mod Openings
 pub mod PostLemmas
 pub mod ReceiveAnswers
+pub mod Rooms
 pub mod SendAnswers

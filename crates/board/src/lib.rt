@@ -20,6 +20,7 @@ mod opening;
 mod post;
 mod receive;
 mod receiving;
+mod room;
 mod send;
 mod sending;
 

@@ -7,7 +7,7 @@ ghost use Rattle.board.specs.declared.error.RegionError.TheVariants.{CoregionOpe
 use crate::ends::{Incoming, Outgoing};
 use crate::error::RegionError;
 use board_table::{Seat, Shape, Words};
-use chart::{InstanceNo, Line};
+use chart::{GrowingLine, InstanceNo};
 use line_recorder::Recorder;
 use std::alloc::Global;
 use std::marker::Model;
@@ -54,8 +54,8 @@ impl<'a> Post<'a> {
     }
 
     /// Its line in the chart of what it has seen. It takes no memory.
-    pub fn line(&self) -> &Line
-        ensures { result.now ≡ record { instance = self.now.number; events = line_of self.now } }
+    pub fn line(&self) -> &GrowingLine
+        ensures { result.now.line ≡ record { instance = self.now.number; events = line_of self.now } }
     {
         self.recorder.line()
     }

@@ -1,5 +1,5 @@
 -- A line that grows by an event, with what it keeps.
-use Rattle.std.proofs.Common.{◌≡◌, ◌≢◌, ℕ, ◌+◌, ◌<◌, List, [], ◌∷◌, ◌++◌, length, take, Some, sym, subst, arith}
+use Rattle.std.proofs.Common.{◌≡◌, ◌≢◌, ℕ, ◌+◌, ◌<◌, max, List, [], ◌∷◌, ◌++◌, length, take, Some, sym, ap, ◌∙◌, subst, arith}
 use Rattle.std.specs.Prelude.{slice_get}
 use Rattle.std.proofs.lemmas.Option.{slice_get_within}
 use Rattle.std.proofs.lemmas.List.{length-append, take-append-le}
@@ -11,6 +11,7 @@ use Rattle.chart.specs.Events.{partner_of, region_of, MayHaveRegion, HasRegionsI
 use Rattle.chart.specs.Charts.{IsLine}
 use Rattle.chart.specs.LineLayout.{IsBefore, IsLaidOut}
 use Rattle.chart.proofs.Places.{each-push}
+use Rattle.chart.proofs.Regions.{greatest_region-push, may_be-small}
 use Rattle.chart.proofs.Runs.{AreBefore-push}
 
 -- regions stay in order where the new event may have its region
@@ -36,10 +37,12 @@ IsLine-push p line m old other short may = record {
 }
 
 -- and so does what it keeps
-pub IsLaidOut-push : (p : ℕ) (line : List Event) (kept : List Before) (m : Event) (b : Before) → IsLaidOut p line kept → partner_of m ≢ p → length line < MAX_EVENTS → MayHaveRegion line (region_of m)
-    → IsBefore (line ++ m ∷ []) (length line + 1) b → IsLaidOut p (line ++ m ∷ []) (kept ++ b ∷ [])
-IsLaidOut-push p line kept m b old other short may next = record {
+pub IsLaidOut-push : (p : ℕ) (line : List Event) (kept : List Before) (greatest : ℕ) (m : Event) (b : Before) → IsLaidOut p line kept greatest → partner_of m ≢ p → length line < MAX_EVENTS → MayHaveRegion line (region_of m)
+    → IsBefore (line ++ m ∷ []) (length line + 1) b → IsLaidOut p (line ++ m ∷ []) (kept ++ b ∷ []) (max greatest (region_of m))
+IsLaidOut-push p line kept greatest m b old other short may next = record {
   line = IsLine-push p line m old.line other short may;
   same = omega (arith, length-append line (m ∷ []), length-append kept (b ∷ []), old.same);
   right = AreBefore-push line kept m b old.same old.right next;
+  greatest_is = ap (λ g. max g (region_of m)) old.greatest_is ∙ sym (greatest_region-push line m);
+  few_regions = omega (arith, length-append line (m ∷ []), old.greatest_is, old.few_regions, may_be-small line (region_of m) may);
 }

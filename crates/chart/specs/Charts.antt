@@ -57,6 +57,11 @@ pub record LineView : Type 0 where
   pub instance : ℕ
   pub events : List Event
 
+-- a line that grows, and how many events it has room for without memory
+pub record GrowingView : Type 0 where
+  pub line : LineView
+  pub room : ℕ
+
 -- what each line keeps: the limit, that no event names its own instance, and the rule of coregions
 pub record IsLine (l : LineView) : Type 0 where
   pub short : length l.events ≤ MAX_EVENTS

@@ -1,6 +1,6 @@
 //! Lines: the events of one instance.
-ghost use Rattle.std.specs.Prelude.{◌≡◌, ◌≢◌, ◌≤◌, ◌<◌, ◌+◌, ◌++◌, ◌∷◌, [], ◌↔◌, ◌==◌, length, map, OnOk, OnErr, Ok, Err};
-ghost use Rattle.chart.specs.Events.{send_event, partner_of, region_of, is_receive_from, is_in, MayHaveRegion};
+ghost use Rattle.std.specs.Prelude.{◌≡◌, ◌≢◌, ◌≤◌, ◌<◌, ◌+◌, ◌++◌, ◌∷◌, [], ◌↔◌, ◌==◌, length, map, IsOk, OnOk, OnErr, Ok, Err};
+ghost use Rattle.chart.specs.Events.{send_event, partner_of, region_of, is_receive_from, is_in, greatest_region, MayHaveRegion};
 ghost use Rattle.chart.specs.Charts.{IsLine};
 ghost use Rattle.chart.specs.Runs.{IsBeforeRun, EndsWithRun};
 ghost use Rattle.chart.specs.LineLayout.{AreBefore, IsNext};
@@ -56,76 +56,116 @@ struct Before {
     region: u32,
 }
 
-/// The line of one instance: its events in their order. A contract sees it as a record of both.
+/// The line of one instance while it grows: its events in their order, and room for more. A contract sees a record of the
+/// line and of the room.
 ///
 /// It has at most [`MAX_EVENTS`] events, none of them names the line's own instance, and their coregions are
 /// numbered along the line. For each event it also keeps where its run of receives from one sender and where
 /// its coregion began, so that who goes back along the line can pass such a run in one step.
 #[derive(Debug, Drop)]
-pub struct Line {
+pub struct GrowingLine {
     instance: InstanceNo,
     events: Vec<Event>,
+    /// It has room for as many as `events` has, or more.
     before: Vec<Before>,
+    /// The greatest coregion, or 0.
+    greatest: u32,
 }
 
-impl Model for Line {
-    ghost use Rattle.chart.specs.Charts.{LineView};
+impl Model for GrowingLine {
+    ghost use Rattle.std.specs.Prelude.{◌-◌, ◌≤◌};
+    ghost use Rattle.std.specs.Vec.{vec_len, vec_capacity};
+    ghost use Rattle.chart.specs.Charts.{GrowingView};
 
-    ghost Value = { LineView };
+    ghost Value = { GrowingView };
 
     ghost use Rattle.chart.specs.LineLayout.{IsLaidOut};
 
-    ghost view = { λ l. record { instance = l.instance; events = l.events.items } };
+    ghost view = { λ l. record { line = record { instance = l.instance; events = l.events.items }; room = vec_capacity l.events - vec_len l.events } };
 
-    ghost invariant = { λ l. IsLaidOut l.instance l.events.items l.before.items };
+    ghost invariant = { λ l. IsLaidOut l.instance l.events.items l.before.items l.greatest × (vec_capacity l.events ≤ vec_capacity l.before) };
 }
 
-impl Line {
-    /// An empty line. It takes no memory.
-    pub fn new(alloc: Global, instance: InstanceNo) -> Line
-        ensures { result ≡ record { instance = instance; events = [] } }
+impl GrowingLine {
+    /// An empty line with no room. It takes no memory.
+    pub fn new(alloc: Global, instance: InstanceNo) -> GrowingLine
+        ensures { result ≡ record { line = record { instance = instance; events = [] }; room = 0 } }
     {
-        Line {
+        GrowingLine {
             instance,
             events: Vec::new(alloc),
             before: Vec::new(alloc),
+            greatest: 0,
         }
     }
 
     pub fn instance(&self) -> InstanceNo
-        ensures { result ≡ self.now.instance }
+        ensures { result ≡ self.now.line.instance }
     {
         self.instance
     }
 
     /// The events, the first of the line first.
     pub fn events(&self) -> &[Event]
-        ensures value { result.now ≡ self.now.events }
-        ensures line { IsLine self.now }
+        ensures value { result.now ≡ self.now.line.events }
+        ensures line { IsLine self.now.line }
     {
         let _ = &self.before;
         self.events.as_slice()
     }
 
     pub fn len(&self) -> usize
-        ensures value { result ≡ length self.now.events }
+        ensures value { result ≡ length self.now.line.events }
         ensures limit { result ≤ MAX_EVENTS }
     {
         self.events.len()
     }
 
     pub fn is_empty(&self) -> bool
-        ensures { result ≡ (length self.now.events == 0) }
+        ensures { result ≡ (length self.now.line.events == 0) }
     {
         self.events.is_empty()
+    }
+
+    /// The greatest coregion of the line, 0 where there is none: the next one's number is one above it.
+    pub fn greatest_region(&self) -> u32
+        ensures value { result ≡ greatest_region self.now.line.events }
+        ensures limit { result ≤ length self.now.line.events }
+    {
+        self.greatest
+    }
+
+    /// So many events can be added without memory.
+    pub fn room(&self) -> usize
+        ensures { result ≡ self.now.room }
+    {
+        self.events.capacity() - self.events.len()
+    }
+
+    /// Makes room for so many events.
+    ///
+    /// F6: it fails only where there is no memory, and then nothing has changed.
+    pub fn reserve(&mut self, events: usize) -> Result<(), AllocError>
+        ensures line { self.new.line ≡ self.old.line }
+        ensures ok { OnOk result (events ≤ self.new.room) }
+        ensures least { self.old.room ≤ self.new.room }
+        ensures succeeds { events ≤ self.old.room → IsOk result }
+        ensures err { OnErr result (self.new ≡ self.old) }
+    {
+        if events <= self.events.capacity() - self.events.len() {
+            return Ok(());
+        }
+        self.before.reserve(events)?;
+        let room = self.before.capacity() - self.events.len();
+        self.events.reserve_exact(room)
     }
 
     /// How many events stand before the run of neighbouring receives from one sender that ends with the event of
     /// this index. For a send, which is in no such run, it is some number below the index.
     pub fn before_run(&self, index: usize) -> usize
         requires begun { 1 ≤ index }
-        requires within { index ≤ length self.now.events }
-        ensures { IsBeforeRun is_receive_from self.now.events index result }
+        requires within { index ≤ length self.now.line.events }
+        ensures { IsBeforeRun is_receive_from self.now.line.events index result }
     {
         self.before[index - 1].run as usize
     }
@@ -134,22 +174,25 @@ impl Line {
     /// coregion it is some number below the index.
     pub fn before_region(&self, index: usize) -> usize
         requires begun { 1 ≤ index }
-        requires within { index ≤ length self.now.events }
-        ensures { IsBeforeRun is_in self.now.events index result }
+        requires within { index ≤ length self.now.line.events }
+        ensures { IsBeforeRun is_in self.now.line.events index result }
     {
         self.before[index - 1].region as usize
     }
 
-    /// Adds an event at the end. A refusal, the first of F13, F7 and F6 that applies, leaves the line as it was.
+    /// Adds an event at the end. A refusal, the first of F13, F7 and F6 that applies, leaves the line as it was. With room
+    /// it takes no memory.
     ///
     /// The caller sees to it that the event's coregion may come next: 0, or one above the greatest so far, or
     /// that greatest one where the last event is a receive of it.
     pub fn push(&mut self, event: Event) -> Result<(), LineError>
-        requires { MayHaveRegion self.old.events (region_of event) }
-        ensures ok { OnOk result (self.new ≡ record self.old { events = self.old.events ++ event ∷ [] }) }
-        ensures itself { (result ≡ Err LineError.ToItself) ↔ (partner_of event ≡ self.old.instance) }
+        requires { MayHaveRegion self.old.line.events (region_of event) }
+        ensures ok { OnOk result (self.new.line ≡ record self.old.line { events = self.old.line.events ++ event ∷ [] }) }
+        ensures least { self.old.room ≤ self.new.room + 1 }
+        ensures itself { (result ≡ Err LineError.ToItself) ↔ (partner_of event ≡ self.old.line.instance) }
         ensures full { (result ≡ Err LineError.LineFull)
-            ↔ ((partner_of event ≢ self.old.instance) × (length self.old.events ≡ MAX_EVENTS)) }
+            ↔ ((partner_of event ≢ self.old.line.instance) × (length self.old.line.events ≡ MAX_EVENTS)) }
+        ensures room { 0 < self.old.room → result ≢ Err LineError.Memory }
         ensures err { OnErr result (self.new ≡ self.old) }
     {
         if event.partner() == self.instance {
@@ -158,20 +201,22 @@ impl Line {
         if self.events.len() >= MAX_EVENTS {
             return Err(LineError::LineFull);
         }
+        self.reserve(1)?;
         let before = before_next(self.events.as_slice(), self.before.as_slice(), event);
-        self.events.reserve(1)?;
-        self.before.push(before)?;
+        self.before.push_reserved(before);
         self.events.push_reserved(event);
+        self.greatest = self.greatest.max(event.region());
         Ok(())
     }
 
     /// Adds a send to this instance for each name, in their order, or none of them: a refusal, the first of F13, F7
     /// and F6 that applies, leaves the line as it was.
     pub fn push_sends(&mut self, to: InstanceNo, names: &[Name]) -> Result<(), LineError>
-        ensures ok { OnOk result (self.new ≡ record self.old { events = self.old.events ++ map (send_event to) names.now }) }
-        ensures itself { (result ≡ Err LineError.ToItself) ↔ (to ≡ self.old.instance) }
+        ensures ok { OnOk result (self.new.line ≡ record self.old.line { events = self.old.line.events ++ map (send_event to) names.now }) }
+        ensures least { self.old.room ≤ self.new.room + length names.now }
+        ensures itself { (result ≡ Err LineError.ToItself) ↔ (to ≡ self.old.line.instance) }
         ensures full { (result ≡ Err LineError.LineFull)
-            ↔ ((to ≢ self.old.instance) × (MAX_EVENTS < length self.old.events + length names.now)) }
+            ↔ ((to ≢ self.old.line.instance) × (MAX_EVENTS < length self.old.line.events + length names.now)) }
         ensures err { OnErr result (self.new ≡ self.old) }
     {
         if to == self.instance {
@@ -180,8 +225,7 @@ impl Line {
         if names.len() > MAX_EVENTS - self.events.len() {
             return Err(LineError::LineFull);
         }
-        self.events.reserve(names.len())?;
-        self.before.reserve(names.len())?;
+        self.reserve(names.len())?;
         for name in names {
             let all = self.events.len() as u32;
             self.before.push_reserved(Before {
@@ -191,6 +235,94 @@ impl Line {
             self.events.push_reserved(Event::Send { to, name: *name });
         }
         Ok(())
+    }
+}
+
+/// The line of one instance, as a chart has it: a [`GrowingLine`] whose room nobody asks for. A contract sees a record of the
+/// instance and of the events.
+#[derive(Debug, Drop)]
+pub struct Line {
+    growing: GrowingLine,
+}
+
+impl Model for Line {
+    ghost use Rattle.chart.specs.Charts.{LineView};
+
+    ghost Value = { LineView };
+
+    ghost view = { λ l. l.growing.line };
+}
+
+impl From<GrowingLine> for Line {
+    ghost from_gives = { λ growing line. line ≡ growing.line };
+
+    fn from(growing: GrowingLine) -> Line {
+        Line { growing }
+    }
+}
+
+impl Line {
+    /// An empty line. It takes no memory.
+    pub fn new(alloc: Global, instance: InstanceNo) -> Line
+        ensures { result ≡ record { instance = instance; events = [] } }
+    {
+        Line {
+            growing: GrowingLine::new(alloc, instance),
+        }
+    }
+
+    /// The same with its room.
+    pub fn as_growing(&self) -> &GrowingLine
+        ensures { result.now.line ≡ self.now }
+    {
+        &self.growing
+    }
+
+    pub fn instance(&self) -> InstanceNo
+        ensures { result ≡ self.now.instance }
+    {
+        self.growing.instance()
+    }
+
+    /// The events, the first of the line first.
+    pub fn events(&self) -> &[Event]
+        ensures value { result.now ≡ self.now.events }
+        ensures line { IsLine self.now }
+    {
+        self.growing.events()
+    }
+
+    pub fn len(&self) -> usize
+        ensures value { result ≡ length self.now.events }
+        ensures limit { result ≤ MAX_EVENTS }
+    {
+        self.growing.len()
+    }
+
+    pub fn is_empty(&self) -> bool
+        ensures { result ≡ (length self.now.events == 0) }
+    {
+        self.growing.is_empty()
+    }
+
+    /// The greatest coregion of the line, as [`GrowingLine::greatest_region`] answers it.
+    pub fn greatest_region(&self) -> u32
+        ensures value { result ≡ greatest_region self.now.events }
+        ensures limit { result ≤ length self.now.events }
+    {
+        self.growing.greatest_region()
+    }
+
+    /// Adds an event at the end, as [`GrowingLine::push`] does.
+    pub fn push(&mut self, event: Event) -> Result<(), LineError>
+        requires { MayHaveRegion self.old.events (region_of event) }
+        ensures ok { OnOk result (self.new ≡ record self.old { events = self.old.events ++ event ∷ [] }) }
+        ensures itself { (result ≡ Err LineError.ToItself) ↔ (partner_of event ≡ self.old.instance) }
+        ensures full { (result ≡ Err LineError.LineFull)
+            ↔ ((partner_of event ≢ self.old.instance) × (length self.old.events ≡ MAX_EVENTS)) }
+        ensures err { OnErr result (self.new ≡ self.old) }
+    {
+        self.growing.push(event)
     }
 }
 

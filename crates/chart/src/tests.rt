@@ -3,8 +3,8 @@ ghost use Rattle.std.specs.Prelude.{◌≡◌, IfOk};
 ghost use Rattle.chart.specs.Events.{region_of};
 
 use crate::{
-    Event, InstanceNo, Line, LineError, MAX_BODY, MAX_EVENTS, MAX_NAME, Message, Name, NameError,
-    Names, NamesError,
+    Event, GrowingLine, InstanceNo, Line, LineError, MAX_BODY, MAX_EVENTS, MAX_NAME, Message, Name,
+    NameError, Names, NamesError,
 };
 use std::test::Fail;
 
@@ -86,9 +86,27 @@ fn full_lines(rt: HostRuntime) -> Result<(), Fail> {
     Ok(())
 }
 
+/// A line that has room for three events takes them with no memory.
+#[test]
+fn refused_growths_reserve(rt: HostRuntime) -> Result<(), Fail> {
+    let mut line = GrowingLine::new(rt.alloc(), instance(1)?);
+    assert_eq!(rt; line.room(), 0);
+    if line.reserve(3).is_err() {
+        assert_eq!(rt; line.room(), 0);
+        line.reserve(3)?;
+    }
+    assert!(rt; line.room() >= 3);
+    line.push(send_to(2)?)?;
+    line.push_sends(instance(2)?, &[name(b"x")?, name(b"y")?])?;
+    assert_eq!(rt; line.len(), 3);
+    // A last growth, whose refusal tells that each one before it was refused in an earlier run of the test.
+    Vec::<u8>::with_capacity(rt.alloc(), 1).map_err(|_| "every growth was refused")?;
+    Ok(())
+}
+
 #[test]
 fn runs(rt: HostRuntime) -> Result<(), Fail> {
-    let mut line = Line::new(rt.alloc(), instance(1)?);
+    let mut line = GrowingLine::new(rt.alloc(), instance(1)?);
     for sender in [2, 3, 3, 2, 2] {
         let from = instance(sender)?;
         let x = name(b"x")?;

@@ -1,5 +1,5 @@
 -- Several sends at once are those sends one after another.
-use Rattle.std.proofs.Common.{◌≡◌, ℕ, zero, suc, ◌+◌, List, [], ◌∷◌, ◌++◌, length, map, refl, sym, ap, ◌∙◌, arith, append_assoc, append-nil}
+use Rattle.std.proofs.Common.{◌≡◌, ℕ, zero, suc, ◌+◌, ◌-◌, List, [], ◌∷◌, ◌++◌, length, map, refl, sym, ap, ap₂, ◌∙◌, arith, append_assoc, append-nil}
 use Rattle.std.proofs.lemmas.List.{length-append, set-set}
 use Rattle.chart.specs.Charts.{LineView}
 use Rattle.chart.specs.Events.{send_event}
@@ -38,12 +38,15 @@ send_clocks_are r to [] = refl
 send_clocks_are r to (name ∷ names) = ap (λ clocks. send_clock r ∷ clocks) (send_clocks_are (after_send r to name) to names) ∙ next_clocks-suc r to name (length names)
 
 -- what several sends make of a recorder
-pub after_sends_is : (r : RecorderView) (to : ℕ) (names : List (List ℕ)) → after_sends r to names ≡ record { line = record { instance = r.line.instance; events = r.line.events ++ map (send_event to) names }; knowledge = known_after r (length names); reports = r.reports }
-after_sends_is r to [] = ap (λ events. record { line = record { instance = r.line.instance; events = events }; knowledge = r.knowledge; reports = r.reports }) (sym (append-nil r.line.events))
+pub after_sends_is : (r : RecorderView) (to : ℕ) (names : List (List ℕ)) → after_sends r to names ≡ record { line = record { instance = r.line.instance; events = r.line.events ++ map (send_event to) names }; knowledge = known_after r (length names); reports = r.reports; room = r.room - length names }
+after_sends_is r to [] = ap₂ (λ events room. record { line = record { instance = r.line.instance; events = events }; knowledge = r.knowledge; reports = r.reports; room = room }) (sym (append-nil r.line.events)) (omega arith)
 after_sends_is r to (name ∷ names) =
-    rw (after_sends_is (after_send r to name) to names, known_after-suc r to name (length names), append_assoc r.line.events (send_event to name ∷ []) (map (send_event to) names)) refl
+    rw (after_sends_is (after_send r to name) to names, known_after-suc r to name (length names), append_assoc r.line.events (send_event to name ∷ []) (map (send_event to) names), one_less) refl
+  where
+    one_less : r.room - 1 - length names ≡ r.room - suc (length names)
+    one_less = omega arith
 
--- a recorder with that line and that knowledge is the one after the sends
-pub is_after_sends : (r : RecorderView) (to : ℕ) (names : List (List ℕ)) (line : LineView) (known : List ℕ) → line ≡ record { instance = r.line.instance; events = r.line.events ++ map (send_event to) names } → known ≡ known_after r (length names)
-    → ◌≡◌ {A = RecorderView} (record { line = line; knowledge = known; reports = r.reports }) (after_sends r to names)
-is_after_sends r to names line known is_line is_known = rw (after_sends_is r to names, is_line, is_known) refl
+-- a recorder with that line, that knowledge and that room is the one after the sends
+pub is_after_sends : (r : RecorderView) (to : ℕ) (names : List (List ℕ)) (line : LineView) (known : List ℕ) (room : ℕ) → line ≡ record { instance = r.line.instance; events = r.line.events ++ map (send_event to) names } → known ≡ known_after r (length names) → room ≡ r.room - length names
+    → ◌≡◌ {A = RecorderView} (record { line = line; knowledge = known; reports = r.reports; room = room }) (after_sends r to names)
+is_after_sends r to names line known room is_line is_known is_room = rw (after_sends_is r to names, is_line, is_known, is_room) refl

@@ -1,6 +1,6 @@
 -- What a recorder is to a contract, and what it is after each event (vector time as Fidge 1988 and Mattern 1989 have it;
 -- races as this project's profile has them).
-use Rattle.std.specs.Prelude.{◌≡◌, ℕ, ◌+◌, List, [], ◌∷◌, ◌++◌, length, map, replicate, All}
+use Rattle.std.specs.Prelude.{◌≡◌, ℕ, ◌+◌, ◌-◌, List, [], ◌∷◌, ◌++◌, length, map, max, replicate, All}
 use Rattle.chart.specs.declared.event.Event.{Event}
 use Rattle.chart.specs.Events.{send_event, receive_event}
 use Rattle.chart.specs.Charts.{LineView}
@@ -8,15 +8,17 @@ use Rattle.chart.specs.Order.{IsRaces}
 use Rattle.chart.specs.Reports.{ReportView}
 use Rattle.clock.specs.Clocks.{entry_of, with_entry, merged}
 
--- an instance's line, how many events it knows of each instance, and the reports of its receives
+-- an instance's line, how many events it knows of each instance, the reports of its receives, and for how many events room was
+-- made on the line
 pub record RecorderView : Type 0 where
   pub line : LineView
   pub knowledge : List ℕ
   pub reports : List ReportView
+  pub room : ℕ
 
 -- instance p of n, before its first event
 abbrev pub new_recorder : ℕ → ℕ → RecorderView
-new_recorder p n = record { line = record { instance = p; events = [] }; knowledge = replicate n 0; reports = [] }
+new_recorder p n = record { line = record { instance = p; events = [] }; knowledge = replicate n 0; reports = []; room = 0 }
 
 -- the line with one more event
 abbrev pub with_event : LineView → Event → LineView
@@ -28,11 +30,11 @@ send_clock r = with_entry r.knowledge r.line.instance (length r.line.events + 1)
 
 -- after a send, which is known from then on
 abbrev pub after_send : RecorderView → ℕ → List ℕ → RecorderView
-after_send r to name = record { line = with_event r.line (send_event to name); knowledge = send_clock r; reports = r.reports }
+after_send r to name = record { line = with_event r.line (send_event to name); knowledge = send_clock r; reports = r.reports; room = r.room - 1 }
 
 -- after a receive of a message with this clock, of which there is this report
 abbrev pub after_receive : RecorderView → ℕ → List ℕ → ℕ → List ℕ → ReportView → RecorderView
-after_receive r from name region clock report = record { line = with_event r.line (receive_event from name region); knowledge = merged r.knowledge clock; reports = r.reports ++ report ∷ [] }
+after_receive r from name region clock report = record { line = with_event r.line (receive_event from name region); knowledge = merged r.knowledge clock; reports = r.reports ++ report ∷ []; room = r.room - 1 }
 
 -- the report of the next event, if it is a receive of a message with this clock: the races above the clock's own entry for
 -- this line
@@ -50,3 +52,7 @@ after_sends r to (name ∷ names) = after_sends (after_send r to name) to names
 abbrev pub send_clocks : RecorderView → ℕ → List (List ℕ) → List (List ℕ)
 send_clocks r to [] = []
 send_clocks r to (name ∷ names) = send_clock r ∷ send_clocks (after_send r to name) to names
+
+-- with room for so many events at least
+abbrev pub with_room : RecorderView → ℕ → RecorderView
+with_room r events = record r { room = max r.room events }

@@ -3,26 +3,30 @@ ghost use Rattle.std.specs.Prelude.{◌≡◌, ◌≢◌, ◌≤◌, ◌<◌, �
 ghost use Rattle.chart.specs.Events.{MayHaveRegion};
 ghost use Rattle.clock.specs.declared.clock.TheConstants.{INLINE_ENTRIES};
 ghost use Rattle.line_recorder.specs.Sends.{next_clocks, known_after};
-ghost use Rattle.line_recorder.specs.Recorders.{new_recorder, send_clock, after_send, after_sends, send_clocks, after_receive, IsReportOf};
+ghost use Rattle.line_recorder.specs.Recorders.{new_recorder, with_room, send_clock, after_send, after_sends, send_clocks, after_receive, IsReportOf};
 
 use crate::error::RecordError;
-use chart::{Event, EventNo, InstanceNo, Line, MAX_EVENTS, MAX_INSTANCES, Name, Report};
+use chart::{
+    Event, EventNo, GrowingLine, InstanceNo, Line, MAX_EVENTS, MAX_INSTANCES, Name, Report,
+};
 use clock::{Clock, INLINE_ENTRIES};
-use online_races::races;
+use online_races::next_races;
 use std::alloc::{AllocError, Global};
 use std::marker::Model;
 
 /// One of several instances, as it records itself: its line, its knowledge and its reports. A contract sees a record of
-/// the three.
+/// the three, and of the room that was made on the line.
 ///
 /// Its knowledge has for the instance itself the number of its last send, and for each other one the most that the
 /// clock of a received message had of it.
 #[derive(Drop)]
 pub struct Recorder {
     alloc: Global,
-    line: Line,
+    line: GrowingLine,
     knowledge: Clock,
     reports: Vec<Report>,
+    /// For so many events room was made: the line has so much, or more.
+    room: usize,
 }
 
 impl Model for Recorder {
@@ -31,9 +35,9 @@ impl Model for Recorder {
 
     ghost Value = { RecorderView };
 
-    ghost view = { λ r. record { line = r.line; knowledge = r.knowledge; reports = r.reports.items } };
+    ghost view = { λ r. record { line = r.line.line; knowledge = r.knowledge; reports = r.reports.items; room = r.room } };
 
-    ghost invariant = { λ r. r.line.instance ≤ length r.knowledge };
+    ghost invariant = { λ r. (r.line.line.instance ≤ length r.knowledge) × (r.room ≤ r.line.room) };
 }
 
 impl Recorder {
@@ -49,17 +53,38 @@ impl Recorder {
     {
         Ok(Recorder {
             alloc,
-            line: Line::new(alloc, p),
+            line: GrowingLine::new(alloc, p),
             knowledge: Clock::zero(alloc, n)?,
             reports: Vec::new(alloc),
+            room: 0,
         })
     }
 
     /// The instance's line so far.
-    pub fn line(&self) -> &Line
-        ensures { result.now ≡ self.now.line }
+    pub fn line(&self) -> &GrowingLine
+        ensures { result.now.line ≡ self.now.line }
     {
         &self.line
+    }
+
+    /// For so many events room was made on the line, and not used yet: they need no memory there. An event takes one place
+    /// of it.
+    pub fn room(&self) -> usize
+        ensures { result ≡ self.now.room }
+    {
+        self.room
+    }
+
+    /// Makes room for so many events on the line.
+    ///
+    /// F6: it fails only where there is no memory, and then nothing has changed.
+    pub fn reserve(&mut self, events: usize) -> Result<(), AllocError>
+        ensures ok { OnOk result (self.new ≡ with_room self.old events) }
+        ensures err { OnErr result (self.new ≡ self.old) }
+    {
+        self.line.reserve(events)?;
+        self.room = self.room.max(events);
+        Ok(())
     }
 
     /// How many events it knows of each instance, as its next send will, but for that send itself.
@@ -97,18 +122,19 @@ impl Recorder {
         ensures reports { result.1.items ≡ self.reports }
     {
         let Recorder { line, reports, .. } = self;
-        (line, reports)
+        (Line::from(line), reports)
     }
 
     /// Records a send to this instance, and answers its clock: what is known, and the send itself.
     ///
-    /// A refusal, the first of F7 and F6 that applies, changes nothing. With room on the line it takes no memory up to
+    /// A refusal, the first of F7 and F6 that applies, changes nothing. With room it takes no memory up to
     /// [`INLINE_ENTRIES`] instances.
     pub fn send(&mut self, to: InstanceNo, name: Name) -> Result<Clock, RecordError>
         requires one { to ≤ length self.old.knowledge }
         requires other { to ≢ self.old.line.instance }
         ensures ok { OnOk result (self.new ≡ after_send self.old to name) }
         ensures clock { IfOk result (λ clock. clock ≡ send_clock self.old) }
+        ensures room { 0 < self.old.room → length self.old.knowledge ≤ INLINE_ENTRIES → result ≢ Err RecordError.Memory }
         ensures full { (result ≡ Err RecordError.LineFull) ↔ (length self.old.line.events ≡ MAX_EVENTS) }
         ensures err { OnErr result (self.new ≡ self.old) }
     {
@@ -119,6 +145,7 @@ impl Recorder {
         let index = self.line.len() as u32 + 1;
         let mut clock = self.knowledge.copied(self.alloc)?;
         self.line.push(Event::Send { to, name })?;
+        self.room = self.room.saturating_sub(1);
         self.knowledge.stamp(own, index);
         clock.stamp(own, index);
         Ok(clock)
@@ -144,6 +171,7 @@ impl Recorder {
         let clocks = self.next_clocks(names.len())?;
         let known = self.known_after(names.len())?;
         self.line.push_sends(to, names)?;
+        self.room = self.room.saturating_sub(names.len());
         self.knowledge = known;
         Ok(clocks)
     }
@@ -209,11 +237,12 @@ impl Recorder {
             instance: own,
             index: self.line.len() as u32 + 1,
         };
-        let earlier = races(self.alloc, &self.line, clock.entry(own), from, region)?;
+        let earlier = next_races(self.alloc, &self.line, clock.entry(own), from, region)?;
         let report = Report::new(receive, earlier);
         let copy = copy_of(self.alloc, &report)?;
         self.reports.reserve(1)?;
         self.line.push(Event::Receive { from, name, region })?;
+        self.room = self.room.saturating_sub(1);
         self.knowledge.merge(clock);
         self.reports.push_reserved(report);
         Ok(copy)

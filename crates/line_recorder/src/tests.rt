@@ -199,6 +199,25 @@ fn coregion(rt: HostRuntime) -> Result<(), Fail> {
     Ok(())
 }
 
+/// A recorder with room for two events sends twice with no memory.
+#[test]
+fn refused_growths_reserve(rt: HostRuntime) -> Result<(), Fail> {
+    let alloc = rt.alloc();
+    let mut a = one_of(&rt, alloc, A, 8);
+    if a.reserve(2).is_err() {
+        assert_eq!(rt; a.room(), 0);
+        a.reserve(2)?;
+    }
+    assert!(rt; a.room() >= 2);
+    for number in [B, C] {
+        let to = other(&rt, &a, number);
+        assert!(rt; a.send(to, name(&rt, b"x")).is_ok());
+    }
+    // A last growth, whose refusal tells that each one before it was refused in an earlier run of the test.
+    Vec::<u8>::with_capacity(alloc, 1).map_err(|_| "every growth was refused")?;
+    Ok(())
+}
+
 /// Each call among nine instances, whose clocks take memory.
 #[test]
 fn refused_growths(rt: HostRuntime) -> Result<(), Fail> {

@@ -9,16 +9,16 @@ ghost use Rattle.std.specs.Prelude.{◌≡◌, ◌≤◌, [], length, map, All, 
 ghost use Rattle.chart.specs.Order.{IsRaces};
 ghost use Rattle.online_races.specs.Passing.{IsRace, ArePassed};
 
-use chart::{EventNo, InstanceNo, Line};
+use chart::{EventNo, GrowingLine, InstanceNo, Line};
 use std::alloc::{AllocError, Global};
 
 /// How many events stand before those that are passed in one step from the event of this index on back: the receives
 /// of the coregion or the neighbouring receives from the sender that end with it. None where the event is a race.
-fn before_passed(line: &Line, index: usize, sender: InstanceNo, region: u32) -> Option<usize>
+fn before_passed(line: &GrowingLine, index: usize, sender: InstanceNo, region: u32) -> Option<usize>
     requires begun { 1 ≤ index }
-    requires within { index ≤ length line.now.events }
-    ensures { MatchOption result (IsRace line.now.events sender region index)
-        (λ before. ArePassed line.now.events before index sender region) }
+    requires within { index ≤ length line.now.line.events }
+    ensures { MatchOption result (IsRace line.now.line.events sender region index)
+        (λ before. ArePassed line.now.line.events before index sender region) }
 {
     let event = &line.events()[index - 1];
     if event.is_in(region) {
@@ -47,6 +47,21 @@ pub fn races(
     ensures races { IfOk result (λ found. IsRaces line.now.events entry sender region (map (λ race. race.index) found.items)) }
     ensures own { IfOk result (λ found. All (λ race. race.instance ≡ line.now.instance) found.items) }
     ensures none { IsRaces line.now.events entry sender region [] → IsOk result }
+{
+    next_races(alloc, line.as_growing(), entry, sender, region)
+}
+
+/// The same of a line that grows, as a receive comes.
+pub fn next_races(
+    alloc: Global,
+    line: &GrowingLine,
+    entry: u32,
+    sender: InstanceNo,
+    region: u32,
+) -> Result<Vec<EventNo>, AllocError>
+    ensures races { IfOk result (λ found. IsRaces line.now.line.events entry sender region (map (λ race. race.index) found.items)) }
+    ensures own { IfOk result (λ found. All (λ race. race.instance ≡ line.now.line.instance) found.items) }
+    ensures none { IsRaces line.now.line.events entry sender region [] → IsOk result }
 {
     let mut found = Vec::new(alloc);
     let mut index = line.len();

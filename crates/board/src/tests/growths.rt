@@ -119,3 +119,28 @@ fn refused_growths_among_nine(rt: HostRuntime) -> Result<(), Fail> {
     Vec::<u8>::with_capacity(alloc, 1).map_err(|_| "every growth was refused")?;
     Ok(())
 }
+
+/// A post of eight instances that has room for two events sends twice with no memory.
+#[test]
+fn refused_growths_with_room(rt: HostRuntime) -> Result<(), Fail> {
+    let alloc = rt.alloc();
+    let mut board = board_of(&rt, alloc, 8);
+    let mut other = board_of(&rt, alloc, 8);
+    let mut posts = match board.posts() {
+        Ok(posts) => posts,
+        Err(_) => other.posts()?,
+    };
+    assert!(rt; !posts.is_empty());
+    let post = &mut posts[0];
+    if post.reserve(2).is_err() {
+        assert_eq!(rt; post.room(), 0);
+        post.reserve(2)?;
+    }
+    for left in [1, 0] {
+        let sent = post.send(instance(&rt, 2), message(&rt, alloc, b"x"));
+        assert!(rt; sent.is_ok());
+        assert_eq!(rt; post.room(), left);
+    }
+    Vec::<u8>::with_capacity(alloc, 1).map_err(|_| "every growth was refused")?;
+    Ok(())
+}
