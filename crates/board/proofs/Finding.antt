@@ -15,7 +15,7 @@ use Rattle.board.proofs.EndLemmas.{incoming_later}
 use Rattle.board.proofs.DidLemmas.{waiting_many}
 use Rattle.board.proofs.Claiming.{rests_back}
 
-nil_of : {X : Type 0} (xs : List X) → length xs ≡ 0 → xs ≡ []
+pub nil_of : {X : Type 0} (xs : List X) → length xs ≡ 0 → xs ≡ []
 nil_of [] e = refl
 nil_of (x ∷ xs) e = absurd (omega (arith, e))
 

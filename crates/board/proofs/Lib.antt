@@ -6,10 +6,10 @@ pub mod Finding
 pub mod Meetings
 pub mod NoteLemmas
 pub mod OneBoard
-pub mod OneReceive
 pub mod OneSend
 pub mod Openings
 pub mod PostLemmas
 pub mod ReceiveAnswers
+pub mod Receives
 pub mod Rooms
 pub mod SendAnswers

@@ -1,5 +1,5 @@
 -- What a post's receive leaves and answers.
-use Rattle.std.proofs.Common.{◌≡◌, ◌≢◌, ℕ, suc, max, ◌+◌, ◌-◌, ◌<◌, ◌≤◌, inl, inr, ◌⊎◌, Bool, List, [], ◌∷◌, ◌++◌, length, drop, set, get_or, refl, sym, ap, ◌∙◌, subst, arith}
+use Rattle.std.proofs.Common.{◌≡◌, ◌≢◌, ℕ, zero, suc, max, ◌+◌, ◌-◌, ◌<◌, ◌≤◌, inl, inr, ◌⊎◌, Bool, List, [], ◌∷◌, ◌++◌, length, drop, set, replicate, get_or, refl, sym, ap, ◌∙◌, subst, arith}
 use Rattle.std.proofs.lemmas.List.{length-set, length_push}
 use Rattle.std.proofs.lemmas.Option.{slice_get-get_or}
 use Rattle.std.specs.Prelude.{slice_get, Option, Some}
@@ -9,27 +9,32 @@ use Rattle.chart.specs.declared.history.Occurrence.TheVariants.{Receive}
 use Rattle.chart.specs.declared.line.TheConstants.{MAX_EVENTS}
 use Rattle.chart.specs.Messages.{Content}
 use Rattle.chart.specs.Events.{receive_event, greatest_region, MayHaveRegion}
-use Rattle.chart.specs.Histories.{own, waiting, chart_of, Begins}
+use Rattle.chart.specs.Histories.{own, waiting, chart_of, IsLegal, Begins}
 use Rattle.chart.proofs.Histories.{begins_onward}
 use Rattle.chart.proofs.Regions.{greatest_region-push, may_be-small, may-again}
 use Rattle.chart.proofs.Sends.{line_after_receive}
 use Rattle.line_recorder.specs.Recorders.{RecorderView}
 use Rattle.line_recorder.specs.Recording.{IsRecorder}
+use Rattle.line_recorder.proofs.Carrying.{first_message}
 use Rattle.board_core.proofs.OwnEvents.{same_line}
 use Rattle.board_table.specs.declared.held.Held.{Held}
 use Rattle.board_table.specs.declared.shape.Shape.{Shape}
 use Rattle.board_table.specs.Layout.{LaneView}
 use Rattle.board_table.specs.Knowing.{Mine, held, Rests}
 use Rattle.board.specs.declared.answer.Arrival.{Arrival}
+use Rattle.board.specs.declared.answer.Stop.{Stop}
+use Rattle.board.specs.declared.answer.Stop.TheVariants.{Asked, NoMore, Refused}
 use Rattle.board.specs.declared.ends.Outgoing.{Outgoing}
 use Rattle.board.specs.declared.ends.Incoming.{Incoming}
 use Rattle.board.specs.declared.error.TakeError.{TakeError}
 use Rattle.board.specs.declared.error.TakeError.TheVariants.{NoSuchInstance, ToItself, LineFull, Memory}
 use Rattle.board.specs.Views.{IsPartner}
 use Rattle.board.specs.Known.{IsIncoming, AreEndsBut, AreEnds, IsPost, Did, view_of}
-use Rattle.board.specs.Found.{HasNone}
-use Rattle.board.specs.Receipts.{IsReceived, IsUnreceived}
+use Rattle.board.specs.Found.{HasNone, HasMessages}
+use Rattle.board.specs.Receipts.{MayReceive, IsReceived, AreReceived, IsUnreceived, IsUnrecorded, IsStopped}
+use Rattle.board.specs.Sending.{numbered}
 use Rattle.board.specs.Taking.{IsGot, IsFoundEmpty, IsUntaken}
+use Rattle.board.specs.TakingMany.{messages_of, AreGot, Stops}
 use Rattle.board.proofs.EndLemmas.{ends_later, ends_received, ends_but}
 use Rattle.board.proofs.OneSend.{saw_same, line_saw, recorder_saw}
 use Rattle.board.proofs.PostLemmas.{at_set}
@@ -47,6 +52,41 @@ did_onward n k p e f g before events saw did = record {
   own = did.own;
   looks = omega (arith, saw.looks, did.looks);
 }
+
+-- p's line may go on in this coregion, and this is the greatest one on it
+record HasRegions (p c greatest : ℕ) (h : List Occurrence) : Type 0 where
+  may : MayHaveRegion (chart_of h p) c
+  greatest_is : greatest ≡ greatest_region (chart_of h p)
+  few : greatest ≤ length (chart_of h p)
+
+-- it does after a receive in it
+regions_one : (n k p q c greatest : ℕ) (h : List Occurrence) → IsLegal n k (Receive p q c ∷ h) → HasRegions p c greatest h → HasRegions p c (max greatest c) (Receive p q c ∷ h)
+regions_one n k p q c greatest h legal old = go (first_message (waiting h q p) legal.0.1)
+  where
+    go : (m : Content) × (rest : List Content) × (waiting h q p ≡ m ∷ rest) → HasRegions p c (max greatest c) (Receive p q c ∷ h)
+    go (m, rest, first) =
+        let event = receive_event q m.name c in
+        let line = line_after_receive h p q c m rest first in
+        let regions = greatest_region-push (chart_of h p) event in
+        let small = may_be-small (chart_of h p) c old.may in
+        record {
+          may = subst (λ l. MayHaveRegion l c) (sym line) (may-again (chart_of h p) event old.may);
+          greatest_is = ap (λ g. max g c) old.greatest_is ∙ sym regions ∙ sym (ap greatest_region line);
+          few = let i = ap length line in omega (arith, small, old.greatest_is, old.few, length_push (chart_of h p) event);
+        }
+
+-- and after several
+regions_several : (n k p q c greatest many : ℕ) (h : List Occurrence) → IsLegal n k (replicate (suc many) (Receive p q c) ++ h) → HasRegions p c greatest h → HasRegions p c (max greatest c) (replicate (suc many) (Receive p q c) ++ h)
+regions_several n k p q c greatest zero h legal old = regions_one n k p q c greatest h legal old
+regions_several n k p q c greatest (suc many) h legal old =
+    let again : max (max greatest c) c ≡ max greatest c = omega arith in
+    subst (λ g. HasRegions p c g (replicate (suc (suc many)) (Receive p q c) ++ h)) again
+    (regions_one n k p q c (max greatest c) (replicate (suc many) (Receive p q c) ++ h) legal (regions_several n k p q c greatest many h legal.1 old))
+
+-- the other ends, when several were received on one
+ends_several : (n p q to_one c : ℕ) (outgoing : List Outgoing) (incoming : List Incoming) (many : ℕ) (h : List Occurrence) → AreEndsBut n h p to_one q outgoing incoming → AreEndsBut n (replicate many (Receive p q c) ++ h) p to_one q outgoing incoming
+ends_several n p q to_one c outgoing incoming zero h old = old
+ends_several n p q to_one c outgoing incoming (suc many) h old = ends_received n (replicate many (Receive p q c) ++ h) p q to_one c outgoing incoming (ends_several n p q to_one c outgoing incoming many h old)
 
 -- an end is put in its place
 with_incoming : (n : ℕ) (h : List Occurrence) (p j : ℕ) (e : Incoming) (outgoing : List Outgoing) (incoming : List Incoming) → j < length incoming → AreEndsBut n h p 0 (suc j) outgoing incoming → IsIncoming n h p (suc j) e → AreEnds n h p outgoing (set incoming j e)
@@ -80,6 +120,10 @@ module _ (key : Shape) (table chair : TableId) (m : Mine) (n k p : ℕ) (r : Rec
     pub region_then : MayHaveRegion (chart_of (held s).seen p) region
     region_then = subst (λ l. MayHaveRegion l region) (sym (line_saw n k p (held m) (held s) post.knows.legal post.made did)) post.knows.own.may
 
+    -- it may receive what it found
+    pub may_receive : (from : ℕ) (e : Incoming) → IsPartner (view_of table m n k p region) from → HasMessages (record { instances = n; capacity = k; sender = from; receiver = p }) s → IsIncoming n (held s).seen p from e → MayReceive (record { instances = n; capacity = k; sender = from; receiver = p }) region s e r
+    may_receive from e two found end = record { found = found; legal = did.legal; own = did.own; incoming = end; recorded = recorder_then; coregion = region_then; two = two }
+
   module _ (chair_after : TableId) (w : Mine) (u : RecorderView) (seated : chair_after ≡ chair) (rests : Rests n k p w) (recorder : IsRecorder n (held w).seen p u) (j : ℕ) (e : Incoming) (within : j < length incoming) (end : IsIncoming n (held w).seen p (suc j) e) where
     -- the call that touched this end saw, and made nothing
     pub post_looked : Did n k p (held m) (held w) (held w).seen [] → IsPost key table chair_after w n k p u region greatest outgoing (set incoming j e)
@@ -104,17 +148,20 @@ module _ (key : Shape) (table chair : TableId) (m : Mine) (n k p : ℕ) (r : Rec
           made = did.own;
         }
 
-    -- it received a message
-    pub post_received : (before : List Occurrence) (x : Content) (rest : List Content) → waiting before (suc j) p ≡ x ∷ rest → Did n k p (held m) (held w) before (Receive p (suc j) region ∷ []) → IsPost key table chair_after w n k p u region (max greatest region) outgoing (set incoming j e)
-    post_received before x rest first did =
+    -- it received one message or more
+    pub post_received : (before : List Occurrence) (many : ℕ) → Did n k p (held m) (held w) before (replicate (suc many) (Receive p (suc j) region)) → IsPost key table chair_after w n k p u region (max greatest region) outgoing (set incoming j e)
+    post_received before many did =
         let same : own before p ≡ own (held m).seen p = did.own_before ∙ sym post.made in
-        let event = receive_event (suc j) x.name region in
-        let line : chart_of (held w).seen p ≡ chart_of (held m).seen p ++ receive_event (suc j) x.name region ∷ [] =
-        ap (λ h. chart_of h p) did.seen ∙ line_after_receive before p (suc j) region x rest first ∙ ap (λ l. l ++ receive_event (suc j) x.name region ∷ []) (same_line n (held m).seen before did.later p same) in
+        let line : chart_of before p ≡ chart_of (held m).seen p = same_line n (held m).seen before did.later p same in
         let others = ends_later n k (held m).seen before p 0 (suc j) outgoing incoming post.knows.legal did.later same (ends_but n (held m).seen p 0 (suc j) outgoing incoming post.knows.ends) in
-        let now : AreEndsBut n (held w).seen p 0 (suc j) outgoing incoming = subst (λ h. AreEndsBut n h p 0 (suc j) outgoing incoming) (sym did.seen) (ends_received n before p (suc j) 0 region outgoing incoming others) in
-        let regions = greatest_region-push (chart_of (held m).seen p) (receive_event (suc j) x.name region) in
-        let small = may_be-small (chart_of (held m).seen p) region post.knows.own.may in
+        let now : AreEndsBut n (held w).seen p 0 (suc j) outgoing incoming = subst (λ h. AreEndsBut n h p 0 (suc j) outgoing incoming) (sym did.seen) (ends_several n p (suc j) 0 region outgoing incoming (suc many) before others) in
+        let start : HasRegions p region greatest before = record {
+          may = subst (λ l. MayHaveRegion l region) (sym line) post.knows.own.may;
+          greatest_is = post.knows.greatest_is ∙ ap greatest_region (sym line);
+          few = let same_length = ap length line in omega (arith, post.knows.few_regions);
+        } in
+        let regions : HasRegions p region (max greatest region) (held w).seen = subst (λ h. HasRegions p region (max greatest region) h) (sym did.seen)
+        (regions_several n k p (suc j) region greatest many before (subst (λ h. IsLegal n k h) did.seen did.legal) start) in
         record {
           chair_is = seated ∙ post.chair_is;
           board = post.board;
@@ -124,9 +171,9 @@ module _ (key : Shape) (table chair : TableId) (m : Mine) (n k p : ℕ) (r : Rec
           rests = rests;
           knows = record {
             legal = did.legal;
-            own = record { recorder = recorder; may = subst (λ l. MayHaveRegion l region) (sym line) (may-again (chart_of (held m).seen p) (receive_event (suc j) x.name region) post.knows.own.may) };
-            greatest_is = ap (λ g. max g region) post.knows.greatest_is ∙ sym regions ∙ sym (ap greatest_region line);
-            few_regions = let i = ap length line in omega (arith, small, post.knows.greatest_is, post.knows.few_regions, length_push (chart_of (held m).seen p) (receive_event (suc j) x.name region));
+            own = record { recorder = recorder; may = regions.may };
+            greatest_is = regions.greatest_is;
+            few_regions = regions.few;
             ends = with_incoming n (held w).seen p j e outgoing incoming within now end;
           };
           made = did.own;
@@ -140,11 +187,14 @@ module _ (key : Shape) (table chair : TableId) (m : Mine) (n k p : ℕ) (r : Rec
     pub found_empty : (w : Mine) (its_end : Bool) → HasNone lane its_end m w → IsFoundEmpty (view_of table m n k p region) from its_end (view_of table w n k p region)
     found_empty w its_end none = record { two = two; waits = none.waits; closed = none.closed; before = none.before; looked = none.looked }
 
+    by_cause : (w : Mine) (error : TakeError) → 0 < length (waiting (held w).seen from p) → IsUnrecorded (length (chart_of (held w).seen p)) error → IsUntaken (view_of table m n k p region) from error (view_of table w n k p region)
+    by_cause w NoSuchInstance waits never = absurd never
+    by_cause w ToItself waits never = absurd never
+    by_cause w LineFull waits full = (record { two = two; waits = waits }, full)
+    by_cause w Memory waits less = (record { two = two; waits = waits }, less)
+
     pub untaken : (s w : Mine) (error : TakeError) → IsUnreceived lane s w error → IsUntaken (view_of table m n k p region) from error (view_of table w n k p region)
-    untaken s w NoSuchInstance none = absurd none.cause
-    untaken s w ToItself none = absurd none.cause
-    untaken s w LineFull none = (record { two = two; waits = none.waits }, none.cause)
-    untaken s w Memory none = (record { two = two; waits = none.waits }, none.cause)
+    untaken s w error none = by_cause w error none.waits none.cause
 
     pub got : (s w : Mine) (arrival : Arrival) → Did n k p (held m) (held s) (held s).seen [] → IsReceived lane region s arrival w → IsGot (view_of table m n k p region) from arrival (view_of table w n k p region)
     got s w arrival saw its = record {
@@ -154,3 +204,23 @@ module _ (key : Shape) (table chair : TableId) (m : Mine) (n k p : ℕ) (r : Rec
       receive = its.receive;
       report = its.report;
     }
+
+    pub got_many : (s w : Mine) (arrivals : List Arrival) → Did n k p (held m) (held s) (held s).seen [] → 0 < length arrivals → AreReceived lane region s arrivals w → AreGot (view_of table m n k p region) from arrivals (view_of table w n k p region)
+    got_many s w arrivals saw some its =
+        let events = replicate (length arrivals) (Receive p from region) in
+        let line = ap length (line_saw n k p (held m) (held s) post.knows.legal post.made saw) in
+        record {
+          two = two;
+          some = some;
+          makes = (drop (length arrivals) (held w).seen, its.first.0, did_makes table m w n k p region (drop (length arrivals) (held w).seen) events (did_onward n k p (held m) (held s) (held w) (drop (length arrivals) (held w).seen) events saw its.did), its.first.1);
+          senders = its.senders;
+          receives = its.receives ∙ ap (λ (i : ℕ). numbered p (i + 1) (messages_of arrivals)) line;
+          reports = its.reports;
+        }
+
+    pub stopped : (s w : Mine) (most : ℕ) (arrivals : List Arrival) (stop : Stop) → Did n k p (held m) (held s) (held s).seen [] → AreReceived lane region s arrivals w → IsStopped lane most s arrivals w stop → Stops (view_of table m n k p region) from most arrivals stop (view_of table w n k p region)
+    stopped s w most arrivals Asked saw its is = is
+    stopped s w most arrivals NoMore saw its is =
+        let events = replicate (length arrivals) (Receive p from region) in
+        (is.0, record { front = ((held s).seen, saw.later, begins_onward (held s).seen (drop (length arrivals) (held w).seen) (held w).seen its.did.later (events, its.did.seen), is.1) })
+    stopped s w most arrivals (Refused error) saw its is = (is.0, by_cause w error is.1 is.2)

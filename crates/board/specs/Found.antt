@@ -1,8 +1,9 @@
 -- What a receiver finds on a lane (this project's profile).
-use Rattle.std.specs.Prelude.{◌≡◌, ℕ, ◌<◌, Bool, true, false, List, [], length}
-use Rattle.chart.specs.Histories.{waiting, is_closed}
+use Rattle.std.specs.Prelude.{◌≡◌, ℕ, ◌+◌, ◌<◌, ◌≤◌, ◌⊎◌, Bool, true, false, List, [], length}
+use Rattle.chart.specs.Histories.{sent, waiting, is_closed}
 use Rattle.board_table.specs.Layout.{LaneView}
 use Rattle.board_table.specs.Knowing.{Mine, held, packets_out, vacant_out, Rests, IsEmptying}
+use Rattle.board.specs.declared.ends.Incoming.{Incoming}
 use Rattle.board.specs.declared.receiving.Found.{Found}
 use Rattle.board.specs.declared.receiving.Found.TheVariants.{Messages, Nothing, Ended}
 
@@ -11,6 +12,11 @@ pub record HasMessages (l : LaneView) (me : Mine) : Type 0 where
   pub emptying : IsEmptying l me
   pub untaken : vacant_out me ≡ 0
   pub some : 0 < length (packets_out me)
+
+-- the lane's end knows of one message that waits, and of so many or of all
+pub record KnowsOf (l : LaneView) (many : ℕ) (me : Mine) (end : Incoming) : Type 0 where
+  pub one : end.taken < end.known_put
+  pub enough : (end.taken + many ≤ end.known_put) ⊎ (end.known_put ≡ length (sent (held me).seen l.sender l.receiver))
 
 -- none waits on the lane, which is closed or not, by a look; none waited in what was seen before
 pub record HasNone (l : LaneView) (its_end : Bool) (old new : Mine) : Type 0 where

@@ -1,26 +1,89 @@
 -- What the parts of a receive tell each other (this project's profile).
-use Rattle.std.specs.Prelude.{◌≡◌, ℕ, ◌<◌, List, [], ◌∷◌, length, drop, Result, Ok, Err}
+use Rattle.std.specs.Prelude.{◌≡◌, ℕ, suc, ◌+◌, ◌<◌, ◌≤◌, List, [], ◌∷◌, ◌++◌, length, map, drop, replicate, All, Result, Ok, Err}
 use Rattle.chart.specs.declared.history.Occurrence.TheVariants.{Receive}
 use Rattle.chart.specs.declared.line.TheConstants.{MAX_EVENTS}
+use Rattle.chart.specs.Events.{MayHaveRegion}
 use Rattle.chart.specs.Messages.{Content}
-use Rattle.chart.specs.Histories.{waiting, chart_of}
+use Rattle.chart.specs.Histories.{own, received, waiting, chart_of, AreTwo, IsLegal}
 use Rattle.chart.specs.Reports.{ReportView, IsReportIn}
 use Rattle.clock.specs.Diffs.{apply_diff}
 use Rattle.line_recorder.specs.Recorders.{RecorderView, after_receive, IsReportOf}
+use Rattle.line_recorder.specs.Recording.{IsRecorder}
+use Rattle.board_core.specs.Parcels.{Parcel, goods}
+use Rattle.board_core.specs.World.{after_receives}
+use Rattle.board_core.specs.Runs.{AreAnswers}
 use Rattle.board_table.specs.declared.packet.Packet.{Packet}
 use Rattle.board_table.specs.Layout.{LaneView}
-use Rattle.board_table.specs.Knowing.{Mine, held, packets_out}
+use Rattle.board_table.specs.Knowing.{Mine, held, packets_out, vacant_out, IsEmptying, waiting_goods, emptied_base}
 use Rattle.board.specs.declared.answer.Arrival.{Arrival}
+use Rattle.board.specs.declared.answer.Stop.{Stop}
+use Rattle.board.specs.declared.answer.Stop.TheVariants.{Asked, NoMore, Refused}
+use Rattle.board.specs.declared.ends.Incoming.{Incoming}
 use Rattle.board.specs.declared.error.TakeError.{TakeError}
 use Rattle.board.specs.declared.error.TakeError.TheVariants.{NoSuchInstance, ToItself, LineFull, Memory}
-use Rattle.board.specs.Known.{Did}
+use Rattle.board.specs.Sending.{numbered}
+use Rattle.board.specs.TakingMany.{messages_of}
+use Rattle.board.specs.Found.{HasMessages}
+use Rattle.board.specs.Known.{IsIncoming, Did}
+
+-- all messages that waited on the lane are out with its receiver, who may receive them in this coregion
+pub record MayReceive (l : LaneView) (region : ℕ) (me : Mine) (end : Incoming) (recorder : RecorderView) : Type 0 where
+  pub found : HasMessages l me
+  pub legal : IsLegal l.instances l.capacity (held me).seen
+  pub own : own (held me).seen l.receiver ≡ (held me).made
+  pub incoming : IsIncoming l.instances (held me).seen l.receiver l.sender end
+  pub recorded : IsRecorder l.instances (held me).seen l.receiver recorder
+  pub coregion : MayHaveRegion (chart_of (held me).seen l.receiver) region
+  pub two : AreTwo l.instances l.receiver l.sender
+
+-- messages of the lane are out with its receiver, whose end counts those that it has taken out as received
+pub record IsTaking (l : LaneView) (me : Mine) (end : Incoming) : Type 0 where
+  pub emptying : IsEmptying l me
+  pub taken : end.taken ≡ received (held me).seen l.sender l.receiver + vacant_out me
+  pub base : end.base ≡ emptied_base l me
+  pub long : length end.base ≡ l.instances
+
+-- the recorder is the receiver's, and its next event may have this coregion
+pub record IsReady (l : LaneView) (region : ℕ) (recorder : RecorderView) : Type 0 where
+  pub its : recorder.line.instance ≡ l.receiver
+  pub knows : length recorder.knowledge ≡ l.instances
+  pub may : MayHaveRegion recorder.line.events region
 
 -- the recorder has recorded the receive of the first of these packets over the base, with this report, and this is its clock
 pub record IsRecorded (packets : List Packet) (base : List ℕ) (from region : ℕ) (old : RecorderView) (report : ReportView) (clock : List ℕ) (new : RecorderView) : Type 0 where
-  pub short : length old.line.events < MAX_EVENTS
   pub clock_is : (x : Packet) (xs : List Packet) → packets ≡ x ∷ xs → apply_diff base x.diff ≡ clock
   pub recorded : (x : Packet) (xs : List Packet) → packets ≡ x ∷ xs → new ≡ after_receive old from x.message.name region clock report
   pub report_is : IsReportOf old from region clock report
+
+-- the first message that was out was taken out of its slot, and its receive recorded: its parcel, with this arrival
+pub record IsTaken (l : LaneView) (region : ℕ) (old : Mine) (before : Incoming) (recorder : RecorderView) (arrival : Arrival) (new : Mine) (after : Incoming) (recorded : RecorderView) : Type 0 where
+  pub taking : IsTaking l new after
+  pub kept : held new ≡ held old
+  pub parcel : Parcel
+  pub took : waiting_goods l old ≡ parcel ∷ waiting_goods l new
+  pub out : vacant_out new ≡ vacant_out old + 1
+  pub sender : arrival.from ≡ l.sender
+  pub message : arrival.message ≡ parcel.message
+  pub report : IsReportOf recorder l.sender region parcel.clock arrival.report
+  pub recorder_is : recorded ≡ after_receive recorder l.sender parcel.message.name region parcel.clock arrival.report
+  pub known : after.known_put ≡ before.known_put
+
+abbrev pub reports_of : List Arrival → List ReportView
+reports_of arrivals = map (λ (arrival : Arrival). arrival.report) arrivals
+
+-- so were the first ones that waited, one after another: these parcels, with these arrivals
+pub record AreTaken (l : LaneView) (region : ℕ) (old : Mine) (before : Incoming) (recorder : RecorderView) (arrivals : List Arrival) (new : Mine) (after : Incoming) (recorded : RecorderView) : Type 0 where
+  pub taking : IsTaking l new after
+  pub kept : held new ≡ held old
+  pub parcels : List Parcel
+  pub took : drop (received (held old).seen l.sender l.receiver) (goods l.instances (held old).seen l.sender l.receiver) ≡ parcels ++ waiting_goods l new
+  pub out : vacant_out new ≡ length arrivals
+  pub senders : All (λ (arrival : Arrival). arrival.from ≡ l.sender) arrivals
+  pub messages : messages_of arrivals ≡ map (λ (x : Parcel). x.message) parcels
+  pub answers : AreAnswers recorder l.sender region parcels (reports_of arrivals)
+  pub recorder_is : recorded ≡ after_receives recorder l.sender region parcels (reports_of arrivals)
+  pub short : length recorded.line.events ≤ MAX_EVENTS
+  pub known : after.known_put ≡ before.known_put
 
 -- why the recorder, whose line has so many events, has recorded nothing
 abbrev pub IsUnrecorded : ℕ → TakeError → Type 0
@@ -37,8 +100,28 @@ pub record IsReceived (l : LaneView) (region : ℕ) (old : Mine) (arrival : Arri
   pub receive : arrival.report.receive ≡ record { instance = l.receiver; index = length (chart_of (held new).seen l.receiver) }
   pub report : IsReportIn (chart_of (held new).seen) arrival.report
 
+-- the first messages that waited were received, one directly after another, in this coregion and each with its report
+pub record AreReceived (l : LaneView) (region : ℕ) (old : Mine) (arrivals : List Arrival) (new : Mine) : Type 0 where
+  pub did : Did l.instances l.capacity l.receiver (held old) (held new) (drop (length arrivals) (held new).seen) (replicate (length arrivals) (Receive l.receiver l.sender region))
+  pub first : (rest : List Content) × (waiting (drop (length arrivals) (held new).seen) l.sender l.receiver ≡ messages_of arrivals ++ rest)
+  pub senders : All (λ (arrival : Arrival). arrival.from ≡ l.sender) arrivals
+  pub receives : map (λ (arrival : Arrival). arrival.report.receive) arrivals ≡ numbered l.receiver (length (chart_of (held old).seen l.receiver) + 1) (messages_of arrivals)
+  pub reports : All (λ (arrival : Arrival). IsReportIn (chart_of (held new).seen) arrival.report) arrivals
+
 -- no message was received, for this cause, and one waits
 pub record IsUnreceived (l : LaneView) (old new : Mine) (error : TakeError) : Type 0 where
   pub did : Did l.instances l.capacity l.receiver (held old) (held new) (held new).seen []
   pub waits : 0 < length (waiting (held new).seen l.sender l.receiver)
   pub cause : IsUnrecorded (length (chart_of (held new).seen l.receiver)) error
+
+-- why no more than these were received, of most so many
+abbrev pub IsStopped : LaneView → ℕ → Mine → List Arrival → Mine → Stop → Type 0
+IsStopped l most old arrivals new Asked = length arrivals ≡ most
+IsStopped l most old arrivals new NoMore = (length arrivals < most) × (waiting (held old).seen l.sender l.receiver ≡ messages_of arrivals)
+IsStopped l most old arrivals new (Refused error) = (length arrivals < most) × (0 < length (waiting (held new).seen l.sender l.receiver)) × IsUnrecorded (length (chart_of (held new).seen l.receiver)) error
+
+-- why no more than so many were taken out, of most so many and of as many as are known, where the line has so many events
+abbrev pub IsHalted : ℕ → ℕ → ℕ → ℕ → Stop → Type 0
+IsHalted most known many events Asked = many ≡ most
+IsHalted most known many events NoMore = (many < most) × (many ≡ known)
+IsHalted most known many events (Refused error) = (many < most) × (many < known) × IsUnrecorded events error

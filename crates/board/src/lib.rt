@@ -2,12 +2,13 @@
 //!
 //! A [`Board`] gives each instance its [`Post`], which can be moved to a thread. What each call of a post answers stands in a
 //! legal history that begins with all that this post had seen, and has of its own just what its calls made. A receive gets
-//! the first message that waited, and its report is exactly that of the chart of this history. Posts that [`meet`] have then
-//! seen one history. `specs/Views.antt` says what a contract sees of a post; `Sending`, `Taking`, `Closing` and `Meeting` say
-//! what each call answers.
+//! the first message that waited, or the first of several, and each report is exactly that of the chart of this history. Posts
+//! that [`meet`] have then seen one history. `specs/Views.antt` says what a contract sees of a post; `Sending`, `Taking`,
+//! `TakingMany`, `Closing` and `Meeting` say what each call answers.
 //!
 //! Messages carry what changed in their sender's clock since the one before on their lane (Singhal and Kshemkalyani 1992).
-//! Each end keeps the number that it loaded last, and looks again only where that leaves no place, or no message.
+//! Each end keeps the number that it loaded last, and looks again only where that leaves too few places, or too few
+//! messages.
 #![tactic(auto)]
 
 mod answer;
@@ -19,7 +20,9 @@ mod meeting;
 mod opening;
 mod post;
 mod receive;
+mod receive_up_to;
 mod receiving;
+mod receiving_several;
 mod room;
 mod send;
 mod sending;

@@ -26,7 +26,7 @@ impl<'a> Post<'a> {
         }
         let lane = Lane::new(&self.shape, from, self.number);
         let end = &mut self.incoming[from.place()];
-        match find_messages(self.words, &mut self.seat, &lane, end) {
+        match find_messages(self.words, &mut self.seat, &lane, end, 1) {
             Found::Nothing => return Ok(Taken::Nothing),
             Found::Ended => return Ok(Taken::Ended),
             Found::Messages => {}

@@ -1,13 +1,14 @@
-//! Receives.
-ghost use Rattle.std.specs.Prelude.{◌≡◌, [], length, IfOk, IfErr, OnErr};
-ghost use Rattle.chart.specs.Events.{MayHaveRegion};
-ghost use Rattle.chart.specs.Histories.{own, chart_of, AreTwo, IsLegal};
+//! Receives of one message.
+ghost use Rattle.std.specs.Prelude.{◌≡◌, ◌+◌, ◌<◌, ◌≤◌, [], length, IfOk, IfErr, OnErr};
+ghost use Rattle.chart.specs.Histories.{own, AreTwo, IsLegal};
+ghost use Rattle.chart.specs.declared.line.TheConstants.{MAX_EVENTS};
 ghost use Rattle.line_recorder.specs.Recording.{IsRecorder};
 ghost use Rattle.board_table.specs.Layout.{IsBoard};
 ghost use Rattle.board_table.specs.Knowing.{held, packets_out, Rests};
 ghost use Rattle.board.specs.Known.{IsIncoming, Did};
-ghost use Rattle.board.specs.Found.{IsFound, HasMessages};
-ghost use Rattle.board.specs.Receipts.{IsRecorded, IsUnrecorded, IsReceived, IsUnreceived};
+ghost use Rattle.board.specs.Found.{IsFound, KnowsOf};
+ghost use Rattle.board.specs.Receipts.{MayReceive, IsTaking, IsReady, IsRecorded, IsTaken, IsReceived, IsUnreceived};
+ghost use Rattle.board.specs.declared.receiving.Found.TheVariants.{Messages};
 
 use crate::answer::Arrival;
 use crate::ends::Incoming;
@@ -18,7 +19,7 @@ use board_table::{
 use chart::{InstanceNo, MAX_EVENTS, Report};
 use clock::Clock;
 use line_recorder::Recorder;
-use std::alloc::Global;
+use std::alloc::{AllocError, Global};
 
 /// What a receiver finds on a lane.
 #[derive(Clone, Copy, Debug, PartialEq, Eq)]
@@ -31,12 +32,14 @@ pub(crate) enum Found {
     Ended,
 }
 
-/// Takes the slots of all messages that wait on the lane. It looks at the sender's word only where it knows of none.
+/// Takes the slots of all messages that wait on the lane. It looks at the sender's word only where it knows of fewer than so
+/// many.
 pub(crate) fn find_messages(
     words: &Words,
     seat: &mut Seat,
     lane: &Lane,
     end: &mut Incoming,
+    many: u64,
 ) -> Found
     requires table { seat.old.table_id ≡ words.now.table_id }
     requires board { IsBoard lane.now.instances lane.now.capacity words.now.key words.now.table_id }
@@ -44,12 +47,14 @@ pub(crate) fn find_messages(
     requires legal { IsLegal lane.now.instances lane.now.capacity (held seat.old.me).seen }
     requires own { own (held seat.old.me).seen lane.now.receiver ≡ (held seat.old.me).made }
     requires end { IsIncoming lane.now.instances (held seat.old.me).seen lane.now.receiver lane.now.sender end.old }
+    requires some { 1 ≤ many }
     ensures table { seat.new.table_id ≡ seat.old.table_id }
     ensures did { Did lane.now.instances lane.now.capacity lane.now.receiver (held seat.old.me) (held seat.new.me) (held seat.new.me).seen [] }
     ensures end { IsIncoming lane.now.instances (held seat.new.me).seen lane.now.receiver lane.now.sender end.new }
     ensures found { IsFound lane.now seat.old.me seat.new.me result }
+    ensures knows { result ≡ Messages → KnowsOf lane.now many seat.new.me end.new }
 {
-    if end.taken < end.known_put {
+    if end.known_put.saturating_sub(end.taken) >= many {
         find_again(words, seat, lane);
         return Found::Messages;
     }
@@ -81,13 +86,7 @@ pub(crate) fn receive_one(
 ) -> Result<Arrival, TakeError>
     requires table { seat.old.table_id ≡ words.now.table_id }
     requires board { IsBoard lane.now.instances lane.now.capacity words.now.key words.now.table_id }
-    requires messages { HasMessages lane.now seat.old.me }
-    requires legal { IsLegal lane.now.instances lane.now.capacity (held seat.old.me).seen }
-    requires own { own (held seat.old.me).seen lane.now.receiver ≡ (held seat.old.me).made }
-    requires recorder { IsRecorder lane.now.instances (held seat.old.me).seen lane.now.receiver recorder.old }
-    requires end { IsIncoming lane.now.instances (held seat.old.me).seen lane.now.receiver lane.now.sender end.old }
-    requires coregion { MayHaveRegion (chart_of (held seat.old.me).seen lane.now.receiver) region }
-    requires two { AreTwo lane.now.instances lane.now.receiver lane.now.sender }
+    requires may { MayReceive lane.now region seat.old.me end.old recorder.old }
     requires from { from ≡ lane.now.sender }
     ensures table { seat.new.table_id ≡ seat.old.table_id }
     ensures rests { Rests lane.now.instances lane.now.capacity lane.now.receiver seat.new.me }
@@ -96,26 +95,60 @@ pub(crate) fn receive_one(
     ensures ok { IfOk result (λ arrival. IsReceived lane.now region seat.old.me arrival seat.new.me) }
     ensures err { IfErr result (λ error. IsUnreceived lane.now seat.old.me seat.new.me error) }
 {
-    match record(words, seat, lane, alloc, recorder, end, from, region) {
-        Err(error) => {
-            give_back_full(words, seat, lane);
-            Err(error)
-        }
-        Ok((report, clock)) => {
-            let Packet { message, diff: _ } = take(words, seat, lane, end.taken);
-            end.base = clock;
-            end.taken += 1;
-            free(words, seat, lane, end.taken, region);
-            Ok(Arrival {
-                from,
-                message,
-                report,
-            })
-        }
+    if recorder.line().len() >= MAX_EVENTS {
+        give_back_full(words, seat, lane);
+        return Err(TakeError::LineFull);
     }
+    let Ok(arrival) = take_next(words, seat, lane, alloc, recorder, end, from, region) else {
+        give_back_full(words, seat, lane);
+        return Err(TakeError::Memory);
+    };
+    free(words, seat, lane, end.taken, region);
+    Ok(arrival)
 }
 
-/// Records the receive of the first message that was found, and answers its report and its clock.
+/// Takes the next of the messages that were found out of its slot, and records its receive.
+///
+/// F6: it fails only where there is no memory, and then nothing has changed.
+pub(crate) fn take_next(
+    words: &Words,
+    seat: &mut Seat,
+    lane: &Lane,
+    alloc: Global,
+    recorder: &mut Recorder,
+    end: &mut Incoming,
+    from: InstanceNo,
+    region: u32,
+) -> Result<Arrival, AllocError>
+    requires table { seat.old.table_id ≡ words.now.table_id }
+    requires board { IsBoard lane.now.instances lane.now.capacity words.now.key words.now.table_id }
+    requires taking { IsTaking lane.now seat.old.me end.old }
+    requires some { 0 < length (packets_out seat.old.me) }
+    requires legal { IsLegal lane.now.instances lane.now.capacity (held seat.old.me).seen }
+    requires ready { IsReady lane.now region recorder.old }
+    requires short { length recorder.old.line.events < MAX_EVENTS }
+    requires two { AreTwo lane.now.instances lane.now.receiver lane.now.sender }
+    requires from { from ≡ lane.now.sender }
+    ensures table { seat.new.table_id ≡ seat.old.table_id }
+    ensures ok { IfOk result (λ arrival. IsTaken lane.now region seat.old.me end.old recorder.old arrival seat.new.me end.new recorder.new) }
+    ensures seat { OnErr result (seat.new.me ≡ seat.old.me) }
+    ensures end { OnErr result (end.new ≡ end.old) }
+    ensures recorder { OnErr result (recorder.new ≡ recorder.old) }
+{
+    let (report, clock) = record(words, seat, lane, alloc, recorder, end, from, region)?;
+    let Packet { message, diff: _ } = take(words, seat, lane, end.taken);
+    end.base = clock;
+    end.taken += 1;
+    Ok(Arrival {
+        from,
+        message,
+        report,
+    })
+}
+
+/// Records the receive of the next message that was found, and answers its report and its clock.
+///
+/// F6: it fails only where there is no memory, and then nothing is recorded.
 fn record(
     words: &Words,
     seat: &mut Seat,
@@ -125,30 +158,24 @@ fn record(
     end: &Incoming,
     from: InstanceNo,
     region: u32,
-) -> Result<(Report, Clock), TakeError>
+) -> Result<(Report, Clock), AllocError>
     requires table { seat.old.table_id ≡ words.now.table_id }
     requires board { IsBoard lane.now.instances lane.now.capacity words.now.key words.now.table_id }
-    requires messages { HasMessages lane.now seat.old.me }
+    requires taking { IsTaking lane.now seat.old.me end.now }
+    requires some { 0 < length (packets_out seat.old.me) }
     requires legal { IsLegal lane.now.instances lane.now.capacity (held seat.old.me).seen }
-    requires recorder { IsRecorder lane.now.instances (held seat.old.me).seen lane.now.receiver recorder.old }
-    requires end { IsIncoming lane.now.instances (held seat.old.me).seen lane.now.receiver lane.now.sender end.now }
-    requires coregion { MayHaveRegion (chart_of (held seat.old.me).seen lane.now.receiver) region }
+    requires ready { IsReady lane.now region recorder.old }
+    requires short { length recorder.old.line.events < MAX_EVENTS }
     requires two { AreTwo lane.now.instances lane.now.receiver lane.now.sender }
     requires from { from ≡ lane.now.sender }
     ensures table { seat.new.table_id ≡ seat.old.table_id }
     ensures same { seat.new.me ≡ seat.old.me }
     ensures ok { IfOk result (λ told. IsRecorded (packets_out seat.old.me) end.now.base lane.now.sender region recorder.old told.0 told.1 recorder.new) }
-    ensures err { IfErr result (λ error. IsUnrecorded (length recorder.old.line.events) error) }
-    ensures unrecorded { OnErr result (recorder.new ≡ recorder.old) }
+    ensures err { OnErr result (recorder.new ≡ recorder.old) }
 {
-    if recorder.line().len() >= MAX_EVENTS {
-        return Err(TakeError::LineFull);
-    }
-    let Ok((name, clock)) = front(words, seat, lane, end.taken, alloc, &end.base) else {
-        return Err(TakeError::Memory);
-    };
+    let (name, clock) = front(words, seat, lane, end.taken, alloc, &end.base)?;
     match recorder.receive(from, name, &clock, region) {
         Ok(report) => Ok((report, clock)),
-        Err(_) => Err(TakeError::Memory),
+        Err(_) => Err(AllocError),
     }
 }

@@ -6,6 +6,7 @@ mod growths;
 mod meetings;
 mod refusals;
 mod schedules;
+mod several_received;
 mod threads;
 
 use crate::*;

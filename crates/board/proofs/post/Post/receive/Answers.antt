@@ -2,7 +2,7 @@ use Rattle.std.proofs.Common.{rules, ◌≡◌, ◌≢◌, ◌≤◌, ◌<◌, �
 use Rattle.std.proofs.lemmas.Bool.{eqb-false}
 use Rattle.board_table.specs.Knowing.{held}
 use Rattle.board.proofs.SendAnswers.{did_sound}
-use Rattle.board.proofs.ReceiveAnswers.{did_onward, incoming_at, partner, recorder_then, region_then, post_looked, post_received, got}
+use Rattle.board.proofs.ReceiveAnswers.{did_onward, incoming_at, partner, recorder_then, may_receive, post_looked, post_received, got}
 use Rattle.board.proofs.post.Post.receive.Goals as goal
 
 pub find_messages-requires-clause-end : goal.find_messages-requires-clause-end
@@ -28,15 +28,14 @@ invariant_of-self-in-Ended c =
     let rests = rw c.new-lane.ensures at c.in-Ended.ensures.found.rests in
     post_looked _ _ _ _ _ _ _ _ _ _ _ _ post _ _ _ c.find_messages.ensures.table rests (recorder_then _ _ _ _ _ _ _ _ _ _ _ _ post c.find_messages.new.seat.me did) c.place.result _ within end did
 
-pub receive_one-requires-clause-recorder : goal.receive_one-requires-clause-recorder
-receive_one-requires-clause-recorder c =
+pub receive_one-requires-clause-may : goal.receive_one-requires-clause-may
+receive_one-requires-clause-may c =
+    let ne : c.args.from ≢ c.self.inside.number = eqb-false _ _ (sym c.if-eq.ensures) in
+    let post = c.self.invariant in
     let did = rw c.new-lane.ensures at c.find_messages.ensures.did in
-    rw c.new-lane.ensures (recorder_then _ _ _ _ _ _ _ _ _ _ _ _ c.self.invariant c.find_messages.new.seat.me did)
-
-pub receive_one-requires-clause-coregion : goal.receive_one-requires-clause-coregion
-receive_one-requires-clause-coregion c =
-    let did = rw c.new-lane.ensures at c.find_messages.ensures.did in
-    rw c.new-lane.ensures (region_then _ _ _ _ _ _ _ _ _ _ _ _ c.self.invariant c.find_messages.new.seat.me did)
+    let found = rw c.new-lane.ensures at c.in-Messages.ensures.found in
+    let end = rw c.new-lane.ensures at c.find_messages.ensures.end in
+    rw c.new-lane.ensures (may_receive _ _ _ _ _ _ _ _ _ _ _ _ post c.find_messages.new.seat.me did c.args.from c.find_messages.new.end (partner _ _ _ _ _ _ _ _ _ _ _ _ post c.args.from c.place.result c.place.ensures.value ne (omega arith)) found end)
 
 pub invariant_of-self-in_err-arrival : goal.invariant_of-self-in_err-arrival
 invariant_of-self-in_err-arrival c =
@@ -67,7 +66,7 @@ invariant_of-self-2 c =
     let end = rw (c.new-lane.ensures, c.place.ensures.value) at c.receive_one.ensures.end in
     let made = rw (c.new-lane.ensures, c.place.ensures.value) at c.in_ok-arrival.ensures.ok in
     let then_ = did_onward _ _ _ (held c.self.inside.seat.me) (held c.find_messages.new.seat.me) (held c.receive_one.new.seat.me) _ _ did made.did in
-    rw c.max-self-inside.ensures (post_received _ _ _ _ _ _ _ _ _ _ _ _ post _ _ _ (c.receive_one.ensures.table ∙ c.find_messages.ensures.table) rests recorder c.place.result _ within end _ _ _ made.first.1 then_)
+    rw c.max-self-inside.ensures (post_received _ _ _ _ _ _ _ _ _ _ _ _ post _ _ _ (c.receive_one.ensures.table ∙ c.find_messages.ensures.table) rests recorder c.place.result _ within end _ 0 then_)
 
 pub returns-clause-sound : goal.returns-clause-sound
 returns-clause-sound c =

@@ -1,0 +1,42 @@
+use Rattle.std.proofs.Common.{rules, ◌≡◌, ◌+◌, ◌<◌, ◌∙◌, [], ◌∷◌, ◌++◌, List, length, sym, ap, subst, arith}
+use Rattle.chart.specs.Charts.{LineView}
+use Rattle.chart.specs.declared.line.TheConstants.{MAX_EVENTS}
+use Rattle.board.specs.declared.answer.Arrival.{Arrival}
+use Rattle.board.specs.Receipts.{AreTaken}
+use Rattle.board.proofs.Receives.{none_taken, ready, one_more}
+use Rattle.board.proofs.receiving_several.take_several.Goals as goal
+
+pub loop-init : goal.loop-init
+loop-init c =
+    let l = c.args.lane.now in
+    let s = c.args.seat.now.me in
+    let u = c.args.end.now in
+    let r = c.args.recorder.now in
+    record {
+      table = c.requires.table;
+      taken = subst (λ (xs : List Arrival). AreTaken l c.args.region s u r xs s u r) (sym c.requires.none) (none_taken l c.args.region s u r c.requires.may);
+      as_many = ap length c.requires.none;
+    }
+
+pub take_next-requires-clause-ready : goal.take_next-requires-clause-ready
+take_next-requires-clause-ready c =
+    ready c.args.lane.now c.args.region c.args.seat.now.me c.args.end.now c.args.recorder.now c.requires.may c.loop.arrivals.items c.loop.seat.me c.loop.end c.loop.recorder c.loop.invariant.taken
+
+pub loop-preserved : goal.loop-preserved
+loop-preserved c =
+    let l = c.args.lane.now in
+    let s = c.args.seat.now.me in
+    let u = c.args.end.now in
+    let r = c.args.recorder.now in
+    let t = c.take_next.new.seat.me in
+    let o = c.take_next.new.end in
+    let v = c.take_next.new.recorder in
+    let short : length c.loop.recorder.line.events < MAX_EVENTS = omega (arith, ap (λ (line : LineView). length line.events) c.line.ensures, c.len.ensures.value, c.if-len-ge-MAX_EVENTS.false) in
+    let grown = c.push_reserved.ensures.items in
+    record {
+      table = c.take_next.ensures.table ∙ c.loop.invariant.table;
+      taken = subst (λ (xs : List Arrival). AreTaken l c.args.region s u r xs t o v) (sym c.push_reserved.ensures.items)
+          (subst (λ (xs : List Arrival). AreTaken l c.args.region s u r (xs ++ c.in-Ok.arrival ∷ []) t o v) (sym c.reserve.ensures.items)
+          (one_more l c.args.region s u r c.requires.may c.loop.arrivals.items c.loop.seat.me c.loop.end c.loop.recorder c.loop.invariant.taken t o v c.in-Ok.arrival short c.in-Ok.ensures.ok));
+      as_many = search rules;
+    }

@@ -1,0 +1,11 @@
+use Rattle.std.proofs.Common.{◌≡◌, length}
+use Rattle.board.specs.Receipts.{AreTaken}
+use Rattle.board.proofs.receiving_several.take_several.Given as goal
+
+-- as many are taken out as turns were made
+abbrev pub invariant-loop : goal.invariant-loop
+invariant-loop l = record {
+  table : l.seat.table_id ≡ l.words.table_id;
+  taken : AreTaken l.lane l.region l.initial.seat.me l.initial.end l.initial.recorder l.arrivals.items l.seat.me l.end l.recorder;
+  as_many : length l.arrivals.items ≡ l.counter;
+}

@@ -1,0 +1,118 @@
+//! Receives of several messages at once.
+ghost use Rattle.std.specs.Prelude.{◌≡◌, ◌-◌, ◌<◌, ◌≤◌, [], length, IfOk, IfErr};
+ghost use Rattle.line_recorder.specs.Recording.{IsRecorder};
+ghost use Rattle.board_table.specs.Layout.{IsBoard};
+ghost use Rattle.board_table.specs.Knowing.{held, Rests};
+ghost use Rattle.board.specs.Known.{IsIncoming};
+ghost use Rattle.board.specs.Found.{KnowsOf};
+ghost use Rattle.board.specs.Receipts.{MayReceive, AreTaken, IsHalted, AreReceived, IsStopped, IsUnreceived};
+
+use crate::answer::{Arrival, Stop};
+use crate::ends::Incoming;
+use crate::error::TakeError;
+use crate::receiving::take_next;
+use board_table::{Lane, Seat, Words, free, give_back_full};
+use chart::{InstanceNo, MAX_EVENTS};
+use line_recorder::Recorder;
+use std::alloc::Global;
+
+/// Receives the first of the messages that were found, at most so many, in this coregion, and answers why no more. They are
+/// freed at once.
+///
+/// The first of F7 and F6 refuses it, if it stands in the way of the first message: then that is still the first of its lane.
+pub(crate) fn receive_several(
+    words: &Words,
+    seat: &mut Seat,
+    lane: &Lane,
+    alloc: Global,
+    recorder: &mut Recorder,
+    end: &mut Incoming,
+    from: InstanceNo,
+    region: u32,
+    max: u64,
+) -> Result<(Vec<Arrival>, Stop), TakeError>
+    requires table { seat.old.table_id ≡ words.now.table_id }
+    requires board { IsBoard lane.now.instances lane.now.capacity words.now.key words.now.table_id }
+    requires may { MayReceive lane.now region seat.old.me end.old recorder.old }
+    requires from { from ≡ lane.now.sender }
+    requires max { 1 ≤ max }
+    requires knows { KnowsOf lane.now max seat.old.me end.old }
+    ensures table { seat.new.table_id ≡ seat.old.table_id }
+    ensures rests { Rests lane.now.instances lane.now.capacity lane.now.receiver seat.new.me }
+    ensures recorder { IsRecorder lane.now.instances (held seat.new.me).seen lane.now.receiver recorder.new }
+    ensures end { IsIncoming lane.now.instances (held seat.new.me).seen lane.now.receiver lane.now.sender end.new }
+    ensures some { IfOk result (λ got. 0 < length got.0.items) }
+    ensures most { IfOk result (λ got. length got.0.items ≤ max) }
+    ensures received { IfOk result (λ got. AreReceived lane.now region seat.old.me got.0.items seat.new.me) }
+    ensures stop { IfOk result (λ got. IsStopped lane.now max seat.old.me got.0.items seat.new.me got.1) }
+    ensures err { IfErr result (λ error. IsUnreceived lane.now seat.old.me seat.new.me error) }
+{
+    let mut arrivals = Vec::new(alloc);
+    let stop = take_several(
+        words,
+        seat,
+        lane,
+        alloc,
+        recorder,
+        end,
+        from,
+        region,
+        max,
+        &mut arrivals,
+    );
+    match stop {
+        Stop::Refused(error) if arrivals.is_empty() => {
+            give_back_full(words, seat, lane);
+            Err(error)
+        }
+        _ => {
+            free(words, seat, lane, end.taken, region);
+            Ok((arrivals, stop))
+        }
+    }
+}
+
+/// Takes the first of the messages that are known of out of their slots, at most so many, and records their receives. It
+/// answers why no more: then the next message is still in its slot.
+fn take_several(
+    words: &Words,
+    seat: &mut Seat,
+    lane: &Lane,
+    alloc: Global,
+    recorder: &mut Recorder,
+    end: &mut Incoming,
+    from: InstanceNo,
+    region: u32,
+    max: u64,
+    arrivals: &mut Vec<Arrival>,
+) -> Stop
+    requires table { seat.old.table_id ≡ words.now.table_id }
+    requires board { IsBoard lane.now.instances lane.now.capacity words.now.key words.now.table_id }
+    requires may { MayReceive lane.now region seat.old.me end.old recorder.old }
+    requires from { from ≡ lane.now.sender }
+    requires some { end.old.taken < end.old.known_put }
+    requires none { arrivals.old.items ≡ [] }
+    ensures table { seat.new.table_id ≡ seat.old.table_id }
+    ensures taken { AreTaken lane.now region seat.old.me end.old recorder.old arrivals.new.items seat.new.me end.new recorder.new }
+    ensures most { length arrivals.new.items ≤ max }
+    ensures stop { IsHalted max (end.old.known_put - end.old.taken) (length arrivals.new.items) (length recorder.new.line.events) result }
+{
+    let many = max.min(end.known_put - end.taken);
+    for _ in 0..many {
+        if recorder.line().len() >= MAX_EVENTS {
+            return Stop::Refused(TakeError::LineFull);
+        }
+        if arrivals.reserve(1).is_err() {
+            return Stop::Refused(TakeError::Memory);
+        }
+        let Ok(arrival) = take_next(words, seat, lane, alloc, recorder, end, from, region) else {
+            return Stop::Refused(TakeError::Memory);
+        };
+        arrivals.push_reserved(arrival);
+    }
+    if many == max {
+        Stop::Asked
+    } else {
+        Stop::NoMore
+    }
+}
