@@ -1,12 +1,10 @@
 -- Messages of a lane, found by its receiver.
-use Rattle.std.proofs.Common.{◌≡◌, ◌≢◌, ℕ, suc, ◌+◌, ◌-◌, ◌*◌, ◌/◌, ◌%◌, ◌<◌, ◌≤◌, Bool, true, false, List, [], ◌∷◌, length, refl, sym, ap, ◌∙◌, subst, arith}
-use Rattle.chart.specs.declared.history.Occurrence.{Occurrence}
-use Rattle.chart.specs.Histories.{own, sent, received, waiting, is_closed, IsLegal, Begins}
-use Rattle.chart.proofs.Histories.{same_received, sent_begins-le, received-le}
-use Rattle.board_table.specs.declared.held.Held.{Held}
+use Rattle.std.proofs.Common.{◌≡◌, ◌≢◌, ℕ, ◌/◌, ◌%◌, ◌<◌, ◌≤◌, Bool, true, false, List, [], ◌∷◌, length, refl, sym, ◌∙◌, subst, arith}
+use Rattle.chart.specs.Histories.{own, sent, waiting, is_closed, IsLegal}
+use Rattle.chart.proofs.Histories.{sent_begins-le}
 use Rattle.board_table.specs.Layout.{LaneView}
 use Rattle.board_table.specs.Rule.{closed_bit}
-use Rattle.board_table.specs.Knowing.{Mine, held, packets_out, vacant_out, Rests, IsEmptying, Sees}
+use Rattle.board_table.specs.Knowing.{Mine, held, Rests, Sees}
 use Rattle.board_table.specs.Plays.{PutsBack, Finds, FindsAnew}
 use Rattle.board.specs.declared.ends.Incoming.{Incoming}
 use Rattle.board.specs.Known.{IsIncoming}

@@ -1,15 +1,14 @@
 -- What a post's receive leaves and answers.
-use Rattle.std.proofs.Common.{◌≡◌, ◌≢◌, ℕ, zero, suc, max, ◌+◌, ◌-◌, ◌<◌, ◌≤◌, inl, inr, ◌⊎◌, Bool, List, [], ◌∷◌, ◌++◌, length, drop, set, replicate, get_or, refl, sym, ap, ◌∙◌, subst, arith}
+use Rattle.std.proofs.Common.{◌≡◌, ◌≢◌, ℕ, zero, suc, max, ◌+◌, ◌<◌, ◌≤◌, inl, inr, ◌⊎◌, Bool, List, [], ◌∷◌, ◌++◌, length, drop, set, replicate, get_or, sym, ap, ◌∙◌, subst, arith}
 use Rattle.std.proofs.lemmas.List.{length-set, length_push}
 use Rattle.std.proofs.lemmas.Option.{slice_get-get_or}
-use Rattle.std.specs.Prelude.{slice_get, Option, Some}
+use Rattle.std.specs.Prelude.{slice_get, Some}
 use Rattle.atomic_table.specs.Seated.{TableId}
 use Rattle.chart.specs.declared.history.Occurrence.{Occurrence}
 use Rattle.chart.specs.declared.history.Occurrence.TheVariants.{Receive}
-use Rattle.chart.specs.declared.line.TheConstants.{MAX_EVENTS}
 use Rattle.chart.specs.Messages.{Content}
 use Rattle.chart.specs.Events.{receive_event, greatest_region, MayHaveRegion}
-use Rattle.chart.specs.Histories.{own, waiting, chart_of, IsLegal, Begins}
+use Rattle.chart.specs.Histories.{own, waiting, chart_of, IsLegal}
 use Rattle.chart.proofs.Histories.{begins_onward}
 use Rattle.chart.proofs.Regions.{greatest_region-push, may_be-small, may-again}
 use Rattle.chart.proofs.Sends.{line_after_receive}

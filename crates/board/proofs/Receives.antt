@@ -1,7 +1,7 @@
 -- Messages of a lane, received one directly after another.
 use mathlib.Core.List.{map-map}
-use Rattle.std.proofs.Common.{◌≡◌, ◌≢◌, ℕ, zero, suc, ◌+◌, ◌-◌, ◌<◌, ◌≤◌, List, [], ◌∷◌, ◌++◌, length, map, take, drop, replicate, get_or, refl, sym, ap, ap₂, ◌∙◌, subst, arith, inl, inr, length-append, append-nil, append_assoc}
-use Rattle.std.specs.Prelude.{All, Some}
+use Rattle.std.proofs.Common.{◌≡◌, ℕ, zero, suc, ◌+◌, ◌-◌, ◌<◌, ◌≤◌, List, [], ◌∷◌, ◌++◌, length, map, take, drop, replicate, get_or, refl, sym, ap, ap₂, ◌∙◌, subst, arith, inl, inr, length-append, append-nil, append_assoc}
+use Rattle.std.specs.Prelude.{All}
 use Rattle.std.proofs.lemmas.List.{length_push, length-map, map-append, drop-map, drop-drop, drop-append-le, take-append-le}
 use Rattle.std.proofs.lemmas.List.Elements.{All-nil, All-push, All-head, All-tail, All-cons}
 use Rattle.chart.specs.declared.history.Occurrence.{Occurrence}
@@ -11,7 +11,7 @@ use Rattle.chart.specs.declared.line.TheConstants.{MAX_EVENTS}
 use Rattle.chart.specs.Charts.{LineView}
 use Rattle.chart.specs.Events.{receive_event, MayHaveRegion}
 use Rattle.chart.specs.Messages.{Content}
-use Rattle.chart.specs.Histories.{own, sent, received, waiting, chart_of, AreTwo, IsLegal, Begins}
+use Rattle.chart.specs.Histories.{own, sent, received, waiting, chart_of, IsLegal}
 use Rattle.chart.specs.Reports.{ReportView, IsReportIn}
 use Rattle.chart.proofs.Histories.{begins_onward, same_received, received-le, sent_begins-le}
 use Rattle.chart.proofs.Tally.{ith_at_drop}
@@ -32,7 +32,7 @@ use Rattle.board_table.specs.declared.held.Held.{Held}
 use Rattle.board_table.specs.declared.packet.Packet.{Packet}
 use Rattle.board_table.specs.Layout.{LaneView}
 use Rattle.board_table.specs.Carrying.{Carries, AreCarried, last_clock, zeros, with_received}
-use Rattle.board_table.specs.Knowing.{Mine, held, packets_out, vacant_out, Rests, IsEmptying, Moves, waiting_goods, emptied_base, at_rest}
+use Rattle.board_table.specs.Knowing.{Mine, held, packets_out, vacant_out, IsEmptying, Moves, waiting_goods, emptied_base, at_rest}
 use Rattle.board_table.specs.Plays.{PutsBack, Frees}
 use Rattle.board.specs.declared.answer.Arrival.{Arrival}
 use Rattle.board.specs.declared.answer.Stop.{Stop}
@@ -40,11 +40,10 @@ use Rattle.board.specs.declared.answer.Stop.TheVariants.{Asked, NoMore, Refused}
 use Rattle.board.specs.declared.ends.Incoming.{Incoming}
 use Rattle.board.specs.declared.error.TakeError.{TakeError}
 use Rattle.board.specs.Known.{IsIncoming, Did}
-use Rattle.board.specs.Found.{HasMessages, KnowsOf}
+use Rattle.board.specs.Found.{KnowsOf}
 use Rattle.board.specs.Receipts.{MayReceive, IsTaking, IsReady, IsRecorded, IsTaken, reports_of, AreTaken, IsUnrecorded, IsReceived, AreReceived, IsUnreceived, IsHalted, IsStopped}
 use Rattle.board.specs.Sending.{numbered}
 use Rattle.board.specs.TakingMany.{messages_of}
-use Rattle.board.proofs.EndLemmas.{incoming_later}
 use Rattle.board.proofs.DidLemmas.{did_nothing, did_put_back, did_move, waiting_many}
 use Rattle.board.proofs.Claiming.{last_clock-push, sent_within}
 use Rattle.board.proofs.Closes.{line_short}
@@ -70,10 +69,6 @@ all_behind P (x ∷ xs) ys are = all_behind P xs ys (All-tail P x (xs ++ ys) are
 all_mapped : {X Y : Type 0} (P : Y → Type 0) (f : X → Y) (xs : List X) → All P (map f xs) → All (λ x. P (f x)) xs
 all_mapped P f [] are = All-nil (λ x. P (f x))
 all_mapped P f (x ∷ xs) are = All-cons (λ x. P (f x)) x xs (All-head P (f x) (map f xs) are) (all_mapped P f xs (All-tail P (f x) (map f xs) are))
-
--- no more were received than a line may have events
-pub received_few : (n k : ℕ) (h : List Occurrence) (q p : ℕ) → IsLegal n k h → received h q p ≤ MAX_EVENTS
-received_few n k h q p legal = omega (arith, received-le n k h legal q p, sent_within h q p, line_short n k h legal q)
 
 -- Several receives of a lane, as a list.
 
@@ -246,9 +241,6 @@ module _ (l : LaneView) (region : ℕ) (s : Mine) (u : Incoming) (r : RecorderVi
     pub as_many : length are.parcels ≡ length arrivals
     as_many = sym (length-map are.parcels (λ (x : Parcel). x.message)) ∙ ap length (sym are.messages) ∙ length-map arrivals (λ (arrival : Arrival). arrival.message)
 
-    pub same_seen : IsLegal l.instances l.capacity (held t).seen
-    same_seen = subst (λ (e : Held). IsLegal l.instances l.capacity e.seen) (sym are.kept) may.legal
-
     -- none was, and so nothing is recorded
     pub none_recorded : length arrivals ≡ 0 → v ≡ r
     none_recorded none = are.recorder_is ∙ go are.parcels (as_many ∙ none)
@@ -311,16 +303,10 @@ module _ (l : LaneView) (region : ℕ) (s : Mine) (u : Incoming) (r : RecorderVi
           known = its.known ∙ are.known;
         }
 
-    pub free_count : o.taken ≡ received (held t).seen l.sender l.receiver + vacant_out t
-    free_count = are.taking.taken
-
     pub free_short : length (chart_of (held t).seen l.receiver) + vacant_out t ≤ MAX_EVENTS
     free_short =
         let same = ap (λ (e : Held). length (chart_of e.seen l.receiver)) are.kept in
         omega (arith, same, are.out, line_then, are.short)
-
-    pub free_region : MayHaveRegion (chart_of (held t).seen l.receiver) region
-    free_region = subst (λ (e : Held). MayHaveRegion (chart_of e.seen l.receiver) region) (sym are.kept) may.coregion
 
     -- They are received, as w has it.
     module _ (w : Mine) (frees : Frees l region t w) where

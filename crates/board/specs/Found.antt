@@ -1,5 +1,5 @@
 -- What a receiver finds on a lane (this project's profile).
-use Rattle.std.specs.Prelude.{◌≡◌, ℕ, ◌+◌, ◌<◌, ◌≤◌, ◌⊎◌, Bool, true, false, List, [], length}
+use Rattle.std.specs.Prelude.{◌≡◌, ℕ, ◌+◌, ◌<◌, ◌≤◌, ◌⊎◌, Bool, true, false, [], length}
 use Rattle.chart.specs.Histories.{sent, waiting, is_closed}
 use Rattle.board_table.specs.Layout.{LaneView}
 use Rattle.board_table.specs.Knowing.{Mine, held, packets_out, vacant_out, Rests, IsEmptying}

@@ -1,5 +1,5 @@
 -- What the parts of a receive tell each other (this project's profile).
-use Rattle.std.specs.Prelude.{◌≡◌, ℕ, suc, ◌+◌, ◌<◌, ◌≤◌, List, [], ◌∷◌, ◌++◌, length, map, drop, replicate, All, Result, Ok, Err}
+use Rattle.std.specs.Prelude.{◌≡◌, ℕ, ◌+◌, ◌<◌, ◌≤◌, List, [], ◌∷◌, ◌++◌, length, map, drop, replicate, All}
 use Rattle.chart.specs.declared.history.Occurrence.TheVariants.{Receive}
 use Rattle.chart.specs.declared.line.TheConstants.{MAX_EVENTS}
 use Rattle.chart.specs.Events.{MayHaveRegion}
@@ -14,7 +14,7 @@ use Rattle.board_core.specs.World.{after_receives}
 use Rattle.board_core.specs.Runs.{AreAnswers}
 use Rattle.board_table.specs.declared.packet.Packet.{Packet}
 use Rattle.board_table.specs.Layout.{LaneView}
-use Rattle.board_table.specs.Knowing.{Mine, held, packets_out, vacant_out, IsEmptying, waiting_goods, emptied_base}
+use Rattle.board_table.specs.Knowing.{Mine, held, vacant_out, IsEmptying, waiting_goods, emptied_base}
 use Rattle.board.specs.declared.answer.Arrival.{Arrival}
 use Rattle.board.specs.declared.answer.Stop.{Stop}
 use Rattle.board.specs.declared.answer.Stop.TheVariants.{Asked, NoMore, Refused}

@@ -1,4 +1,4 @@
-use Rattle.std.proofs.Common.{◌≡◌, ◌≤◌, ◌<◌, ◌/◌, ◌%◌, arith}
+use Rattle.std.proofs.Common.{arith}
 use Rattle.board.proofs.Finding.{kept_end, messages_again, fresh_end, messages_anew, ended, nothing, back_end}
 use Rattle.board.proofs.receiving.find_messages.Goals as goal
 

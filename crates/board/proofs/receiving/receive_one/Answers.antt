@@ -1,4 +1,4 @@
-use Rattle.std.proofs.Common.{rules, ◌≡◌, ◌<◌, [], ◌∷◌, length, ap, refl, arith}
+use Rattle.std.proofs.Common.{rules, ◌<◌, [], ◌∷◌, length, ap, refl, arith}
 use Rattle.chart.specs.Charts.{LineView}
 use Rattle.chart.specs.declared.line.TheConstants.{MAX_EVENTS}
 use Rattle.board.proofs.Receives.{none_taken, ready, one_more, all_recorder, all_end, one_received}

@@ -1,4 +1,4 @@
-use Rattle.std.proofs.Common.{◌≡◌, ◌∙◌, length, sym}
+use Rattle.std.proofs.Common.{◌∙◌, sym}
 use Rattle.board.proofs.Receives.{front_long}
 use Rattle.board.proofs.receiving.record.Goals as goal
 

@@ -1,4 +1,4 @@
-use Rattle.std.proofs.Common.{◌≡◌, ◌+◌, ◌∙◌, suc, sym, ap, refl, arith}
+use Rattle.std.proofs.Common.{◌∙◌, suc, sym, ap, refl, arith}
 use Rattle.board_table.specs.Knowing.{Mine, held, packets_out, vacant_out}
 use Rattle.board.proofs.Receives.{taken_few, next_taken}
 use Rattle.board.proofs.receiving.take_next.Goals as goal

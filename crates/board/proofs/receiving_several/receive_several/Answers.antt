@@ -1,4 +1,4 @@
-use Rattle.std.proofs.Common.{rules, ◌≡◌, ◌∙◌, ℕ, length, sym, ap, subst, arith}
+use Rattle.std.proofs.Common.{rules, ◌≡◌, length, sym, subst}
 use Rattle.line_recorder.specs.Recorders.{RecorderView}
 use Rattle.line_recorder.specs.Recording.{IsRecorder}
 use Rattle.board_table.specs.Knowing.{held}

@@ -1,4 +1,4 @@
-use Rattle.std.proofs.Common.{rules, ◌≡◌, ◌≢◌, ◌≤◌, ◌<◌, ◌+◌, ◌∙◌, ℕ, suc, max, List, [], ◌∷◌, length, true, false, refl, sym, ap, subst, arith}
+use Rattle.std.proofs.Common.{◌≢◌, ◌<◌, ◌∙◌, length, sym, arith}
 use Rattle.std.proofs.lemmas.Bool.{eqb-false}
 use Rattle.board_table.specs.Knowing.{held}
 use Rattle.board.proofs.SendAnswers.{did_sound}
