@@ -1,18 +1,17 @@
 -- Places of a lane, claimed by its sender.
-use Rattle.std.proofs.Common.{◌≡◌, ◌≢◌, ℕ, suc, ◌+◌, ◌-◌, ◌<◌, ◌≤◌, ◌==◌, ◌&&◌, Bool, true, false, cond, List, [], ◌∷◌, ◌++◌, length, take, drop, replicate, refl, sym, ap, ap₂, ◌∙◌, subst, arith, length-append, append-nil}
+use Rattle.std.proofs.Common.{◌≡◌, ℕ, ◌+◌, ◌-◌, ◌<◌, ◌≤◌, ◌==◌, ◌&&◌, Bool, true, false, cond, List, [], ◌∷◌, ◌++◌, length, refl, sym, ap, ◌∙◌, subst, arith, length-append, append-nil}
 use Rattle.std.proofs.lemmas.List.{length_push}
 use Rattle.chart.specs.declared.history.Occurrence.{Occurrence}
 use Rattle.chart.specs.declared.history.Occurrence.TheVariants.{Send, Receive, Close}
 use Rattle.chart.specs.Events.{send_event}
 use Rattle.chart.specs.Messages.{Content}
-use Rattle.chart.specs.Histories.{own, by, is_lane, sent, received, waiting, is_closed, receive_of, chart_of, IsLegal, Begins}
-use Rattle.chart.proofs.Histories.{is_lane-same, received-le, same_sent, received_begins}
+use Rattle.chart.specs.Histories.{own, sent, waiting, receive_of, chart_of, IsLegal}
+use Rattle.chart.proofs.Histories.{is_lane-same, received-le, received_begins}
 use Rattle.board_core.specs.Parcels.{Parcel, next_clock, goods}
-use Rattle.board_table.specs.declared.held.Held.{Held}
 use Rattle.board_table.specs.Layout.{LaneView}
 use Rattle.board_table.specs.Carrying.{last_clock, zeros}
-use Rattle.board_table.specs.Knowing.{Mine, held, many_out, Rests, IsPost, IsFilling, Sees, at_rest}
-use Rattle.board_table.specs.Plays.{PutsBack, Claims, ClaimsAnew, ClaimsAgain}
+use Rattle.board_table.specs.Knowing.{Mine, held, Rests, IsPost, Sees}
+use Rattle.board_table.specs.Plays.{PutsBack, Claims, ClaimsAnew}
 use Rattle.board.specs.declared.ends.Outgoing.{Outgoing}
 use Rattle.board.specs.Known.{IsOutgoing}
 use Rattle.board.specs.Parts.{HasPlaces, HasNoPlaces}
@@ -41,10 +40,12 @@ module _ (l : LaneView) (m w : Mine) (o : Outgoing) (many : ℕ) (legal : IsLega
   pub places_again : Claims l m w → o.put - o.known_taken + many ≤ l.capacity → HasPlaces l many w
   places_again claims few =
       let kept = kept_end claims in
+      let waits = waiting_many l.instances l.capacity (held w).seen l.sender l.receiver claims.sees.legal in
       record {
         filling = claims.filling;
         unfilled = claims.nothing_filled;
         enough = omega (arith, claims.all_free, kept.put, kept.known);
+        fit = omega (arith, waits, kept.put, kept.known);
       }
 
   pub fresh_end : (word : ℕ) → ClaimsAnew l m word w → IsOutgoing l.instances (held w).seen l.sender l.receiver (record o { known_taken = word })
@@ -55,10 +56,12 @@ module _ (l : LaneView) (m w : Mine) (o : Outgoing) (many : ℕ) (legal : IsLega
   pub places_anew : (word : ℕ) → ClaimsAnew l m word w → o.put - word + many ≤ l.capacity → HasPlaces l many w
   places_anew word anew few =
       let kept = kept_end anew.claims in
+      let waits = waiting_many l.instances l.capacity (held w).seen l.sender l.receiver anew.claims.sees.legal in
       record {
         filling = anew.claims.filling;
         unfilled = anew.claims.nothing_filled;
         enough = omega (arith, anew.claims.all_free, kept.put, anew.found);
+        fit = omega (arith, waits, kept.put, anew.found);
       }
 
   pub no_places : (v : Mine) (word : ℕ) → ClaimsAnew l m word w → PutsBack w v → l.capacity < o.put - word + many → HasNoPlaces l many m v

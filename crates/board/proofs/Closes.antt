@@ -1,5 +1,5 @@
 -- A lane, closed.
-use Rattle.std.proofs.Common.{◌≡◌, ◌≢◌, ℕ, suc, ◌+◌, ◌-◌, ◌<◌, ◌≤◌, ◌==◌, Bool, true, false, cond, List, [], ◌∷◌, ◌++◌, length, take, drop, set, refl, sym, ap, ◌∙◌, subst, arith, append-nil}
+use Rattle.std.proofs.Common.{◌≡◌, ℕ, suc, ◌<◌, ◌≤◌, ◌==◌, Bool, true, false, cond, List, [], ◌∷◌, ◌++◌, length, drop, set, refl, sym, ap, ◌∙◌, subst, arith, append-nil}
 use Rattle.std.proofs.lemmas.Bool.{eqb-true}
 use Rattle.std.proofs.lemmas.List.{length_push}
 use Rattle.atomic_table.specs.Seated.{TableId}
@@ -8,16 +8,15 @@ use Rattle.chart.specs.declared.history.Occurrence.TheVariants.{Send, Receive, C
 use Rattle.chart.specs.declared.line.TheConstants.{MAX_EVENTS}
 use Rattle.chart.specs.Messages.{Content}
 use Rattle.chart.specs.Events.{send_event, receive_event, greatest_region, MayHaveRegion}
-use Rattle.chart.specs.Histories.{own, sent, received, waiting, is_closed, receive_of, chart_of, IsLegal, Begins}
+use Rattle.chart.specs.Histories.{own, waiting, receive_of, chart_of, IsLegal}
 use Rattle.chart.proofs.Histories.{is_closed-close}
 use Rattle.line_recorder.specs.Recorders.{RecorderView}
 use Rattle.line_recorder.specs.Recording.{IsRecorder}
 use Rattle.line_recorder.proofs.Recording.{IsRecorder-idle}
 use Rattle.board_core.proofs.OwnEvents.{same_line, same_recorder}
-use Rattle.board_table.specs.declared.held.Held.{Held}
 use Rattle.board_table.specs.declared.shape.Shape.{Shape}
 use Rattle.board_table.specs.Layout.{LaneView}
-use Rattle.board_table.specs.Knowing.{Mine, held, Rests}
+use Rattle.board_table.specs.Knowing.{Mine, held}
 use Rattle.board_table.specs.Plays as play
 use Rattle.board.specs.declared.ends.Outgoing.{Outgoing}
 use Rattle.board.specs.declared.ends.Incoming.{Incoming}

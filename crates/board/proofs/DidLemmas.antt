@@ -1,16 +1,11 @@
 -- What a call's steps make of what its seat knows, one after another.
-use Rattle.std.proofs.Common.{◌≡◌, ◌≢◌, ℕ, suc, ◌+◌, ◌-◌, ◌<◌, ◌≤◌, Bool, true, false, cond, List, [], ◌∷◌, ◌++◌, length, take, drop, set, replicate, refl, sym, ap, ap₂, ◌∙◌, subst, arith, length-drop}
+use Rattle.std.proofs.Common.{◌≡◌, ℕ, ◌+◌, ◌≤◌, List, [], ◌++◌, length, refl, sym, ap, ◌∙◌, subst, arith, length-drop}
 use Rattle.chart.specs.declared.history.Occurrence.{Occurrence}
-use Rattle.chart.specs.declared.history.Occurrence.TheVariants.{Send, Receive, Close}
-use Rattle.chart.specs.Histories.{own, by, sent, received, waiting, chart_of, IsLegal, Begins}
-use Rattle.chart.proofs.Histories.{begins_same, begins_onward, received-le, same_sent, received_begins}
+use Rattle.chart.specs.Histories.{own, sent, received, waiting, IsLegal}
+use Rattle.chart.proofs.Histories.{begins_same, begins_onward, received-le}
 use Rattle.board_table.specs.declared.held.Held.{Held}
-use Rattle.board_table.specs.declared.held.Hold.TheVariants.{Nothing}
-use Rattle.board_table.specs.Layout.{LaneView}
-use Rattle.board_table.specs.Knowing.{Mine, held, Rests, IsPost, IsFilling, IsEmptying, Sees, Moves, at_rest}
-use Rattle.board_table.specs.Plays.{PutsBack, Claims, ClaimsAnew, ClaimsAgain}
-use Rattle.board.specs.Known.{IsOutgoing, Did}
-use Rattle.board.proofs.EndLemmas.{outgoing_later}
+use Rattle.board_table.specs.Knowing.{Sees, Moves, at_rest}
+use Rattle.board.specs.Known.{Did}
 
 -- nothing was done
 pub did_nothing : (n k p : ℕ) (e : Held) → IsLegal n k e.seen → own e.seen p ≡ e.made → Did n k p e e e.seen []

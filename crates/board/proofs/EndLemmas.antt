@@ -1,16 +1,15 @@
 -- A post's ends of its lanes, when the history goes on.
-use Rattle.std.proofs.Common.{◌≡◌, ◌≢◌, ℕ, suc, ◌+◌, ◌≤◌, Bool, true, false, cond, List, [], ◌∷◌, ◌++◌, length, take, drop, set, replicate, refl, sym, ap, ap₂, ◌∙◌, subst, arith}
-use Rattle.std.proofs.lemmas.List.{length-set, take-append-le}
-use Rattle.std.specs.Prelude.{slice_get, Option, None, Some}
+use Rattle.std.proofs.Common.{◌≡◌, ℕ, suc, ◌≤◌, List, ◌∷◌, length, take, replicate, sym, ap, ap₂, ◌∙◌, arith}
+use Rattle.std.proofs.lemmas.List.{take-append-le}
 use Rattle.chart.specs.declared.history.Occurrence.{Occurrence}
 use Rattle.chart.specs.declared.history.Occurrence.TheVariants.{Send, Receive, Close}
 use Rattle.chart.specs.Messages.{Content}
-use Rattle.chart.specs.Histories.{own, is_lane, sent, received, is_closed, chart_of, IsLegal, Begins}
+use Rattle.chart.specs.Histories.{own, received, IsLegal, Begins}
 use Rattle.chart.proofs.Histories.{is_lane-from, is_lane-to, received-le, same_sent, same_received, same_closed, sent_begins-le, received_begins}
-use Rattle.board_core.specs.Parcels.{Parcel, next_clock, goods}
+use Rattle.board_core.specs.Parcels.{goods}
 use Rattle.board_core.proofs.GoodsLemmas.{goods_many, goods_grow}
 use Rattle.board_core.proofs.OwnEvents.{same_goods}
-use Rattle.board_table.specs.Carrying.{last_clock, sent_base, received_base}
+use Rattle.board_table.specs.Carrying.{last_clock}
 use Rattle.board.specs.Known.{IsOutgoing, IsIncoming, AreEndsBut, AreEnds}
 use Rattle.board.specs.declared.ends.Outgoing.{Outgoing}
 use Rattle.board.specs.declared.ends.Incoming.{Incoming}

@@ -9,7 +9,11 @@ pub mod OneBoard
 pub mod OneSend
 pub mod Openings
 pub mod PostLemmas
+pub mod Preparing
 pub mod ReceiveAnswers
 pub mod Receives
 pub mod Rooms
+pub mod SendAllAnswers
 pub mod SendAnswers
+pub mod SentAtOnce
+pub mod SeveralSends

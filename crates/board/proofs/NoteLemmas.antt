@@ -1,9 +1,8 @@
 -- A post that has met a note.
-use Rattle.std.proofs.Common.{◌≡◌, ℕ, ◌+◌, ◌≤◌, List, [], ◌∷◌, length, refl, sym, ap, ◌∙◌, subst, arith}
+use Rattle.std.proofs.Common.{◌≡◌, ℕ, List, [], ◌∷◌, length, sym, ap, ◌∙◌, subst, arith}
 use Rattle.atomic_table.specs.Seated.{TableId}
-use Rattle.chart.specs.declared.history.Occurrence.{Occurrence}
 use Rattle.chart.specs.Events.{greatest_region}
-use Rattle.chart.specs.Histories.{own, chart_of, IsLegal, Begins}
+use Rattle.chart.specs.Histories.{own, IsLegal}
 use Rattle.line_recorder.specs.Recorders.{RecorderView}
 use Rattle.board_core.proofs.OwnEvents.{same_line, same_instance}
 use Rattle.board_table.specs.declared.held.Held.{Held}
@@ -14,7 +13,6 @@ use Rattle.board_table.specs.Plays.{Meets}
 use Rattle.board.specs.declared.ends.Outgoing.{Outgoing}
 use Rattle.board.specs.declared.ends.Incoming.{Incoming}
 use Rattle.board.specs.Known.{IsPost, view_of}
-use Rattle.board.specs.Views.{PostView}
 use Rattle.board.specs.Meeting.{Hears}
 use Rattle.board.proofs.EndLemmas.{ends_later}
 

@@ -1,7 +1,7 @@
 -- Posts before their first calls.
-use Rattle.std.proofs.Common.{◌≡◌, ◌≢◌, ℕ, zero, suc, ◌+◌, ◌<◌, ◌≤◌, inl, false, List, [], ◌∷◌, ◌++◌, length, replicate, refl, sym, ap, ◌∙◌, subst, arith}
+use Rattle.std.proofs.Common.{◌≡◌, ℕ, zero, suc, ◌+◌, ◌<◌, ◌≤◌, inl, List, [], ◌∷◌, ◌++◌, refl, sym, ap, ◌∙◌, subst, arith}
 use Rattle.std.proofs.lemmas.List.{length-replicate, length_push}
-use Rattle.std.specs.Prelude.{slice_get, None, Some}
+use Rattle.std.specs.Prelude.{None, Some}
 use Rattle.atomic_table.specs.Seated.{TableId}
 use Rattle.chart.proofs.Places.{each-push}
 use Rattle.line_recorder.specs.Recorders.{RecorderView, new_recorder}

@@ -1,29 +1,24 @@
 -- A post before and after a call.
-use Rattle.std.proofs.Common.{◌≡◌, ◌≢◌, ℕ, suc, max, ◌+◌, ◌-◌, ◌<◌, ◌≤◌, inl, inr, ◌⊎◌, zero, Bool, true, false, cond, List, [], ◌∷◌, ◌++◌, length, take, drop, set, refl, sym, ap, ap₂, ◌∙◌, subst, arith}
-use Rattle.std.proofs.lemmas.Bool.{eq-eqb, ne_eqb}
-use Rattle.std.proofs.lemmas.List.{length-set, length_push}
-use Rattle.std.specs.Prelude.{slice_get, Option, None, Some}
+use Rattle.std.proofs.Common.{◌≡◌, ◌≢◌, ℕ, suc, ◌<◌, inl, inr, ◌⊎◌, zero, List, [], ◌∷◌, length, set, refl, sym, ap, ◌∙◌, subst, arith}
+use Rattle.std.proofs.lemmas.List.{length-set}
+use Rattle.std.specs.Prelude.{slice_get, None, Some}
 use Rattle.atomic_table.specs.Seated.{TableId}
 use Rattle.chart.specs.declared.history.Occurrence.{Occurrence}
-use Rattle.chart.specs.declared.history.Occurrence.TheVariants.{Send, Receive, Close}
-use Rattle.chart.specs.declared.line.TheConstants.{MAX_EVENTS}
 use Rattle.chart.specs.Messages.{Content}
-use Rattle.chart.specs.Events.{send_event, greatest_region, MayHaveRegion}
-use Rattle.chart.specs.Histories.{own, sent, received, is_closed, chart_of, IsLegal, Begins}
-use Rattle.chart.proofs.Histories.{closed_own}
-use Rattle.chart.proofs.Regions.{greatest_region-push}
-use Rattle.chart.proofs.Sends.{line_after_send}
+use Rattle.chart.specs.Events.{greatest_region, MayHaveRegion}
+use Rattle.chart.specs.Histories.{own, chart_of}
 use Rattle.line_recorder.specs.Recorders.{RecorderView}
 use Rattle.line_recorder.specs.Recording.{IsRecorder}
 use Rattle.board_core.proofs.OwnEvents.{same_line}
-use Rattle.board_table.specs.declared.held.Held.{Held}
 use Rattle.board_table.specs.declared.shape.Shape.{Shape}
 use Rattle.board_table.specs.Knowing.{Mine, held, Rests}
 use Rattle.board.specs.declared.ends.Outgoing.{Outgoing}
 use Rattle.board.specs.declared.ends.Incoming.{Incoming}
-use Rattle.board.specs.Known.{IsOutgoing, IsIncoming, AreEndsBut, AreEnds, Knows, IsPost, Did}
-use Rattle.board.proofs.EndLemmas.{ends_later, ends_sent, ends_received, ends_closed, ends_but}
+use Rattle.board.specs.Known.{IsOutgoing, AreEndsBut, AreEnds, IsPost, Did}
+use Rattle.board.specs.Sending.{sends_of}
+use Rattle.board.proofs.EndLemmas.{ends_later, ends_but}
 use Rattle.board.proofs.OneSend.{saw_same, line_saw}
+use Rattle.board.proofs.SeveralSends.{sends_after, sends_are, line_sends, ends_sends}
 
 -- an element of a list in which one was put is this one, or another that was there before
 pub at_set : {X : Type 0} (xs : List X) (j i : ℕ) (e o : X) → slice_get (set xs j e) i ≡ Some o → ((i ≡ j) × (e ≡ o)) ⊎ ((i ≢ j) × (slice_get xs i ≡ Some o))
@@ -77,15 +72,15 @@ module _ (key : Shape) (table chair chair_after : TableId) (m w : Mine) (n k p :
         made = did.own;
       }
 
-  -- it sent a message
-  pub post_sent : (before : List Occurrence) (c : Content) → region ≡ 0 → Did n k p (held m) (held w) before (Send p (suc j) c ∷ []) → IsPost key table chair_after w n k p u region greatest (set outgoing j e) incoming
-  post_sent before c outside did =
+  -- it sent these messages
+  pub post_sends : (before : List Occurrence) (ms : List Content) → region ≡ 0 → Did n k p (held m) (held w) before (sends_of p (suc j) ms) → IsPost key table chair_after w n k p u region greatest (set outgoing j e) incoming
+  post_sends before ms outside did =
       let same : own before p ≡ own (held m).seen p = did.own_before ∙ sym post.made in
-      let line : chart_of (held w).seen p ≡ chart_of (held m).seen p ++ send_event (suc j) c.name ∷ [] =
-      ap (λ h. chart_of h p) did.seen ∙ line_after_send before p (suc j) c ∙ ap (λ l. l ++ send_event (suc j) c.name ∷ []) (same_line n (held m).seen before did.later p same) in
+      let line = same_line n (held m).seen before did.later p same in
+      let seen : (held w).seen ≡ sends_after p (suc j) ms before = did.seen ∙ sym (sends_are p (suc j) ms before) in
+      let grown = line_sends p (suc j) ms before in
       let others = ends_later n k (held m).seen before p (suc j) 0 outgoing incoming post.knows.legal did.later same (ends_but n (held m).seen p (suc j) 0 outgoing incoming post.knows.ends) in
-      let now : AreEndsBut n (held w).seen p (suc j) 0 outgoing incoming = subst (λ h. AreEndsBut n h p (suc j) 0 outgoing incoming) (sym did.seen) (ends_sent n before p (suc j) 0 c outgoing incoming others) in
-      let regions = greatest_region-push (chart_of (held m).seen p) (send_event (suc j) c.name) in
+      let now : AreEndsBut n (held w).seen p (suc j) 0 outgoing incoming = subst (λ h. AreEndsBut n h p (suc j) 0 outgoing incoming) (sym seen) (ends_sends n p (suc j) 0 ms before outgoing incoming others) in
       record {
         chair_is = seated ∙ post.chair_is;
         board = post.board;
@@ -96,8 +91,8 @@ module _ (key : Shape) (table chair chair_after : TableId) (m w : Mine) (n k p :
         knows = record {
           legal = did.legal;
           own = record { recorder = recorder; may = inl outside };
-          greatest_is = let g = post.knows.greatest_is in let i = ap greatest_region line in omega (arith, regions);
-          few_regions = let i = ap length line in omega (arith, post.knows.few_regions, length_push (chart_of (held m).seen p) (send_event (suc j) c.name));
+          greatest_is = post.knows.greatest_is ∙ sym (ap (λ (h : List Occurrence). greatest_region (chart_of h p)) seen ∙ grown.1 ∙ ap greatest_region line);
+          few_regions = omega (arith, post.knows.few_regions, ap (λ (h : List Occurrence). length (chart_of h p)) seen, grown.0, ap length line);
           ends = with_outgoing n (held w).seen p j e outgoing incoming within now end;
         };
         made = did.own;

@@ -1,29 +1,24 @@
 -- What a post's send answers.
-use Rattle.std.proofs.Common.{◌≡◌, ◌≢◌, ℕ, suc, ◌+◌, ◌-◌, ◌<◌, ◌≤◌, Bool, true, false, List, [], ◌∷◌, ◌++◌, length, drop, get_or, refl, sym, ap, ◌∙◌, subst, arith}
+use Rattle.std.proofs.Common.{◌≡◌, ◌≢◌, ℕ, suc, ◌+◌, ◌<◌, ◌≤◌, false, List, [], length, get_or, refl, sym, ap, ◌∙◌, subst, arith}
 use Rattle.std.proofs.lemmas.Option.{slice_get-get_or}
-use Rattle.std.specs.Prelude.{slice_get, Option, None, Some}
+use Rattle.std.specs.Prelude.{Some}
 use Rattle.atomic_table.specs.Seated.{TableId}
 use Rattle.chart.specs.declared.history.Occurrence.{Occurrence}
-use Rattle.chart.specs.declared.history.Occurrence.TheVariants.{Send}
-use Rattle.chart.specs.declared.instance.EventNo.{EventNo}
 use Rattle.chart.specs.declared.line.TheConstants.{MAX_EVENTS}
-use Rattle.chart.specs.Messages.{Content}
-use Rattle.chart.specs.Histories.{own, waiting, is_closed, chart_of}
+use Rattle.chart.specs.Histories.{is_closed, chart_of}
 use Rattle.chart.proofs.Histories.{closed_own, begins_onward}
 use Rattle.line_recorder.specs.Recorders.{RecorderView}
-use Rattle.line_recorder.specs.Recording.{IsRecorder}
 use Rattle.board_table.specs.declared.shape.Shape.{Shape}
 use Rattle.board_table.specs.Knowing.{Mine, held}
 use Rattle.board.specs.declared.ends.Outgoing.{Outgoing}
 use Rattle.board.specs.declared.ends.Incoming.{Incoming}
-use Rattle.board.specs.declared.answer.Sent.{Sent}
-use Rattle.board.specs.Views.{PostView, Sound, Makes, Stays}
+use Rattle.board.specs.Views.{Sound, Makes, Stays}
 use Rattle.board.specs.Known.{IsOutgoing, IsPost, Did, view_of}
 use Rattle.board_table.specs.Layout.{LaneView}
 use Rattle.board.specs.declared.error.SendError.{SendError}
 use Rattle.board.specs.declared.error.SendError.TheVariants.{NoSuchInstance, ToItself, InCoregion, Closed, TooMany, LineFull, Full, Memory}
 use Rattle.board.specs.Parts.{IsCause}
-use Rattle.board.specs.Sending.{MaySend, MayPass, IsSent, IsUnsent}
+use Rattle.board.specs.Sending.{MaySend, MayPass, IsUnsent}
 use Rattle.board.proofs.OneSend.{line_saw, closed_saw}
 
 module _ (key : Shape) (table chair : TableId) (m : Mine) (n k p : ℕ) (r : RecorderView) (region greatest : ℕ) (outgoing : List Outgoing) (incoming : List Incoming) (post : IsPost key table chair m n k p r region greatest outgoing incoming) where
@@ -66,19 +61,19 @@ module _ (table : TableId) (m w : Mine) (n k p region : ℕ) (before events : Li
 pub did_stays : (table : TableId) (m w : Mine) (n k p region : ℕ) → Did n k p (held m) (held w) (held w).seen [] → Stays (view_of table m n k p region) (view_of table w n k p region)
 did_stays table m w n k p region did = record { made = did.made; region = refl }
 
-module _ (key : Shape) (table chair : TableId) (m w : Mine) (n k p : ℕ) (r : RecorderView) (region greatest : ℕ) (outgoing : List Outgoing) (incoming : List Incoming) (post : IsPost key table chair m n k p r region greatest outgoing incoming) (to : ℕ) (may : MayPass (view_of table m n k p region) to) where
+module _ (key : Shape) (table chair : TableId) (m w : Mine) (n k p : ℕ) (r : RecorderView) (region greatest : ℕ) (outgoing : List Outgoing) (incoming : List Incoming) (post : IsPost key table chair m n k p r region greatest outgoing incoming) (to many : ℕ) (may : MayPass (view_of table m n k p region) to many) where
   -- the lane is open in what is seen
   pub unclosed : is_closed (held m).seen p to ≡ false
   unclosed = sym (closed_own (held m).seen p to) ∙ ap (λ h. is_closed h p to) post.made ∙ may.may.opened
 
-  -- why the message isn't sent
-  pub unsent : (l : LaneView) → l ≡ record { instances = n; capacity = k; sender = p; receiver = to } → (error : SendError) → Did n k p (held m) (held w) (held w).seen [] → IsCause l m w error → IsUnsent (view_of table m n k p region) to 1 error (view_of table w n k p region)
-  unsent l lane error did = subst (λ (x : LaneView). IsCause x m w error → IsUnsent (view_of table m n k p region) to 1 error (view_of table w n k p region)) (sym lane) (by_cases error)
+  -- why the messages, so many, aren't sent
+  pub unsent : (l : LaneView) → l ≡ record { instances = n; capacity = k; sender = p; receiver = to } → (error : SendError) → Did n k p (held m) (held w) (held w).seen [] → 0 < many → IsCause l many m w error → IsUnsent (view_of table m n k p region) to many error (view_of table w n k p region)
+  unsent l lane error did some = subst (λ (x : LaneView). IsCause x many m w error → IsUnsent (view_of table m n k p region) to many error (view_of table w n k p region)) (sym lane) (by_cases error)
     where
-      short : length (chart_of (held w).seen p) + 1 ≤ MAX_EVENTS
+      short : length (chart_of (held w).seen p) + many ≤ MAX_EVENTS
       short = let line = line_saw n k p (held m) (held w) post.knows.legal post.made did in omega (arith, ap length line, may.short)
 
-      by_cases : (e : SendError) → IsCause (record { instances = n; capacity = k; sender = p; receiver = to }) m w e → IsUnsent (view_of table m n k p region) to 1 e (view_of table w n k p region)
+      by_cases : (e : SendError) → IsCause (record { instances = n; capacity = k; sender = p; receiver = to }) many m w e → IsUnsent (view_of table m n k p region) to many e (view_of table w n k p region)
       by_cases NoSuchInstance never = absurd never
       by_cases ToItself never = absurd never
       by_cases InCoregion never = absurd never
@@ -87,7 +82,7 @@ module _ (key : Shape) (table chair : TableId) (m w : Mine) (n k p : ℕ) (r : R
       by_cases LineFull never = absurd never
       by_cases Full none = (
         may.may,
-        post.sized.some,
+        may.few,
         short,
         record {
           waits = none.waits;
@@ -96,4 +91,4 @@ module _ (key : Shape) (table chair : TableId) (m w : Mine) (n k p : ℕ) (r : R
           looked = none.looked;
         },
       )
-      by_cases Memory it = (may.may, post.sized.some, short)
+      by_cases Memory fit = (may.may, some, short, fit)

@@ -1,9 +1,8 @@
 -- What asking a board for its posts answers (this project's profile).
-use Rattle.std.specs.Prelude.{◌≡◌, true, false, List, Result, Ok, Err}
+use Rattle.std.specs.Prelude.{◌≡◌, true, false}
 use Rattle.board.specs.declared.error.PostsError.{PostsError}
 use Rattle.board.specs.declared.error.PostsError.TheVariants.{PostsTaken, Memory}
-use Rattle.board.specs.Boards.{BoardState, AreNewPosts}
-use Rattle.board.specs.Views.{PostView}
+use Rattle.board.specs.Boards.{BoardState}
 
 -- why it gives none: F10 exactly where they were asked for before
 abbrev pub IsUngiven : BoardState → PostsError → Type 0

@@ -5,7 +5,7 @@ use Rattle.chart.specs.declared.history.Occurrence.TheVariants.{Close}
 use Rattle.chart.specs.Histories.{is_closed}
 use Rattle.board.specs.declared.error.CloseError.{CloseError}
 use Rattle.board.specs.declared.error.CloseError.TheVariants.{NoSuchInstance, ToItself, Closed}
-use Rattle.board.specs.Views.{PostView, Makes, Stays, IsPartner}
+use Rattle.board.specs.Views.{PostView, Makes, IsPartner}
 
 -- the lane was open, and its close is the last of all that was seen
 pub record IsClosed (old : PostView) (to : ℕ) (new : PostView) : Type 0 where

@@ -7,6 +7,7 @@ pub mod Meeting
 pub mod Parts
 pub mod Receipts
 pub mod Sending
+pub mod SendingMany
 pub mod Taking
 pub mod TakingMany
 pub mod Views

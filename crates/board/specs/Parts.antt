@@ -1,5 +1,5 @@
 -- What the parts of a call tell each other (this project's profile).
-use Rattle.std.specs.Prelude.{◌≡◌, ℕ, ◌+◌, ◌<◌, ◌≤◌, List, [], length}
+use Rattle.std.specs.Prelude.{◌≡◌, ℕ, ◌+◌, ◌<◌, ◌≤◌, [], length}
 use Rattle.chart.specs.Histories.{waiting}
 use Rattle.board_table.specs.Layout.{LaneView}
 use Rattle.board.specs.declared.error.SendError.{SendError}
@@ -7,11 +7,16 @@ use Rattle.board.specs.declared.error.SendError.TheVariants.{NoSuchInstance, ToI
 use Rattle.board.specs.Known.{Did}
 use Rattle.board_table.specs.Knowing.{Mine, held, packets_out, vacant_out, Rests, IsFilling}
 
+-- so many messages more find places on the lane
+abbrev pub Fit : LaneView → ℕ → Mine → Type 0
+Fit l many me = length (waiting (held me).seen l.sender l.receiver) + many ≤ l.capacity
+
 -- at least so many empty places of the lane are out with its sender, and none that is filled
 pub record HasPlaces (l : LaneView) (many : ℕ) (me : Mine) : Type 0 where
   pub filling : IsFilling l me
   pub unfilled : packets_out me ≡ []
   pub enough : many ≤ vacant_out me
+  pub fit : Fit l many me
 
 -- so many find no place on the lane, in what was seen before too, and this comes of a look
 pub record HasNoPlaces (l : LaneView) (many : ℕ) (old new : Mine) : Type 0 where
@@ -20,18 +25,18 @@ pub record HasNoPlaces (l : LaneView) (many : ℕ) (old new : Mine) : Type 0 whe
   pub before : l.capacity < length (waiting (held old).seen l.sender l.receiver) + many
   pub looked : (held old).looks < (held new).looks
 
--- a send was not made, for this cause
-abbrev pub IsCause : LaneView → Mine → Mine → SendError → Type 0
-IsCause l old new NoSuchInstance = ⊥
-IsCause l old new ToItself = ⊥
-IsCause l old new InCoregion = ⊥
-IsCause l old new Closed = ⊥
-IsCause l old new TooMany = ⊥
-IsCause l old new LineFull = ⊥
-IsCause l old new Full = HasNoPlaces l 1 old new
-IsCause l old new Memory = Unit {0}
+-- sends, so many, were not made, for this cause
+abbrev pub IsCause : LaneView → ℕ → Mine → Mine → SendError → Type 0
+IsCause l many old new NoSuchInstance = ⊥
+IsCause l many old new ToItself = ⊥
+IsCause l many old new InCoregion = ⊥
+IsCause l many old new Closed = ⊥
+IsCause l many old new TooMany = ⊥
+IsCause l many old new LineFull = ⊥
+IsCause l many old new Full = HasNoPlaces l many old new
+IsCause l many old new Memory = Fit l many new
 
--- and no event came of it
-pub record IsUnmade (l : LaneView) (old new : Mine) (error : SendError) : Type 0 where
+-- and no event came of them
+pub record IsUnmade (l : LaneView) (many : ℕ) (old new : Mine) (error : SendError) : Type 0 where
   pub did : Did l.instances l.capacity l.sender (held old) (held new) (held new).seen []
-  pub cause : IsCause l old new error
+  pub cause : IsCause l many old new error

@@ -1,5 +1,6 @@
 -- What a send answers (this project's profile, after ITU-T Z.120).
-use Rattle.std.specs.Prelude.{◌≡◌, ℕ, ◌+◌, ◌<◌, ◌≤◌, true, false, List, [], ◌∷◌, ◌++◌, length, map, reverse, Result, Ok, Err}
+use Rattle.std.specs.Prelude.{◌≡◌, ℕ, ◌+◌, ◌<◌, ◌≤◌, true, false, List, [], ◌∷◌, length, map, reverse, Result, Ok, Err}
+use Rattle.std.specs.Global.{Vec}
 use Rattle.chart.specs.declared.history.Occurrence.{Occurrence}
 use Rattle.chart.specs.declared.history.Occurrence.TheVariants.{Send}
 use Rattle.chart.specs.declared.instance.EventNo.{EventNo}
@@ -38,7 +39,7 @@ IsUnsent old to many Closed new = IsPartner old to × (old.region ≡ 0) × (is_
 IsUnsent old to many TooMany new = MaySend old to × (old.board.capacity < many)
 IsUnsent old to many LineFull new = MaySend old to × (many ≤ old.board.capacity) × (MAX_EVENTS < length (line_of new) + many)
 IsUnsent old to many Full new = MaySend old to × (many ≤ old.board.capacity) × (length (line_of new) + many ≤ MAX_EVENTS) × IsFull old to many new
-IsUnsent old to many Memory new = MaySend old to × (many ≤ old.board.capacity) × (length (line_of new) + many ≤ MAX_EVENTS)
+IsUnsent old to many Memory new = MaySend old to × (0 < many) × (length (line_of new) + many ≤ MAX_EVENTS) × HasRoom new to many
 
 -- the message was sent, last of all that was seen
 pub record IsSent (old : PostView) (to : ℕ) (message : Content) (sent : Sent) (new : PostView) : Type 0 where
@@ -67,11 +68,12 @@ pub record AreSent (old : PostView) (to : ℕ) (messages : List Content) (sents 
   pub events : map (λ (sent : Sent). sent.event) sents ≡ numbered new.number (length (line_of old) + 1) messages
 
 -- what a send of several messages at once answers
-abbrev pub SendsAll : PostView → ℕ → List Content → Result (List Sent) (List Content × SendError) → PostView → Type 0
-SendsAll old to messages (Ok sents) new = AreSent old to messages sents new
-SendsAll old to messages (Err (back, error)) new = (back ≡ messages) × Stays old new × IsUnsent old to (length messages) error new
+abbrev pub SendsAll : PostView → ℕ → List Content → Result (Vec Sent) (Vec Content × SendError) → PostView → Type 0
+SendsAll old to messages (Ok sents) new = AreSent old to messages sents.items new
+SendsAll old to messages (Err (back, error)) new = (back.items ≡ messages) × Stays old new × IsUnsent old to (length messages) error new
 
--- nothing but the lane's places and memory stands in the way of one message
-pub record MayPass (old : PostView) (to : ℕ) : Type 0 where
+-- nothing but the lane's places and memory stands in the way of so many messages
+pub record MayPass (old : PostView) (to many : ℕ) : Type 0 where
   pub may : MaySend old to
-  pub short : length (line_of old) < MAX_EVENTS
+  pub few : many ≤ old.board.capacity
+  pub short : length (line_of old) + many ≤ MAX_EVENTS

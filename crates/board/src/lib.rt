@@ -2,9 +2,10 @@
 //!
 //! A [`Board`] gives each instance its [`Post`], which can be moved to a thread. What each call of a post answers stands in a
 //! legal history that begins with all that this post had seen, and has of its own just what its calls made. A receive gets
-//! the first message that waited, or the first of several, and each report is exactly that of the chart of this history. Posts
-//! that [`meet`] have then seen one history. `specs/Views.antt` says what a contract sees of a post; `Sending`, `Taking`,
-//! `TakingMany`, `Closing` and `Meeting` say what each call answers.
+//! the first message that waited, or the first of several, and each report is exactly that of the chart of this history.
+//! Several messages are sent by one store, all of them or none ([`Post::send_all`]), and received by one
+//! ([`Post::receive_up_to`]). Posts that [`meet`] have then seen one history. `specs/Views.antt` says what a contract sees of
+//! a post; `Sending`, `Taking`, `TakingMany`, `Closing` and `Meeting` say what each call answers.
 //!
 //! Messages carry what changed in their sender's clock since the one before on their lane (Singhal and Kshemkalyani 1992).
 //! Each end keeps the number that it loaded last, and looks again only where that leaves too few places, or too few
@@ -25,7 +26,9 @@ mod receiving;
 mod receiving_several;
 mod room;
 mod send;
+mod send_all;
 mod sending;
+mod sending_several;
 
 pub use answer::{Arrival, Sent, Stop, Taken, TakenMany};
 pub use board::Board;

@@ -20,7 +20,7 @@ impl<'a> Post<'a> {
         ensures sound { Sound self.old self.new }
         ensures answer { Sends self.old to message result self.new }
     {
-        if let Some(error) = self.sends_nothing(to) {
+        if let Some(error) = self.sends_nothing(to, 1) {
             return Err((message, error));
         }
         let lane = Lane::new(&self.shape, self.number, to);
@@ -47,10 +47,10 @@ impl<'a> Post<'a> {
         }
     }
 
-    /// The first cause why it sends nothing to this instance, whatever waits there.
-    fn sends_nothing(&self, to: InstanceNo) -> Option<SendError>
-        ensures none { IfNone result (MayPass self.now to) }
-        ensures some { IfSome result (λ error. IsUnsent self.now to 1 error self.now) }
+    /// The first cause why it doesn't send so many messages to this instance, whatever waits there.
+    pub(crate) fn sends_nothing(&self, to: InstanceNo, many: usize) -> Option<SendError>
+        ensures none { IfNone result (MayPass self.now to many) }
+        ensures some { IfSome result (λ error. IsUnsent self.now to many error self.now) }
     {
         if to.number() > self.shape.instances {
             return Some(SendError::NoSuchInstance);
@@ -64,7 +64,10 @@ impl<'a> Post<'a> {
         if self.outgoing[to.place()].closed {
             return Some(SendError::Closed);
         }
-        if self.recorder.line().len() >= MAX_EVENTS {
+        if many > self.shape.capacity {
+            return Some(SendError::TooMany);
+        }
+        if self.recorder.line().len() + many > MAX_EVENTS {
             return Some(SendError::LineFull);
         }
         None

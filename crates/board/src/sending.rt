@@ -113,7 +113,7 @@ pub(crate) fn send_one(
     ensures recorder { IsRecorder lane.now.instances (held seat.new.me).seen lane.now.sender recorder.new }
     ensures end { IsOutgoing lane.now.instances (held seat.new.me).seen lane.now.sender lane.now.receiver end.new }
     ensures ok { OnOk result (Did lane.now.instances lane.now.capacity lane.now.sender (held seat.old.me) (held seat.new.me) (drop 1 (held seat.new.me).seen) (occurrence.Send lane.now.sender lane.now.receiver message ∷ [])) }
-    ensures err { IfErr result (λ error. (error.0 ≡ message) × IsUnmade lane.now seat.old.me seat.new.me error.1) }
+    ensures err { IfErr result (λ error. (error.0 ≡ message) × IsUnmade lane.now 1 seat.old.me seat.new.me error.1) }
 {
     if !claim_places(words, seat, lane, end, capacity, 1) {
         return Err((message, SendError::Full));

@@ -7,6 +7,7 @@ mod meetings;
 mod refusals;
 mod schedules;
 mod several_received;
+mod several_sent;
 mod threads;
 
 use crate::*;

@@ -33,7 +33,7 @@ fn first_difference(rt: &impl Abort, post: Post, from: usize) -> Diff {
     let mut incoming = incoming;
     let lane = Lane::new(&shape, from, number);
     let end = &mut incoming[from.place()];
-    let found = find_messages(words, &mut seat, &lane, end);
+    let found = find_messages(words, &mut seat, &lane, end, 1);
     assert!(rt; found == Found::Messages);
     let Packet { message: _, diff } = take(words, &mut seat, &lane, end.taken);
     diff

@@ -1,4 +1,4 @@
-use Rattle.std.proofs.Common.{rules, ◌≡◌, ℕ, List, length, sym, ap, ◌∙◌, subst, arith, set}
+use Rattle.std.proofs.Common.{◌≡◌, List, ap, ◌∙◌, subst, set}
 use Rattle.std.proofs.lemmas.List.{set-get_or}
 use Rattle.board.specs.Views.{PostView}
 use Rattle.board.specs.Meeting.{HaveMet}

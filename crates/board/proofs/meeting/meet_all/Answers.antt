@@ -1,4 +1,4 @@
-use Rattle.std.proofs.Common.{rules, ◌≡◌, ◌≢◌, ◌<◌, ◌≤◌, ◌+◌, ℕ, length, refl, sym, arith}
+use Rattle.std.proofs.Common.{◌≢◌, ◌<◌, ◌+◌, length, refl, sym, arith}
 use Rattle.std.proofs.lemmas.Bool.{eqb-false}
 use Rattle.std.proofs.lemmas.Option.{slice_get-get_or}
 use Rattle.board.proofs.Meetings.{are_all, not_all, has_one_more}

@@ -1,4 +1,4 @@
-use Rattle.std.proofs.Common.{◌≡◌, ◌≤◌, ℕ}
+use Rattle.std.proofs.Common.{◌≤◌, ℕ}
 use Rattle.board.specs.Meeting.{HasPost}
 use Rattle.board.proofs.meeting.meet_all.Given as goal
 

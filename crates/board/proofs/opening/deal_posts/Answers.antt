@@ -1,5 +1,5 @@
-use Rattle.std.proofs.Common.{rules, ◌≡◌, ◌<◌, ◌+◌, ℕ, suc, List, [], ◌∷◌, refl, sym, ap, ◌∙◌, subst, arith}
-use Rattle.board_table.specs.Knowing.{Mine, held, new_held}
+use Rattle.std.proofs.Common.{◌≡◌, ◌+◌, ℕ, suc, List, refl, sym, ap, ◌∙◌, subst, arith}
+use Rattle.board_table.specs.Knowing.{Mine}
 use Rattle.board_table.specs.declared.held.Held.{Held}
 use Rattle.board.specs.Views.{BoardView, PostView}
 use Rattle.board.specs.Boards.{FirstPosts, AreLeft, new_post}

@@ -1,4 +1,4 @@
-use Rattle.std.proofs.Common.{◌≡◌, ℕ, ◌+◌}
+use Rattle.std.proofs.Common.{◌≡◌}
 use Rattle.board.specs.Boards.{FirstPosts, AreLeft}
 use Rattle.board.proofs.opening.deal_posts.Given as goal
 

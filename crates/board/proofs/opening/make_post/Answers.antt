@@ -1,4 +1,3 @@
-use Rattle.std.proofs.Common.{rules}
 use Rattle.board.proofs.Openings.{post_new}
 use Rattle.board.proofs.opening.make_post.Goals as goal
 

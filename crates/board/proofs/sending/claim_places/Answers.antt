@@ -1,4 +1,4 @@
-use Rattle.std.proofs.Common.{◌≡◌, ◌≤◌, ◌<◌, ◌+◌, ◌-◌, ℕ, arith}
+use Rattle.std.proofs.Common.{arith}
 use Rattle.board.proofs.Claiming.{known_least, kept_end, places_again, fresh_end, places_anew, no_places, back_end}
 use Rattle.board.proofs.sending.claim_places.Goals as goal
 

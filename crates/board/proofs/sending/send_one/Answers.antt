@@ -1,14 +1,12 @@
-use Rattle.std.proofs.Common.{rules, ◌≡◌, ◌≤◌, ◌<◌, ◌+◌, ◌∙◌, ℕ, List, [], ◌∷◌, ◌++◌, length, true, false, refl, sym, ap, subst, arith}
-use Rattle.chart.specs.Histories.{chart_of}
-use Rattle.chart.specs.declared.line.TheConstants.{MAX_EVENTS}
-use Rattle.chart.proofs.Histories.{same_sent}
-use Rattle.line_recorder.specs.Recorders.{RecorderView, after_send}
+use Rattle.std.proofs.Common.{rules, ◌≡◌, ◌+◌, ◌∙◌, ℕ, List, [], ◌∷◌, ◌++◌, length, true, refl, sym, ap, subst, arith}
+use Rattle.line_recorder.specs.Recorders.{RecorderView, send_clock, after_send}
 use Rattle.line_recorder.specs.Recording.{IsRecorder}
-use Rattle.board_table.specs.declared.held.Held.{Held}
 use Rattle.board_table.specs.declared.packet.Packet.{Packet}
-use Rattle.board_table.specs.Knowing.{Mine, held, packets_out, at_rest}
-use Rattle.board.proofs.Claiming.{sent_within}
-use Rattle.board.proofs.OneSend.{known_many, recorder_saw, put_less, line_saw, one_unclosed, one_short, one_next, one_did, one_end, one_recorder}
+use Rattle.board_table.specs.Knowing.{Mine, held, packets_out}
+use Rattle.board.specs.SendingMany.{AreDiffs}
+use Rattle.board.proofs.OneSend.{known_many, recorder_saw, put_less, line_saw}
+use Rattle.board.proofs.SeveralSends.{are_next}
+use Rattle.board.proofs.SentAtOnce.{Fills, fills_of, unclosed, short, sender, next, did_send, recorder_sent, end_sent}
 use Rattle.board.proofs.sending.send_one.Goals as goal
 
 pub claim_places-requires-clause-few : goal.claim_places-requires-clause-few
@@ -44,45 +42,97 @@ publish-requires-clause-few c =
 
 pub publish-requires-clause-unclosed : goal.publish-requires-clause-unclosed
 publish-requires-clause-unclosed c =
+    let l = c.args.lane.now in
+    let m = c.args.seat.now.me in
+    let s = c.claim_places.new.seat.me in
+    let f = c.fill.new.seat.me in
+    let r = c.args.recorder.now in
+    let u = c.claim_places.new.end in
+    let x : Packet = record { message = c.args.message; diff = c.in-Ok.diff } in
     let yes : c.claim_places.result ≡ true = search rules in
     let places = c.claim_places.ensures.yes yes in
-    let filled : packets_out c.fill.new.seat.me ≡ (record { message = c.args.message; diff = c.in-Ok.diff }) ∷ [] = c.fill.ensures.packets ∙ ap (λ (xs : List Packet). xs ++ (record { message = c.args.message; diff = c.in-Ok.diff }) ∷ []) places.unfilled in
-    one_unclosed c.args.lane.now (held c.args.seat.now.me) c.claim_places.new.seat.me c.fill.new.seat.me c.fill.new.seat.me c.args.recorder.now c.claim_places.new.end (record { message = c.args.message; diff = c.in-Ok.diff }) c.requires.legal c.requires.own c.claim_places.ensures.did c.requires.recorder c.claim_places.ensures.end c.fill.ensures.held filled c.requires.unclosed
+    let filled : packets_out f ≡ x ∷ [] = c.fill.ensures.packets ∙ ap (λ (xs : List Packet). xs ++ x ∷ []) places.unfilled in
+    let diffs : AreDiffs u.base (x.diff ∷ []) (send_clock r ∷ []) = (record { within = c.in-Ok.ensures.within; applied = c.in-Ok.ensures.clock }, tt) in
+    let fills : Fills l m s f r u (x.message ∷ []) (x ∷ []) = fills_of l m s f r u (x.message ∷ []) (x.diff ∷ []) c.requires.legal c.requires.own c.claim_places.ensures.did c.requires.recorder c.claim_places.ensures.end places c.fill.ensures.held filled diffs in
+    unclosed l m s f r u (x.message ∷ []) (x ∷ []) fills c.requires.unclosed
 
 pub publish-requires-clause-short : goal.publish-requires-clause-short
 publish-requires-clause-short c =
+    let l = c.args.lane.now in
+    let m = c.args.seat.now.me in
+    let s = c.claim_places.new.seat.me in
+    let f = c.fill.new.seat.me in
+    let r = c.args.recorder.now in
+    let u = c.claim_places.new.end in
+    let x : Packet = record { message = c.args.message; diff = c.in-Ok.diff } in
     let yes : c.claim_places.result ≡ true = search rules in
     let places = c.claim_places.ensures.yes yes in
-    let filled : packets_out c.fill.new.seat.me ≡ (record { message = c.args.message; diff = c.in-Ok.diff }) ∷ [] = c.fill.ensures.packets ∙ ap (λ (xs : List Packet). xs ++ (record { message = c.args.message; diff = c.in-Ok.diff }) ∷ []) places.unfilled in
-    one_short c.args.lane.now (held c.args.seat.now.me) c.claim_places.new.seat.me c.fill.new.seat.me c.fill.new.seat.me c.args.recorder.now c.claim_places.new.end (record { message = c.args.message; diff = c.in-Ok.diff }) c.requires.legal c.requires.own c.claim_places.ensures.did c.requires.recorder c.claim_places.ensures.end c.fill.ensures.held filled c.requires.short
+    let filled : packets_out f ≡ x ∷ [] = c.fill.ensures.packets ∙ ap (λ (xs : List Packet). xs ++ x ∷ []) places.unfilled in
+    let diffs : AreDiffs u.base (x.diff ∷ []) (send_clock r ∷ []) = (record { within = c.in-Ok.ensures.within; applied = c.in-Ok.ensures.clock }, tt) in
+    let fills : Fills l m s f r u (x.message ∷ []) (x ∷ []) = fills_of l m s f r u (x.message ∷ []) (x.diff ∷ []) c.requires.legal c.requires.own c.claim_places.ensures.did c.requires.recorder c.claim_places.ensures.end places c.fill.ensures.held filled diffs in
+    short l m s f r u (x.message ∷ []) (x ∷ []) fills (omega (arith, c.requires.short))
 
 pub publish-requires-clause-next : goal.publish-requires-clause-next
 publish-requires-clause-next c =
+    let l = c.args.lane.now in
+    let m = c.args.seat.now.me in
+    let s = c.claim_places.new.seat.me in
+    let f = c.fill.new.seat.me in
+    let r = c.args.recorder.now in
+    let u = c.claim_places.new.end in
+    let x : Packet = record { message = c.args.message; diff = c.in-Ok.diff } in
     let yes : c.claim_places.result ≡ true = search rules in
     let places = c.claim_places.ensures.yes yes in
-    let filled : packets_out c.fill.new.seat.me ≡ (record { message = c.args.message; diff = c.in-Ok.diff }) ∷ [] = c.fill.ensures.packets ∙ ap (λ (xs : List Packet). xs ++ (record { message = c.args.message; diff = c.in-Ok.diff }) ∷ []) places.unfilled in
-    one_next c.args.lane.now (held c.args.seat.now.me) c.claim_places.new.seat.me c.fill.new.seat.me c.fill.new.seat.me c.args.recorder.now c.claim_places.new.end (record { message = c.args.message; diff = c.in-Ok.diff }) c.requires.legal c.requires.own c.claim_places.ensures.did c.requires.recorder c.claim_places.ensures.end c.fill.ensures.held filled c.in-Ok.ensures.clock c.in-Ok.ensures.within
+    let filled : packets_out f ≡ x ∷ [] = c.fill.ensures.packets ∙ ap (λ (xs : List Packet). xs ++ x ∷ []) places.unfilled in
+    let diffs : AreDiffs u.base (x.diff ∷ []) (send_clock r ∷ []) = (record { within = c.in-Ok.ensures.within; applied = c.in-Ok.ensures.clock }, tt) in
+    let fills : Fills l m s f r u (x.message ∷ []) (x ∷ []) = fills_of l m s f r u (x.message ∷ []) (x.diff ∷ []) c.requires.legal c.requires.own c.claim_places.ensures.did c.requires.recorder c.claim_places.ensures.end places c.fill.ensures.held filled diffs in
+    next l m s f r u (x.message ∷ []) (x ∷ []) fills (are_next l.instances l.sender l.receiver (x.message ∷ []) (x.diff ∷ []) u.base (held s).seen r (sender l m s f r u (x.message ∷ []) (x ∷ []) fills) diffs)
 
 pub returns-clause-recorder : goal.returns-clause-recorder
 returns-clause-recorder c =
+    let l = c.args.lane.now in
+    let m = c.args.seat.now.me in
+    let s = c.claim_places.new.seat.me in
+    let f = c.fill.new.seat.me in
+    let r = c.args.recorder.now in
+    let u = c.claim_places.new.end in
+    let x : Packet = record { message = c.args.message; diff = c.in-Ok.diff } in
     let yes : c.claim_places.result ≡ true = search rules in
     let places = c.claim_places.ensures.yes yes in
-    let filled : packets_out c.fill.new.seat.me ≡ (record { message = c.args.message; diff = c.in-Ok.diff }) ∷ [] = c.fill.ensures.packets ∙ ap (λ (xs : List Packet). xs ++ (record { message = c.args.message; diff = c.in-Ok.diff }) ∷ []) places.unfilled in
-    let its = one_recorder c.args.lane.now (held c.args.seat.now.me) c.claim_places.new.seat.me c.fill.new.seat.me c.publish.new.seat.me c.args.recorder.now c.claim_places.new.end (record { message = c.args.message; diff = c.in-Ok.diff }) c.requires.legal c.requires.own c.claim_places.ensures.did c.requires.recorder c.claim_places.ensures.end c.fill.ensures.held filled places.filling.post.number c.publish.ensures.publishes in
-    let made : c.record.new.recorder ≡ after_send c.args.recorder.now c.args.lane.now.receiver c.args.message.name = c.in-Ok.ensures.ok ∙ ap (λ (to : ℕ). after_send c.args.recorder.now to c.name.result) c.requires.to ∙ ap (λ (name : List ℕ). after_send c.args.recorder.now c.args.lane.now.receiver name) c.name.ensures in
-    subst (λ (r : RecorderView). IsRecorder c.args.lane.now.instances (held c.publish.new.seat.me).seen c.args.lane.now.sender r) (sym made) its
+    let filled : packets_out f ≡ x ∷ [] = c.fill.ensures.packets ∙ ap (λ (xs : List Packet). xs ++ x ∷ []) places.unfilled in
+    let diffs : AreDiffs u.base (x.diff ∷ []) (send_clock r ∷ []) = (record { within = c.in-Ok.ensures.within; applied = c.in-Ok.ensures.clock }, tt) in
+    let fills : Fills l m s f r u (x.message ∷ []) (x ∷ []) = fills_of l m s f r u (x.message ∷ []) (x.diff ∷ []) c.requires.legal c.requires.own c.claim_places.ensures.did c.requires.recorder c.claim_places.ensures.end places c.fill.ensures.held filled diffs in
+    let made : c.record.new.recorder ≡ after_send r l.receiver x.message.name = c.in-Ok.ensures.ok ∙ ap (λ (to : ℕ). after_send r to c.name.result) c.requires.to ∙ ap (λ (name : List ℕ). after_send r l.receiver name) c.name.ensures in
+    subst (λ (o : RecorderView). IsRecorder l.instances (held c.publish.new.seat.me).seen l.sender o) (sym made) (recorder_sent l m s f r u (x.message ∷ []) (x ∷ []) fills c.publish.new.seat.me c.publish.ensures.publishes)
 
 pub returns-clause-end : goal.returns-clause-end
 returns-clause-end c =
+    let l = c.args.lane.now in
+    let m = c.args.seat.now.me in
+    let s = c.claim_places.new.seat.me in
+    let f = c.fill.new.seat.me in
+    let r = c.args.recorder.now in
+    let u = c.claim_places.new.end in
+    let x : Packet = record { message = c.args.message; diff = c.in-Ok.diff } in
     let yes : c.claim_places.result ≡ true = search rules in
     let places = c.claim_places.ensures.yes yes in
-    let filled : packets_out c.fill.new.seat.me ≡ (record { message = c.args.message; diff = c.in-Ok.diff }) ∷ [] = c.fill.ensures.packets ∙ ap (λ (xs : List Packet). xs ++ (record { message = c.args.message; diff = c.in-Ok.diff }) ∷ []) places.unfilled in
-    let its = one_end c.args.lane.now (held c.args.seat.now.me) c.claim_places.new.seat.me c.fill.new.seat.me c.publish.new.seat.me c.args.recorder.now c.claim_places.new.end (record { message = c.args.message; diff = c.in-Ok.diff }) c.requires.legal c.requires.own c.claim_places.ensures.did c.requires.recorder c.claim_places.ensures.end c.fill.ensures.held filled places.filling.post.number c.publish.ensures.publishes c.in-Ok.ensures.clock (sym (ap length c.apply.ensures.value) ∙ c.apply.ensures.len) in
-    rw c.apply.ensures.value its
+    let filled : packets_out f ≡ x ∷ [] = c.fill.ensures.packets ∙ ap (λ (xs : List Packet). xs ++ x ∷ []) places.unfilled in
+    let diffs : AreDiffs u.base (x.diff ∷ []) (send_clock r ∷ []) = (record { within = c.in-Ok.ensures.within; applied = c.in-Ok.ensures.clock }, tt) in
+    let fills : Fills l m s f r u (x.message ∷ []) (x ∷ []) = fills_of l m s f r u (x.message ∷ []) (x.diff ∷ []) c.requires.legal c.requires.own c.claim_places.ensures.did c.requires.recorder c.claim_places.ensures.end places c.fill.ensures.held filled diffs in
+    rw (c.apply.ensures.value, c.in-Ok.ensures.clock) (end_sent l m s f r u (x.message ∷ []) (x ∷ []) fills c.publish.new.seat.me c.publish.ensures.publishes (u.put + 1) refl)
 
 pub returns-clause-ok : goal.returns-clause-ok
 returns-clause-ok c =
+    let l = c.args.lane.now in
+    let m = c.args.seat.now.me in
+    let s = c.claim_places.new.seat.me in
+    let f = c.fill.new.seat.me in
+    let r = c.args.recorder.now in
+    let u = c.claim_places.new.end in
+    let x : Packet = record { message = c.args.message; diff = c.in-Ok.diff } in
     let yes : c.claim_places.result ≡ true = search rules in
     let places = c.claim_places.ensures.yes yes in
-    let filled : packets_out c.fill.new.seat.me ≡ (record { message = c.args.message; diff = c.in-Ok.diff }) ∷ [] = c.fill.ensures.packets ∙ ap (λ (xs : List Packet). xs ++ (record { message = c.args.message; diff = c.in-Ok.diff }) ∷ []) places.unfilled in
-    one_did c.args.lane.now (held c.args.seat.now.me) c.claim_places.new.seat.me c.fill.new.seat.me c.publish.new.seat.me c.args.recorder.now c.claim_places.new.end (record { message = c.args.message; diff = c.in-Ok.diff }) c.requires.legal c.requires.own c.claim_places.ensures.did c.requires.recorder c.claim_places.ensures.end c.fill.ensures.held filled places.filling.post.number c.publish.ensures.publishes
+    let filled : packets_out f ≡ x ∷ [] = c.fill.ensures.packets ∙ ap (λ (xs : List Packet). xs ++ x ∷ []) places.unfilled in
+    let diffs : AreDiffs u.base (x.diff ∷ []) (send_clock r ∷ []) = (record { within = c.in-Ok.ensures.within; applied = c.in-Ok.ensures.clock }, tt) in
+    let fills : Fills l m s f r u (x.message ∷ []) (x ∷ []) = fills_of l m s f r u (x.message ∷ []) (x.diff ∷ []) c.requires.legal c.requires.own c.claim_places.ensures.did c.requires.recorder c.claim_places.ensures.end places c.fill.ensures.held filled diffs in
+    did_send l m s f r u (x.message ∷ []) (x ∷ []) fills c.publish.new.seat.me c.publish.ensures.publishes

@@ -1,4 +1,3 @@
-use Rattle.std.proofs.Common.{rules, refl}
 use Rattle.board.proofs.NoteLemmas.{post_met, post_hears}
 use Rattle.board.proofs.post.Post.hear.Goals as goal
 

@@ -1,4 +1,4 @@
-use Rattle.std.proofs.Common.{◌≤◌, ◌+◌, arith}
+use Rattle.std.proofs.Common.{arith}
 use Rattle.board.proofs.Closes.{line_short}
 use Rattle.board.proofs.post.Post.open_coregion.Goals as goal
 

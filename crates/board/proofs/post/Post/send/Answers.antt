@@ -1,9 +1,5 @@
-use Rattle.std.proofs.Common.{rules, ◌≡◌, ◌≢◌, ◌≤◌, ◌<◌, ◌+◌, ◌∙◌, ℕ, suc, List, [], ◌∷◌, length, true, false, refl, sym, ap, subst, arith}
-use Rattle.chart.specs.declared.instance.EventNo.{EventNo}
-use Rattle.board_table.specs.Knowing.{held}
-use Rattle.board.specs.Known.{IsOutgoing, view_of}
-use Rattle.board.specs.Sending.{MayPass}
-use Rattle.board.proofs.PostLemmas.{post_saw, post_sent}
+use Rattle.std.proofs.Common.{◌<◌, ◌∙◌, ℕ, [], ◌∷◌, length, sym, ap, arith}
+use Rattle.board.proofs.PostLemmas.{post_saw, post_sends}
 use Rattle.board.proofs.SendAnswers.{outgoing_at, unclosed, unsent, did_sound, did_makes, did_stays}
 use Rattle.board.proofs.post.Post.send.Goals as goal
 use Rattle.board.proofs.post.Post.send.Goals.{in-Ok, in-Err}
@@ -16,7 +12,7 @@ send_one-requires-clause-end c =
 pub send_one-requires-clause-unclosed : goal.send_one-requires-clause-unclosed
 send_one-requires-clause-unclosed c =
     let may = rw (← c.self.view_is) at c.in_default.ensures.none in
-    rw c.new-lane.ensures (unclosed _ _ _ _ c.self.inside.seat.me _ _ _ _ _ _ _ _ c.self.invariant c.args.to may)
+    rw c.new-lane.ensures (unclosed _ _ _ _ c.self.inside.seat.me _ _ _ _ _ _ _ _ c.self.invariant c.args.to 1 may)
 
 pub invariant_of-self : goal.invariant_of-self
 invariant_of-self c =
@@ -28,7 +24,7 @@ invariant_of-self c =
     elim c.match-send_one.branch [
       | in-Ok w ↦
           let did = rw (c.new-lane.ensures, c.place.ensures.value) at w.in-Ok.ensures.ok in
-          post_sent _ _ _ _ _ _ _ _ _ _ _ _ _ _ _ c.self.invariant c.send_one.ensures.table rests recorder c.place.result _ within end _ c.args.message may.may.outside did
+          post_sends _ _ _ _ _ _ _ _ _ _ _ _ _ _ _ c.self.invariant c.send_one.ensures.table rests recorder c.place.result _ within end _ (c.args.message ∷ []) may.may.outside did
       | in-Err w ↦
           let unmade = rw c.new-lane.ensures at w.in-Err.ensures.err in
           post_saw _ _ _ _ _ _ _ _ _ _ _ _ _ _ _ c.self.invariant c.send_one.ensures.table rests recorder c.place.result _ within end unmade.1.did
@@ -59,5 +55,5 @@ returns-clause-answer c =
           })
       | in-Err w ↦
           let unmade = rw c.new-lane.ensures at w.in-Err.ensures.err in
-          rw (w.result-is, ← c.self.view_is) (unmade.0, did_stays c.self.inside.words.now.table_id c.self.inside.seat.me c.send_one.new.seat.me _ _ _ c.self.inside.region unmade.1.did, unsent _ _ _ _ c.send_one.new.seat.me _ _ _ _ _ _ _ _ c.self.invariant c.args.to may c.new-lane.result c.new-lane.ensures _ unmade.1.did w.in-Err.ensures.err.1.cause)
+          rw (w.result-is, ← c.self.view_is) (unmade.0, did_stays c.self.inside.words.now.table_id c.self.inside.seat.me c.send_one.new.seat.me _ _ _ c.self.inside.region unmade.1.did, unsent _ _ _ _ c.send_one.new.seat.me _ _ _ _ _ _ _ _ c.self.invariant c.args.to 1 may c.new-lane.result c.new-lane.ensures _ unmade.1.did (omega arith) w.in-Err.ensures.err.1.cause)
     ]

@@ -1,4 +1,4 @@
-use Rattle.std.proofs.Common.{rules, ◌≡◌, ◌≢◌, ◌≤◌, ◌<◌, ◌+◌, ◌∙◌, ℕ, suc, length, true, false, refl, sym, ap, arith}
+use Rattle.std.proofs.Common.{◌≢◌, ◌∙◌, length, sym, ap, arith}
 use Rattle.std.proofs.lemmas.Bool.{eqb-false}
 use Rattle.board.proofs.SendAnswers.{outgoing_at, closed_made, may_send, line_is}
 use Rattle.board.proofs.post.Post.sends_nothing.Goals as goal
@@ -10,13 +10,20 @@ returns-then-index-clause-some c =
     let end = outgoing_at _ _ _ _ _ _ _ _ _ _ _ _ post c.args.to c.place.result c.index.result.now c.place.ensures.value ne (omega arith) c.index.ensures in
     rw (← c.self.view_is) ((post.least, post.most, omega arith, omega arith, λ e. ne (sym e)), omega arith, closed_made _ _ _ _ _ _ _ _ _ _ _ _ post c.args.to c.index.result.now end ∙ c.if-index.true)
 
-pub returns-then-len-ge-MAX_EVENTS-clause-some : goal.returns-then-len-ge-MAX_EVENTS-clause-some
-returns-then-len-ge-MAX_EVENTS-clause-some c =
+pub returns-then-many-self-clause-some : goal.returns-then-many-self-clause-some
+returns-then-many-self-clause-some c =
+    let post = c.self.invariant in
+    let ne : c.args.to ≢ c.self.inside.number = eqb-false _ _ (sym c.if-eq.ensures) in
+    let may = may_send _ _ _ _ _ _ _ _ _ _ _ _ post c.args.to c.place.result c.index.result.now c.place.ensures.value ne (omega arith) c.index.ensures (omega arith) c.if-index.false in
+    rw (← c.self.view_is) (may, omega arith)
+
+pub returns-then-len-many-gt-MAX_EVENTS-clause-some : goal.returns-then-len-many-gt-MAX_EVENTS-clause-some
+returns-then-len-many-gt-MAX_EVENTS-clause-some c =
     let post = c.self.invariant in
     let ne : c.args.to ≢ c.self.inside.number = eqb-false _ _ (sym c.if-eq.ensures) in
     let may = may_send _ _ _ _ _ _ _ _ _ _ _ _ post c.args.to c.place.result c.index.result.now c.place.ensures.value ne (omega arith) c.index.ensures (omega arith) c.if-index.false in
     let line = line_is _ _ _ _ _ _ _ _ _ _ _ _ post in
-    rw (← c.self.view_is) (may, post.sized.some, omega (arith, ap length line, ap (λ l. length l.events) c.line.ensures))
+    rw (← c.self.view_is) (may, omega arith, omega (arith, ap length line, ap (λ l. length l.events) c.line.ensures))
 
 pub returns-clause-none : goal.returns-clause-none
 returns-clause-none c =
@@ -24,4 +31,4 @@ returns-clause-none c =
     let ne : c.args.to ≢ c.self.inside.number = eqb-false _ _ (sym c.if-eq.ensures) in
     let may = may_send _ _ _ _ _ _ _ _ _ _ _ _ post c.args.to c.place.result c.index.result.now c.place.ensures.value ne (omega arith) c.index.ensures (omega arith) c.if-index.false in
     let line = line_is _ _ _ _ _ _ _ _ _ _ _ _ post in
-    rw (← c.self.view_is) (record { may = may; short = omega (arith, ap length line, ap (λ l. length l.events) c.line.ensures) })
+    rw (← c.self.view_is) (record { may = may; few = omega arith; short = omega (arith, ap length line, ap (λ l. length l.events) c.line.ensures) })

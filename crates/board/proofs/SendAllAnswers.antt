@@ -1,0 +1,61 @@
+-- What a post's send of several messages answers.
+use Rattle.std.proofs.Common.{◌≡◌, ℕ, suc, ◌<◌, List, [], ◌∷◌, length, set, refl, sym, subst, arith}
+use Rattle.std.specs.Prelude.{Result, Ok, Err, IfOk, IfErr}
+use Rattle.std.specs.Global.{Vec}
+use Rattle.atomic_table.specs.Seated.{TableId}
+use Rattle.chart.specs.Messages.{Content}
+use Rattle.chart.proofs.Histories.{begins_same}
+use Rattle.line_recorder.specs.Recorders.{RecorderView}
+use Rattle.line_recorder.specs.Recording.{IsRecorder}
+use Rattle.board_table.specs.declared.shape.Shape.{Shape}
+use Rattle.board_table.specs.Knowing.{Mine, held, Rests}
+use Rattle.board.specs.declared.answer.Sent.{Sent}
+use Rattle.board.specs.declared.ends.Outgoing.{Outgoing}
+use Rattle.board.specs.declared.ends.Incoming.{Incoming}
+use Rattle.board.specs.declared.error.SendError.{SendError}
+use Rattle.board.specs.Views.{PostView, Sound}
+use Rattle.board.specs.Known.{IsOutgoing, IsPost, view_of}
+use Rattle.board.specs.Parts.{IsUnmade}
+use Rattle.board.specs.Sending.{MaySend, MayPass, AreSent, SendsAll}
+use Rattle.board.specs.SendingMany.{AreMade}
+use Rattle.board.proofs.PostLemmas.{post_saw, post_sends}
+use Rattle.board.proofs.SendAnswers.{did_sound, did_makes, did_stays, unsent}
+
+-- none is sent where there is none
+pub sent_none : (old : PostView) (to : ℕ) (ms : List Content) (sents : List Sent) → length ms ≡ 0 → sents ≡ [] → MaySend old to → AreSent old to ms sents old
+sent_none old to [] sents none nothing may = subst (λ (xs : List Sent). AreSent old to [] xs old) (sym nothing) (record {
+  may = may;
+  makes = (old.seen, record { later = begins_same old.seen; seen = refl; made = refl; region = refl });
+  events = refl;
+})
+sent_none old to (m ∷ ms) sents none nothing may = absurd (omega (arith, none))
+
+abbrev pub Answer : Type 0
+Answer = Result (Vec Sent) (Vec Content × SendError)
+
+-- they were sent on p's lane to this instance, and each has its event
+abbrev pub WereMade : ℕ → ℕ → ℕ → ℕ → List Content → Mine → Mine → Answer → Type 0
+WereMade n k p to ms m w result = IfOk result (λ sents. AreMade (record { instances = n; capacity = k; sender = p; receiver = to }) ms sents.items m w)
+
+-- they weren't, and come back
+abbrev pub WereUnmade : ℕ → ℕ → ℕ → ℕ → List Content → Mine → Mine → Answer → Type 0
+WereUnmade n k p to ms m w result = IfErr result (λ error. (error.0.items ≡ ms) × IsUnmade (record { instances = n; capacity = k; sender = p; receiver = to }) (length ms) m w error.1)
+
+pub sound_all : (table : TableId) (m w : Mine) (n k p region to : ℕ) (ms : List Content) (result : Answer) → WereMade n k p to ms m w result → WereUnmade n k p to ms m w result → Sound (view_of table m n k p region) (view_of table w n k p region)
+sound_all table m w n k p region to ms (Ok sents) made unmade = did_sound table m w n k p region _ _ made.did region
+sound_all table m w n k p region to ms (Err (back, error)) made unmade = did_sound table m w n k p region _ _ unmade.1.did region
+
+pub answer_all : (key : Shape) (table chair : TableId) (m w : Mine) (n k p : ℕ) (r : RecorderView) (region greatest : ℕ) (outgoing : List Outgoing) (incoming : List Incoming) → IsPost key table chair m n k p r region greatest outgoing incoming → (to : ℕ) (ms : List Content) → MayPass (view_of table m n k p region) to (length ms) → 0 < length ms
+    → (result : Answer) → WereMade n k p to ms m w result → WereUnmade n k p to ms m w result → SendsAll (view_of table m n k p region) to ms result (view_of table w n k p region)
+answer_all key table chair m w n k p r region greatest outgoing incoming post to ms may some (Ok sents) made unmade = record {
+  may = may.may;
+  makes = (_, did_makes table m w n k p region _ _ made.did);
+  events = made.events;
+}
+answer_all key table chair m w n k p r region greatest outgoing incoming post to ms may some (Err (back, error)) made unmade =
+    (unmade.0, did_stays table m w n k p region unmade.1.did, unsent key table chair m w n k p r region greatest outgoing incoming post to (length ms) may (record { instances = n; capacity = k; sender = p; receiver = to }) refl error unmade.1.did some unmade.1.cause)
+
+pub post_all : (key : Shape) (table chair chair_after : TableId) (m w : Mine) (n k p : ℕ) (r u : RecorderView) (region greatest : ℕ) (outgoing : List Outgoing) (incoming : List Incoming) → IsPost key table chair m n k p r region greatest outgoing incoming → chair_after ≡ chair → Rests n k p w → IsRecorder n (held w).seen p u
+    → (j : ℕ) (e : Outgoing) → j < length outgoing → IsOutgoing n (held w).seen p (suc j) e → region ≡ 0 → (ms : List Content) (result : Answer) → WereMade n k p (suc j) ms m w result → WereUnmade n k p (suc j) ms m w result → IsPost key table chair_after w n k p u region greatest (set outgoing j e) incoming
+post_all key table chair chair_after m w n k p r u region greatest outgoing incoming post seated rests recorder j e within end outside ms (Ok sents) made unmade = post_sends key table chair chair_after m w n k p r u region greatest outgoing incoming post seated rests recorder j e within end _ ms outside made.did
+post_all key table chair chair_after m w n k p r u region greatest outgoing incoming post seated rests recorder j e within end outside ms (Err (back, error)) made unmade = post_saw key table chair chair_after m w n k p r u region greatest outgoing incoming post seated rests recorder j e within end unmade.1.did

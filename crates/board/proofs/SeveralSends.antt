@@ -1,0 +1,124 @@
+-- Several messages, sent one directly after another.
+use Rattle.std.proofs.Common.{◌≡◌, ℕ, suc, ◌+◌, List, [], ◌∷◌, ◌++◌, length, map, refl, sym, ap, ap₂, ◌∙◌, subst, arith, append_assoc}
+use Rattle.std.proofs.lemmas.Bool.{eq-eqb}
+use Rattle.std.proofs.lemmas.List.{length_push, reverse-append}
+use Rattle.chart.specs.declared.history.Occurrence.{Occurrence}
+use Rattle.chart.specs.declared.history.Occurrence.TheVariants.{Send}
+use Rattle.chart.specs.Events.{send_event, greatest_region}
+use Rattle.chart.specs.Charts.{LineView}
+use Rattle.chart.specs.Messages.{Content}
+use Rattle.chart.specs.Histories.{chart_of, IsLegal}
+use Rattle.chart.proofs.Begun.{legal_begun}
+use Rattle.chart.proofs.Regions.{greatest_region-push}
+use Rattle.chart.proofs.Sends.{line_after_send}
+use Rattle.clock.specs.declared.diff.Change.{Change}
+use Rattle.clock.specs.Clocks.{with_entry}
+use Rattle.line_recorder.specs.Carried.{knowledge_of}
+use Rattle.line_recorder.specs.Recorders.{RecorderView, send_clock, after_send, after_sends, send_clocks}
+use Rattle.line_recorder.specs.Recording.{IsRecorder}
+use Rattle.line_recorder.proofs.EntryLemmas.{length-with_entry}
+use Rattle.line_recorder.proofs.Recording.{IsRecorder-send}
+use Rattle.board_core.specs.Parcels.{next_clock}
+use Rattle.board_table.specs.declared.packet.Packet.{Packet}
+use Rattle.board_table.specs.Carrying.{AreNext, with_sent}
+use Rattle.board.specs.declared.ends.Outgoing.{Outgoing}
+use Rattle.board.specs.declared.ends.Incoming.{Incoming}
+use Rattle.board.specs.Known.{IsOutgoing, AreEndsBut}
+use Rattle.board.specs.Sending.{sends_of}
+use Rattle.board.specs.SendingMany.{names_of, packets_of, AreDiffs, last_of}
+use Rattle.board.proofs.Claiming.{outgoing_sent}
+use Rattle.board.proofs.EndLemmas.{ends_sent}
+
+-- the history after p's sends of these to q
+abbrev pub sends_after : ℕ → ℕ → List Content → List Occurrence → List Occurrence
+sends_after p q [] h = h
+sends_after p q (m ∷ ms) h = sends_after p q ms (Send p q m ∷ h)
+
+pub sends_are : (p q : ℕ) (ms : List Content) (h : List Occurrence) → sends_after p q ms h ≡ sends_of p q ms ++ h
+sends_are p q [] h = refl
+sends_are p q (m ∷ ms) h = sends_are p q ms (Send p q m ∷ h) ∙ sym (append_assoc (sends_of p q ms) (Send p q m ∷ []) h) ∙ ap (λ es. es ++ h) (sym (reverse-append (Send p q m ∷ []) (map (Send p q) ms)))
+
+-- the messages of packets
+abbrev pub contents : List Packet → List Content
+contents xs = map (λ (x : Packet). x.message) xs
+
+pub sent_are : (p q : ℕ) (xs : List Packet) (h : List Occurrence) → with_sent p q xs h ≡ sends_after p q (contents xs) h
+sent_are p q [] h = refl
+sent_are p q (x ∷ xs) h = sent_are p q xs (Send p q x.message ∷ h)
+
+pub packets_contents : (ms : List Content) (ds : List (List Change)) → length ds ≡ length ms → contents (packets_of ms ds) ≡ ms
+packets_contents [] ds many = refl
+packets_contents (m ∷ ms) [] many = absurd (omega (arith, many))
+packets_contents (m ∷ ms) (d ∷ ds) many = ap (λ xs. m ∷ xs) (packets_contents ms ds (omega (arith, many)))
+
+-- there is a difference for each clock, and a clock for each message
+diffs_many : (base : List ℕ) (ds : List (List Change)) (clocks : List (List ℕ)) → AreDiffs base ds clocks → length ds ≡ length clocks
+diffs_many base [] [] are = refl
+diffs_many base [] (c ∷ cs) are = absurd are
+diffs_many base (d ∷ ds) [] are = absurd are
+diffs_many base (d ∷ ds) (c ∷ cs) are = ap suc (diffs_many c ds cs are.1)
+
+clocks_many : (r : RecorderView) (to : ℕ) (ms : List Content) → length (send_clocks r to (names_of ms)) ≡ length ms
+clocks_many r to [] = refl
+clocks_many r to (m ∷ ms) = ap suc (clocks_many (after_send r to m.name) to ms)
+
+pub as_many_diffs : (base : List ℕ) (r : RecorderView) (to : ℕ) (ms : List Content) (ds : List (List Change)) → AreDiffs base ds (send_clocks r to (names_of ms)) → length ds ≡ length ms
+as_many_diffs base r to ms ds are = diffs_many base ds (send_clocks r to (names_of ms)) are ∙ clocks_many r to ms
+
+-- the recorder has p's line and what p knows
+pub record IsSender (n : ℕ) (h : List Occurrence) (p : ℕ) (r : RecorderView) : Type 0 where
+  pub line : r.line ≡ record { instance = p; events = chart_of h p }
+  pub knowledge : r.knowledge ≡ knowledge_of n h p
+
+pub is_sender : (n : ℕ) (h : List Occurrence) (p : ℕ) (r : RecorderView) → IsRecorder n h p r → IsSender n h p r
+is_sender n h p r its = record { line = its.line; knowledge = its.knowledge }
+
+sender_clock : (n : ℕ) (h : List Occurrence) (p : ℕ) (r : RecorderView) → IsSender n h p r → send_clock r ≡ next_clock n h p
+sender_clock n h p r its = ap₂ (λ (l : LineView) (known : List ℕ). with_entry known l.instance (length l.events + 1)) its.line its.knowledge
+
+sender_sent : (n : ℕ) (h : List Occurrence) (p q : ℕ) (m : Content) (r : RecorderView) → IsSender n h p r → IsSender n (Send p q m ∷ h) p (after_send r q m.name)
+sender_sent n h p q m r its = record {
+  line = rw (line_after_send h p q m) (ap (λ (l : LineView). record l { events = l.events ++ send_event q m.name ∷ [] }) its.line);
+  knowledge = rw (eq-eqb p p refl) (sender_clock n h p r its);
+}
+
+-- packets with these differences are p's next sends
+pub are_next : (n p q : ℕ) (ms : List Content) (ds : List (List Change)) (base : List ℕ) (h : List Occurrence) (r : RecorderView) → IsSender n h p r → AreDiffs base ds (send_clocks r q (names_of ms)) → AreNext n base h p q (packets_of ms ds)
+are_next n p q [] ds base h r its are = tt
+are_next n p q (m ∷ ms) [] base h r its are = tt
+are_next n p q (m ∷ ms) (d ∷ ds) base h r its are =
+    let clock = sender_clock n h p r its in
+    let onward = are_next n p q ms ds (send_clock r) (Send p q m ∷ h) (after_send r q m.name) (sender_sent n h p q m r its) are.1 in (
+      record { message = refl; within = are.0.within; clock = are.0.applied ∙ clock },
+      subst (λ c. AreNext n c (Send p q m ∷ h) p q (packets_of ms ds)) clock onward,
+    )
+
+-- What the sends leave of p's recorder, its line and its ends.
+
+pub recorder_sends : (n k p q : ℕ) (ms : List Content) (h : List Occurrence) (r : RecorderView) → IsLegal n k (sends_after p q ms h) → IsRecorder n h p r → IsRecorder n (sends_after p q ms h) p (after_sends r q (names_of ms))
+recorder_sends n k p q [] h r legal its = its
+recorder_sends n k p q (m ∷ ms) h r legal its =
+    let before = legal_begun n k h (sends_after p q (m ∷ ms) h) (sends_of p q (m ∷ ms), sends_are p q (m ∷ ms) h) legal in
+    recorder_sends n k p q ms (Send p q m ∷ h) (after_send r q m.name) legal (IsRecorder-send n k h p q m r before its)
+
+pub end_sends : (n p q : ℕ) (ms : List Content) (h : List Occurrence) (r : RecorderView) (o : Outgoing) (put : ℕ) → IsSender n h p r → length r.knowledge ≡ n → IsOutgoing n h p q o → put ≡ o.put + length ms
+    → IsOutgoing n (sends_after p q ms h) p q (record o { put = put; base = last_of o.base (send_clocks r q (names_of ms)) })
+end_sends n p q [] h r o put its long old many =
+    let same : put ≡ o.put = omega (arith, many) in
+    record { put = same ∙ old.put; known = old.known; unsent = old.unsent; base = old.base; long = old.long }
+end_sends n p q (m ∷ ms) h r o put its long old many =
+    let same = length-with_entry r.knowledge r.line.instance (length r.line.events + 1) ∙ long in
+    let one = outgoing_sent n h p q m (send_clock r) o old (sender_clock n h p r its) same in
+    end_sends n p q ms (Send p q m ∷ h) (after_send r q m.name) (record o { put = o.put + 1; base = send_clock r }) put (sender_sent n h p q m r its) same one (omega (arith, many))
+
+pub ends_sends : (n p q from_one : ℕ) (ms : List Content) (h : List Occurrence) (outgoing : List Outgoing) (incoming : List Incoming) → AreEndsBut n h p q from_one outgoing incoming → AreEndsBut n (sends_after p q ms h) p q from_one outgoing incoming
+ends_sends n p q from_one [] h outgoing incoming old = old
+ends_sends n p q from_one (m ∷ ms) h outgoing incoming old = ends_sends n p q from_one ms (Send p q m ∷ h) outgoing incoming (ends_sent n h p q from_one m outgoing incoming old)
+
+pub line_sends : (p q : ℕ) (ms : List Content) (h : List Occurrence) → (length (chart_of (sends_after p q ms h) p) ≡ length (chart_of h p) + length ms) × (greatest_region (chart_of (sends_after p q ms h) p) ≡ greatest_region (chart_of h p))
+line_sends p q [] h = (omega arith, refl)
+line_sends p q (m ∷ ms) h =
+    let line = line_after_send h p q m in
+    let rest = line_sends p q ms (Send p q m ∷ h) in
+    let regions = greatest_region-push (chart_of h p) (send_event q m.name) in
+    (omega (arith, rest.0, ap length line, length_push (chart_of h p) (send_event q m.name)), omega (arith, rest.1, ap greatest_region line, regions))

@@ -1,0 +1,46 @@
+use Rattle.std.proofs.Common.{rules, ◌≡◌, ◌≢◌, ◌<◌, length, sym, arith}
+use Rattle.board.proofs.SendAnswers.{outgoing_at, unclosed}
+use Rattle.board.proofs.SendAllAnswers.{sent_none, sound_all, answer_all, post_all}
+use Rattle.board.proofs.post.Post.send_all.Goals as goal
+
+pub returns-then-is_empty-clause-answer : goal.returns-then-is_empty-clause-answer
+returns-then-is_empty-clause-answer c =
+    let may = c.in_default.ensures.none in
+    let none : length c.args.messages.items ≡ 0 = search rules in
+    sent_none _ _ c.args.messages.items c.new.result.items none c.new.ensures.items may.may
+
+pub send_several-requires-clause-end : goal.send_several-requires-clause-end
+send_several-requires-clause-end c =
+    let may = rw (← c.self.view_is) at c.in_default.ensures.none in
+    rw c.new-lane.ensures (outgoing_at _ _ _ _ _ _ _ _ _ _ _ _ c.self.invariant c.args.to c.place.result c.index_mut-end.result.now c.place.ensures.value (λ e. may.may.two.4 (sym e)) may.may.two.3 c.index_mut-end.ensures.value)
+
+pub send_several-requires-clause-unclosed : goal.send_several-requires-clause-unclosed
+send_several-requires-clause-unclosed c =
+    let may = rw (← c.self.view_is) at c.in_default.ensures.none in
+    rw c.new-lane.ensures (unclosed _ _ _ _ c.self.inside.seat.me _ _ _ _ _ _ _ _ c.self.invariant c.args.to _ may)
+
+pub invariant_of-self : goal.invariant_of-self
+invariant_of-self c =
+    let may = rw (← c.self.view_is) at c.in_default.ensures.none in
+    let rests = rw c.new-lane.ensures at c.send_several.ensures.rests in
+    let recorder = rw c.new-lane.ensures at c.send_several.ensures.recorder in
+    let end = rw (c.new-lane.ensures, c.place.ensures.value) at c.send_several.ensures.end in
+    let made = rw (c.new-lane.ensures, c.place.ensures.value) at c.send_several.ensures.ok in
+    let unmade = rw (c.new-lane.ensures, c.place.ensures.value) at c.send_several.ensures.err in
+    let within : c.place.result < length c.self.inside.outgoing.items = omega (arith, c.self.invariant.knows.ends.as_many, c.place.ensures.value, may.may.two.3) in
+    post_all _ _ _ _ _ _ _ _ _ _ _ _ _ _ _ c.self.invariant c.send_several.ensures.table rests recorder c.place.result _ within end may.may.outside c.args.messages.items c.send_several.result made unmade
+
+pub returns-clause-sound : goal.returns-clause-sound
+returns-clause-sound c =
+    let made = rw c.new-lane.ensures at c.send_several.ensures.ok in
+    let unmade = rw c.new-lane.ensures at c.send_several.ensures.err in
+    rw (← c.self.view_is) (sound_all c.self.inside.words.now.table_id c.self.inside.seat.me c.send_several.new.seat.me _ _ _ c.self.inside.region c.args.to c.args.messages.items c.send_several.result made unmade)
+
+pub returns-clause-answer : goal.returns-clause-answer
+returns-clause-answer c =
+    let many : c.len.result ≡ length c.args.messages.items = search rules in
+    let may = rw (← c.self.view_is, many) at c.in_default.ensures.none in
+    let some : length c.args.messages.items ≢ 0 = search rules in
+    let made = rw c.new-lane.ensures at c.send_several.ensures.ok in
+    let unmade = rw c.new-lane.ensures at c.send_several.ensures.err in
+    rw (← c.self.view_is) (answer_all _ _ _ _ c.send_several.new.seat.me _ _ _ _ _ _ _ _ c.self.invariant c.args.to c.args.messages.items may (omega (arith, some)) c.send_several.result made unmade)
