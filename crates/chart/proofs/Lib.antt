@@ -13,6 +13,7 @@ pub mod Lanes
 pub mod Layouts
 pub mod NameLists
 pub mod Places
+pub mod RangeLists
 pub mod Regions
 pub mod ReportLists
 pub mod Reports

@@ -10,5 +10,6 @@ pub mod Names
 pub mod Order
 pub mod Padding
 pub mod Places
+pub mod Ranges
 pub mod Reports
 pub mod Runs

@@ -25,6 +25,7 @@ mod line;
 mod message;
 mod name;
 mod names;
+mod ranges;
 mod report;
 
 pub use chart::{Chart, LinesError};
@@ -34,6 +35,7 @@ pub use line::{GrowingLine, Line, LineError, MAX_EVENTS};
 pub use message::{MAX_BODY, Message};
 pub use name::{MAX_NAME, Name, NameError};
 pub use names::{Names, NamesError};
+pub use ranges::{EventRange, EventRanges, RangesBuilder};
 pub use report::{Report, has_races};
 
 #[cfg(test)]

@@ -3,8 +3,8 @@ ghost use Rattle.std.specs.Prelude.{◌≡◌, IfOk};
 ghost use Rattle.chart.specs.Events.{region_of};
 
 use crate::{
-    Event, GrowingLine, InstanceNo, Line, LineError, MAX_BODY, MAX_EVENTS, MAX_NAME, Message, Name,
-    NameError, Names, NamesError,
+    Event, EventNo, EventRanges, GrowingLine, InstanceNo, Line, LineError, MAX_BODY, MAX_EVENTS,
+    MAX_NAME, Message, Name, NameError, Names, NamesError,
 };
 use std::test::Fail;
 
@@ -164,5 +164,28 @@ fn refused_growths(rt: HostRuntime) -> Result<(), Fail> {
     assert_eq!(rt; names.instance(name(b"a")?), InstanceNo::new(1));
     // A last growth, whose refusal tells that each one before it was refused in an earlier run of the test.
     Vec::<u8>::with_capacity(rt.alloc(), 1).map_err(|_| "every growth was refused")?;
+    Ok(())
+}
+
+/// The event of instance 1 with this number.
+fn event(index: u32) -> Result<EventNo, Fail> {
+    let instance = instance(1)?;
+    Ok(EventNo { instance, index })
+}
+
+#[test]
+fn event_ranges(rt: HostRuntime) -> Result<(), Fail> {
+    let mut events = Vec::new(rt.alloc());
+    for index in [2, 3, 4, 7, 9, 10] {
+        events.push(event(index)?)?;
+    }
+    let ranges = EventRanges::of(rt.alloc(), events.as_slice())?;
+    assert_eq!(rt; ranges.as_slice().len(), 3, "2 to 4, 7, and 9 to 10");
+    assert_eq!(rt; ranges.listed(rt.alloc())?.as_slice(), events.as_slice());
+    assert!(rt; !ranges.is_empty());
+    assert!(rt; ranges.is(&ranges.copied(rt.alloc())?));
+    let none = EventRanges::of(rt.alloc(), &[])?;
+    assert!(rt; none.is_empty());
+    assert!(rt; !ranges.is(&none));
     Ok(())
 }

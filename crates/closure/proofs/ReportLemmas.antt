@@ -27,10 +27,6 @@ IsReportIn-from_races c s p k entry region m earlier belongs is of_region known 
   line = own;
 }
 
--- the line above the next event
-pub line_above-next : (c : Chart) (p k : ℕ) (m : Event) → chart_event c (at p (suc k)) ≡ Some m → record (line_above c p k) { events = (line_above c p k).events ++ m ∷ [] } ≡ line_above c p (k + 1)
-line_above-next c p k m is = ap (λ (xs : List Event). record { instance = p; events = xs }) (sym (front_next (c p) k m is))
-
 module _ (lines : List LineView) where
   abbrev c : Chart
   c = chart_lines lines

@@ -1,7 +1,7 @@
 //! Lines and their events, by places that begin at 0.
 ghost use Rattle.std.specs.Prelude.{◌≡◌, ◌<◌, ◌≤◌, suc, length, Some};
 ghost use Rattle.chart.specs.declared.line.TheConstants.{MAX_EVENTS};
-ghost use Rattle.chart.specs.Charts.{at, chart_event, chart_lines};
+ghost use Rattle.chart.specs.Charts.{at, chart_event, chart_lines, IsNumbered};
 
 use chart::{Event, Line, MAX_EVENTS};
 
@@ -12,6 +12,15 @@ pub fn len_of(lines: &[Line], line: usize) -> usize
     ensures limit { result ≤ MAX_EVENTS }
 {
     lines[line].len()
+}
+
+/// A line.
+pub fn line_of(lines: &[Line], line: usize) -> &Line
+    requires { line < length lines.now }
+    ensures events { result.now.events ≡ chart_lines lines.now (suc line) }
+    ensures numbered { IsNumbered lines.now → result.now.instance ≡ suc line }
+{
+    &lines[line]
 }
 
 /// The events of a line.

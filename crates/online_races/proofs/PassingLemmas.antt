@@ -1,27 +1,33 @@
 -- The races of a line that are found so far, one step further back.
-use Rattle.std.proofs.Common.{◌≡◌, ℕ, zero, suc, ◌-◌, ◌<◌, ◌≤◌, ◌↔◌, ◌⊎◌, inl, inr, List, [], ◌∷◌, ◌++◌, length, get_or, take, drop, map, reverse, All, AllPairs, Contains, sym, ◌∙◌, ap, subst, arith}
-use Rattle.std.proofs.lemmas.Bool.{cases_lt, cases_eq, false≢true}
-use Rattle.std.proofs.lemmas.List.Elements.{Contains-get_or, All-push, All-nil}
-use Rattle.std.proofs.lemmas.List.{reverse-append, length-reverse}
-use Rattle.std.proofs.Math.Seq.{take-append_seam}
+use Rattle.std.proofs.Common.{◌≡◌, ℕ, zero, suc, ◌-◌, ◌<◌, ◌≤◌, ◌↔◌, ◌⊎◌, inl, inr, not, ◌==◌, ◌+◌, true, false, List, [], ◌∷◌, ◌++◌, length, get_or, take, map, All, AllPairs, Contains, Some, refl, sym, ap, ◌∙◌, subst, arith}
+use Rattle.std.proofs.lemmas.Bool.{cases_lt, cases_eq, false≢true, false_from_ne_true, eqb-true, eq-eqb}
+use Rattle.std.proofs.lemmas.List.Elements.{Contains-get_or, All-cons, All-nil, All-append}
+use Rattle.std.proofs.lemmas.List.{length-take-le}
+use Rattle.std.specs.Cmp.{second_so}
+use Rattle.std.proofs.lemmas.Option.{slice_get-get_or, slice_get_read, same_Some}
 use Rattle.chart.specs.declared.event.Event.{Event}
+use Rattle.chart.specs.declared.event.Event.TheVariants.{Send, Receive}
+use Rattle.chart.specs.Events.{ith, is_receive_from, is_in, region_of, receive_event}
+use Rattle.chart.specs.Ranges.{events_from}
+use Rattle.chart.specs.Runs.{IsRun, IsBeforeRun}
 use Rattle.chart.specs.declared.instance.EventNo.{EventNo}
 use Rattle.chart.specs.declared.line.TheConstants.{MAX_EVENTS}
 use Rattle.chart.specs.Charts.{LineView}
 use Rattle.chart.specs.Order.{IsRaces}
-use Rattle.chart.proofs.Tally.{ith_within}
-use Rattle.online_races.specs.Passing.{IsRace, ArePassed}
+use Rattle.chart.proofs.Tally.{ith_within, ith-take, ith_from_take}
+use Rattle.online_races.specs.Passing.{IsRace, ArePassed, AreRaces}
 
--- rising, the races above the entry among the events after the first `before` ones
+-- rising, the races later than the entry among the events after the first `before` ones
 pub record AreFound (line : List Event) (before entry q region : ℕ) (races : List ℕ) : Type 0 where
   pub rising : AllPairs (λ i j. i < j) races
   pub exact : (j : ℕ) → Contains races j ↔ ((before < j) × (entry < j) × IsRace line q region j)
 
--- what the search keeps: its place on the line, and what it found, the last of the line first
-pub record HasFound (line : LineView) (index entry q region : ℕ) (found : List EventNo) : Type 0 where
-  pub within : index ≤ length line.events
+-- what the search among the first events of a line keeps: where it is, and what it found
+pub record HasFound (line : LineView) (end index entry q region : ℕ) (found : List EventNo) : Type 0 where
+  pub within : index ≤ end
+  pub inside : end ≤ length line.events
   pub short : length line.events ≤ MAX_EVENTS
-  pub races : AreFound line.events index entry q region (map (λ race. race.index) (reverse found))
+  pub races : AreFound (take end line.events) index entry q region (map (λ race. race.index) found)
   pub own : All (λ race. race.instance ≡ line.instance) found
 
 -- a head that is below each of a rising list makes a rising list
@@ -79,7 +85,7 @@ AreFound-race line index entry q region xs above race found = record {
   );
 }
 
--- where all above the entry is passed, the races are found
+-- where all after the entry is passed, the races are found
 pub IsRaces-found : (line : List Event) (before entry q region : ℕ) (xs : List ℕ) → before ≤ entry → AreFound line before entry q region xs → IsRaces line entry q region xs
 IsRaces-found line before entry q region xs done found = record {
   rising = found.rising;
@@ -89,40 +95,123 @@ IsRaces-found line before entry q region xs done found = record {
   );
 }
 
--- where there are no races, nothing above the entry is one
-pub no_race : (line : List Event) (entry q region index : ℕ) → IsRaces line entry q region [] → entry < index → IsRace line q region index → ⊥
-no_race line entry q region index none above race = let here = (none.exact index).1 (above, race) in omega (arith, here.1)
+-- the search begins where the first events end
+pub HasFound-end : (line : LineView) (end entry q region : ℕ) → end ≤ length line.events → length line.events ≤ MAX_EVENTS → HasFound line end end entry q region []
+HasFound-end line end entry q region within short = record {
+  within = omega arith;
+  inside = within;
+  short = short;
+  races = subst (λ n. AreFound (take end line.events) n entry q region []) (length-take-le end line.events within) (AreFound-end (take end line.events) entry q region);
+  own = All-nil (λ other. other.instance ≡ line.instance);
+}
 
--- the search begins at the end of the line
-pub HasFound-end : (line : LineView) (entry q region : ℕ) → length line.events ≤ MAX_EVENTS → HasFound line (length line.events) entry q region []
-HasFound-end line entry q region short = record { within = omega arith; short = short; races = AreFound-end line.events entry q region; own = All-nil (λ other. other.instance ≡ line.instance) }
+-- what holds of an event of the line holds of it among the first events
+IsRace-front : (line : List Event) (end q region index : ℕ) → index ≤ end → IsRace line q region index → IsRace (take end line) q region index
+IsRace-front line end q region index within (m, is, other, outside) = (m, ith-take end line index within ∙ is, other, outside)
+
+ArePassed-front : (line : List Event) (end before last q region : ℕ) → ArePassed line before last q region → ArePassed (take end line) before last q region
+ArePassed-front line end before last q region passed = record {
+  less = passed.less;
+  each = λ j m low high is. passed.each j m low high (ith_from_take end line j m is).1;
+}
 
 -- it goes on before what is passed
-pub HasFound-passed : (line : LineView) (before index entry q region : ℕ) (found : List EventNo) → ArePassed line.events before index q region → HasFound line index entry q region found → HasFound line before entry q region found
-HasFound-passed line before index entry q region found passed old = record {
+pub HasFound-passed : (line : LineView) (end before index entry q region : ℕ) (found : List EventNo) → ArePassed line.events before index q region → HasFound line end index entry q region found → HasFound line end before entry q region found
+HasFound-passed line end before index entry q region found passed old = record {
   within = omega (arith, passed.less, old.within);
+  inside = old.inside;
   short = old.short;
-  races = AreFound-passed line.events before index entry q region _ passed old.races;
+  races = AreFound-passed (take end line.events) before index entry q region _ (ArePassed-front line.events end before index q region passed) old.races;
   own = old.own;
 }
 
--- it goes on before a race, which it keeps
-pub HasFound-race : (line : LineView) (entry q region : ℕ) (found : List EventNo) (race : EventNo) → race.instance ≡ line.instance → entry < race.index → IsRace line.events q region race.index → HasFound line race.index entry q region found
-    → HasFound line (race.index - 1) entry q region (found ++ race ∷ [])
-HasFound-race line entry q region found race own above is_race old = record {
-  within = omega (arith, old.within);
-  short = old.short;
-  races = rw (reverse-append found (race ∷ [])) (AreFound-race line.events race.index entry q region _ above is_race old.races);
-  own = All-push (λ other. other.instance ≡ line.instance) found race old.own own;
+AreRaces-front : (line : List Event) (end before last q region : ℕ) → last ≤ end → AreRaces line before last q region → AreRaces (take end line) before last q region
+AreRaces-front line end before last q region within races = record {
+  less = races.less;
+  each = λ j low high. IsRace-front line end q region j (omega (arith, high, within)) (races.each j low high);
 }
 
--- what is written back over a whole list is the list
-pub take-written : {X : Type 0} → (n : ℕ) (xs ys : List X) → n ≡ length xs → length ys ≡ length xs → take n (ys ++ drop (length ys) xs) ≡ ys
-take-written n xs ys whole same = let e : n ≡ length ys = omega arith in rw e (take-append_seam ys (drop (length ys) xs))
+-- some races are the first of those that are found
+AreFound-races : (line : List Event) (p entry q region n before : ℕ) (found : List EventNo) → entry ≤ before → ((j : ℕ) → before < j → j ≤ before + n → IsRace line q region j) → AreFound line (before + n) entry q region (map (λ race. race.index) found)
+    → AreFound line before entry q region (map (λ race. race.index) (events_from p (before + 1) n ++ found))
+AreFound-races line p entry q region zero before found after races old =
+    let here : before + zero ≡ before = omega arith in subst (λ k. AreFound line k entry q region (map (λ (race : EventNo). race.index) found)) here old
+AreFound-races line p entry q region (suc n) before found after races old =
+    let behind : before + suc n ≡ before + 1 + n = omega arith in
+    let here : before + 1 - 1 ≡ before = omega arith in
+    let later = AreFound-races line p entry q region n (before + 1) found (omega (arith, after)) (λ j low high. races j (omega (arith, low)) (omega (arith, high)))
+    (subst (λ k. AreFound line k entry q region (map (λ (race : EventNo). race.index) found)) behind old) in
+    subst (λ k. AreFound line k entry q region (map (λ (race : EventNo). race.index) (events_from p (before + 1) (suc n) ++ found))) here
+    (AreFound-race line (before + 1) entry q region _ (omega (arith, after)) (races (before + 1) (omega arith) (omega arith)) later)
 
--- the search is done, and what it found is written back the other way round
-pub IsRaces-written : (line : LineView) (index entry q region n : ℕ) (found written : List EventNo) → HasFound line index entry q region found → index ≤ entry → n ≡ length found → written ≡ reverse found
-    → IsRaces line.events entry q region (map (λ race. race.index) (take n (written ++ drop (length written) found)))
-IsRaces-written line index entry q region n found written has done whole same =
-    let e : length written ≡ length found = ap length same ∙ length-reverse found in
-    rw (take-written n found written whole e, same) (IsRaces-found line.events index entry q region _ done has.races)
+-- the events of a range of p's line are p's
+All-events_from : (p i n : ℕ) → All (λ (e : EventNo). e.instance ≡ p) (events_from p i n)
+All-events_from p i zero = All-nil (λ (e : EventNo). e.instance ≡ p)
+All-events_from p i (suc n) = All-cons (λ (e : EventNo). e.instance ≡ p) (record { instance = p; index = i }) (events_from p (i + 1) n) refl (All-events_from p (i + 1) n)
+
+-- it goes on before some races, which it keeps as far as they are later than the entry
+pub HasFound-races : (line : LineView) (end before last earlier entry q region : ℕ) (found : List EventNo) → AreRaces line.events before last q region → before ≤ earlier → entry ≤ earlier → earlier < last → HasFound line end last entry q region found
+    → HasFound line end earlier entry q region (events_from line.instance (earlier + 1) (last - earlier) ++ found)
+HasFound-races line end before last earlier entry q region found races low after less old =
+    let whole : earlier + (last - earlier) ≡ last = omega arith in
+    let front = AreRaces-front line.events end before last q region old.within races in
+    record {
+      within = omega (arith, old.within);
+      inside = old.inside;
+      short = old.short;
+      races = AreFound-races (take end line.events) line.instance entry q region (last - earlier) earlier found after (λ j above high. front.each j (omega (arith, above, low)) (omega (arith, high)))
+          (subst (λ k. AreFound (take end line.events) k entry q region (map (λ (race : EventNo). race.index) found)) (sym whole) old.races);
+      own = All-append (λ (e : EventNo). e.instance ≡ line.instance) (events_from line.instance (earlier + 1) (last - earlier)) found (All-events_from line.instance (earlier + 1) (last - earlier)) old.own;
+    }
+
+-- what was read before an index stands at it
+pub ith_read : {X : Type 0} (xs : List X) (j : ℕ) (x : X) → 1 ≤ j → j ≤ length xs → x ≡ get_or xs (j - 1) x → ith xs j ≡ Some x
+ith_read xs zero x low high is = absurd (omega arith)
+ith_read xs (suc i) x low high is =
+    let e : suc i - 1 ≡ i = omega arith in
+    slice_get_read xs (length xs) i x refl (omega arith) (subst (λ k. x ≡ get_or xs k x) e is)
+
+-- a run of receives from another one are all races of a receive that is in no coregion
+pub AreRaces-run : (line : List Event) (before last q from region : ℕ) → IsRun (is_receive_from from) line before last → last ≤ length line → (from ≡ q → ⊥) → region ≡ 0 → AreRaces line before last q region
+AreRaces-run line before last q from region run within other outside = record {
+  less = run.begun;
+  each = λ j low high.
+      let k = j - 1 in
+      let e : suc k ≡ j = omega (arith, low) in
+      let m : Event = get_or line k (receive_event from [] 0) in
+      let here : ith line j ≡ Some m = subst (λ i. ith line i ≡ Some m) e (slice_get-get_or line k (receive_event from [] 0) (omega (arith, low, high, within))) in
+      (m, here, not_from m (run.passes j m low high here), in_none m);
+}
+  where
+    not_from : (m : Event) → is_receive_from from m ≡ true → is_receive_from q m ≡ false
+    not_from (Send to name) pass = refl
+    not_from (Receive sender name c) pass = false_from_ne_true (sender == q) (λ same. other (sym (eqb-true sender from pass) ∙ eqb-true sender q same))
+
+    in_none : (m : Event) → is_in region m ≡ false
+    in_none m = false_from_ne_true (is_in region m) (λ inside.
+        let not_zero : not (region == 0) ≡ true = second_so (region_of m == region) (not (region == 0)) inside in
+        false≢true (sym (ap not (eq-eqb region 0 outside)) ∙ not_zero))
+
+-- a race that is a receive, and the run of receives from its sender that ends with it
+pub AreRaces-receive : (line : List Event) (before index q region from c : ℕ) (name : List ℕ) (m : Event) → 1 ≤ index → index ≤ length line → m ≡ get_or line (index - 1) m → m ≡ receive_event from name c
+    → IsBeforeRun is_receive_from line index before → IsRace line q region index → region ≡ 0 → AreRaces line before index q region
+AreRaces-receive line before index q region from c name m low within read is kept (n, at_n, other, outside) none =
+    let here : ith line index ≡ Some m = ith_read line index m low within read in
+    let pass : is_receive_from from m ≡ true = ap (is_receive_from from) is ∙ eq-eqb from from refl in
+    let same : n ≡ m = same_Some n m (sym at_n ∙ here) in
+    AreRaces-run line before index q from region (kept.run from m here pass) within (λ e. false≢true (sym (subst (λ x. is_receive_from q x ≡ false) (same ∙ is) other) ∙ eq-eqb from q e)) none
+
+-- the search is done
+pub IsRaces-done : (line : LineView) (end index entry q region : ℕ) (found : List EventNo) → index ≤ entry → HasFound line end index entry q region found → IsRaces (take end line.events) entry q region (map (λ race. race.index) found)
+IsRaces-done line end index entry q region found done has = IsRaces-found (take end line.events) index entry q region _ done has.races
+
+-- where there are no races, none are met
+pub no_race : (line : LineView) (end entry q region index : ℕ) (found : List EventNo) → IsRaces (take end line.events) entry q region [] → entry < index → IsRace line.events q region index → HasFound line end index entry q region found → ⊥
+no_race line end entry q region index found none after race has =
+    let here = (none.exact index).1 (after, IsRace-front line.events end q region index has.within race) in omega (arith, here.1)
+
+-- there is one list of races where there are none
+pub none_found : (line : List Event) (entry q region : ℕ) (found : List EventNo) → IsRaces line entry q region [] → IsRaces line entry q region (map (λ race. race.index) found) → found ≡ []
+none_found line entry q region [] none races = refl
+none_found line entry q region (race ∷ found) none races =
+    let here = (none.exact race.index).1 ((races.exact race.index).0 (0, omega arith, refl)) in absurd (omega (arith, here.1))

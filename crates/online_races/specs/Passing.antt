@@ -2,6 +2,8 @@
 -- events are no races is this project's profile).
 use Rattle.std.specs.Prelude.{◌≡◌, ℕ, ◌<◌, ◌≤◌, ◌⊎◌, true, false, List, Some}
 use Rattle.chart.specs.declared.event.Event.{Event}
+use Rattle.online_races.specs.declared.Stretch.{Stretch}
+use Rattle.online_races.specs.declared.Stretch.TheVariants.{Passed, Races}
 use Rattle.chart.specs.Events.{ith, is_receive_from, is_in}
 
 -- the event at j is neither a receive from q nor in the region
@@ -12,3 +14,13 @@ IsRace line q region j = (m : Event) × (ith line j ≡ Some m) × (is_receive_f
 pub record ArePassed (line : List Event) (before last q region : ℕ) : Type 0 where
   pub less : before < last
   pub each : (j : ℕ) (m : Event) → before < j → j ≤ last → ith line j ≡ Some m → (is_receive_from q m ≡ true) ⊎ (is_in region m ≡ true)
+
+-- each event after the first `before` ones, up to the last, is neither
+pub record AreRaces (line : List Event) (before last q region : ℕ) : Type 0 where
+  pub less : before < last
+  pub each : (j : ℕ) → before < j → j ≤ last → IsRace line q region j
+
+-- what is said of the neighbouring events that end at index
+abbrev pub IsStretch : List Event → ℕ → ℕ → ℕ → Stretch → Type 0
+IsStretch line q region index (Passed before) = ArePassed line before index q region
+IsStretch line q region index (Races before) = AreRaces line before index q region

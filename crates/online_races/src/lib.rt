@@ -5,38 +5,97 @@
 //! the call isn't refused.
 #![tactic(auto)]
 
-ghost use Rattle.std.specs.Prelude.{◌≡◌, ◌≤◌, [], length, map, All, IsOk, IfOk, MatchOption};
+ghost use Rattle.std.specs.Prelude.{◌≡◌, ℕ, ◌≤◌, [], length, map, take, All, IsOk, IfOk};
 ghost use Rattle.chart.specs.Order.{IsRaces};
-ghost use Rattle.online_races.specs.Passing.{IsRace, ArePassed};
+ghost use Rattle.online_races.specs.Passing.{IsRace, AreRaces, IsStretch};
 
-use chart::{EventNo, GrowingLine, InstanceNo, Line};
+use chart::{Event, EventNo, EventRange, EventRanges, GrowingLine, InstanceNo, Line, RangesBuilder};
 use std::alloc::{AllocError, Global};
 
-/// How many events stand before those that are passed in one step from the event of this index on back: the receives
-/// of the coregion or the neighbouring receives from the sender that end with it. None where the event is a race.
-fn before_passed(line: &GrowingLine, index: usize, sender: InstanceNo, region: u32) -> Option<usize>
+/// Neighbouring events of a line that end with one event: all but the first so many, up to it.
+enum Stretch {
+    /// Receives of the coregion, or receives from the sender.
+    Passed { before: usize },
+    /// Races.
+    Races { before: usize },
+}
+
+/// How many events stand before a run of races that ends with this event: the neighbouring receives from its sender, where
+/// the receive that comes is in no coregion.
+fn before_races(line: &GrowingLine, index: usize, region: u32) -> usize
     requires begun { 1 ≤ index }
     requires within { index ≤ length line.now.line.events }
-    ensures { MatchOption result (IsRace line.now.line.events sender region index)
-        (λ before. ArePassed line.now.line.events before index sender region) }
+    ensures { (sender : ℕ) → IsRace line.now.line.events sender region index → AreRaces line.now.line.events result index sender region }
 {
-    let event = &line.events()[index - 1];
-    if event.is_in(region) {
-        Some(line.before_region(index))
-    } else if event.is_receive_from(sender) {
-        Some(line.before_run(index))
-    } else {
-        None
+    match &line.events()[index - 1] {
+        Event::Receive { .. } if region == 0 => line.before_run(index),
+        _ => index - 1,
     }
 }
 
-/// The events of the line above the entry that are neither receives from the sender nor, where the region isn't 0,
-/// receives of it: the races of a receive that comes next, from this sender and in this region, if the entry is what
-/// its send knows of the line. They rise by their index.
+/// What the events are that end with the one of this index.
+fn stretch_to(line: &GrowingLine, index: usize, sender: InstanceNo, region: u32) -> Stretch
+    requires begun { 1 ≤ index }
+    requires within { index ≤ length line.now.line.events }
+    ensures { IsStretch line.now.line.events sender region index result }
+{
+    let event = &line.events()[index - 1];
+    if event.is_in(region) {
+        Stretch::Passed { before: line.before_region(index) }
+    } else if event.is_receive_from(sender) {
+        Stretch::Passed { before: line.before_run(index) }
+    } else {
+        Stretch::Races { before: before_races(line, index, region) }
+    }
+}
+
+/// Of the first events of the line, as many as `end` says, those later than the entry that are neither receives from
+/// the sender nor, where the region isn't 0, receives of it: the races of a receive that comes next, from this sender and
+/// in this region, if the entry is what its send knows of the line. What comes later on the line doesn't matter.
 ///
-/// It costs the length of its answer: a run of receives from the sender and the coregion are each passed in one step.
+/// A run of receives from the sender and the coregion are each passed in one step, and so is a run of receives from
+/// another one, unless the receive that comes is in a coregion.
 ///
-/// F6: it fails only where there is no memory, and where there are no races it takes none.
+/// F6: it fails only where there is no memory, and where there are no races it needs none.
+pub fn race_ranges(
+    alloc: Global,
+    line: &GrowingLine,
+    end: usize,
+    entry: u32,
+    sender: InstanceNo,
+    region: u32,
+) -> Result<EventRanges, AllocError>
+    requires { end ≤ length line.now.line.events }
+    ensures races { IfOk result (λ found. IsRaces (take end line.now.line.events) entry sender region (map (λ race. race.index) found)) }
+    ensures own { IfOk result (λ found. All (λ race. race.instance ≡ line.now.line.instance) found) }
+    ensures none { IsRaces (take end line.now.line.events) entry sender region [] → IsOk result }
+{
+    prove!(end <= line.len());
+    let mut found = RangesBuilder::new(alloc);
+    let mut index = end;
+    while index > entry as usize {
+        match stretch_to(line, index, sender, region) {
+            Stretch::Passed { before } => index = before,
+            Stretch::Races { before } => {
+                let earlier = before.max(entry as usize);
+                found.put_before(EventRange {
+                    first: EventNo {
+                        instance: line.instance(),
+                        index: earlier as u32 + 1,
+                    },
+                    count: index - earlier,
+                })?;
+                index = earlier;
+            }
+        }
+    }
+    Ok(found.finish())
+}
+
+/// The events of the line later than the entry that are neither receives from the sender nor, where the region isn't 0,
+/// receives of it, one by one: what [`race_ranges`] answers for the whole line. They rise by their index.
+///
+/// F6: it fails only where there is no memory, and where there are no races it needs none.
 pub fn races(
     alloc: Global,
     line: &Line,
@@ -63,20 +122,9 @@ pub fn next_races(
     ensures own { IfOk result (λ found. All (λ race. race.instance ≡ line.now.line.instance) found.items) }
     ensures none { IsRaces line.now.line.events entry sender region [] → IsOk result }
 {
-    let mut found = Vec::new(alloc);
-    let mut index = line.len();
-    while index > entry as usize {
-        match before_passed(line, index, sender, region) {
-            Some(before) => index = before,
-            None => {
-                found.push(EventNo {
-                    instance: line.instance(),
-                    index: index as u32,
-                })?;
-                index -= 1;
-            }
-        }
-    }
-    found.as_mut_slice().reverse();
-    Ok(found)
+    let found = race_ranges(alloc, line, line.len(), entry, sender, region)?;
+    found.listed(alloc)
 }
+
+#[cfg(test)]
+mod tests;

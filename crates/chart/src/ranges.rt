@@ -1,0 +1,209 @@
+//! Lists of events, kept as ranges of neighbours.
+ghost use Rattle.std.specs.Prelude.{◌≡◌, ◌++◌, ◌+◌, ◌==◌, [], length, ◌<◌, All, IfOk, IsOk, OnOk, IsTrue, ◌↔◌};
+ghost use Rattle.chart.specs.Ranges.{IsRange, events_of, events_in, is_followed_by};
+
+use crate::instance::EventNo;
+use std::alloc::{AllocError, Global};
+use std::marker::Model;
+
+/// Neighbouring events of a line: the first of them, and how many they are.
+#[derive(Clone, Copy, Debug, PartialEq, Eq)]
+pub struct EventRange {
+    pub first: EventNo,
+    pub count: usize,
+}
+
+impl EventRange {
+    /// The range of one event.
+    pub fn of(event: EventNo) -> EventRange
+        ensures value { result ≡ record { first = event; count = 1 } }
+        ensures is { IsRange result }
+    {
+        EventRange {
+            first: event,
+            count: 1,
+        }
+    }
+
+    /// Its event of this number, from 0.
+    pub fn event(&self, number: usize) -> EventNo
+        requires range { IsRange self.now }
+        requires within { number < self.now.count }
+        ensures { result ≡ record { instance = self.now.first.instance; index = self.now.first.index + number } }
+    {
+        EventNo {
+            instance: self.first.instance,
+            index: self.first.index + number as u32,
+        }
+    }
+
+    /// Whether the other one goes on where this one ends.
+    fn is_followed_by(&self, other: &EventRange) -> bool
+        requires { IsRange self.now }
+        ensures { result ≡ is_followed_by self.now other.now }
+    {
+        self.first.instance == other.first.instance
+            && self.first.index as usize + self.count == other.first.index as usize
+    }
+}
+
+/// A list of events, in as few ranges of neighbours as there can be. A contract sees the list of events.
+#[derive(Debug, Drop)]
+pub struct EventRanges {
+    ranges: Vec<EventRange>,
+}
+
+impl Model for EventRanges {
+    ghost use Rattle.std.specs.Prelude.{List};
+    ghost use Rattle.chart.specs.declared.instance.EventNo.{EventNo};
+    ghost use Rattle.chart.specs.Ranges.{AreRanges, events_in};
+
+    ghost Value = { List EventNo };
+
+    ghost view = { λ r. events_in r.ranges.items };
+
+    ghost invariant = { λ r. AreRanges r.ranges.items };
+}
+
+impl EventRanges {
+    /// These events.
+    ///
+    /// F6: it fails only where there is no memory.
+    pub fn of(alloc: Global, events: &[EventNo]) -> Result<EventRanges, AllocError>
+        ensures { IfOk result (λ ranges. ranges ≡ events.now) }
+    {
+        let mut builder = RangesBuilder::new(alloc);
+        for passed in 0..events.len() {
+            let event = events[events.len() - 1 - passed];
+            builder.put_before(EventRange::of(event))?;
+        }
+        Ok(builder.finish())
+    }
+
+    /// The ranges, those of the first events first. Each has an event, and their numbers are within 32 bits.
+    pub fn as_slice(&self) -> &[EventRange]
+        ensures events { events_in result.now ≡ self.now }
+        ensures each { All IsRange result.now }
+    {
+        self.ranges.as_slice()
+    }
+
+    pub fn is_empty(&self) -> bool
+        ensures { result ≡ (length self.now == 0) }
+    {
+        self.ranges.is_empty()
+    }
+
+    /// Whether both are the same events.
+    pub fn is(&self, other: &EventRanges) -> bool
+        ensures { IsTrue result ↔ (self.now ≡ other.now) }
+    {
+        are_same(self.ranges.as_slice(), other.ranges.as_slice())
+    }
+
+    /// The events one by one.
+    ///
+    /// F6: it fails only where there is no memory, and where there are no events it takes none.
+    pub fn listed(&self, alloc: Global) -> Result<Vec<EventNo>, AllocError>
+        ensures events { IfOk result (λ events. events.items ≡ self.now) }
+        ensures none { self.now ≡ [] → IsOk result }
+    {
+        let mut events = Vec::new(alloc);
+        let ranges = self.as_slice();
+        for range in ranges {
+            add_events(range, &mut events)?;
+        }
+        Ok(events)
+    }
+
+    /// A copy.
+    ///
+    /// F6: it fails only where there is no memory, and of no events it takes none.
+    pub fn copied(&self, alloc: Global) -> Result<EventRanges, AllocError>
+        ensures { IfOk result (λ copy. copy ≡ self.now) }
+    {
+        Ok(EventRanges {
+            ranges: Vec::from_slice(alloc, self.ranges.as_slice())?,
+        })
+    }
+}
+
+/// Adds the events of a range.
+fn add_events(range: &EventRange, events: &mut Vec<EventNo>) -> Result<(), AllocError>
+    requires { IsRange range.now }
+    ensures { OnOk result (events.new.items ≡ events.old.items ++ events_of range.now) }
+{
+    for number in 0..range.count {
+        events.push(range.event(number))?;
+    }
+    Ok(())
+}
+
+fn are_same(ranges: &[EventRange], others: &[EventRange]) -> bool
+    ensures { IsTrue result ↔ (ranges.now ≡ others.now) }
+{
+    ranges == others
+}
+
+/// A list of events that is made from its last one on. A contract sees the list of events.
+#[derive(Drop)]
+pub struct RangesBuilder {
+    /// The last events first.
+    backwards: Vec<EventRange>,
+}
+
+impl Model for RangesBuilder {
+    ghost use Rattle.std.specs.Prelude.{List, reverse};
+    ghost use Rattle.chart.specs.declared.instance.EventNo.{EventNo};
+    ghost use Rattle.chart.specs.Ranges.{AreRanges, events_in};
+
+    ghost Value = { List EventNo };
+
+    ghost view = { λ b. events_in (reverse b.backwards.items) };
+
+    ghost invariant = { λ b. AreRanges (reverse b.backwards.items) };
+}
+
+impl RangesBuilder {
+    /// No events. It takes no memory.
+    pub fn new(alloc: Global) -> RangesBuilder
+        ensures { result ≡ [] }
+    {
+        RangesBuilder {
+            backwards: Vec::new(alloc),
+        }
+    }
+
+    /// Puts the events of a range before all others.
+    ///
+    /// F6: it fails only where there is no memory.
+    pub fn put_before(&mut self, range: EventRange) -> Result<(), AllocError>
+        requires { IsRange range }
+        ensures { OnOk result (self.new ≡ events_of range ++ self.old) }
+    {
+        match self.backwards.pop() {
+            Some(next) if range.is_followed_by(&next) => {
+                self.backwards.push_reserved(EventRange {
+                    first: range.first,
+                    count: range.count + next.count,
+                });
+            }
+            Some(next) => {
+                self.backwards.push_reserved(next);
+                self.backwards.push(range)?;
+            }
+            None => self.backwards.push(range)?,
+        }
+        Ok(())
+    }
+
+    /// The list that was made.
+    pub fn finish(self) -> EventRanges
+        ensures { result ≡ self }
+    {
+        let RangesBuilder { backwards } = self;
+        let mut ranges = backwards;
+        ranges.as_mut_slice().reverse();
+        EventRanges { ranges }
+    }
+}
