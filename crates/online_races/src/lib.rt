@@ -9,7 +9,9 @@ ghost use Rattle.std.specs.Prelude.{◌≡◌, ℕ, ◌≤◌, [], length, map, 
 ghost use Rattle.chart.specs.Order.{IsRaces};
 ghost use Rattle.online_races.specs.Passing.{IsRace, AreRaces, IsStretch};
 
-use chart::{Event, EventNo, EventRange, EventRanges, GrowingLine, InstanceNo, Line, RangesBuilder};
+use chart::{
+    Event, EventNo, EventRange, EventRanges, GrowingLine, InstanceNo, Line, RangesBuilder,
+};
 use std::alloc::{AllocError, Global};
 
 /// Neighbouring events of a line that end with one event: all but the first so many, up to it.
@@ -41,11 +43,17 @@ fn stretch_to(line: &GrowingLine, index: usize, sender: InstanceNo, region: u32)
 {
     let event = &line.events()[index - 1];
     if event.is_in(region) {
-        Stretch::Passed { before: line.before_region(index) }
+        Stretch::Passed {
+            before: line.before_region(index),
+        }
     } else if event.is_receive_from(sender) {
-        Stretch::Passed { before: line.before_run(index) }
+        Stretch::Passed {
+            before: line.before_run(index),
+        }
     } else {
-        Stretch::Races { before: before_races(line, index, region) }
+        Stretch::Races {
+            before: before_races(line, index, region),
+        }
     }
 }
 
