@@ -37,6 +37,3 @@ pub use name::{MAX_NAME, Name, NameError};
 pub use names::{Names, NamesError};
 pub use ranges::{EventRange, EventRanges, RangesBuilder};
 pub use report::{Report, has_races};
-
-#[cfg(test)]
-mod tests;

@@ -1,5 +1,5 @@
 //! Lists of events, kept as ranges of neighbours.
-ghost use Rattle.std.specs.Prelude.{◌≡◌, ◌++◌, ◌+◌, ◌==◌, [], length, ◌<◌, All, IfOk, IsOk, OnOk, IsTrue, ◌↔◌};
+ghost use Rattle.std.specs.Prelude.{◌≡◌, ◌++◌, ◌+◌, ◌==◌, [], length, ◌<◌, All, IfOk, IsOk, OnErr, OnOk, IsTrue, ◌↔◌};
 ghost use Rattle.chart.specs.Ranges.{IsRange, events_of, events_in, is_followed_by};
 
 use crate::instance::EventNo;
@@ -120,8 +120,12 @@ impl EventRanges {
     ///
     /// F6: it fails only where there is no memory, and of no events it takes none.
     pub fn copied(&self, alloc: Global) -> Result<EventRanges, AllocError>
-        ensures { IfOk result (λ copy. copy ≡ self.now) }
+        ensures events { IfOk result (λ copy. copy ≡ self.now) }
+        ensures none { self.now ≡ [] → IsOk result }
     {
+        if self.ranges.is_empty() {
+            return Ok(RangesBuilder::new(alloc).finish());
+        }
         Ok(EventRanges {
             ranges: Vec::from_slice(alloc, self.ranges.as_slice())?,
         })
@@ -176,10 +180,11 @@ impl RangesBuilder {
 
     /// Puts the events of a range before all others.
     ///
-    /// F6: it fails only where there is no memory.
+    /// F6: it fails only where there is no memory, and then nothing has changed.
     pub fn put_before(&mut self, range: EventRange) -> Result<(), AllocError>
         requires { IsRange range }
-        ensures { OnOk result (self.new ≡ events_of range ++ self.old) }
+        ensures ok { OnOk result (self.new ≡ events_of range ++ self.old) }
+        ensures refused { OnErr result (self.new ≡ self.old) }
     {
         match self.backwards.pop() {
             Some(next) if range.is_followed_by(&next) => {

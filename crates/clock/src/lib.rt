@@ -13,8 +13,6 @@
 mod clock;
 mod diff;
 mod entries;
-#[cfg(test)]
-mod tests;
 
 pub use clock::{Clock, INLINE_ENTRIES};
 pub use diff::{Change, Diff};

@@ -30,6 +30,3 @@ mod search;
 pub use checking::audit;
 pub use closure::Closure;
 pub use error::{AuditError, ChartError};
-
-#[cfg(test)]
-mod tests;

@@ -11,6 +11,3 @@ mod queue;
 
 pub use drawing::drawn;
 pub use error::Memory;
-
-#[cfg(test)]
-mod tests;

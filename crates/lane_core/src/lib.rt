@@ -21,6 +21,3 @@ pub mod laws;
 pub mod slot_words;
 
 pub use laws::{every_run, every_stop};
-
-#[cfg(test)]
-mod tests;

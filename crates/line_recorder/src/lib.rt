@@ -23,6 +23,3 @@ mod recorder;
 
 pub use error::RecordError;
 pub use recorder::Recorder;
-
-#[cfg(test)]
-mod tests;

@@ -14,6 +14,3 @@ mod state;
 mod step;
 
 pub use reading::read;
-
-#[cfg(test)]
-mod tests;

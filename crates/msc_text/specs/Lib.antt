@@ -4,6 +4,5 @@ pub mod Instances
 pub mod Lines
 pub mod Outs
 pub mod RaceText
-pub mod Samples
 pub mod Shapes
 pub mod Writing

@@ -28,8 +28,3 @@ pub use out::{MemoryOut, Out, OutFault, StreamOut};
 pub use race_text::add_races;
 pub use text_buffer::{TextBuffer, WriteError};
 pub use word::{Words, name_in, next_word, words_in};
-
-#[cfg(test)]
-mod sample;
-#[cfg(test)]
-mod tests;

@@ -133,6 +133,3 @@ pub fn next_races(
     let found = race_ranges(alloc, line, line.len(), entry, sender, region)?;
     found.listed(alloc)
 }
-
-#[cfg(test)]
-mod tests;

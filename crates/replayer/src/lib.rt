@@ -15,8 +15,6 @@ mod notes;
 mod outcome;
 mod run;
 mod steps;
-#[cfg(test)]
-mod tests;
 mod text;
 
 pub use error::ReplayError;

@@ -19,6 +19,3 @@ mod schedule;
 
 pub use command::{Action, Command, Note, Word};
 pub use schedule::{Capacity, MAX_CAPACITY, Schedule};
-
-#[cfg(test)]
-mod tests;

@@ -22,7 +22,7 @@ loop-index-preserved c =
     let line = c.args.line.now.line in
     let index = c.loop-index.index in
     let earlier = c.max-earlier.result in
-    let put = c.in_ok-put_before-in-Races.ensures ∙ ap (λ p. events_from p (earlier + 1) (index - earlier) ++ c.loop-index.found) c.instance.ensures in
+    let put = c.in_ok-put_before-in-Races.ensures.ok ∙ ap (λ p. events_from p (earlier + 1) (index - earlier) ++ c.loop-index.found) c.instance.ensures in
     subst (HasFound line c.args.end earlier c.args.entry c.args.sender c.args.region) (sym put)
     (HasFound-races line c.args.end c.in-Races.before index earlier c.args.entry c.args.sender c.args.region c.loop-index.found c.in-Races.ensures (omega (arith, c.max-earlier.ensures)) (omega (arith, c.max-earlier.ensures)) (omega (arith, c.max-earlier.ensures, c.in-Races.ensures.less)) c.loop-index.invariant)
 

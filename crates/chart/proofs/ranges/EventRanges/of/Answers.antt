@@ -11,6 +11,6 @@ loop-passed-preserved c =
     let behind : length events - c.loop-passed.passed ≡ suc place = omega arith in
     let inside : place < length events = omega arith in (
       omega arith,
-      c.in_ok-put_before.ensures ∙ ap (λ r. events_of r ++ c.loop-passed.builder) c.of.ensures.value ∙ ap (λ es. event ∷ es) (c.loop-passed.invariant.1 ∙ ap (λ k. drop k events) behind)
+      c.in_ok-put_before.ensures.ok ∙ ap (λ r. events_of r ++ c.loop-passed.builder) c.of.ensures.value ∙ ap (λ es. event ∷ es) (c.loop-passed.invariant.1 ∙ ap (λ k. drop k events) behind)
           ∙ ap (λ e. e ∷ drop (suc place) events) c.index-events-events.is ∙ sym (drop-cons events place event inside) ∙ ap (λ k. drop k events) (sym here),
     )

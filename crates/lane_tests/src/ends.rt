@@ -1,0 +1,193 @@
+//! Both forms' ends over plain words and slots, driven step by step against a plain closable queue.
+mod machines;
+
+use lane_core::answers::{Found, ReceiverStep, Room, SenderStep};
+use machines::{IndexLane, Machine, Queue, Shown, SlotLane, Step};
+use std::alloc::{AllocError, Global};
+use std::process::Abort;
+use std::test::Fail;
+
+/// A lane and a queue after the same steps, of which so many were steps on words.
+#[derive(Clone, Copy, Debug, PartialEq, Eq)]
+struct Pair<M> {
+    lane: M,
+    queue: Queue,
+    words: u32,
+}
+
+/// Whether the step is a touch of a slot, and none on a word.
+fn is_touch(step: Step) -> bool {
+    matches!(&step, Step::Fills(_) | Step::Takes | Step::PutsBack(_))
+}
+
+/// Makes a step on both, which show the same. Where the lane's end may not make it, there is nothing after it.
+fn after<M: Machine>(rt: &impl Abort, pair: &Pair<M>, step: Step) -> Option<Pair<M>> {
+    let mut lane = pair.lane;
+    let mut queue = pair.queue;
+    let shown = lane.step(step);
+    if shown == Shown::Refused {
+        return None;
+    }
+    assert_eq!(rt; shown, queue.step(step));
+    let words = if is_touch(step) {
+        pair.words
+    } else {
+        pair.words.wrapping_add(1)
+    };
+    Some(Pair { lane, queue, words })
+}
+
+/// Every lane and queue that a run of up to this many steps on words reaches, each once.
+fn reached<M: Machine>(
+    rt: &impl Abort,
+    alloc: Global,
+    capacity: u32,
+    most: u32,
+) -> Result<Vec<Pair<M>>, AllocError> {
+    let mut pairs = Vec::new(alloc);
+    pairs.push(Pair {
+        lane: M::new(capacity as u64),
+        queue: Queue::new(capacity),
+        words: 0,
+    })?;
+    for at in 0..1_000_000usize {
+        let pair = match pairs.get(at) {
+            Some(pair) => *pair,
+            None => return Ok(pairs),
+        };
+        for step in pair.queue.steps() {
+            if let Some(next) = after(rt, &pair, step) {
+                let known = pairs.iter().any(|other| other.lane == next.lane
+                    && other.queue == next.queue
+                    && other.words <= next.words);
+                if !known && next.words <= most {
+                    pairs.push(next)?;
+                }
+            }
+        }
+    }
+    Ok(pairs)
+}
+
+/// Every run of up to ten steps on words shows what the queue shows; and in some of them a lane is filled, closed while it
+/// is full, drained, and found ended.
+fn agrees_with_a_queue<M: Machine>(
+    rt: &impl Abort,
+    alloc: Global,
+    capacity: u32,
+) -> Result<(), AllocError> {
+    let pairs: Vec<Pair<M>> = reached(rt, alloc, capacity, 10)?;
+    let full = pairs.iter().any(|pair| pair.queue.closed && pair.queue.room() == Room::Full);
+    let ended = pairs.iter().any(|pair| pair.queue.next == capacity
+        && pair.queue.found() == Found::Ended);
+    assert!(rt; full);
+    assert!(rt; ended);
+    Ok(())
+}
+
+#[test]
+fn every_short_run_is_one_of_a_queue(rt: HostRuntime) -> Result<(), Fail> {
+    let alloc = rt.alloc();
+    agrees_with_a_queue::<IndexLane>(&rt, alloc, 1)?;
+    agrees_with_a_queue::<IndexLane>(&rt, alloc, 2)?;
+    agrees_with_a_queue::<SlotLane>(&rt, alloc, 1)?;
+    agrees_with_a_queue::<SlotLane>(&rt, alloc, 2)?;
+    Ok(())
+}
+
+/// A send by the steps that come next.
+fn send<M: Machine>(rt: &impl Abort, lane: &mut M, message: u32) -> Room {
+    let mut room = Room::Vacant;
+    if lane.next_of_sender() == SenderStep::Load {
+        if lane.step(Step::SenderLoads) == Shown::Room(Room::Full) {
+            room = Room::Full;
+        }
+    }
+    if room == Room::Vacant {
+        assert_eq!(rt; lane.next_of_sender(), SenderStep::Fill);
+        assert_eq!(rt; lane.step(Step::Fills(message)), Shown::Made);
+        assert_eq!(rt; lane.next_of_sender(), SenderStep::Publish);
+        assert_eq!(rt; lane.step(Step::Publishes), Shown::Made);
+    }
+    room
+}
+
+/// A receive by the steps that come next: it finds this, and takes this message.
+fn receive<M: Machine>(rt: &impl Abort, lane: &mut M, found: Found, message: Option<u32>) {
+    if lane.next_of_receiver() == ReceiverStep::Look {
+        assert_eq!(rt; lane.step(Step::ReceiverLoads), Shown::Found(found));
+    }
+    if message.is_some() {
+        assert_eq!(rt; lane.next_of_receiver(), ReceiverStep::Take);
+        assert_eq!(rt; lane.step(Step::Takes), Shown::Took(message));
+        assert_eq!(rt; lane.next_of_receiver(), ReceiverStep::Free);
+        assert_eq!(rt; lane.step(Step::Frees), Shown::Made);
+    }
+}
+
+/// A full lane is closed and drained, and then has ended; before that a send finds it full.
+fn fills_closes_and_drains<M: Machine>(rt: &impl Abort, capacity: u32) {
+    let mut lane: M = M::new(capacity as u64);
+    receive(rt, &mut lane, Found::Nothing, None);
+    for round in 0..3u32 {
+        for message in 0..capacity {
+            assert_eq!(rt;
+                send(rt, &mut lane, message),
+                Room::Vacant,
+                "message {message} of round {round}"
+            );
+        }
+        assert_eq!(rt; send(rt, &mut lane, 1_000), Room::Full);
+        assert_eq!(rt; send(rt, &mut lane, 1_001), Room::Full);
+        if round == 2 {
+            assert_eq!(rt; lane.step(Step::Closes), Shown::Made);
+        }
+        for message in 0..capacity {
+            receive(rt, &mut lane, Found::Message, Some(message));
+        }
+        if round < 2 {
+            receive(rt, &mut lane, Found::Nothing, None);
+        }
+    }
+    receive(rt, &mut lane, Found::Ended, None);
+    receive(rt, &mut lane, Found::Ended, None);
+    assert_eq!(rt; lane.step(Step::Closes), Shown::Refused);
+    assert_eq!(rt; lane.step(Step::Publishes), Shown::Refused);
+}
+
+#[test]
+fn full_lanes_close_and_drain(rt: HostRuntime) {
+    for capacity in [1u32, 2, 64] {
+        fills_closes_and_drains::<IndexLane>(&rt, capacity);
+        fills_closes_and_drains::<SlotLane>(&rt, capacity);
+    }
+}
+
+/// What is put back is taken again, and a sender that fills two and publishes once is seen whole.
+#[test]
+fn several_go_at_once_over_index_words(rt: HostRuntime) {
+    let mut lane = IndexLane::new(2);
+    for step in [
+        Step::SenderLoads,
+        Step::Fills(7),
+        Step::Fills(8),
+        Step::ReceiverLoads,
+        Step::Publishes,
+    ] {
+        assert!(rt; lane.step(step) != Shown::Refused);
+    }
+    assert_eq!(rt; lane.step(Step::Fills(9)), Shown::Refused);
+    assert_eq!(rt;
+        lane.step(Step::ReceiverLoads),
+        Shown::Found(Found::Message)
+    );
+    assert_eq!(rt; lane.step(Step::Takes), Shown::Took(Some(7)));
+    assert_eq!(rt; lane.step(Step::Takes), Shown::Took(Some(8)));
+    assert_eq!(rt; lane.step(Step::PutsBack(8)), Shown::Made);
+    assert_eq!(rt; lane.step(Step::Frees), Shown::Made);
+    assert_eq!(rt; lane.taken, 1);
+    assert_eq!(rt; lane.step(Step::Takes), Shown::Took(Some(8)));
+    assert_eq!(rt; lane.put, 4);
+    assert_eq!(rt; lane.step(Step::Closes), Shown::Made);
+    assert_eq!(rt; lane.put, 5);
+}
