@@ -1,5 +1,5 @@
 use Rattle.std.proofs.Common.{◌≡◌, length}
-use Rattle.board.proofs.tests.refusals.a_full_line.Given as goal
+use Rattle.board_tests.proofs.refusals.a_full_line.Given as goal
 
 abbrev pub invariant-loop : goal.invariant-loop
 invariant-loop g l = length l.posts.items ≡ 3

@@ -1,6 +1,6 @@
 //! Each refusal once, in the order in which a call looks for them.
-use super::{gets, instance};
-use crate::*;
+use crate::calls::{gets, instance, send};
+use board::{Board, BoardError, CloseError, PostsError, RegionError, SendError, TakeError, Taken};
 use chart::MAX_EVENTS;
 use std::test::Fail;
 
@@ -37,13 +37,10 @@ fn no_such_partner(rt: HostRuntime) -> Result<(), Fail> {
     assert!(rt; post.number() == itself);
     assert!(rt; post.open_coregion().is_ok());
     assert_eq!(rt;
-        super::send(&rt, alloc, post, 3, b"m"),
+        send(&rt, alloc, post, 3, b"m"),
         Err(SendError::NoSuchInstance)
     );
-    assert_eq!(rt;
-        super::send(&rt, alloc, post, 2, b"m"),
-        Err(SendError::ToItself)
-    );
+    assert_eq!(rt; send(&rt, alloc, post, 2, b"m"), Err(SendError::ToItself));
     assert!(rt; matches!(post.receive(unknown), Err(TakeError::NoSuchInstance)));
     assert!(rt; matches!(post.receive(itself), Err(TakeError::ToItself)));
     assert_eq!(rt; post.close(unknown), Err(CloseError::NoSuchInstance));
@@ -63,15 +60,9 @@ fn coregions_by_turns(rt: HostRuntime) -> Result<(), Fail> {
     assert_eq!(rt; post.open_coregion(), Ok(()));
     assert_eq!(rt; post.open_coregion(), Err(RegionError::CoregionOpen));
     assert_eq!(rt; post.close(instance(&rt, 2)), Ok(()));
-    assert_eq!(rt;
-        super::send(&rt, alloc, post, 2, b"m"),
-        Err(SendError::InCoregion)
-    );
+    assert_eq!(rt; send(&rt, alloc, post, 2, b"m"), Err(SendError::InCoregion));
     assert_eq!(rt; post.close_coregion(), Ok(()));
-    assert_eq!(rt;
-        super::send(&rt, alloc, post, 2, b"m"),
-        Err(SendError::Closed)
-    );
+    assert_eq!(rt; send(&rt, alloc, post, 2, b"m"), Err(SendError::Closed));
     assert_eq!(rt; post.close(instance(&rt, 2)), Err(CloseError::Closed));
     Ok(())
 }
@@ -83,17 +74,17 @@ fn full_and_closed(rt: HostRuntime) -> Result<(), Fail> {
     let mut board = Board::new(alloc, 2, 2)?;
     let mut posts = board.posts()?;
     assert_eq!(rt; posts.len(), 2);
-    assert_eq!(rt; super::send(&rt, alloc, &mut posts[0], 2, b"x"), Ok(1));
-    assert_eq!(rt; super::send(&rt, alloc, &mut posts[0], 2, b"y"), Ok(2));
+    assert_eq!(rt; send(&rt, alloc, &mut posts[0], 2, b"x"), Ok(1));
+    assert_eq!(rt; send(&rt, alloc, &mut posts[0], 2, b"y"), Ok(2));
     assert_eq!(rt;
-        super::send(&rt, alloc, &mut posts[0], 2, b"z"),
+        send(&rt, alloc, &mut posts[0], 2, b"z"),
         Err(SendError::Full)
     );
     gets(&rt, &mut posts[1], 1, b"x", 0);
-    assert_eq!(rt; super::send(&rt, alloc, &mut posts[0], 2, b"z"), Ok(3));
+    assert_eq!(rt; send(&rt, alloc, &mut posts[0], 2, b"z"), Ok(3));
     assert_eq!(rt; posts[0].close(instance(&rt, 2)), Ok(()));
     assert_eq!(rt;
-        super::send(&rt, alloc, &mut posts[0], 2, b"w"),
+        send(&rt, alloc, &mut posts[0], 2, b"w"),
         Err(SendError::Closed)
     );
     gets(&rt, &mut posts[1], 1, b"y", 0);
@@ -111,21 +102,21 @@ fn a_full_line(rt: HostRuntime) -> Result<(), Fail> {
     let mut posts = board.posts()?;
     assert_eq!(rt; posts.len(), 3);
     for _ in 0..MAX_EVENTS {
-        assert!(rt; super::send(&rt, alloc, &mut posts[0], 2, b"m").is_ok());
+        assert!(rt; send(&rt, alloc, &mut posts[0], 2, b"m").is_ok());
         gets(&rt, &mut posts[1], 1, b"m", 0);
     }
     assert_eq!(rt; posts[1].line().len(), MAX_EVENTS);
     assert_eq!(rt;
-        super::send(&rt, alloc, &mut posts[0], 2, b"m"),
+        send(&rt, alloc, &mut posts[0], 2, b"m"),
         Err(SendError::LineFull)
     );
-    assert_eq!(rt; super::send(&rt, alloc, &mut posts[2], 2, b"x"), Ok(1));
+    assert_eq!(rt; send(&rt, alloc, &mut posts[2], 2, b"x"), Ok(1));
     for _ in 0..2 {
         assert!(rt; matches!(posts[1].receive(instance(&rt, 3)), Err(TakeError::LineFull)));
         assert!(rt; matches!(posts[1].receive(instance(&rt, 1)), Ok(Taken::Nothing)));
     }
     assert_eq!(rt;
-        super::send(&rt, alloc, &mut posts[2], 2, b"y"),
+        send(&rt, alloc, &mut posts[2], 2, b"y"),
         Err(SendError::Full)
     );
     assert_eq!(rt; posts[1].line().len(), MAX_EVENTS);

@@ -1,13 +1,13 @@
 //! Meetings of posts.
 ghost use Rattle.board.specs.Meeting.{AreOfOneBoard};
 
-use super::gets;
-use crate::*;
+use crate::calls::{gets, send};
+use board::{Board, MeetError, Post, meet, meet_all};
 use std::process::Abort;
 use std::test::Fail;
 
 /// All posts of a board meet.
-pub(super) fn all_meet(rt: &impl Abort, posts: &mut [Post])
+pub fn all_meet(rt: &impl Abort, posts: &mut [Post])
     requires { AreOfOneBoard posts.old }
     ensures { AreOfOneBoard posts.new }
 {
@@ -33,10 +33,10 @@ fn two_of_three(rt: HostRuntime) -> Result<(), Fail> {
     let mut board = Board::new(alloc, 3, 1)?;
     let mut posts = board.posts()?;
     let mut third = posts.pop().ok_or("three posts")?;
-    assert_eq!(rt; super::send(&rt, alloc, &mut third, 1, b"x"), Ok(1));
+    assert_eq!(rt; send(&rt, alloc, &mut third, 1, b"x"), Ok(1));
     meet(posts.as_mut_slice());
     assert!(rt; posts.len() == 2);
-    assert_eq!(rt; super::send(&rt, alloc, &mut posts[1], 1, b"y"), Ok(1));
+    assert_eq!(rt; send(&rt, alloc, &mut posts[1], 1, b"y"), Ok(1));
     gets(&rt, &mut posts[0], 3, b"x", 0);
     gets(&rt, &mut posts[0], 2, b"y", 1);
     Ok(())

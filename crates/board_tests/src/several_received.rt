@@ -1,9 +1,7 @@
 //! Receives of several messages at once: in order, with their races, and what stops them.
-ghost use Rattle.std.specs.Prelude.{◌≤◌};
-
-use super::{gets, instance, message};
-use crate::*;
-use chart::Name;
+use crate::calls::{gets, instance, message};
+use crate::several_calls::gets_several;
+use board::{Board, Post, Stop, TakeError, Taken, TakenMany};
 use std::alloc::Global;
 use std::process::Abort;
 use std::test::Fail;
@@ -18,28 +16,6 @@ fn sends(rt: &impl Abort, alloc: Global, post: &mut Post, to: usize, names: &[&[
     }
 }
 
-/// Receives messages of these names, each with so many races, where up to so many are asked for, and answers why no more.
-fn gets_several(
-    rt: &impl Abort,
-    post: &mut Post,
-    from: usize,
-    max: usize,
-    names: &[&[u8]],
-    races: usize,
-) -> Stop
-    requires { 1 ≤ max }
-{
-    let Ok(TakenMany::Got { arrivals, stop }) = post.receive_up_to(instance(rt, from), max) else {
-        panic!(rt; "no messages came")
-    };
-    assert_eq!(rt; arrivals.len(), names.len());
-    for (arrival, name) in arrivals.iter().zip(names.iter()) {
-        assert!(rt; arrival.message.name() == Name::new(name).expect(rt, "a name"));
-        assert_eq!(rt; arrival.report.earlier().len(), races);
-    }
-    stop
-}
-
 #[test]
 fn several_in_turn(rt: HostRuntime) -> Result<(), Fail> {
     let alloc = rt.alloc();
@@ -50,8 +26,7 @@ fn several_in_turn(rt: HostRuntime) -> Result<(), Fail> {
     sends(&rt, alloc, &mut posts[0], 2, &[b"x", b"y", b"z"]);
     let stop = gets_several(&rt, &mut posts[1], 1, 2, &[b"x", b"y"], 0);
     assert_eq!(rt; stop, Stop::Asked);
-    sends(&rt, alloc, &mut posts[0], 2, &[b"v", b"w"]);
-    let stop = gets_several(&rt, &mut posts[1], 1, 9, &[b"z", b"v", b"w"], 0);
+    let stop = gets_several(&rt, &mut posts[1], 1, 9, &[b"z"], 0);
     assert_eq!(rt; stop, Stop::NoMore);
     assert!(rt; matches!(posts[1].receive_up_to(first, 9), Ok(TakenMany::Nothing)));
     assert!(rt; matches!(posts[1].receive(first), Ok(Taken::Nothing)));
@@ -84,8 +59,8 @@ fn several_race(rt: HostRuntime) -> Result<(), Fail> {
     Ok(())
 }
 
-/// The receiver's line has room for one of the two messages that wait: the other one stays the first of its lane. All race with
-/// the receiver's own send, of which their sender doesn't know.
+/// The receiver's line has room for one of the two messages that wait: the other one stays the first of its lane. All
+/// race with the receiver's own send, of which their sender doesn't know.
 #[test]
 fn full_line_stops_several(rt: HostRuntime) -> Result<(), Fail> {
     let alloc = rt.alloc();

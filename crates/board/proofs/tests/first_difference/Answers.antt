@@ -1,7 +1,7 @@
 use Rattle.std.proofs.Common.{◌≢◌, sym, arith}
 use Rattle.std.proofs.lemmas.Bool.{eqb-false}
 use Rattle.board.proofs.ReceiveAnswers.{incoming_at}
-use Rattle.board.proofs.tests.differences.first_difference.Goals as goal
+use Rattle.board.proofs.tests.first_difference.Goals as goal
 
 pub find_messages-found-requires-clause-end : goal.find_messages-found-requires-clause-end
 find_messages-found-requires-clause-end g c =

@@ -1,19 +1,22 @@
-//! Calls whose growth is refused: each is made once more, and then answers in full. A test ends with a growth of its own, whose
-//! refusal tells that each one before it was refused in an earlier run of the test. Posts of nine instances take memory for
-//! each clock, those of two don't.
-use super::{instance, message};
-use crate::*;
-use chart::{InstanceNo, Name};
+//! Calls whose growth is refused: each is made once more, and then answers in full. A test ends with a growth of its
+//! own, whose refusal tells that each one before it was refused in an earlier run of the test. Posts of nine instances
+//! take memory for each clock, those of two don't.
+ghost use Rattle.std.specs.Prelude.{◌≤◌};
+
+use crate::calls::{has_come, instance, message};
+use crate::several_calls::{are_named, have_come, messages};
+use board::{Board, BoardError, Post, PostsError, SendError, Stop, TakeError, Taken, TakenMany};
+use chart::{InstanceNo, Message, Name};
 use std::alloc::Global;
 use std::process::Abort;
 use std::test::Fail;
 
 fn board_of(rt: &impl Abort, alloc: Global, instances: usize) -> Board {
-    match Board::new(alloc, instances, 2) {
+    match Board::new(alloc, instances, 3) {
         Ok(board) => board,
         Err(error) => {
             assert_eq!(rt; error, BoardError::Memory);
-            Board::new(alloc, instances, 2).expect(rt, "a board")
+            Board::new(alloc, instances, 3).expect(rt, "a board")
         }
     }
 }
@@ -66,8 +69,7 @@ fn gets(rt: &impl Abort, post: &mut Post, from: InstanceNo, name: &[u8], races: 
     let Taken::Got(arrival) = taken else {
         panic!(rt; "no message came")
     };
-    assert!(rt; arrival.message.name() == Name::new(name).expect(rt, "a name"));
-    assert_eq!(rt; arrival.report.earlier().len(), races);
+    has_come(rt, &arrival, name, races);
 }
 
 /// Two messages from the first instance of so many to the second, and one back that crosses the second of them.
@@ -116,6 +118,108 @@ fn refused_growths_among_two(rt: HostRuntime) -> Result<(), Fail> {
 fn refused_growths_among_nine(rt: HostRuntime) -> Result<(), Fail> {
     let alloc = rt.alloc();
     exchange(&rt, alloc, 9)?;
+    Vec::<u8>::with_capacity(alloc, 1).map_err(|_| "every growth was refused")?;
+    Ok(())
+}
+
+/// Messages of these names, made once more where memory was refused.
+fn list_of(rt: &impl Abort, alloc: Global, names: &[&[u8]]) -> Vec<Message> {
+    match messages(rt, alloc, names) {
+        Ok(list) => list,
+        Err(_) => messages(rt, alloc, names).expect(rt, "messages"),
+    }
+}
+
+/// Sends messages of these names at once, once more where memory was refused: that changed nothing.
+fn sends_several(rt: &impl Abort, alloc: Global, post: &mut Post, to: InstanceNo, names: &[&[u8]]) {
+    let events = post.line().len();
+    let sents = match post.send_all(to, list_of(rt, alloc, names)) {
+        Ok(sents) => sents,
+        Err((back, error)) => {
+            assert_eq!(rt; error, SendError::Memory);
+            are_named(rt, back.as_slice(), names);
+            assert_eq!(rt; post.line().len(), events);
+            match post.send_all(to, back) {
+                Ok(sents) => sents,
+                Err(_) => panic!(rt; "they weren't sent"),
+            }
+        }
+    };
+    assert_eq!(rt; sents.len(), names.len());
+}
+
+/// Receives messages of the first of these names by one call, each with so many races. Answers how many came, and why no
+/// more.
+fn takes_several(
+    rt: &impl Abort,
+    post: &mut Post,
+    from: InstanceNo,
+    max: usize,
+    names: &[&[u8]],
+    races: usize,
+) -> (usize, Stop)
+    requires { 1 ≤ max }
+{
+    let events = post.line().len();
+    match post.receive_up_to(from, max) {
+        Ok(TakenMany::Got { arrivals, stop }) => {
+            let came = arrivals.len();
+            assert!(rt; came <= names.len());
+            have_come(rt, arrivals.as_slice(), &names[..came], races);
+            (came, stop)
+        }
+        Ok(_) => panic!(rt; "no messages came"),
+        Err(error) => {
+            assert_eq!(rt; post.line().len(), events);
+            (0, Stop::Refused(error))
+        }
+    }
+}
+
+/// Receives messages of these names by one call, each with so many races. Where memory was refused, the same call made
+/// once more gets those that are left.
+fn gets_several(rt: &impl Abort, post: &mut Post, from: InstanceNo, names: &[&[u8]], races: usize) {
+    let max = names.len();
+    assert!(rt; max > 0);
+    let (came, stop) = takes_several(rt, post, from, max, names, races);
+    if came == max {
+        assert_eq!(rt; stop, Stop::Asked);
+        return;
+    }
+    assert_eq!(rt; stop, Stop::Refused(TakeError::Memory));
+    assert!(rt; came < max);
+    let (left, stop) = takes_several(rt, post, from, max, &names[came..], races);
+    assert_eq!(rt; left, max - came);
+    assert_eq!(rt; stop, if came == 0 { Stop::Asked } else { Stop::NoMore });
+}
+
+/// Three messages at once from the first instance of so many to the second, which has sent one that they cross.
+fn exchange_several(rt: &impl Abort, alloc: Global, instances: usize) -> Result<(), Fail> {
+    let first = instance(rt, 1);
+    let second = instance(rt, 2);
+    let mut board = board_of(rt, alloc, instances);
+    let Ok(mut posts) = board.posts() else {
+        return Ok(());
+    };
+    assert!(rt; posts.len() >= 2);
+    sends(rt, alloc, &mut posts[1], first, b"w");
+    sends_several(rt, alloc, &mut posts[0], second, &[b"x", b"y", b"z"]);
+    gets_several(rt, &mut posts[1], first, &[b"x", b"y", b"z"], 1);
+    Ok(())
+}
+
+#[test]
+fn refused_growths_of_several_among_two(rt: HostRuntime) -> Result<(), Fail> {
+    let alloc = rt.alloc();
+    exchange_several(&rt, alloc, 2)?;
+    Vec::<u8>::with_capacity(alloc, 1).map_err(|_| "every growth was refused")?;
+    Ok(())
+}
+
+#[test]
+fn refused_growths_of_several_among_nine(rt: HostRuntime) -> Result<(), Fail> {
+    let alloc = rt.alloc();
+    exchange_several(&rt, alloc, 9)?;
     Vec::<u8>::with_capacity(alloc, 1).map_err(|_| "every growth was refused")?;
     Ok(())
 }

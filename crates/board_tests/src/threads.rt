@@ -2,9 +2,9 @@
 ghost use Rattle.std.specs.Prelude.{◌≡◌};
 ghost use Rattle.board.specs.Meeting.{AreOfOneBoard};
 
-use super::instance;
-use super::meetings::all_meet;
-use crate::*;
+use crate::calls::instance;
+use crate::meetings::all_meet;
+use board::{Arrival, Board, Post, SendError, Taken, TakenMany};
 use chart::{InstanceNo, MAX_EVENTS, Message, Name};
 use std::alloc::Global;
 use std::process::Abort;
@@ -15,6 +15,19 @@ use std::thread::Threads;
 
 /// How often a thread calls at most. A call looks at a word of another post once at most.
 const CALLS: u32 = 10_000_000;
+
+/// How many messages are sent at once at most, where it is several.
+const SENT_AT_ONCE: u32 = 7;
+
+/// How many are received at once at most. It ends at other messages than a list that was sent.
+const RECEIVED_AT_ONCE: usize = 10;
+
+/// How messages are passed.
+#[derive(Clone, Copy)]
+enum Calls {
+    Single,
+    Several,
+}
 
 /// A message whose body is its number.
 fn numbered(rt: &impl Abort, alloc: Global, number: u32) -> Message {
@@ -38,8 +51,86 @@ fn offer(rt: &impl Abort, alloc: Global, post: &mut Post, to: InstanceNo, number
     }
 }
 
-/// Sends so many messages, each again while the lane is full, and closes the lane.
-fn send_all(rt: &impl Abort, alloc: Global, post: Post, to: usize, many: u32) {
+/// Sends the messages of these numbers at once, unless they find no place. Answers the number of the next one to send.
+fn offer_several(
+    rt: &impl Abort,
+    alloc: Global,
+    post: &mut Post,
+    to: InstanceNo,
+    next: u32,
+    end: u32,
+) -> u32 {
+    let mut messages = Vec::new(alloc);
+    for number in next..end {
+        let message = numbered(rt, alloc, number);
+        assert!(rt; messages.push(message).is_ok());
+    }
+    match post.send_all(to, messages) {
+        Ok(_) => end,
+        Err((_, error)) => {
+            assert_eq!(rt; error, SendError::Full);
+            next
+        }
+    }
+}
+
+/// Answers the number of the next message, where this one has come in its turn.
+fn is_next(rt: &impl Abort, arrival: &Arrival, number: u32) -> u32 {
+    assert_eq!(rt; arrival.message.body(), number.to_le_bytes().as_slice());
+    assert!(rt; arrival.report.earlier().is_empty());
+    number.wrapping_add(1)
+}
+
+impl Calls {
+    /// Sends the next of so many messages, unless the lane is full. Answers the number of the next one to send.
+    fn send(
+        self,
+        rt: &impl Abort,
+        alloc: Global,
+        post: &mut Post,
+        to: InstanceNo,
+        next: u32,
+        many: u32,
+    ) -> u32 {
+        match self {
+            Calls::Single => offer(rt, alloc, post, to, next),
+            Calls::Several => {
+                let end = many.min(next.saturating_add(SENT_AT_ONCE));
+                offer_several(rt, alloc, post, to, next, end)
+            }
+        }
+    }
+
+    /// Receives the next messages, if any wait. Answers the number of the next one to receive, or none at the end.
+    fn receive(self, rt: &impl Abort, post: &mut Post, from: InstanceNo, next: u32) -> Option<u32> {
+        match self {
+            Calls::Single => match post.receive(from).expect(rt, "no refusal") {
+                Taken::Got(arrival) => Some(is_next(rt, &arrival, next)),
+                Taken::Nothing => Some(next),
+                Taken::Ended => None,
+            },
+            Calls::Several => {
+                match post
+                    .receive_up_to(from, RECEIVED_AT_ONCE)
+                    .expect(rt, "no refusal")
+                {
+                    TakenMany::Got { arrivals, stop: _ } => {
+                        let mut next = next;
+                        for arrival in arrivals.iter() {
+                            next = is_next(rt, arrival, next);
+                        }
+                        Some(next)
+                    }
+                    TakenMany::Nothing => Some(next),
+                    TakenMany::Ended => None,
+                }
+            }
+        }
+    }
+}
+
+/// Sends so many messages, again while the lane is full, and closes the lane.
+fn send_all(rt: &impl Abort, alloc: Global, calls: Calls, post: Post, to: usize, many: u32) {
     let mut post = post;
     let to = instance(rt, to);
     let mut next = 0;
@@ -48,7 +139,7 @@ fn send_all(rt: &impl Abort, alloc: Global, post: Post, to: usize, many: u32) {
             break;
         }
         let before = next;
-        next = offer(rt, alloc, &mut post, to, next);
+        next = calls.send(rt, alloc, &mut post, to, next, many);
         if next == before {
             thread::yield_now();
         }
@@ -58,22 +149,21 @@ fn send_all(rt: &impl Abort, alloc: Global, post: Post, to: usize, many: u32) {
 }
 
 /// Receives so many messages in their order, and then the end.
-fn get_all(rt: &impl Abort, post: Post, from: usize, many: u32) {
+fn get_all(rt: &impl Abort, calls: Calls, post: Post, from: usize, many: u32) {
     let mut post = post;
     let from = instance(rt, from);
-    let mut next = 0u32;
+    let mut next = 0;
     for _ in 0..CALLS {
-        match post.receive(from).expect(rt, "no refusal") {
-            Taken::Got(arrival) => {
-                assert_eq!(rt; arrival.message.body(), next.to_le_bytes().as_slice());
-                assert!(rt; arrival.report.earlier().is_empty());
-                next = next.wrapping_add(1);
-            }
-            Taken::Nothing => thread::yield_now(),
-            Taken::Ended => {
+        let before = next;
+        match calls.receive(rt, &mut post, from, next) {
+            Some(number) => next = number,
+            None => {
                 assert_eq!(rt; next, many);
                 return;
             }
+        }
+        if next == before {
+            thread::yield_now();
         }
     }
     panic!(rt; "the end didn't come");
@@ -83,14 +173,15 @@ fn get_all(rt: &impl Abort, post: Post, from: usize, many: u32) {
 fn hold<R: Threads + Wait + Abort + Sync>(
     rt: &R,
     alloc: Global,
+    calls: Calls,
     sender: Post,
     receiver: Post,
     many: u32,
 ) {
     let started = thread::scope(thread::scope_env(), rt, move |scope| {
-        match scope.spawn(move || send_all(rt, alloc, sender, 2, many)) {
+        match scope.spawn(move || send_all(rt, alloc, calls, sender, 2, many)) {
             Ok(child) => {
-                get_all(rt, receiver, 1, many);
+                get_all(rt, calls, receiver, 1, many);
                 child.join(rt);
                 true
             }
@@ -100,25 +191,33 @@ fn hold<R: Threads + Wait + Abort + Sync>(
     assert!(rt; started);
 }
 
-#[test]
-fn two_holders(rt: HostRuntime) -> Result<(), Fail> {
-    let alloc = rt.alloc();
-    let mut board = Board::new(alloc, 2, 1)?;
+/// Passes so many messages from one thread to another, over a lane of so many places.
+fn pass<R: Threads + Wait + Abort + Sync>(
+    rt: &R,
+    alloc: Global,
+    calls: Calls,
+    capacity: usize,
+    many: u32,
+) -> Result<(), Fail> {
+    let mut board = Board::new(alloc, 2, capacity)?;
     let mut posts = board.posts()?;
     let second = posts.pop().ok_or("two posts")?;
     let first = posts.pop().ok_or("two posts")?;
-    hold(&rt, alloc, first, second, 2);
+    hold(rt, alloc, calls, first, second, many);
     Ok(())
+}
+
+#[test]
+fn two_holders(rt: HostRuntime) -> Result<(), Fail> {
+    pass(&rt, rt.alloc(), Calls::Single, 1, 2)
 }
 
 #[test]
 fn two_thousand_messages(rt: HostRuntime) -> Result<(), Fail> {
     let alloc = rt.alloc();
-    let mut board = Board::new(alloc, 2, 64)?;
-    let mut posts = board.posts()?;
-    let second = posts.pop().ok_or("two posts")?;
-    let first = posts.pop().ok_or("two posts")?;
-    hold(&rt, alloc, first, second, 2000);
+    for calls in [Calls::Single, Calls::Several] {
+        pass(&rt, alloc, calls, 64, 2000)?;
+    }
     Ok(())
 }
 

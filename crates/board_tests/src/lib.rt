@@ -1,0 +1,27 @@
+//! Tests of a running board, by what is public of it.
+//!
+//! They are in a crate of their own, since a crate with tests is proved twice.
+#![tactic(auto)]
+
+#[cfg(test)]
+mod both_ends;
+#[cfg(test)]
+mod calls;
+#[cfg(test)]
+mod growths;
+#[cfg(test)]
+mod meetings;
+#[cfg(test)]
+mod one_by_one;
+#[cfg(test)]
+mod refusals;
+#[cfg(test)]
+mod schedules;
+#[cfg(test)]
+mod several_calls;
+#[cfg(test)]
+mod several_received;
+#[cfg(test)]
+mod several_sent;
+#[cfg(test)]
+mod threads;
