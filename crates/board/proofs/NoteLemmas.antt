@@ -53,9 +53,9 @@ module _ (key : Shape) (table chair chair_after : TableId) (m w : Mine) (n k p :
         made = met_own ∙ sym (ap (λ (e : Held). e.made) meets.rest);
       }
 
-  pub post_hears : Hears note.seen (view_of table m n k p region) (view_of table w n k p region)
+  pub post_hears : Hears note.seen (view_of table m n k p region r.room) (view_of table w n k p region r.room)
   post_hears = record {
-    rest = ap (λ (e : Held). view_of table (e ∷ [], []) n k p region) meets.rest;
+    rest = ap (λ (e : Held). view_of table (e ∷ [], []) n k p region r.room) meets.rest;
     seen = meets.seen;
     later = meets.later;
     later_told = meets.later_note;

@@ -1,5 +1,5 @@
 -- What a post's receive leaves and answers.
-use Rattle.std.proofs.Common.{◌≡◌, ◌≢◌, ℕ, zero, suc, max, ◌+◌, ◌<◌, ◌≤◌, inl, inr, ◌⊎◌, Bool, List, [], ◌∷◌, ◌++◌, length, drop, set, replicate, get_or, sym, ap, ◌∙◌, subst, arith}
+use Rattle.std.proofs.Common.{◌≡◌, ◌≢◌, ℕ, zero, suc, max, ◌+◌, ◌-◌, ◌<◌, ◌≤◌, inl, inr, ◌⊎◌, Bool, List, [], ◌∷◌, ◌++◌, length, drop, set, replicate, get_or, sym, ap, ◌∙◌, subst, arith}
 use Rattle.std.proofs.lemmas.List.{length-set, length_push}
 use Rattle.std.proofs.lemmas.Option.{slice_get-get_or}
 use Rattle.std.specs.Prelude.{slice_get, Some}
@@ -108,7 +108,7 @@ module _ (key : Shape) (table chair : TableId) (m : Mine) (n k p : ℕ) (r : Rec
       let its : IsIncoming n (held m).seen p (suc j) i = post.knows.ends.takes j i (λ e. ne (place ∙ e)) (λ e. absurd (omega arith)) (slice_get-get_or incoming j i within ∙ ap Some (sym read)) in
       subst (λ (x : ℕ). IsIncoming n (held m).seen p x i) (sym place) its
 
-  pub partner : (from j : ℕ) → from ≡ suc j → from ≢ p → from ≤ n → IsPartner (view_of table m n k p region) from
+  pub partner : (from j : ℕ) → from ≡ suc j → from ≢ p → from ≤ n → IsPartner (view_of table m n k p region r.room) from
   partner from j place ne most = (post.least, post.most, omega (arith, place), most, λ e. ne (sym e))
 
   -- what it has when it saw s
@@ -120,7 +120,7 @@ module _ (key : Shape) (table chair : TableId) (m : Mine) (n k p : ℕ) (r : Rec
     region_then = subst (λ l. MayHaveRegion l region) (sym (line_saw n k p (held m) (held s) post.knows.legal post.made did)) post.knows.own.may
 
     -- it may receive what it found
-    pub may_receive : (from : ℕ) (e : Incoming) → IsPartner (view_of table m n k p region) from → HasMessages (record { instances = n; capacity = k; sender = from; receiver = p }) s → IsIncoming n (held s).seen p from e → MayReceive (record { instances = n; capacity = k; sender = from; receiver = p }) region s e r
+    pub may_receive : (from : ℕ) (e : Incoming) → IsPartner (view_of table m n k p region r.room) from → HasMessages (record { instances = n; capacity = k; sender = from; receiver = p }) s → IsIncoming n (held s).seen p from e → MayReceive (record { instances = n; capacity = k; sender = from; receiver = p }) region s e r
     may_receive from e two found end = record { found = found; legal = did.legal; own = did.own; incoming = end; recorded = recorder_then; coregion = region_then; two = two }
 
   module _ (chair_after : TableId) (w : Mine) (u : RecorderView) (seated : chair_after ≡ chair) (rests : Rests n k p w) (recorder : IsRecorder n (held w).seen p u) (j : ℕ) (e : Incoming) (within : j < length incoming) (end : IsIncoming n (held w).seen p (suc j) e) where
@@ -179,47 +179,49 @@ module _ (key : Shape) (table chair : TableId) (m : Mine) (n k p : ℕ) (r : Rec
         }
 
   -- What it answers.
-  module _ (from : ℕ) (two : IsPartner (view_of table m n k p region) from) where
+  module _ (from : ℕ) (two : IsPartner (view_of table m n k p region r.room) from) where
     abbrev lane : LaneView
     lane = record { instances = n; capacity = k; sender = from; receiver = p }
 
-    pub found_empty : (w : Mine) (its_end : Bool) → HasNone lane its_end m w → IsFoundEmpty (view_of table m n k p region) from its_end (view_of table w n k p region)
+    pub found_empty : (w : Mine) (its_end : Bool) → HasNone lane its_end m w → IsFoundEmpty (view_of table m n k p region r.room) from its_end (view_of table w n k p region r.room)
     found_empty w its_end none = record { two = two; waits = none.waits; closed = none.closed; before = none.before; looked = none.looked }
 
-    by_cause : (w : Mine) (error : TakeError) → 0 < length (waiting (held w).seen from p) → IsUnrecorded (length (chart_of (held w).seen p)) error → IsUntaken (view_of table m n k p region) from error (view_of table w n k p region)
-    by_cause w NoSuchInstance waits never = absurd never
-    by_cause w ToItself waits never = absurd never
-    by_cause w LineFull waits full = (record { two = two; waits = waits }, full)
-    by_cause w Memory waits less = (record { two = two; waits = waits }, less)
+    by_cause : (w : Mine) (left : ℕ) (error : TakeError) → 0 < length (waiting (held w).seen from p) → IsUnrecorded (length (chart_of (held w).seen p)) error → IsUntaken (view_of table m n k p region r.room) from error (view_of table w n k p region left)
+    by_cause w left NoSuchInstance waits never = absurd never
+    by_cause w left ToItself waits never = absurd never
+    by_cause w left LineFull waits full = (record { two = two; waits = waits }, full)
+    by_cause w left Memory waits less = (record { two = two; waits = waits }, less)
 
-    pub untaken : (s w : Mine) (error : TakeError) → IsUnreceived lane s w error → IsUntaken (view_of table m n k p region) from error (view_of table w n k p region)
-    untaken s w error none = by_cause w error none.waits none.cause
+    pub untaken : (s w : Mine) (left : ℕ) (error : TakeError) → IsUnreceived lane s w error → IsUntaken (view_of table m n k p region r.room) from error (view_of table w n k p region left)
+    untaken s w left error none = by_cause w left error none.waits none.cause
 
-    pub got : (s w : Mine) (arrival : Arrival) → Did n k p (held m) (held s) (held s).seen [] → IsReceived lane region s arrival w → IsGot (view_of table m n k p region) from arrival (view_of table w n k p region)
-    got s w arrival saw its = record {
+    pub got : (s w : Mine) (left : ℕ) (arrival : Arrival) → Did n k p (held m) (held s) (held s).seen [] → IsReceived lane region s arrival w → left ≡ r.room - 1 → IsGot (view_of table m n k p region r.room) from arrival (view_of table w n k p region left)
+    got s w left arrival saw its taken = record {
       two = two;
-      makes = (drop 1 (held w).seen, its.first.0, did_makes table m w n k p region (drop 1 (held w).seen) (Receive p from region ∷ []) (did_onward n k p (held m) (held s) (held w) (drop 1 (held w).seen) (Receive p from region ∷ []) saw its.did), its.first.1);
+      makes = (drop 1 (held w).seen, its.first.0, did_makes table m w n k p region r.room (drop 1 (held w).seen) (Receive p from region ∷ []) (did_onward n k p (held m) (held s) (held w) (drop 1 (held w).seen) (Receive p from region ∷ []) saw its.did) left, its.first.1);
       sender = its.sender;
       receive = its.receive;
       report = its.report;
+      room = taken;
     }
 
-    pub got_many : (s w : Mine) (arrivals : List Arrival) → Did n k p (held m) (held s) (held s).seen [] → 0 < length arrivals → AreReceived lane region s arrivals w → AreGot (view_of table m n k p region) from arrivals (view_of table w n k p region)
-    got_many s w arrivals saw some its =
+    pub got_many : (s w : Mine) (left : ℕ) (arrivals : List Arrival) → Did n k p (held m) (held s) (held s).seen [] → 0 < length arrivals → AreReceived lane region s arrivals w → left ≡ r.room - length arrivals → AreGot (view_of table m n k p region r.room) from arrivals (view_of table w n k p region left)
+    got_many s w left arrivals saw some its taken =
         let events = replicate (length arrivals) (Receive p from region) in
         let line = ap length (line_saw n k p (held m) (held s) post.knows.legal post.made saw) in
         record {
           two = two;
           some = some;
-          makes = (drop (length arrivals) (held w).seen, its.first.0, did_makes table m w n k p region (drop (length arrivals) (held w).seen) events (did_onward n k p (held m) (held s) (held w) (drop (length arrivals) (held w).seen) events saw its.did), its.first.1);
+          makes = (drop (length arrivals) (held w).seen, its.first.0, did_makes table m w n k p region r.room (drop (length arrivals) (held w).seen) events (did_onward n k p (held m) (held s) (held w) (drop (length arrivals) (held w).seen) events saw its.did) left, its.first.1);
           senders = its.senders;
           receives = its.receives ∙ ap (λ (i : ℕ). numbered p (i + 1) (messages_of arrivals)) line;
           reports = its.reports;
+          room = taken;
         }
 
-    pub stopped : (s w : Mine) (most : ℕ) (arrivals : List Arrival) (stop : Stop) → Did n k p (held m) (held s) (held s).seen [] → AreReceived lane region s arrivals w → IsStopped lane most s arrivals w stop → Stops (view_of table m n k p region) from most arrivals stop (view_of table w n k p region)
-    stopped s w most arrivals Asked saw its is = is
-    stopped s w most arrivals NoMore saw its is =
+    pub stopped : (s w : Mine) (left most : ℕ) (arrivals : List Arrival) (stop : Stop) → Did n k p (held m) (held s) (held s).seen [] → AreReceived lane region s arrivals w → IsStopped lane most s arrivals w stop → Stops (view_of table m n k p region r.room) from most arrivals stop (view_of table w n k p region left)
+    stopped s w left most arrivals Asked saw its is = is
+    stopped s w left most arrivals NoMore saw its is =
         let events = replicate (length arrivals) (Receive p from region) in
         (is.0, record { front = ((held s).seen, saw.later, begins_onward (held s).seen (drop (length arrivals) (held w).seen) (held w).seen its.did.later (events, its.did.seen), is.1) })
-    stopped s w most arrivals (Refused error) saw its is = (is.0, by_cause w error is.1 is.2)
+    stopped s w left most arrivals (Refused error) saw its is = (is.0, by_cause w left error is.1 is.2)

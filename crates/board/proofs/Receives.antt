@@ -108,6 +108,13 @@ module _ (q c : ℕ) where
       let rest = after_many (after_receive r q y.message.name c y.clock other) ys reports are.1 in
       omega (arith, rest, length_push r.line.events (receive_event q y.message.name c))
 
+  -- and its room has a place fewer for each
+  room_many : (r : RecorderView) (xs : List Parcel) (reports : List ReportView) → AreAnswers r q c xs reports → (after_receives r q c xs reports).room ≡ r.room - length xs
+  room_many r [] [] are = omega arith
+  room_many r [] (other ∷ reports) are = absurd are
+  room_many r (y ∷ ys) [] are = absurd are
+  room_many r (y ∷ ys) (other ∷ reports) are = let rest = room_many (after_receive r q y.message.name c y.clock other) ys reports are.1 in omega (arith, rest)
+
   -- and they are numbered by these
   answers_numbered : (r : RecorderView) (xs : List Parcel) (reports : List ReportView) (index : ℕ) → length r.line.events + 1 ≡ index → AreAnswers r q c xs reports → map (λ (report : ReportView). report.receive) reports ≡ numbered r.line.instance index (map (λ (x : Parcel). x.message) xs)
   answers_numbered r [] [] index at are = refl
@@ -248,6 +255,11 @@ module _ (l : LaneView) (region : ℕ) (s : Mine) (u : Incoming) (r : RecorderVi
         go : (xs : List Parcel) → length xs ≡ 0 → after_receives r l.sender region xs (reports_of arrivals) ≡ r
         go [] e = refl
         go (x ∷ xs) e = absurd (omega (arith, e))
+
+    pub room_left : v.room ≡ r.room - length arrivals
+    room_left =
+        let rest = ap (λ (x : RecorderView). x.room) are.recorder_is ∙ room_many l.sender region r are.parcels (reports_of arrivals) are.answers in
+        omega (arith, rest, as_many)
 
     line_then : length v.line.events ≡ length (chart_of (held s).seen l.receiver) + length arrivals
     line_then =

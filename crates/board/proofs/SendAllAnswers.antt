@@ -1,6 +1,6 @@
 -- What a post's send of several messages answers.
-use Rattle.std.proofs.Common.{◌≡◌, ℕ, suc, ◌<◌, List, [], ◌∷◌, length, set, refl, sym, subst, arith}
-use Rattle.std.specs.Prelude.{Result, Ok, Err, IfOk, IfErr}
+use Rattle.std.proofs.Common.{◌≡◌, ℕ, suc, ◌-◌, ◌<◌, List, [], ◌∷◌, length, set, refl, sym, subst, arith}
+use Rattle.std.specs.Prelude.{Result, Ok, Err, IfOk, IfErr, OnOk, OnErr}
 use Rattle.std.specs.Global.{Vec}
 use Rattle.atomic_table.specs.Seated.{TableId}
 use Rattle.chart.specs.Messages.{Content}
@@ -27,6 +27,7 @@ sent_none old to [] sents none nothing may = subst (λ (xs : List Sent). AreSent
   may = may;
   makes = (old.seen, record { later = begins_same old.seen; seen = refl; made = refl; region = refl });
   events = refl;
+  room = omega arith;
 })
 sent_none old to (m ∷ ms) sents none nothing may = absurd (omega (arith, none))
 
@@ -41,19 +42,20 @@ WereMade n k p to ms m w result = IfOk result (λ sents. AreMade (record { insta
 abbrev pub WereUnmade : ℕ → ℕ → ℕ → ℕ → List Content → Mine → Mine → Answer → Type 0
 WereUnmade n k p to ms m w result = IfErr result (λ error. (error.0.items ≡ ms) × IsUnmade (record { instances = n; capacity = k; sender = p; receiver = to }) (length ms) m w error.1)
 
-pub sound_all : (table : TableId) (m w : Mine) (n k p region to : ℕ) (ms : List Content) (result : Answer) → WereMade n k p to ms m w result → WereUnmade n k p to ms m w result → Sound (view_of table m n k p region) (view_of table w n k p region)
-sound_all table m w n k p region to ms (Ok sents) made unmade = did_sound table m w n k p region _ _ made.did region
-sound_all table m w n k p region to ms (Err (back, error)) made unmade = did_sound table m w n k p region _ _ unmade.1.did region
+pub sound_all : (table : TableId) (m w : Mine) (n k p region room left to : ℕ) (ms : List Content) (result : Answer) → WereMade n k p to ms m w result → WereUnmade n k p to ms m w result → Sound (view_of table m n k p region room) (view_of table w n k p region left)
+sound_all table m w n k p region room left to ms (Ok sents) made unmade = did_sound table m w n k p region room _ _ made.did region left
+sound_all table m w n k p region room left to ms (Err (back, error)) made unmade = did_sound table m w n k p region room _ _ unmade.1.did region left
 
-pub answer_all : (key : Shape) (table chair : TableId) (m w : Mine) (n k p : ℕ) (r : RecorderView) (region greatest : ℕ) (outgoing : List Outgoing) (incoming : List Incoming) → IsPost key table chair m n k p r region greatest outgoing incoming → (to : ℕ) (ms : List Content) → MayPass (view_of table m n k p region) to (length ms) → 0 < length ms
-    → (result : Answer) → WereMade n k p to ms m w result → WereUnmade n k p to ms m w result → SendsAll (view_of table m n k p region) to ms result (view_of table w n k p region)
-answer_all key table chair m w n k p r region greatest outgoing incoming post to ms may some (Ok sents) made unmade = record {
+pub answer_all : (key : Shape) (table chair : TableId) (m w : Mine) (n k p : ℕ) (r : RecorderView) (region greatest : ℕ) (outgoing : List Outgoing) (incoming : List Incoming) → IsPost key table chair m n k p r region greatest outgoing incoming → (to left : ℕ) (ms : List Content) → MayPass (view_of table m n k p region r.room) to (length ms) → 0 < length ms
+    → (result : Answer) → WereMade n k p to ms m w result → WereUnmade n k p to ms m w result → OnOk result (left ≡ r.room - length ms) → OnErr result (left ≡ r.room) → SendsAll (view_of table m n k p region r.room) to ms result (view_of table w n k p region left)
+answer_all key table chair m w n k p r region greatest outgoing incoming post to left ms may some (Ok sents) made unmade taken kept = record {
   may = may.may;
-  makes = (_, did_makes table m w n k p region _ _ made.did);
+  makes = (_, did_makes table m w n k p region r.room _ _ made.did left);
   events = made.events;
+  room = taken;
 }
-answer_all key table chair m w n k p r region greatest outgoing incoming post to ms may some (Err (back, error)) made unmade =
-    (unmade.0, did_stays table m w n k p region unmade.1.did, unsent key table chair m w n k p r region greatest outgoing incoming post to (length ms) may (record { instances = n; capacity = k; sender = p; receiver = to }) refl error unmade.1.did some unmade.1.cause)
+answer_all key table chair m w n k p r region greatest outgoing incoming post to left ms may some (Err (back, error)) made unmade taken kept =
+    (unmade.0, did_stays table m w n k p region r.room left unmade.1.did kept, unsent key table chair m w n k p r region greatest outgoing incoming post to (length ms) may left (record { instances = n; capacity = k; sender = p; receiver = to }) refl error unmade.1.did some unmade.1.cause)
 
 pub post_all : (key : Shape) (table chair chair_after : TableId) (m w : Mine) (n k p : ℕ) (r u : RecorderView) (region greatest : ℕ) (outgoing : List Outgoing) (incoming : List Incoming) → IsPost key table chair m n k p r region greatest outgoing incoming → chair_after ≡ chair → Rests n k p w → IsRecorder n (held w).seen p u
     → (j : ℕ) (e : Outgoing) → j < length outgoing → IsOutgoing n (held w).seen p (suc j) e → region ≡ 0 → (ms : List Content) (result : Answer) → WereMade n k p (suc j) ms m w result → WereUnmade n k p (suc j) ms m w result → IsPost key table chair_after w n k p u region greatest (set outgoing j e) incoming

@@ -33,7 +33,7 @@ module _ (key : Shape) (table chair : TableId) (m : Mine) (n k p : ℕ) (r : Rec
   closed_made to o end = ap (λ h. is_closed h p to) (sym post.made) ∙ closed_own (held m).seen p to ∙ sym end.unsent
 
   -- nothing but the line, the lane's places and memory stands in the way
-  pub may_send : (to j : ℕ) (o : Outgoing) → to ≡ suc j → to ≢ p → to ≤ n → o ≡ get_or outgoing j o → region ≡ 0 → o.closed ≡ false → MaySend (view_of table m n k p region) to
+  pub may_send : (to j : ℕ) (o : Outgoing) → to ≡ suc j → to ≢ p → to ≤ n → o ≡ get_or outgoing j o → region ≡ 0 → o.closed ≡ false → MaySend (view_of table m n k p region r.room) to
   may_send to j o place ne most read outside open_end = record {
     two = (post.least, post.most, omega (arith, place), most, λ e. ne (sym e));
     outside = outside;
@@ -44,9 +44,9 @@ module _ (key : Shape) (table chair : TableId) (m : Mine) (n k p : ℕ) (r : Rec
   line_is = sym (ap (λ l. l.events) post.knows.own.recorder.line)
 
 -- what a call leaves
-module _ (table : TableId) (m w : Mine) (n k p region : ℕ) (before events : List Occurrence) (did : Did n k p (held m) (held w) before events) where
-  pub did_sound : (after : ℕ) → Sound (view_of table m n k p region) (view_of table w n k p after)
-  did_sound after = record {
+module _ (table : TableId) (m w : Mine) (n k p region room : ℕ) (before events : List Occurrence) (did : Did n k p (held m) (held w) before events) where
+  pub did_sound : (after left : ℕ) → Sound (view_of table m n k p region room) (view_of table w n k p after left)
+  did_sound after left = record {
     same = record { board = refl; number = refl };
     later = begins_onward (held m).seen before (held w).seen did.later (events, did.seen);
     legal = did.legal;
@@ -54,26 +54,26 @@ module _ (table : TableId) (m w : Mine) (n k p region : ℕ) (before events : Li
     looks = did.looks;
   }
 
-  pub did_makes : Makes (view_of table m n k p region) before events (view_of table w n k p region)
-  did_makes = record { later = did.later; seen = did.seen; made = did.made; region = refl }
+  pub did_makes : (left : ℕ) → Makes (view_of table m n k p region room) before events (view_of table w n k p region left)
+  did_makes left = record { later = did.later; seen = did.seen; made = did.made; region = refl }
 
 -- a call that only saw leaves what was made
-pub did_stays : (table : TableId) (m w : Mine) (n k p region : ℕ) → Did n k p (held m) (held w) (held w).seen [] → Stays (view_of table m n k p region) (view_of table w n k p region)
-did_stays table m w n k p region did = record { made = did.made; region = refl }
+pub did_stays : (table : TableId) (m w : Mine) (n k p region room left : ℕ) → Did n k p (held m) (held w) (held w).seen [] → left ≡ room → Stays (view_of table m n k p region room) (view_of table w n k p region left)
+did_stays table m w n k p region room left did kept = record { made = did.made; region = refl; room = kept }
 
-module _ (key : Shape) (table chair : TableId) (m w : Mine) (n k p : ℕ) (r : RecorderView) (region greatest : ℕ) (outgoing : List Outgoing) (incoming : List Incoming) (post : IsPost key table chair m n k p r region greatest outgoing incoming) (to many : ℕ) (may : MayPass (view_of table m n k p region) to many) where
+module _ (key : Shape) (table chair : TableId) (m w : Mine) (n k p : ℕ) (r : RecorderView) (region greatest : ℕ) (outgoing : List Outgoing) (incoming : List Incoming) (post : IsPost key table chair m n k p r region greatest outgoing incoming) (to many : ℕ) (may : MayPass (view_of table m n k p region r.room) to many) where
   -- the lane is open in what is seen
   pub unclosed : is_closed (held m).seen p to ≡ false
   unclosed = sym (closed_own (held m).seen p to) ∙ ap (λ h. is_closed h p to) post.made ∙ may.may.opened
 
   -- why the messages, so many, aren't sent
-  pub unsent : (l : LaneView) → l ≡ record { instances = n; capacity = k; sender = p; receiver = to } → (error : SendError) → Did n k p (held m) (held w) (held w).seen [] → 0 < many → IsCause l many m w error → IsUnsent (view_of table m n k p region) to many error (view_of table w n k p region)
-  unsent l lane error did some = subst (λ (x : LaneView). IsCause x many m w error → IsUnsent (view_of table m n k p region) to many error (view_of table w n k p region)) (sym lane) (by_cases error)
+  pub unsent : (left : ℕ) (l : LaneView) → l ≡ record { instances = n; capacity = k; sender = p; receiver = to } → (error : SendError) → Did n k p (held m) (held w) (held w).seen [] → 0 < many → IsCause l many m w error → IsUnsent (view_of table m n k p region r.room) to many error (view_of table w n k p region left)
+  unsent left l lane error did some = subst (λ (x : LaneView). IsCause x many m w error → IsUnsent (view_of table m n k p region r.room) to many error (view_of table w n k p region left)) (sym lane) (by_cases error)
     where
       short : length (chart_of (held w).seen p) + many ≤ MAX_EVENTS
       short = let line = line_saw n k p (held m) (held w) post.knows.legal post.made did in omega (arith, ap length line, may.short)
 
-      by_cases : (e : SendError) → IsCause (record { instances = n; capacity = k; sender = p; receiver = to }) many m w e → IsUnsent (view_of table m n k p region) to many e (view_of table w n k p region)
+      by_cases : (e : SendError) → IsCause (record { instances = n; capacity = k; sender = p; receiver = to }) many m w e → IsUnsent (view_of table m n k p region r.room) to many e (view_of table w n k p region left)
       by_cases NoSuchInstance never = absurd never
       by_cases ToItself never = absurd never
       by_cases InCoregion never = absurd never

@@ -41,7 +41,7 @@ MakesBoard n k (Err error) = IsUnmade n k error
 
 -- a post before its first call
 abbrev pub new_post : BoardView → ℕ → PostView
-new_post board number = record { board = board; number = number; seen = []; made = []; looks = 0; region = 0 }
+new_post board number = record { board = board; number = number; seen = []; made = []; looks = 0; region = 0; room = 0 }
 
 -- the first so many posts of a board, before their first calls
 pub record FirstPosts (many : ℕ) (board : BoardView) (posts : List PostView) : Type 0 where

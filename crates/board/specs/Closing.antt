@@ -7,11 +7,12 @@ use Rattle.board.specs.declared.error.CloseError.{CloseError}
 use Rattle.board.specs.declared.error.CloseError.TheVariants.{NoSuchInstance, ToItself, Closed}
 use Rattle.board.specs.Views.{PostView, Makes, IsPartner}
 
--- the lane was open, and its close is the last of all that was seen
+-- the lane was open, and its close is the last of all that was seen; it is no event of a line and takes no room
 pub record IsClosed (old : PostView) (to : ℕ) (new : PostView) : Type 0 where
   pub two : IsPartner old to
   pub opened : is_closed old.made old.number to ≡ false
   pub makes : (before : List Occurrence) × Makes old before (Close new.number to ∷ []) new
+  pub room : new.room ≡ old.room
 
 -- why the lane isn't closed
 abbrev pub IsUnclosed : PostView → ℕ → CloseError → Type 0

@@ -82,13 +82,14 @@ pub record Did (n k p : ℕ) (e f : Held) (before events : List Occurrence) : Ty
   pub own : own f.seen p ≡ f.made
   pub looks : e.looks ≤ f.looks
 
--- what a contract sees of a post with this seat
-abbrev pub view_of : TableId → Mine → ℕ → ℕ → ℕ → ℕ → PostView
-view_of table me n k p region = record {
+-- what a contract sees of a post with this seat, this open coregion and this room
+abbrev pub view_of : TableId → Mine → ℕ → ℕ → ℕ → ℕ → ℕ → PostView
+view_of table me n k p region room = record {
   board = record { table = table; size = n; capacity = k };
   number = p;
   seen = (held me).seen;
   made = (held me).made;
   looks = (held me).looks;
   region = region;
+  room = room;
 }

@@ -1,5 +1,5 @@
 -- What a send answers (this project's profile, after ITU-T Z.120).
-use Rattle.std.specs.Prelude.{◌≡◌, ℕ, ◌+◌, ◌<◌, ◌≤◌, true, false, List, [], ◌∷◌, length, map, reverse, Result, Ok, Err}
+use Rattle.std.specs.Prelude.{◌≡◌, ℕ, ◌+◌, ◌-◌, ◌<◌, ◌≤◌, true, false, List, [], ◌∷◌, length, map, reverse, Result, Ok, Err}
 use Rattle.std.specs.Global.{Vec}
 use Rattle.chart.specs.declared.history.Occurrence.{Occurrence}
 use Rattle.chart.specs.declared.history.Occurrence.TheVariants.{Send}
@@ -46,6 +46,7 @@ pub record IsSent (old : PostView) (to : ℕ) (message : Content) (sent : Sent) 
   pub may : MaySend old to
   pub makes : (before : List Occurrence) × Makes old before (Send new.number to message ∷ []) new
   pub event : sent.event ≡ last_event new
+  pub room : new.room ≡ old.room - 1
 
 -- what a send of the message to an instance answers
 abbrev pub Sends : PostView → ℕ → Content → Result Sent (Content × SendError) → PostView → Type 0
@@ -66,6 +67,7 @@ pub record AreSent (old : PostView) (to : ℕ) (messages : List Content) (sents 
   pub may : MaySend old to
   pub makes : (before : List Occurrence) × Makes old before (sends_of new.number to messages) new
   pub events : map (λ (sent : Sent). sent.event) sents ≡ numbered new.number (length (line_of old) + 1) messages
+  pub room : new.room ≡ old.room - length messages
 
 -- what a send of several messages at once answers
 abbrev pub SendsAll : PostView → ℕ → List Content → Result (Vec Sent) (Vec Content × SendError) → PostView → Type 0

@@ -1,5 +1,5 @@
 -- What a receive answers (this project's profile, after ITU-T Z.120).
-use Rattle.std.specs.Prelude.{◌≡◌, ℕ, ◌<◌, Bool, true, false, List, [], ◌∷◌, length, Result, Ok, Err}
+use Rattle.std.specs.Prelude.{◌≡◌, ℕ, ◌-◌, ◌<◌, Bool, true, false, List, [], ◌∷◌, length, Result, Ok, Err}
 use Rattle.chart.specs.declared.history.Occurrence.{Occurrence}
 use Rattle.chart.specs.declared.history.Occurrence.TheVariants.{Receive}
 use Rattle.chart.specs.declared.line.TheConstants.{MAX_EVENTS}
@@ -20,6 +20,7 @@ pub record IsGot (old : PostView) (from : ℕ) (arrival : Arrival) (new : PostVi
   pub sender : arrival.from ≡ from
   pub receive : arrival.report.receive ≡ last_event new
   pub report : IsReportIn (chart_of new.seen) arrival.report
+  pub room : new.room ≡ old.room - 1
 
 -- a look found that no message waits on the lane, which is closed or not; none waited in what was seen
 pub record IsFoundEmpty (old : PostView) (from : ℕ) (its_end : Bool) (new : PostView) : Type 0 where

@@ -1,5 +1,5 @@
 -- What a receive of several messages answers (this project's profile).
-use Rattle.std.specs.Prelude.{◌≡◌, ℕ, ◌+◌, ◌<◌, ◌≤◌, true, false, List, ◌++◌, length, map, replicate, All, Result, Ok, Err}
+use Rattle.std.specs.Prelude.{◌≡◌, ℕ, ◌+◌, ◌-◌, ◌<◌, ◌≤◌, true, false, List, ◌++◌, length, map, replicate, All, Result, Ok, Err}
 use Rattle.chart.specs.declared.history.Occurrence.{Occurrence}
 use Rattle.chart.specs.declared.history.Occurrence.TheVariants.{Receive}
 use Rattle.chart.specs.Messages.{Content}
@@ -27,6 +27,7 @@ pub record AreGot (old : PostView) (from : ℕ) (arrivals : List Arrival) (new :
   pub senders : All (λ (arrival : Arrival). arrival.from ≡ from) arrivals
   pub receives : map (λ (arrival : Arrival). arrival.report.receive) arrivals ≡ numbered new.number (length (line_of old) + 1) (messages_of arrivals)
   pub reports : All (λ (arrival : Arrival). IsReportIn (chart_of new.seen) arrival.report) arrivals
+  pub room : new.room ≡ old.room - length arrivals
 
 -- exactly these waited, in a front of what is seen that begins with what was seen
 pub record WereAll (old : PostView) (from : ℕ) (arrivals : List Arrival) (new : PostView) : Type 0 where

@@ -23,6 +23,8 @@ pub record PostView : Type 0 where
   pub looks : ℕ
   -- its open coregion, 0 for none
   pub region : ℕ
+  -- for so many events room was made on its line and not used yet
+  pub room : ℕ
 
 -- the post's line in the chart of what it has seen
 abbrev pub line_of : PostView → List Event
@@ -53,6 +55,7 @@ pub record Makes (old : PostView) (before events : List Occurrence) (new : PostV
 pub record Stays (old new : PostView) : Type 0 where
   pub made : new.made ≡ old.made
   pub region : new.region ≡ old.region
+  pub room : new.room ≡ old.room
 
 -- the last event of the post's line
 abbrev pub last_event : PostView → EventNo

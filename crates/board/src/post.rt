@@ -15,7 +15,7 @@ use std::marker::Model;
 /// What an instance of a board acts by: it sends, receives and closes lanes. It can be moved to a thread.
 ///
 /// A contract sees its board, its number, the history that it has seen and the events that its own calls made, how often
-/// it looked at what others wrote, and its open coregion. After each call what is seen is a legal history that begins with
+/// it looked at what others wrote, its open coregion, and the room that was made on its line. After each call what is seen is a legal history that begins with
 /// what was seen before, and the post's own events in it are those that its calls made.
 #[derive(Drop)]
 pub struct Post<'a> {
@@ -40,7 +40,7 @@ impl<'a> Model for Post<'a> {
 
     ghost Value = { PostView };
 
-    ghost view = { λ post. view_of post.words.now.table_id post.seat.me post.shape.instances post.shape.capacity post.number post.region };
+    ghost view = { λ post. view_of post.words.now.table_id post.seat.me post.shape.instances post.shape.capacity post.number post.region post.recorder.room };
 
     ghost invariant = { λ post. IsPost post.words.now.key post.words.now.table_id post.seat.table_id post.seat.me post.shape.instances post.shape.capacity post.number post.recorder post.region post.greatest post.outgoing.items post.incoming.items };
 }

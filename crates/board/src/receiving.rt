@@ -1,5 +1,5 @@
 //! Receives of one message.
-ghost use Rattle.std.specs.Prelude.{◌≡◌, ◌+◌, ◌<◌, ◌≤◌, [], length, IfOk, IfErr, OnErr};
+ghost use Rattle.std.specs.Prelude.{◌≡◌, ◌+◌, ◌-◌, ◌<◌, ◌≤◌, [], length, IfOk, IfErr, OnOk, OnErr};
 ghost use Rattle.chart.specs.Histories.{own, AreTwo, IsLegal};
 ghost use Rattle.chart.specs.declared.line.TheConstants.{MAX_EVENTS};
 ghost use Rattle.line_recorder.specs.Recording.{IsRecorder};
@@ -94,6 +94,8 @@ pub(crate) fn receive_one(
     ensures end { IsIncoming lane.now.instances (held seat.new.me).seen lane.now.receiver lane.now.sender end.new }
     ensures ok { IfOk result (λ arrival. IsReceived lane.now region seat.old.me arrival seat.new.me) }
     ensures err { IfErr result (λ error. IsUnreceived lane.now seat.old.me seat.new.me error) }
+    ensures left { OnOk result (recorder.new.room ≡ recorder.old.room - 1) }
+    ensures kept { OnErr result (recorder.new.room ≡ recorder.old.room) }
 {
     if recorder.line().len() >= MAX_EVENTS {
         give_back_full(words, seat, lane);

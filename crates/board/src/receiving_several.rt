@@ -1,5 +1,5 @@
 //! Receives of several messages at once.
-ghost use Rattle.std.specs.Prelude.{◌≡◌, ◌-◌, ◌<◌, ◌≤◌, [], length, IfOk, IfErr};
+ghost use Rattle.std.specs.Prelude.{◌≡◌, ◌-◌, ◌<◌, ◌≤◌, [], length, IfOk, IfErr, OnErr};
 ghost use Rattle.line_recorder.specs.Recording.{IsRecorder};
 ghost use Rattle.board_table.specs.Layout.{IsBoard};
 ghost use Rattle.board_table.specs.Knowing.{held, Rests};
@@ -46,6 +46,8 @@ pub(crate) fn receive_several(
     ensures received { IfOk result (λ got. AreReceived lane.now region seat.old.me got.0.items seat.new.me) }
     ensures stop { IfOk result (λ got. IsStopped lane.now max seat.old.me got.0.items seat.new.me got.1) }
     ensures err { IfErr result (λ error. IsUnreceived lane.now seat.old.me seat.new.me error) }
+    ensures left { IfOk result (λ got. recorder.new.room ≡ recorder.old.room - length got.0.items) }
+    ensures kept { OnErr result (recorder.new.room ≡ recorder.old.room) }
 {
     let mut arrivals = Vec::new(alloc);
     let stop = take_several(

@@ -1,6 +1,7 @@
 //! A post's sends, one at a time.
-ghost use Rattle.std.specs.Prelude.{◌≡◌, ◌+◌, ◌<◌, ◌≤◌, IfSome, IfNone};
+ghost use Rattle.std.specs.Prelude.{◌≡◌, ◌≢◌, ◌+◌, ◌<◌, ◌≤◌, IfSome, IfNone, IfErr};
 ghost use Rattle.chart.specs.declared.line.TheConstants.{MAX_EVENTS};
+ghost use Rattle.clock.specs.declared.clock.TheConstants.{INLINE_ENTRIES};
 ghost use Rattle.board.specs.Views.{Sound};
 ghost use Rattle.board.specs.Sending.{Sends, MayPass, IsUnsent};
 
@@ -15,10 +16,12 @@ impl<'a> Post<'a> {
     /// Sends a message. It is the first of F14, F13, F30, F12, F7, F11 and F6 that refuses it: then it comes back, and nothing
     /// has changed but that more may be seen.
     ///
-    /// F11 comes only after a look at what the receiver has received.
+    /// F11 comes only after a look at what the receiver has received, and F6 not while there is room, on boards of up to
+    /// [`clock::INLINE_ENTRIES`] instances.
     pub fn send(&mut self, to: InstanceNo, message: Message) -> Result<Sent, (Message, SendError)>
         ensures sound { Sound self.old self.new }
         ensures answer { Sends self.old to message result self.new }
+        ensures room { 0 < self.old.room → self.old.board.size ≤ INLINE_ENTRIES → IfErr result (λ refused. refused.1 ≢ SendError.Memory) }
     {
         if let Some(error) = self.sends_nothing(to, 1) {
             return Err((message, error));
@@ -51,6 +54,7 @@ impl<'a> Post<'a> {
     pub(crate) fn sends_nothing(&self, to: InstanceNo, many: usize) -> Option<SendError>
         ensures none { IfNone result (MayPass self.now to many) }
         ensures some { IfSome result (λ error. IsUnsent self.now to many error self.now) }
+        ensures memory { IfSome result (λ error. error ≢ SendError.Memory) }
     {
         if to.number() > self.shape.instances {
             return Some(SendError::NoSuchInstance);

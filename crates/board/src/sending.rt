@@ -1,11 +1,13 @@
 //! Sends.
-ghost use Rattle.std.specs.Prelude.{◌≡◌, ◌≢◌, ◌+◌, ◌<◌, ◌≤◌, true, false, [], ◌∷◌, length, drop, All, Ok, Err, OnOk, OnErr, IfOk, IfErr, IsErr};
+ghost use Rattle.std.specs.Prelude.{◌≡◌, ◌≢◌, ◌+◌, ◌-◌, ◌<◌, ◌≤◌, true, false, [], ◌∷◌, length, drop, All, Ok, Err, OnOk, OnErr, IfOk, IfErr, IsOk, IsErr};
 ghost use Rattle.chart.specs.Histories.{own, is_closed, chart_of, AreTwo, IsLegal};
 ghost use Rattle.chart.specs.declared.history.Occurrence.TheVariants as occurrence;
 ghost use Rattle.chart.specs.declared.line.TheConstants.{MAX_EVENTS};
 ghost use Rattle.clock.specs.Diffs.{apply_diff};
+ghost use Rattle.clock.specs.declared.clock.TheConstants.{INLINE_ENTRIES};
 ghost use Rattle.line_recorder.specs.Recorders.{send_clock, after_send};
 ghost use Rattle.line_recorder.specs.Recording.{IsRecorder};
+ghost use Rattle.board_table.specs.declared.lane.TheConstants.{MAX_CAPACITY};
 ghost use Rattle.board_table.specs.Layout.{IsBoard};
 ghost use Rattle.board_table.specs.Knowing.{held, packets_out, vacant_out, Rests, IsFilling};
 ghost use Rattle.board.specs.Known.{IsOutgoing, Did};
@@ -39,7 +41,7 @@ pub(crate) fn claim_places(
     requires own { own (held seat.old.me).seen lane.now.sender ≡ (held seat.old.me).made }
     requires few { end.old.put ≤ MAX_EVENTS }
     requires capacity { capacity ≡ lane.now.capacity }
-    requires many { many ≤ 64 }
+    requires many { many ≤ MAX_CAPACITY }
     ensures table { seat.new.table_id ≡ seat.old.table_id }
     ensures did { Did lane.now.instances lane.now.capacity lane.now.sender (held seat.old.me) (held seat.new.me) (held seat.new.me).seen [] }
     ensures end { IsOutgoing lane.now.instances (held seat.new.me).seen lane.now.sender lane.now.receiver end.new }
@@ -60,7 +62,8 @@ pub(crate) fn claim_places(
 
 /// Records a send, and answers what changed in the clock since the base.
 ///
-/// F6: it fails only where there is no memory, and then nothing is recorded.
+/// F6: it fails only where there is no memory, and then nothing is recorded. With room, up to [`clock::INLINE_ENTRIES`]
+/// instances, it takes none.
 fn record(
     alloc: Global,
     recorder: &mut Recorder,
@@ -75,6 +78,7 @@ fn record(
     ensures ok { OnOk result (recorder.new ≡ after_send recorder.old to name) }
     ensures clock { IfOk result (λ diff. apply_diff base.now diff ≡ send_clock recorder.old) }
     ensures within { IfOk result (All (λ change. change.instance ≤ length base.now)) }
+    ensures succeeds { 0 < recorder.old.room → length recorder.old.knowledge ≤ INLINE_ENTRIES → IsOk result }
     ensures err { OnErr result (recorder.new ≡ recorder.old) }
 {
     let diff = recorder.next_clock()?.diff_from(alloc, base)?;
@@ -114,6 +118,9 @@ pub(crate) fn send_one(
     ensures end { IsOutgoing lane.now.instances (held seat.new.me).seen lane.now.sender lane.now.receiver end.new }
     ensures ok { OnOk result (Did lane.now.instances lane.now.capacity lane.now.sender (held seat.old.me) (held seat.new.me) (drop 1 (held seat.new.me).seen) (occurrence.Send lane.now.sender lane.now.receiver message ∷ [])) }
     ensures err { IfErr result (λ error. (error.0 ≡ message) × IsUnmade lane.now 1 seat.old.me seat.new.me error.1) }
+    ensures left { OnOk result (recorder.new.room ≡ recorder.old.room - 1) }
+    ensures kept { OnErr result (recorder.new.room ≡ recorder.old.room) }
+    ensures room { 0 < recorder.old.room → lane.now.instances ≤ INLINE_ENTRIES → IfErr result (λ error. error.1 ≢ SendError.Memory) }
 {
     if !claim_places(words, seat, lane, end, capacity, 1) {
         return Err((message, SendError::Full));

@@ -1,9 +1,10 @@
 //! Sends of several messages at once.
-ghost use Rattle.std.specs.Prelude.{◌≡◌, ◌≢◌, ◌+◌, ◌<◌, ◌≤◌, false, length, map, IfOk, IfErr, OnErr};
+ghost use Rattle.std.specs.Prelude.{◌≡◌, ◌≢◌, ◌+◌, ◌-◌, ◌<◌, ◌≤◌, false, length, map, IfOk, IfErr, OnOk, OnErr};
 ghost use Rattle.chart.specs.Histories.{own, sent, is_closed, chart_of, AreTwo, IsLegal};
 ghost use Rattle.chart.specs.declared.line.TheConstants.{MAX_EVENTS};
 ghost use Rattle.line_recorder.specs.Sends.{next_clocks};
 ghost use Rattle.line_recorder.specs.Recording.{IsRecorder};
+ghost use Rattle.board_table.specs.declared.lane.TheConstants.{MAX_CAPACITY};
 ghost use Rattle.board_table.specs.Layout.{IsBoard};
 ghost use Rattle.board_table.specs.Knowing.{held, packets_out, Rests, IsFilling};
 ghost use Rattle.board.specs.Known.{IsOutgoing};
@@ -166,7 +167,7 @@ pub(crate) fn send_several(
     requires recorder { IsRecorder lane.now.instances (held seat.old.me).seen lane.now.sender recorder.old }
     requires end { IsOutgoing lane.now.instances (held seat.old.me).seen lane.now.sender lane.now.receiver end.old }
     requires unclosed { is_closed (held seat.old.me).seen lane.now.sender lane.now.receiver ≡ false }
-    requires few { length messages.items ≤ 64 }
+    requires few { length messages.items ≤ MAX_CAPACITY }
     requires short { length (chart_of (held seat.old.me).seen lane.now.sender) + length messages.items ≤ MAX_EVENTS }
     requires two { AreTwo lane.now.instances lane.now.sender lane.now.receiver }
     requires to { to ≡ lane.now.receiver }
@@ -177,6 +178,8 @@ pub(crate) fn send_several(
     ensures end { IsOutgoing lane.now.instances (held seat.new.me).seen lane.now.sender lane.now.receiver end.new }
     ensures ok { IfOk result (λ sents. AreMade lane.now messages.items sents.items seat.old.me seat.new.me) }
     ensures err { IfErr result (λ error. (error.0.items ≡ messages.items) × IsUnmade lane.now (length messages.items) seat.old.me seat.new.me error.1) }
+    ensures left { OnOk result (recorder.new.room ≡ recorder.old.room - length messages.items) }
+    ensures kept { OnErr result (recorder.new.room ≡ recorder.old.room) }
 {
     if !claim_places(words, seat, lane, end, capacity, messages.len()) {
         return Err((messages, SendError::Full));

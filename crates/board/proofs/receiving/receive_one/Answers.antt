@@ -1,7 +1,7 @@
 use Rattle.std.proofs.Common.{rules, ◌<◌, [], ◌∷◌, length, ap, refl, arith}
 use Rattle.chart.specs.Charts.{LineView}
 use Rattle.chart.specs.declared.line.TheConstants.{MAX_EVENTS}
-use Rattle.board.proofs.Receives.{none_taken, ready, one_more, all_recorder, all_end, one_received}
+use Rattle.board.proofs.Receives.{none_taken, ready, one_more, room_left, all_recorder, all_end, one_received}
 use Rattle.board.proofs.receiving.receive_one.Goals as goal
 
 pub take_next-requires-clause-ready : goal.take_next-requires-clause-ready
@@ -34,4 +34,6 @@ returns c =
       end = all_end l region s u r may (arrival ∷ []) t o v one w c.free.ensures.frees;
       ok = one_received l region s u r may (arrival ∷ []) t o v one w c.free.ensures.frees arrival refl;
       err = search rules;
+      left = room_left l region s u r may (arrival ∷ []) t o v one;
+      kept = search rules;
     }

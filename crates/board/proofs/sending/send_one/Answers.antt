@@ -1,4 +1,4 @@
-use Rattle.std.proofs.Common.{rules, ◌≡◌, ◌+◌, ◌∙◌, ℕ, List, [], ◌∷◌, ◌++◌, length, true, refl, sym, ap, subst, arith}
+use Rattle.std.proofs.Common.{rules, ◌≡◌, ◌+◌, ◌∙◌, ℕ, List, [], ◌∷◌, ◌++◌, length, true, true≢false, refl, sym, ap, subst, arith}
 use Rattle.line_recorder.specs.Recorders.{RecorderView, send_clock, after_send}
 use Rattle.line_recorder.specs.Recording.{IsRecorder}
 use Rattle.board_table.specs.declared.packet.Packet.{Packet}
@@ -27,6 +27,11 @@ returns-in_default-clause-recorder c =
     let kept : c.record.new.recorder ≡ c.args.recorder.now = search rules in
     subst (λ (r : RecorderView). IsRecorder c.args.lane.now.instances (held c.give_back_vacant.new.seat.me).seen c.args.lane.now.sender r) (sym kept)
     (subst (λ (x : Mine). IsRecorder c.args.lane.now.instances (held x).seen c.args.lane.now.sender c.args.recorder.now) (sym back) (recorder_saw c.args.lane.now.instances c.args.lane.now.capacity c.args.lane.now.sender (held c.args.seat.now.me) (held c.claim_places.new.seat.me) c.requires.legal c.requires.own c.claim_places.ensures.did c.args.recorder.now c.requires.recorder))
+
+pub returns-in_default-clause-room : goal.returns-in_default-clause-room
+returns-in_default-clause-room c =
+    let many = known_many c.args.lane.now.instances c.args.lane.now.capacity (held c.args.seat.now.me).seen c.args.lane.now.sender c.args.recorder.now c.requires.legal c.requires.recorder in
+    λ some few memory. true≢false (sym (c.in_default.ensures.succeeds some (omega (arith, many, few))))
 
 pub overflow_add-end : goal.overflow_add-end
 overflow_add-end c =

@@ -1,12 +1,15 @@
-use Rattle.std.proofs.Common.{rules, ◌≡◌, ◌+◌, ◌∙◌, ℕ, List, length, true, sym, ap, subst, arith}
+use Rattle.std.proofs.Common.{rules, ◌≡◌, ◌+◌, ◌-◌, ◌∙◌, ℕ, List, length, true, sym, ap, subst, arith}
+use Rattle.std.proofs.lemmas.List.{length-map}
 use Rattle.chart.specs.Charts.{LineView}
+use Rattle.chart.specs.Messages.{Content}
 use Rattle.line_recorder.specs.Recorders.{RecorderView}
 use Rattle.line_recorder.specs.Recording.{IsRecorder}
+use Rattle.line_recorder.proofs.SendsLemmas.{after_sends_is}
 use Rattle.board_table.specs.Knowing.{Mine, held}
 use Rattle.board.specs.Known.{IsOutgoing}
 use Rattle.board.specs.Parts.{HasPlaces}
 use Rattle.board.specs.Sending.{numbered}
-use Rattle.board.specs.SendingMany.{packets_of}
+use Rattle.board.specs.SendingMany.{names_of, packets_of}
 use Rattle.board.proofs.Claiming.{sent_within}
 use Rattle.board.proofs.OneSend.{known_many, recorder_saw, line_saw}
 use Rattle.board.proofs.SeveralSends.{as_many_diffs, are_next}
@@ -153,6 +156,13 @@ returns-clause-end c =
     let made = rw (c.requires.to, c.as_slice.ensures.value) at c.in-Ok.ensures.ok in
     let fills : Fills l m s f r u ms (packets_of ms ds) = fills_of l m s f r u ms ds c.requires.legal c.requires.own c.claim_places.ensures.did c.requires.recorder c.claim_places.ensures.end places c.fill_places-end.ensures.held c.fill_places-end.ensures.packets made.diffs in
     subst (λ (base : List ℕ). IsOutgoing l.instances (held c.publish.new.seat.me).seen l.sender l.receiver (record u { put = c.fill_places-end.result; base = base })) (sym made.last) (end_sent l m s f r u ms (packets_of ms ds) fills c.publish.new.seat.me c.publish.ensures.publishes c.fill_places-end.result c.fill_places-end.ensures.count)
+
+pub returns-clause-left : goal.returns-clause-left
+returns-clause-left c =
+    let r = c.args.recorder.now in
+    let ms = c.args.messages.items in
+    let made = rw (c.requires.to, c.as_slice.ensures.value) at c.in-Ok.ensures.ok in
+    ap (λ (x : RecorderView). x.room) made.recorded ∙ ap (λ (x : RecorderView). x.room) (after_sends_is r c.args.lane.now.receiver (names_of ms)) ∙ ap (λ (i : ℕ). r.room - i) (length-map ms (λ (message : Content). message.name))
 
 pub returns-clause-ok : goal.returns-clause-ok
 returns-clause-ok c =

@@ -40,7 +40,7 @@ invariant_of-self-2 c =
 pub returns-clause-sound : goal.returns-clause-sound
 returns-clause-sound c =
     let did = close_did _ _ _ _ c.self.inside.seat.me c.close.new.seat.me _ _ _ _ _ _ _ _ c.self.invariant c.close.ensures.table.0 c.new-lane.result c.place.result (rw c.place.ensures.value at c.new-lane.ensures) c.close.ensures.closes in
-    rw (← c.self.view_is) (did_sound c.self.inside.words.now.table_id c.self.inside.seat.me c.close.new.seat.me _ _ _ c.self.inside.region _ _ did c.self.inside.region)
+    rw (← c.self.view_is) (did_sound c.self.inside.words.now.table_id c.self.inside.seat.me c.close.new.seat.me _ _ _ c.self.inside.region c.self.inside.recorder.room _ _ did c.self.inside.region c.self.inside.recorder.room)
 
 pub returns-clause-answer : goal.returns-clause-answer
 returns-clause-answer c =
@@ -51,5 +51,6 @@ returns-clause-answer c =
     rw (← c.self.view_is, c.place.ensures.value) (record {
       two = (post.least, post.most, omega arith, omega arith, λ e. ne (c.place.ensures.value ∙ sym e));
       opened = (rw c.place.ensures.value at (closed_made _ _ _ _ _ _ _ _ _ _ _ _ post c.args.to c.index_mut-end.result.now end)) ∙ c.if-end.false;
-      makes = (_, did_makes c.self.inside.words.now.table_id c.self.inside.seat.me c.close.new.seat.me _ _ _ c.self.inside.region _ _ did);
+      makes = (_, did_makes c.self.inside.words.now.table_id c.self.inside.seat.me c.close.new.seat.me _ _ _ c.self.inside.region c.self.inside.recorder.room _ _ did c.self.inside.recorder.room);
+      room = refl;
     })

@@ -54,7 +54,7 @@ returns-in_err-arrival-clause-sound c =
     let did = rw c.new-lane.ensures at c.find_messages.ensures.did in
     let unmade = rw c.new-lane.ensures at c.in_err-arrival.ensures.err in
     let then_ = did_onward _ _ _ (held c.self.inside.seat.me) (held c.find_messages.new.seat.me) (held c.receive_one.new.seat.me) _ _ did unmade.did in
-    rw (← c.self.view_is) (did_sound c.self.inside.words.now.table_id c.self.inside.seat.me c.receive_one.new.seat.me _ _ _ c.self.inside.region _ _ then_ c.self.inside.region)
+    rw (← c.self.view_is) (did_sound c.self.inside.words.now.table_id c.self.inside.seat.me c.receive_one.new.seat.me _ _ _ c.self.inside.region c.self.inside.recorder.room _ _ then_ c.self.inside.region c.receive_one.new.recorder.room)
 
 pub invariant_of-self-2 : goal.invariant_of-self-2
 invariant_of-self-2 c =
@@ -73,11 +73,11 @@ returns-clause-sound c =
     let did = rw c.new-lane.ensures at c.find_messages.ensures.did in
     let made = rw (c.new-lane.ensures, c.place.ensures.value) at c.in_ok-arrival.ensures.ok in
     let then_ = did_onward _ _ _ (held c.self.inside.seat.me) (held c.find_messages.new.seat.me) (held c.receive_one.new.seat.me) _ _ did made.did in
-    rw (← c.self.view_is) (did_sound c.self.inside.words.now.table_id c.self.inside.seat.me c.receive_one.new.seat.me _ _ _ c.self.inside.region _ _ then_ c.self.inside.region)
+    rw (← c.self.view_is) (did_sound c.self.inside.words.now.table_id c.self.inside.seat.me c.receive_one.new.seat.me _ _ _ c.self.inside.region c.self.inside.recorder.room _ _ then_ c.self.inside.region c.receive_one.new.recorder.room)
 
 pub returns-clause-answer : goal.returns-clause-answer
 returns-clause-answer c =
     let ne : c.args.from ≢ c.self.inside.number = eqb-false _ _ (sym c.if-eq.ensures) in
     let did = rw c.new-lane.ensures at c.find_messages.ensures.did in
     let made = rw c.new-lane.ensures at c.in_ok-arrival.ensures.ok in
-    rw (← c.self.view_is) (got _ _ _ _ _ _ _ _ _ _ _ _ c.self.invariant c.args.from (partner _ _ _ _ _ _ _ _ _ _ _ _ c.self.invariant c.args.from c.place.result c.place.ensures.value ne (omega arith)) c.find_messages.new.seat.me c.receive_one.new.seat.me _ did made)
+    rw (← c.self.view_is) (got _ _ _ _ _ _ _ _ _ _ _ _ c.self.invariant c.args.from (partner _ _ _ _ _ _ _ _ _ _ _ _ c.self.invariant c.args.from c.place.result c.place.ensures.value ne (omega arith)) c.find_messages.new.seat.me c.receive_one.new.seat.me c.receive_one.new.recorder.room _ did made c.in_ok-arrival.ensures.left)

@@ -56,7 +56,7 @@ returns-in_err-arrivals-clause-sound c =
     let did = rw c.new-lane.ensures at c.find_messages.ensures.did in
     let unmade = rw c.new-lane.ensures at c.in_err-arrivals.ensures.err in
     let then_ = did_onward _ _ _ (held c.self.inside.seat.me) (held c.find_messages.new.seat.me) (held c.receive_several.new.seat.me) _ _ did unmade.did in
-    rw (← c.self.view_is) (did_sound c.self.inside.words.now.table_id c.self.inside.seat.me c.receive_several.new.seat.me _ _ _ c.self.inside.region _ _ then_ c.self.inside.region)
+    rw (← c.self.view_is) (did_sound c.self.inside.words.now.table_id c.self.inside.seat.me c.receive_several.new.seat.me _ _ _ c.self.inside.region c.self.inside.recorder.room _ _ then_ c.self.inside.region c.receive_several.new.recorder.room)
 
 pub invariant_of-self-2 : goal.invariant_of-self-2
 invariant_of-self-2 c =
@@ -78,7 +78,7 @@ returns-clause-sound c =
     let did = rw c.new-lane.ensures at c.find_messages.ensures.did in
     let made = rw (c.new-lane.ensures, c.place.ensures.value) at c.in_ok-arrivals.ensures.received in
     let then_ = did_onward _ _ _ (held c.self.inside.seat.me) (held c.find_messages.new.seat.me) (held c.receive_several.new.seat.me) _ _ did made.did in
-    rw (← c.self.view_is) (did_sound c.self.inside.words.now.table_id c.self.inside.seat.me c.receive_several.new.seat.me _ _ _ c.self.inside.region _ _ then_ c.self.inside.region)
+    rw (← c.self.view_is) (did_sound c.self.inside.words.now.table_id c.self.inside.seat.me c.receive_several.new.seat.me _ _ _ c.self.inside.region c.self.inside.recorder.room _ _ then_ c.self.inside.region c.receive_several.new.recorder.room)
 
 pub returns-clause-answer : goal.returns-clause-answer
 returns-clause-answer c =
@@ -88,7 +88,7 @@ returns-clause-answer c =
     let stop = rw c.new-lane.ensures at c.in_ok-arrivals.ensures.stop in
     let two = partner _ _ _ _ _ _ _ _ _ _ _ _ c.self.invariant c.args.from c.place.result c.place.ensures.value ne (omega arith) in
     rw (← c.self.view_is) (
-      got_many _ _ _ _ _ _ _ _ _ _ _ _ c.self.invariant c.args.from two c.find_messages.new.seat.me c.receive_several.new.seat.me _ did c.in_ok-arrivals.ensures.some made,
+      got_many _ _ _ _ _ _ _ _ _ _ _ _ c.self.invariant c.args.from two c.find_messages.new.seat.me c.receive_several.new.seat.me c.receive_several.new.recorder.room _ did c.in_ok-arrivals.ensures.some made c.in_ok-arrivals.ensures.left,
       c.in_ok-arrivals.ensures.most,
-      stopped _ _ _ _ _ _ _ _ _ _ _ _ c.self.invariant c.args.from two c.find_messages.new.seat.me c.receive_several.new.seat.me c.args.max _ c.in_ok-arrivals.stop did made stop,
+      stopped _ _ _ _ _ _ _ _ _ _ _ _ c.self.invariant c.args.from two c.find_messages.new.seat.me c.receive_several.new.seat.me c.receive_several.new.recorder.room c.args.max _ c.in_ok-arrivals.stop did made stop,
     )

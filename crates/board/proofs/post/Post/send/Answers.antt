@@ -35,10 +35,10 @@ returns-clause-sound c =
     elim c.match-send_one.branch [
       | in-Ok w ↦
           let did = rw c.new-lane.ensures at w.in-Ok.ensures.ok in
-          rw (← c.self.view_is) (did_sound c.self.inside.words.now.table_id c.self.inside.seat.me c.send_one.new.seat.me _ _ _ c.self.inside.region _ _ did c.self.inside.region)
+          rw (← c.self.view_is) (did_sound c.self.inside.words.now.table_id c.self.inside.seat.me c.send_one.new.seat.me _ _ _ c.self.inside.region c.self.inside.recorder.room _ _ did c.self.inside.region c.send_one.new.recorder.room)
       | in-Err w ↦
           let unmade = rw c.new-lane.ensures at w.in-Err.ensures.err in
-          rw (← c.self.view_is) (did_sound c.self.inside.words.now.table_id c.self.inside.seat.me c.send_one.new.seat.me _ _ _ c.self.inside.region _ _ unmade.1.did c.self.inside.region)
+          rw (← c.self.view_is) (did_sound c.self.inside.words.now.table_id c.self.inside.seat.me c.send_one.new.seat.me _ _ _ c.self.inside.region c.self.inside.recorder.room _ _ unmade.1.did c.self.inside.region c.send_one.new.recorder.room)
     ]
 
 pub returns-clause-answer : goal.returns-clause-answer
@@ -50,10 +50,11 @@ returns-clause-answer c =
           let did = rw c.new-lane.ensures at w.in-Ok.ensures.ok in
           rw (w.result-is, ← c.self.view_is) (record {
             may = may.may;
-            makes = (_, did_makes c.self.inside.words.now.table_id c.self.inside.seat.me c.send_one.new.seat.me _ _ _ c.self.inside.region _ _ did);
+            makes = (_, did_makes c.self.inside.words.now.table_id c.self.inside.seat.me c.send_one.new.seat.me _ _ _ c.self.inside.region c.self.inside.recorder.room _ _ did c.send_one.new.recorder.room);
             event = ap (λ (i : ℕ). record { instance = c.self.inside.number; index = i }) (w.len.ensures.value ∙ ap (λ l. length l.events) (w.line.ensures ∙ recorder.line));
+            room = w.in-Ok.ensures.left;
           })
       | in-Err w ↦
           let unmade = rw c.new-lane.ensures at w.in-Err.ensures.err in
-          rw (w.result-is, ← c.self.view_is) (unmade.0, did_stays c.self.inside.words.now.table_id c.self.inside.seat.me c.send_one.new.seat.me _ _ _ c.self.inside.region unmade.1.did, unsent _ _ _ _ c.send_one.new.seat.me _ _ _ _ _ _ _ _ c.self.invariant c.args.to 1 may c.new-lane.result c.new-lane.ensures _ unmade.1.did (omega arith) w.in-Err.ensures.err.1.cause)
+          rw (w.result-is, ← c.self.view_is) (unmade.0, did_stays c.self.inside.words.now.table_id c.self.inside.seat.me c.send_one.new.seat.me _ _ _ c.self.inside.region c.self.inside.recorder.room c.send_one.new.recorder.room unmade.1.did w.in-Err.ensures.kept, unsent _ _ _ _ c.send_one.new.seat.me _ _ _ _ _ _ _ _ c.self.invariant c.args.to 1 may c.send_one.new.recorder.room c.new-lane.result c.new-lane.ensures _ unmade.1.did (omega arith) w.in-Err.ensures.err.1.cause)
     ]

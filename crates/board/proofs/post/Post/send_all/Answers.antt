@@ -34,7 +34,7 @@ pub returns-clause-sound : goal.returns-clause-sound
 returns-clause-sound c =
     let made = rw c.new-lane.ensures at c.send_several.ensures.ok in
     let unmade = rw c.new-lane.ensures at c.send_several.ensures.err in
-    rw (← c.self.view_is) (sound_all c.self.inside.words.now.table_id c.self.inside.seat.me c.send_several.new.seat.me _ _ _ c.self.inside.region c.args.to c.args.messages.items c.send_several.result made unmade)
+    rw (← c.self.view_is) (sound_all c.self.inside.words.now.table_id c.self.inside.seat.me c.send_several.new.seat.me _ _ _ c.self.inside.region c.self.inside.recorder.room c.send_several.new.recorder.room c.args.to c.args.messages.items c.send_several.result made unmade)
 
 pub returns-clause-answer : goal.returns-clause-answer
 returns-clause-answer c =
@@ -43,4 +43,4 @@ returns-clause-answer c =
     let some : length c.args.messages.items ≢ 0 = search rules in
     let made = rw c.new-lane.ensures at c.send_several.ensures.ok in
     let unmade = rw c.new-lane.ensures at c.send_several.ensures.err in
-    rw (← c.self.view_is) (answer_all _ _ _ _ c.send_several.new.seat.me _ _ _ _ _ _ _ _ c.self.invariant c.args.to c.args.messages.items may (omega (arith, some)) c.send_several.result made unmade)
+    rw (← c.self.view_is) (answer_all _ _ _ _ c.send_several.new.seat.me _ _ _ _ _ _ _ _ c.self.invariant c.args.to c.send_several.new.recorder.room c.args.messages.items may (omega (arith, some)) c.send_several.result made unmade c.send_several.ensures.left c.send_several.ensures.kept)
