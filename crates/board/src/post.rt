@@ -15,8 +15,9 @@ use std::marker::Model;
 /// What an instance of a board acts by: it sends, receives and closes lanes. It can be moved to a thread.
 ///
 /// A contract sees its board, its number, the history that it has seen and the events that its own calls made, how often
-/// it looked at what others wrote, its open coregion, and the room that was made on its line. After each call what is seen is a legal history that begins with
-/// what was seen before, and the post's own events in it are those that its calls made.
+/// it looked at what others wrote, its open coregion, and the room that was made on its line. After each call what is
+/// seen is a legal history that begins with what was seen before, and the post's own events in it are those that its
+/// calls made.
 #[derive(Drop)]
 pub struct Post<'a> {
     pub(crate) words: &'a Words,

@@ -7,9 +7,9 @@ use crate::post::Post;
 use chart::MAX_EVENTS;
 
 impl<'a> Post<'a> {
-    /// For so many events room was made on its line, and not used yet. An accepted event takes one place of it, if there is
-    /// one, and nothing else does. While there is some, on boards of up to [`clock::INLINE_ENTRIES`] instances, a send needs
-    /// no memory. It takes no memory itself.
+    /// For so many events room was made on its line, and not used yet. An accepted event takes one place of it, if
+    /// there is one, and nothing else does. While there is some, on boards of up to [`clock::INLINE_ENTRIES`]
+    /// instances, a send needs no memory. It takes no memory itself.
     pub fn room(&self) -> usize
         ensures { result ≡ self.now.room }
     {
