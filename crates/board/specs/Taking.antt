@@ -6,12 +6,18 @@ use Rattle.chart.specs.declared.line.TheConstants.{MAX_EVENTS}
 use Rattle.chart.specs.Messages.{Content}
 use Rattle.chart.specs.Histories.{waiting, is_closed, chart_of}
 use Rattle.chart.specs.Reports.{IsReportIn}
+use Rattle.board_table.specs.Layout.{LaneView}
 use Rattle.board.specs.declared.answer.Arrival.{Arrival}
 use Rattle.board.specs.declared.answer.Taken.{Taken}
 use Rattle.board.specs.declared.answer.Taken.TheVariants.{Got, Nothing, Ended}
 use Rattle.board.specs.declared.error.TakeError.{TakeError}
 use Rattle.board.specs.declared.error.TakeError.TheVariants.{NoSuchInstance, ToItself, LineFull, Memory}
 use Rattle.board.specs.Views.{PostView, line_of, last_event, Makes, Stays, IsPartner}
+
+-- the lane is that from another instance to the post
+pub record IsLaneFrom (post : PostView) (from : ℕ) (lane : LaneView) : Type 0 where
+  pub two : IsPartner post from
+  pub is : lane ≡ record { instances = post.board.size; capacity = post.board.capacity; sender = from; receiver = post.number }
 
 -- the first message that waited was received, last of all that was seen, in the open coregion and with its report
 pub record IsGot (old : PostView) (from : ℕ) (arrival : Arrival) (new : PostView) : Type 0 where

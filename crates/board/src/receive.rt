@@ -1,7 +1,7 @@
 //! A post's receives, one at a time.
-ghost use Rattle.std.specs.Prelude.{◌≡◌};
+ghost use Rattle.std.specs.Prelude.{◌≡◌, IfOk, IfErr};
 ghost use Rattle.board.specs.Views.{Sound};
-ghost use Rattle.board.specs.Taking.{Takes};
+ghost use Rattle.board.specs.Taking.{IsLaneFrom, IsUntaken, Takes};
 
 use crate::answer::Taken;
 use crate::error::TakeError;
@@ -18,13 +18,7 @@ impl<'a> Post<'a> {
         ensures sound { Sound self.old self.new }
         ensures answer { Takes self.old from result self.new }
     {
-        if from.number() > self.shape.instances {
-            return Err(TakeError::NoSuchInstance);
-        }
-        if from == self.number {
-            return Err(TakeError::ToItself);
-        }
-        let lane = Lane::new(&self.shape, from, self.number);
+        let lane = self.lane_from(from)?;
         let end = &mut self.incoming[from.place()];
         match find_messages(self.words, &mut self.seat, &lane, end, 1) {
             Found::Nothing => return Ok(Taken::Nothing),
@@ -43,5 +37,19 @@ impl<'a> Post<'a> {
         )?;
         self.greatest = self.greatest.max(self.region);
         Ok(Taken::Got(arrival))
+    }
+
+    /// The lane from an instance. The first of F14 and F13 refuses it.
+    pub(crate) fn lane_from(&self, from: InstanceNo) -> Result<Lane, TakeError>
+        ensures ok { IfOk result (IsLaneFrom self.now from) }
+        ensures err { IfErr result (λ error. IsUntaken self.now from error self.now) }
+    {
+        if from.number() > self.shape.instances {
+            return Err(TakeError::NoSuchInstance);
+        }
+        if from == self.number {
+            return Err(TakeError::ToItself);
+        }
+        Ok(Lane::new(&self.shape, from, self.number))
     }
 }

@@ -8,7 +8,6 @@ use crate::error::TakeError;
 use crate::post::Post;
 use crate::receiving::{Found, find_messages};
 use crate::receiving_several::receive_several;
-use board_table::Lane;
 use chart::InstanceNo;
 
 impl<'a> Post<'a> {
@@ -23,13 +22,7 @@ impl<'a> Post<'a> {
         ensures sound { Sound self.old self.new }
         ensures answer { TakesMany self.old from max result self.new }
     {
-        if from.number() > self.shape.instances {
-            return Err(TakeError::NoSuchInstance);
-        }
-        if from == self.number {
-            return Err(TakeError::ToItself);
-        }
-        let lane = Lane::new(&self.shape, from, self.number);
+        let lane = self.lane_from(from)?;
         let end = &mut self.incoming[from.place()];
         match find_messages(self.words, &mut self.seat, &lane, end, max as u64) {
             Found::Nothing => return Ok(TakenMany::Nothing),
