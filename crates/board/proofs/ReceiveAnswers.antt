@@ -108,9 +108,6 @@ module _ (key : Shape) (table chair : TableId) (m : Mine) (n k p : ℕ) (r : Rec
       let its : IsIncoming n (held m).seen p (suc j) i = post.knows.ends.takes j i (λ e. ne (place ∙ e)) (λ e. absurd (omega arith)) (slice_get-get_or incoming j i within ∙ ap Some (sym read)) in
       subst (λ (x : ℕ). IsIncoming n (held m).seen p x i) (sym place) its
 
-  pub partner : (from j : ℕ) → from ≡ suc j → from ≢ p → from ≤ n → IsPartner (view_of table m n k p region r.room) from
-  partner from j place ne most = (post.least, post.most, omega (arith, place), most, λ e. ne (sym e))
-
   -- what it has when it saw s
   module _ (s : Mine) (did : Did n k p (held m) (held s) (held s).seen []) where
     pub recorder_then : IsRecorder n (held s).seen p r
@@ -183,17 +180,11 @@ module _ (key : Shape) (table chair : TableId) (m : Mine) (n k p : ℕ) (r : Rec
     abbrev lane : LaneView
     lane = record { instances = n; capacity = k; sender = from; receiver = p }
 
-    pub found_empty : (w : Mine) (its_end : Bool) → HasNone lane its_end m w → IsFoundEmpty (view_of table m n k p region r.room) from its_end (view_of table w n k p region r.room)
-    found_empty w its_end none = record { two = two; waits = none.waits; closed = none.closed; before = none.before; looked = none.looked }
-
     by_cause : (w : Mine) (left : ℕ) (error : TakeError) → 0 < length (waiting (held w).seen from p) → IsUnrecorded (length (chart_of (held w).seen p)) error → IsUntaken (view_of table m n k p region r.room) from error (view_of table w n k p region left)
     by_cause w left NoSuchInstance waits never = absurd never
     by_cause w left ToItself waits never = absurd never
     by_cause w left LineFull waits full = (record { two = two; waits = waits }, full)
     by_cause w left Memory waits less = (record { two = two; waits = waits }, less)
-
-    pub untaken : (s w : Mine) (left : ℕ) (error : TakeError) → IsUnreceived lane s w error → IsUntaken (view_of table m n k p region r.room) from error (view_of table w n k p region left)
-    untaken s w left error none = by_cause w left error none.waits none.cause
 
     pub got : (s w : Mine) (left : ℕ) (arrival : Arrival) → Did n k p (held m) (held s) (held s).seen [] → IsReceived lane region s arrival w → left ≡ r.room - 1 → IsGot (view_of table m n k p region r.room) from arrival (view_of table w n k p region left)
     got s w left arrival saw its taken = record {

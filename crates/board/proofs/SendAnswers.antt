@@ -17,7 +17,7 @@ use Rattle.board.specs.Known.{IsOutgoing, IsPost, Did, view_of}
 use Rattle.board_table.specs.Layout.{LaneView}
 use Rattle.board.specs.declared.error.SendError.{SendError}
 use Rattle.board.specs.declared.error.SendError.TheVariants.{NoSuchInstance, ToItself, InCoregion, Closed, TooMany, LineFull, Full, Memory}
-use Rattle.board.specs.Parts.{IsCause}
+use Rattle.board.specs.Parts.{MayPut, IsCause}
 use Rattle.board.specs.Sending.{MaySend, MayPass, IsUnsent}
 use Rattle.board.proofs.OneSend.{line_saw, closed_saw}
 
@@ -63,8 +63,21 @@ did_stays table m w n k p region room left did kept = record { made = did.made; 
 
 module _ (key : Shape) (table chair : TableId) (m w : Mine) (n k p : ℕ) (r : RecorderView) (region greatest : ℕ) (outgoing : List Outgoing) (incoming : List Incoming) (post : IsPost key table chair m n k p r region greatest outgoing incoming) (to many : ℕ) (may : MayPass (view_of table m n k p region r.room) to many) where
   -- the lane is open in what is seen
-  pub unclosed : is_closed (held m).seen p to ≡ false
+  unclosed : is_closed (held m).seen p to ≡ false
   unclosed = sym (closed_own (held m).seen p to) ∙ ap (λ h. is_closed h p to) post.made ∙ may.may.opened
+
+  -- it may put them on the lane
+  pub may_put : (end : Outgoing) → IsOutgoing n (held m).seen p to end → MayPut (record { instances = n; capacity = k; sender = p; receiver = to }) many m end r
+  may_put end outgoing_end = record {
+    rests = post.rests;
+    legal = post.knows.legal;
+    own = post.made;
+    outgoing = outgoing_end;
+    recorded = post.knows.own.recorder;
+    unclosed = unclosed;
+    short = may.short;
+    two = may.may.two;
+  }
 
   -- why the messages, so many, aren't sent
   pub unsent : (left : ℕ) (l : LaneView) → l ≡ record { instances = n; capacity = k; sender = p; receiver = to } → (error : SendError) → Did n k p (held m) (held w) (held w).seen [] → 0 < many → IsCause l many m w error → IsUnsent (view_of table m n k p region r.room) to many error (view_of table w n k p region left)

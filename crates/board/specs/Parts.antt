@@ -1,11 +1,26 @@
 -- What the parts of a call tell each other (this project's profile).
-use Rattle.std.specs.Prelude.{◌≡◌, ℕ, ◌+◌, ◌<◌, ◌≤◌, [], length}
-use Rattle.chart.specs.Histories.{waiting}
+use Rattle.std.specs.Prelude.{◌≡◌, ℕ, ◌+◌, ◌<◌, ◌≤◌, false, [], length}
+use Rattle.chart.specs.declared.line.TheConstants.{MAX_EVENTS}
+use Rattle.chart.specs.Histories.{own, waiting, is_closed, chart_of, AreTwo, IsLegal}
+use Rattle.line_recorder.specs.Recorders.{RecorderView}
+use Rattle.line_recorder.specs.Recording.{IsRecorder}
 use Rattle.board_table.specs.Layout.{LaneView}
 use Rattle.board.specs.declared.error.SendError.{SendError}
 use Rattle.board.specs.declared.error.SendError.TheVariants.{NoSuchInstance, ToItself, InCoregion, Closed, TooMany, LineFull, Full, Memory}
-use Rattle.board.specs.Known.{Did}
+use Rattle.board.specs.declared.ends.Outgoing.{Outgoing}
+use Rattle.board.specs.Known.{IsOutgoing, Did}
 use Rattle.board_table.specs.Knowing.{Mine, held, packets_out, vacant_out, Rests, IsFilling}
+
+-- the sender, with nothing out, may put so many messages on its lane, if they find places there
+pub record MayPut (l : LaneView) (many : ℕ) (me : Mine) (end : Outgoing) (recorder : RecorderView) : Type 0 where
+  pub rests : Rests l.instances l.capacity l.sender me
+  pub legal : IsLegal l.instances l.capacity (held me).seen
+  pub own : own (held me).seen l.sender ≡ (held me).made
+  pub outgoing : IsOutgoing l.instances (held me).seen l.sender l.receiver end
+  pub recorded : IsRecorder l.instances (held me).seen l.sender recorder
+  pub unclosed : is_closed (held me).seen l.sender l.receiver ≡ false
+  pub short : length (chart_of (held me).seen l.sender) + many ≤ MAX_EVENTS
+  pub two : AreTwo l.instances l.sender l.receiver
 
 -- so many messages more find places on the lane
 abbrev pub Fit : LaneView → ℕ → Mine → Type 0

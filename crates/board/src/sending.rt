@@ -11,7 +11,7 @@ ghost use Rattle.board_table.specs.declared.lane.TheConstants.{MAX_CAPACITY};
 ghost use Rattle.board_table.specs.Layout.{IsBoard};
 ghost use Rattle.board_table.specs.Knowing.{held, packets_out, vacant_out, Rests, IsFilling};
 ghost use Rattle.board.specs.Known.{IsOutgoing, Did};
-ghost use Rattle.board.specs.Parts.{HasPlaces, HasNoPlaces, IsUnmade};
+ghost use Rattle.board.specs.Parts.{MayPut, HasPlaces, HasNoPlaces, IsUnmade};
 
 use crate::ends::Outgoing;
 use crate::error::SendError;
@@ -102,14 +102,7 @@ pub(crate) fn send_one(
 ) -> Result<(), (Message, SendError)>
     requires table { seat.old.table_id ≡ words.now.table_id }
     requires board { IsBoard lane.now.instances lane.now.capacity words.now.key words.now.table_id }
-    requires rests { Rests lane.now.instances lane.now.capacity lane.now.sender seat.old.me }
-    requires legal { IsLegal lane.now.instances lane.now.capacity (held seat.old.me).seen }
-    requires own { own (held seat.old.me).seen lane.now.sender ≡ (held seat.old.me).made }
-    requires recorder { IsRecorder lane.now.instances (held seat.old.me).seen lane.now.sender recorder.old }
-    requires end { IsOutgoing lane.now.instances (held seat.old.me).seen lane.now.sender lane.now.receiver end.old }
-    requires unclosed { is_closed (held seat.old.me).seen lane.now.sender lane.now.receiver ≡ false }
-    requires short { length (chart_of (held seat.old.me).seen lane.now.sender) < MAX_EVENTS }
-    requires two { AreTwo lane.now.instances lane.now.sender lane.now.receiver }
+    requires may { MayPut lane.now 1 seat.old.me end.old recorder.old }
     requires to { to ≡ lane.now.receiver }
     requires capacity { capacity ≡ lane.now.capacity }
     ensures table { seat.new.table_id ≡ seat.old.table_id }

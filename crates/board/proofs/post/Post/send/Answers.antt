@@ -1,18 +1,14 @@
 use Rattle.std.proofs.Common.{◌<◌, ◌∙◌, ℕ, [], ◌∷◌, length, sym, ap, arith}
 use Rattle.board.proofs.PostLemmas.{post_saw, post_sends}
-use Rattle.board.proofs.SendAnswers.{outgoing_at, unclosed, unsent, did_sound, did_makes, did_stays}
+use Rattle.board.proofs.SendAnswers.{outgoing_at, may_put, unsent, did_sound, did_makes, did_stays}
 use Rattle.board.proofs.post.Post.send.Goals as goal
 use Rattle.board.proofs.post.Post.send.Goals.{in-Ok, in-Err}
 
-pub send_one-requires-clause-end : goal.send_one-requires-clause-end
-send_one-requires-clause-end c =
+pub send_one-requires-clause-may : goal.send_one-requires-clause-may
+send_one-requires-clause-may c =
     let may = rw (← c.self.view_is) at c.in_default.ensures.none in
-    rw c.new-lane.ensures (outgoing_at _ _ _ _ _ _ _ _ _ _ _ _ c.self.invariant c.args.to c.place.result c.index_mut-end.result.now c.place.ensures.value (λ e. may.may.two.4 (sym e)) may.may.two.3 c.index_mut-end.ensures.value)
-
-pub send_one-requires-clause-unclosed : goal.send_one-requires-clause-unclosed
-send_one-requires-clause-unclosed c =
-    let may = rw (← c.self.view_is) at c.in_default.ensures.none in
-    rw c.new-lane.ensures (unclosed _ _ _ _ c.self.inside.seat.me _ _ _ _ _ _ _ _ c.self.invariant c.args.to 1 may)
+    let end = outgoing_at _ _ _ _ _ _ _ _ _ _ _ _ c.self.invariant c.args.to c.place.result c.index_mut-end.result.now c.place.ensures.value (λ e. may.may.two.4 (sym e)) may.may.two.3 c.index_mut-end.ensures.value in
+    rw c.new-lane.ensures (may_put _ _ _ _ c.self.inside.seat.me _ _ _ _ _ _ _ _ c.self.invariant c.args.to 1 may _ end)
 
 pub invariant_of-self : goal.invariant_of-self
 invariant_of-self c =

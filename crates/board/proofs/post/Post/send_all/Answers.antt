@@ -1,5 +1,5 @@
 use Rattle.std.proofs.Common.{rules, ◌≡◌, ◌≢◌, ◌<◌, length, sym, arith}
-use Rattle.board.proofs.SendAnswers.{outgoing_at, unclosed}
+use Rattle.board.proofs.SendAnswers.{outgoing_at, may_put}
 use Rattle.board.proofs.SendAllAnswers.{sent_none, sound_all, answer_all, post_all}
 use Rattle.board.proofs.post.Post.send_all.Goals as goal
 
@@ -9,15 +9,12 @@ returns-then-is_empty-clause-answer c =
     let none : length c.args.messages.items ≡ 0 = search rules in
     sent_none _ _ c.args.messages.items c.new.result.items none c.new.ensures.items may.may
 
-pub send_several-requires-clause-end : goal.send_several-requires-clause-end
-send_several-requires-clause-end c =
-    let may = rw (← c.self.view_is) at c.in_default.ensures.none in
-    rw c.new-lane.ensures (outgoing_at _ _ _ _ _ _ _ _ _ _ _ _ c.self.invariant c.args.to c.place.result c.index_mut-end.result.now c.place.ensures.value (λ e. may.may.two.4 (sym e)) may.may.two.3 c.index_mut-end.ensures.value)
-
-pub send_several-requires-clause-unclosed : goal.send_several-requires-clause-unclosed
-send_several-requires-clause-unclosed c =
-    let may = rw (← c.self.view_is) at c.in_default.ensures.none in
-    rw c.new-lane.ensures (unclosed _ _ _ _ c.self.inside.seat.me _ _ _ _ _ _ _ _ c.self.invariant c.args.to _ may)
+pub send_several-requires-clause-may : goal.send_several-requires-clause-may
+send_several-requires-clause-may c =
+    let many : c.len.result ≡ length c.args.messages.items = search rules in
+    let may = rw (← c.self.view_is, many) at c.in_default.ensures.none in
+    let end = outgoing_at _ _ _ _ _ _ _ _ _ _ _ _ c.self.invariant c.args.to c.place.result c.index_mut-end.result.now c.place.ensures.value (λ e. may.may.two.4 (sym e)) may.may.two.3 c.index_mut-end.ensures.value in
+    rw c.new-lane.ensures (may_put _ _ _ _ c.self.inside.seat.me _ _ _ _ _ _ _ _ c.self.invariant c.args.to _ may _ end)
 
 pub invariant_of-self : goal.invariant_of-self
 invariant_of-self c =
