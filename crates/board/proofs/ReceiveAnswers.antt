@@ -1,5 +1,5 @@
 -- What a post's receive leaves and answers.
-use Rattle.std.proofs.Common.{◌≡◌, ◌≢◌, ℕ, zero, suc, max, ◌+◌, ◌-◌, ◌<◌, ◌≤◌, inl, inr, ◌⊎◌, Bool, List, [], ◌∷◌, ◌++◌, length, drop, set, replicate, get_or, sym, ap, ◌∙◌, subst, arith}
+use Rattle.std.proofs.Common.{◌≡◌, ◌≢◌, ℕ, zero, suc, max, ◌+◌, ◌-◌, ◌<◌, ◌≤◌, inl, inr, ◌⊎◌, List, [], ◌∷◌, ◌++◌, length, drop, set, replicate, get_or, sym, ap, ◌∙◌, subst, arith}
 use Rattle.std.proofs.lemmas.List.{length-set, length_push}
 use Rattle.std.proofs.lemmas.Option.{slice_get-get_or}
 use Rattle.std.specs.Prelude.{slice_get, Some}
@@ -29,10 +29,10 @@ use Rattle.board.specs.declared.error.TakeError.{TakeError}
 use Rattle.board.specs.declared.error.TakeError.TheVariants.{NoSuchInstance, ToItself, LineFull, Memory}
 use Rattle.board.specs.Views.{IsPartner}
 use Rattle.board.specs.Known.{IsIncoming, AreEndsBut, AreEnds, IsPost, Did, view_of}
-use Rattle.board.specs.Found.{HasNone, HasMessages}
-use Rattle.board.specs.Receipts.{MayReceive, IsReceived, AreReceived, IsUnreceived, IsUnrecorded, IsStopped}
+use Rattle.board.specs.Found.{HasMessages}
+use Rattle.board.specs.Receipts.{MayReceive, IsReceived, AreReceived, IsUnrecorded, IsStopped}
 use Rattle.board.specs.Sending.{numbered}
-use Rattle.board.specs.Taking.{IsGot, IsFoundEmpty, IsUntaken}
+use Rattle.board.specs.Taking.{IsGot, IsUntaken}
 use Rattle.board.specs.TakingMany.{messages_of, AreGot, Stops}
 use Rattle.board.proofs.EndLemmas.{ends_later, ends_received, ends_but}
 use Rattle.board.proofs.OneSend.{saw_same, line_saw, recorder_saw}

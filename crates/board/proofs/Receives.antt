@@ -41,7 +41,7 @@ use Rattle.board.specs.declared.ends.Incoming.{Incoming}
 use Rattle.board.specs.declared.error.TakeError.{TakeError}
 use Rattle.board.specs.Known.{IsIncoming, Did}
 use Rattle.board.specs.Found.{KnowsOf}
-use Rattle.board.specs.Receipts.{MayReceive, IsTaking, IsReady, IsRecorded, IsTaken, reports_of, AreTaken, IsUnrecorded, IsReceived, AreReceived, IsUnreceived, IsHalted, IsStopped}
+use Rattle.board.specs.Receipts.{MayReceive, MayTake, IsTaking, IsReady, IsRecorded, IsTaken, reports_of, AreTaken, IsUnrecorded, IsReceived, AreReceived, IsUnreceived, IsHalted, IsStopped}
 use Rattle.board.specs.Sending.{numbered}
 use Rattle.board.specs.TakingMany.{messages_of}
 use Rattle.board.proofs.DidLemmas.{did_nothing, did_put_back, did_move, waiting_many}
@@ -274,7 +274,7 @@ module _ (l : LaneView) (region : ℕ) (s : Mine) (u : Incoming) (r : RecorderVi
         several_received l.instances l.capacity l.sender l.receiver region h r are.parcels more (reports_of arrivals) may.two legal_h its are.answers next
         (let same = ap length line in omega (arith, same, line_then, are.short, as_many))
 
-    pub ready : IsReady l region v
+    ready : IsReady l region v
     ready =
         let h = (held s).seen in
         let done = receives_at h (waiting_goods l t) may.legal (record { recorder = may.recorded; may = may.coregion }) refl are.took in
@@ -291,6 +291,17 @@ module _ (l : LaneView) (region : ℕ) (s : Mine) (u : Incoming) (r : RecorderVi
         let there = ap (λ (e : Held). length (sent e.seen l.sender l.receiver)) are.kept in
         let here = ap (λ (e : Held). received e.seen l.sender l.receiver) are.kept in
         omega (arith, less, there, here, are.taking.emptying.waiting, are.out, may.incoming.taken, may.incoming.known)
+
+    -- the next one may be taken out
+    pub may_take : 0 < length (packets_out t) → length v.line.events < MAX_EVENTS → MayTake l region t o v
+    may_take some short = record {
+      taking = are.taking;
+      some = some;
+      legal = subst (λ (e : Held). IsLegal l.instances l.capacity e.seen) (sym are.kept) may.legal;
+      ready = ready;
+      short = short;
+      two = may.two;
+    }
 
     -- one more is taken out
     pub one_more : (w : Mine) (i : Incoming) (x : RecorderView) (arrival : Arrival) → length v.line.events < MAX_EVENTS → IsTaken l region t o v arrival w i x → AreTaken l region s u r (arrivals ++ arrival ∷ []) w i x

@@ -14,7 +14,7 @@ use Rattle.board_core.specs.World.{after_receives}
 use Rattle.board_core.specs.Runs.{AreAnswers}
 use Rattle.board_table.specs.declared.packet.Packet.{Packet}
 use Rattle.board_table.specs.Layout.{LaneView}
-use Rattle.board_table.specs.Knowing.{Mine, held, vacant_out, IsEmptying, waiting_goods, emptied_base}
+use Rattle.board_table.specs.Knowing.{Mine, held, packets_out, vacant_out, IsEmptying, waiting_goods, emptied_base}
 use Rattle.board.specs.declared.answer.Arrival.{Arrival}
 use Rattle.board.specs.declared.answer.Stop.{Stop}
 use Rattle.board.specs.declared.answer.Stop.TheVariants.{Asked, NoMore, Refused}
@@ -48,6 +48,15 @@ pub record IsReady (l : LaneView) (region : ℕ) (recorder : RecorderView) : Typ
   pub its : recorder.line.instance ≡ l.receiver
   pub knows : length recorder.knowledge ≡ l.instances
   pub may : MayHaveRegion recorder.line.events region
+
+-- the receiver may take the next message out in this coregion: one is out with it, and its line has room
+pub record MayTake (l : LaneView) (region : ℕ) (me : Mine) (end : Incoming) (recorder : RecorderView) : Type 0 where
+  pub taking : IsTaking l me end
+  pub some : 0 < length (packets_out me)
+  pub legal : IsLegal l.instances l.capacity (held me).seen
+  pub ready : IsReady l region recorder
+  pub short : length recorder.line.events < MAX_EVENTS
+  pub two : AreTwo l.instances l.receiver l.sender
 
 -- the recorder has recorded the receive of the first of these packets over the base, with this report, and this is its clock
 pub record IsRecorded (packets : List Packet) (base : List ℕ) (from region : ℕ) (old : RecorderView) (report : ReportView) (clock : List ℕ) (new : RecorderView) : Type 0 where

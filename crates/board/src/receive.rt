@@ -1,5 +1,5 @@
 //! A post's receives, one at a time.
-ghost use Rattle.std.specs.Prelude.{◌≡◌, IfOk, IfErr};
+ghost use Rattle.std.specs.Prelude.{IfOk, IfErr};
 ghost use Rattle.board.specs.Views.{Sound};
 ghost use Rattle.board.specs.Taking.{IsLaneFrom, IsUntaken, Takes};
 

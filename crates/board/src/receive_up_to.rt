@@ -1,5 +1,5 @@
 //! A post's receives of several messages at once.
-ghost use Rattle.std.specs.Prelude.{◌≡◌, ◌≤◌};
+ghost use Rattle.std.specs.Prelude.{◌≤◌};
 ghost use Rattle.board.specs.Views.{Sound};
 ghost use Rattle.board.specs.TakingMany.{TakesMany};
 

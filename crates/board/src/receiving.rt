@@ -7,7 +7,7 @@ ghost use Rattle.board_table.specs.Layout.{IsBoard};
 ghost use Rattle.board_table.specs.Knowing.{held, packets_out, Rests};
 ghost use Rattle.board.specs.Known.{IsIncoming, Did};
 ghost use Rattle.board.specs.Found.{IsFound, KnowsOf};
-ghost use Rattle.board.specs.Receipts.{MayReceive, IsTaking, IsReady, IsRecorded, IsTaken, IsReceived, IsUnreceived};
+ghost use Rattle.board.specs.Receipts.{MayReceive, MayTake, IsRecorded, IsTaken, IsReceived, IsUnreceived};
 ghost use Rattle.board.specs.declared.receiving.Found.TheVariants.{Messages};
 
 use crate::answer::Arrival;
@@ -124,12 +124,7 @@ pub(crate) fn take_next(
 ) -> Result<Arrival, AllocError>
     requires table { seat.old.table_id ≡ words.now.table_id }
     requires board { IsBoard lane.now.instances lane.now.capacity words.now.key words.now.table_id }
-    requires taking { IsTaking lane.now seat.old.me end.old }
-    requires some { 0 < length (packets_out seat.old.me) }
-    requires legal { IsLegal lane.now.instances lane.now.capacity (held seat.old.me).seen }
-    requires ready { IsReady lane.now region recorder.old }
-    requires short { length recorder.old.line.events < MAX_EVENTS }
-    requires two { AreTwo lane.now.instances lane.now.receiver lane.now.sender }
+    requires may { MayTake lane.now region seat.old.me end.old recorder.old }
     requires from { from ≡ lane.now.sender }
     ensures table { seat.new.table_id ≡ seat.old.table_id }
     ensures ok { IfOk result (λ arrival. IsTaken lane.now region seat.old.me end.old recorder.old arrival seat.new.me end.new recorder.new) }
@@ -163,12 +158,7 @@ fn record(
 ) -> Result<(Report, Clock), AllocError>
     requires table { seat.old.table_id ≡ words.now.table_id }
     requires board { IsBoard lane.now.instances lane.now.capacity words.now.key words.now.table_id }
-    requires taking { IsTaking lane.now seat.old.me end.now }
-    requires some { 0 < length (packets_out seat.old.me) }
-    requires legal { IsLegal lane.now.instances lane.now.capacity (held seat.old.me).seen }
-    requires ready { IsReady lane.now region recorder.old }
-    requires short { length recorder.old.line.events < MAX_EVENTS }
-    requires two { AreTwo lane.now.instances lane.now.receiver lane.now.sender }
+    requires may { MayTake lane.now region seat.old.me end.now recorder.old }
     requires from { from ≡ lane.now.sender }
     ensures table { seat.new.table_id ≡ seat.old.table_id }
     ensures same { seat.new.me ≡ seat.old.me }

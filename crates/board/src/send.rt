@@ -1,5 +1,5 @@
 //! A post's sends, one at a time.
-ghost use Rattle.std.specs.Prelude.{◌≡◌, ◌≢◌, ◌+◌, ◌<◌, ◌≤◌, IfSome, IfNone, IfErr};
+ghost use Rattle.std.specs.Prelude.{◌≢◌, ◌+◌, ◌<◌, ◌≤◌, IfSome, IfNone, IfErr};
 ghost use Rattle.chart.specs.declared.line.TheConstants.{MAX_EVENTS};
 ghost use Rattle.clock.specs.declared.clock.TheConstants.{INLINE_ENTRIES};
 ghost use Rattle.board.specs.Views.{Sound};

@@ -1,6 +1,6 @@
 //! Sends.
-ghost use Rattle.std.specs.Prelude.{◌≡◌, ◌≢◌, ◌+◌, ◌-◌, ◌<◌, ◌≤◌, true, false, [], ◌∷◌, length, drop, All, Ok, Err, OnOk, OnErr, IfOk, IfErr, IsOk, IsErr};
-ghost use Rattle.chart.specs.Histories.{own, is_closed, chart_of, AreTwo, IsLegal};
+ghost use Rattle.std.specs.Prelude.{◌≡◌, ◌≢◌, ◌+◌, ◌-◌, ◌<◌, ◌≤◌, true, false, [], ◌∷◌, length, drop, All, Ok, Err, OnOk, OnErr, IfOk, IfErr, IsOk};
+ghost use Rattle.chart.specs.Histories.{own, IsLegal};
 ghost use Rattle.chart.specs.declared.history.Occurrence.TheVariants as occurrence;
 ghost use Rattle.chart.specs.declared.line.TheConstants.{MAX_EVENTS};
 ghost use Rattle.clock.specs.Diffs.{apply_diff};
@@ -9,7 +9,7 @@ ghost use Rattle.line_recorder.specs.Recorders.{send_clock, after_send};
 ghost use Rattle.line_recorder.specs.Recording.{IsRecorder};
 ghost use Rattle.board_table.specs.declared.lane.TheConstants.{MAX_CAPACITY};
 ghost use Rattle.board_table.specs.Layout.{IsBoard};
-ghost use Rattle.board_table.specs.Knowing.{held, packets_out, vacant_out, Rests, IsFilling};
+ghost use Rattle.board_table.specs.Knowing.{held, Rests};
 ghost use Rattle.board.specs.Known.{IsOutgoing, Did};
 ghost use Rattle.board.specs.Parts.{MayPut, HasPlaces, HasNoPlaces, IsUnmade};
 

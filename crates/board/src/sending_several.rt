@@ -1,6 +1,6 @@
 //! Sends of several messages at once.
-ghost use Rattle.std.specs.Prelude.{◌≡◌, ◌≢◌, ◌+◌, ◌-◌, ◌<◌, ◌≤◌, false, length, map, IfOk, IfErr, OnOk, OnErr};
-ghost use Rattle.chart.specs.Histories.{own, sent, is_closed, chart_of, AreTwo, IsLegal};
+ghost use Rattle.std.specs.Prelude.{◌≡◌, ◌≢◌, ◌+◌, ◌-◌, ◌<◌, ◌≤◌, length, map, IfOk, IfErr, OnOk, OnErr};
+ghost use Rattle.chart.specs.Histories.{own, sent};
 ghost use Rattle.chart.specs.declared.line.TheConstants.{MAX_EVENTS};
 ghost use Rattle.line_recorder.specs.Sends.{next_clocks};
 ghost use Rattle.line_recorder.specs.Recording.{IsRecorder};

@@ -1,16 +1,18 @@
 use Rattle.std.proofs.Common.{rules, ◌<◌, [], ◌∷◌, length, ap, refl, arith}
 use Rattle.chart.specs.Charts.{LineView}
 use Rattle.chart.specs.declared.line.TheConstants.{MAX_EVENTS}
-use Rattle.board.proofs.Receives.{none_taken, ready, one_more, room_left, all_recorder, all_end, one_received}
+use Rattle.board.proofs.Receives.{none_taken, may_take, one_more, room_left, all_recorder, all_end, one_received}
 use Rattle.board.proofs.receiving.receive_one.Goals as goal
 
-pub take_next-requires-clause-ready : goal.take_next-requires-clause-ready
-take_next-requires-clause-ready c =
+pub take_next-requires-clause-may : goal.take_next-requires-clause-may
+take_next-requires-clause-may c =
     let l = c.args.lane.now in
     let s = c.args.seat.now.me in
     let u = c.args.end.now in
     let r = c.args.recorder.now in
-    ready l c.args.region s u r c.requires.may [] s u r (none_taken l c.args.region s u r c.requires.may)
+    let may = c.requires.may in
+    let short : length r.line.events < MAX_EVENTS = omega (arith, ap (λ (line : LineView). length line.events) c.line.ensures, c.len.ensures.value, c.if-len-ge-MAX_EVENTS.false) in
+    may_take l c.args.region s u r may [] s u r (none_taken l c.args.region s u r may) may.found.some short
 
 pub returns : goal.returns
 returns c =

@@ -1,9 +1,10 @@
 use Rattle.std.proofs.Common.{rules, ◌<◌, ◌∙◌, [], ◌∷◌, ◌++◌, List, length, sym, ap, subst, arith}
 use Rattle.chart.specs.Charts.{LineView}
 use Rattle.chart.specs.declared.line.TheConstants.{MAX_EVENTS}
+use Rattle.board_table.specs.Knowing.{packets_out}
 use Rattle.board.specs.declared.answer.Arrival.{Arrival}
 use Rattle.board.specs.Receipts.{AreTaken}
-use Rattle.board.proofs.Receives.{none_taken, ready, one_more}
+use Rattle.board.proofs.Receives.{none_taken, may_take, one_more}
 use Rattle.board.proofs.receiving_several.take_several.Goals as goal
 
 pub loop-init : goal.loop-init
@@ -18,9 +19,11 @@ loop-init c =
       as_many = ap length c.requires.none;
     }
 
-pub take_next-requires-clause-ready : goal.take_next-requires-clause-ready
-take_next-requires-clause-ready c =
-    ready c.args.lane.now c.args.region c.args.seat.now.me c.args.end.now c.args.recorder.now c.requires.may c.loop.arrivals.items c.loop.seat.me c.loop.end c.loop.recorder c.loop.invariant.taken
+pub take_next-requires-clause-may : goal.take_next-requires-clause-may
+take_next-requires-clause-may c =
+    let some : 0 < length (packets_out c.loop.seat.me) = search rules in
+    let short : length c.loop.recorder.line.events < MAX_EVENTS = omega (arith, ap (λ (line : LineView). length line.events) c.line.ensures, c.len.ensures.value, c.if-len-ge-MAX_EVENTS.false) in
+    may_take c.args.lane.now c.args.region c.args.seat.now.me c.args.end.now c.args.recorder.now c.requires.may c.loop.arrivals.items c.loop.seat.me c.loop.end c.loop.recorder c.loop.invariant.taken some short
 
 pub loop-preserved : goal.loop-preserved
 loop-preserved c =
