@@ -8,8 +8,9 @@ use Rattle.chart.specs.Messages.{Content}
 use Rattle.chart.specs.Histories.{own, sent, waiting, receive_of, chart_of, IsLegal}
 use Rattle.chart.proofs.Histories.{is_lane-same, received-le, received_begins}
 use Rattle.board_core.specs.Parcels.{Parcel, next_clock, goods}
+use Rattle.board_core.specs.Differences.{zeros}
 use Rattle.board_table.specs.Layout.{LaneView}
-use Rattle.board_table.specs.Carrying.{last_clock, zeros}
+use Rattle.board_table.specs.Carrying.{last_clock}
 use Rattle.board_table.specs.Knowing.{Mine, held, Rests, IsPost, Sees}
 use Rattle.board_table.specs.Plays.{PutsBack, Claims, ClaimsAnew}
 use Rattle.board.specs.declared.ends.Outgoing.{Outgoing}

@@ -24,6 +24,7 @@ use Rattle.board_core.specs.Parcels.{Parcel, goods}
 use Rattle.board_core.specs.Instances.{IsInstance}
 use Rattle.board_core.specs.World.{with_receives, after_receives}
 use Rattle.board_core.specs.Runs.{AreAnswers}
+use Rattle.board_core.specs.Differences.{zeros}
 use Rattle.board_core.proofs.GoodsLemmas.{goods_many, goods_grow, goods_clocks, waiting_goods as goods_waiting}
 use Rattle.board_core.proofs.OwnEvents.{same_line, same_instance}
 use Rattle.board_core.proofs.Several.{AreReceived as Received, several_received}
@@ -31,7 +32,7 @@ use Rattle.board_core.proofs.Told.{reports_received}
 use Rattle.board_table.specs.declared.held.Held.{Held}
 use Rattle.board_table.specs.declared.packet.Packet.{Packet}
 use Rattle.board_table.specs.Layout.{LaneView}
-use Rattle.board_table.specs.Carrying.{Carries, AreCarried, last_clock, zeros, with_received}
+use Rattle.board_table.specs.Carrying.{Carries, AreCarried, last_clock, with_received}
 use Rattle.board_table.specs.Knowing.{Mine, held, packets_out, vacant_out, IsEmptying, Moves, waiting_goods, emptied_base, at_rest}
 use Rattle.board_table.specs.Plays.{PutsBack, Frees}
 use Rattle.board.specs.declared.answer.Arrival.{Arrival}

@@ -1,4 +1,5 @@
 pub mod Along
+pub mod Differing
 pub mod GoodsLemmas
 pub mod OwnEvents
 pub mod Reaching

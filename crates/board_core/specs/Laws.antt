@@ -1,5 +1,6 @@
--- What holds of every run on a board, and what a later history leaves as it was: statements that `laws` proves. That a clock
--- has what its send knows is vector time (Fidge 1988, Mattern 1989); the others are this project's profile.
+-- What holds of every run on a board, what the differences on its lanes tell, and what a later history leaves as it
+-- was: statements that `laws` proves. That a clock has what its send knows is vector time (Fidge 1988, Mattern 1989),
+-- that differences tell it is Singhal and Kshemkalyani's (1992); the others are this project's profile.
 use Rattle.std.specs.Prelude.{◌≡◌, ℕ, ◌≤◌, List, ◌++◌, length, map, take, slice_get, Some, All}
 use Rattle.chart.specs.declared.history.Occurrence.{Occurrence}
 use Rattle.chart.specs.Charts.{at, chart_event}
@@ -7,11 +8,13 @@ use Rattle.chart.specs.Events.{send_event}
 use Rattle.chart.specs.Histories.{own, sent, received, is_closed, chart_of, IsLegal, Begins}
 use Rattle.chart.specs.Places.{IsEvent, IsSendAfter}
 use Rattle.chart.specs.Reports.{ReportView, IsReportIn, receives_of}
+use Rattle.clock.specs.declared.diff.Change.{Change}
 use Rattle.lane_core.specs.Traffic.{Traffic}
 use Rattle.line_recorder.specs.Carried.{clocks_of}
 use Rattle.line_recorder.specs.Laws.{IsClockOf}
 use Rattle.line_recorder.specs.Recording.{IsRecorder}
-use Rattle.board_core.specs.Parcels.{Parcel, next_clock, goods}
+use Rattle.board_core.specs.Parcels.{Parcel, clocks, next_clock, goods}
+use Rattle.board_core.specs.Differences.{zeros, AreDiffs, restored}
 use Rattle.board_core.specs.Steps.{Step}
 use Rattle.board_core.specs.Runs.{IsRun, world_after, history_of, reports_of}
 
@@ -57,6 +60,33 @@ abbrev pub RecorderLaw : Type 0
 RecorderLaw = (n k : ℕ) (steps : List Step) → IsRun n k steps → (p : ℕ) → 1 ≤ p → p ≤ n
     → IsRecorder n (history_of n k steps) p ((world_after n k steps).recorders p)
     × (((world_after n k steps).recorders p).reports ≡ reports_of p steps)
+
+-- Of the differences on a lane of a legal history.
+
+-- there are some: each names exactly the instances whose entries differ, rising
+abbrev pub DifferencesLaw : Type 0
+DifferencesLaw = (n k : ℕ) (h : List Occurrence) → IsLegal n k h
+    → (q p : ℕ) → (diffs : List (List Change)) × AreDiffs (zeros n) (clocks (goods n h q p)) diffs
+
+-- applied in order from zeros they give the clocks of its sends
+abbrev pub RestoringLaw : Type 0
+RestoringLaw = (n k : ℕ) (h : List Occurrence) → IsLegal n k h
+    → (q p : ℕ) (diffs : List (List Change)) → AreDiffs (zeros n) (clocks (goods n h q p)) diffs
+    → restored (zeros n) diffs ≡ clocks (goods n h q p)
+
+-- and so the i-th gives what that send knows of each of n instances
+abbrev pub TellingLaw : Type 0
+TellingLaw = (n k : ℕ) (h : List Occurrence) → IsLegal n k h
+    → (q p : ℕ) (diffs : List (List Change)) → AreDiffs (zeros n) (clocks (goods n h q p)) diffs
+    → (i j : ℕ) → IsSendAfter (chart_of h q) p i j
+    → (clock : List ℕ) × (slice_get (restored (zeros n) diffs) i ≡ Some clock)
+    × (length clock ≡ n) × IsClockOf (chart_of h) (at q j) clock
+
+-- of every run they give the clocks of what it published
+abbrev pub RunRestoringLaw : Type 0
+RunRestoringLaw = (n k : ℕ) (steps : List Step) → IsRun n k steps
+    → (q p : ℕ) (diffs : List (List Change)) → AreDiffs (zeros n) (clocks (traffic_of n k steps q p).published) diffs
+    → restored (zeros n) diffs ≡ clocks (traffic_of n k steps q p).published
 
 -- Of histories that begin with another.
 

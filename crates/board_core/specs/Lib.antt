@@ -1,3 +1,4 @@
+pub mod Differences
 pub mod Instances
 pub mod Laws
 pub mod Parcels

@@ -17,6 +17,10 @@ pub record Parcel : Type 0 where
 abbrev pub names : List Parcel → List (List ℕ)
 names parcels = map (λ (x : Parcel). x.message.name) parcels
 
+-- their clocks
+abbrev pub clocks : List Parcel → List (List ℕ)
+clocks parcels = map (λ (x : Parcel). x.clock) parcels
+
 -- the clock of p's next event, if that is a send: what p knows then, with this event itself
 abbrev pub next_clock : ℕ → List Occurrence → ℕ → List ℕ
 next_clock n h p = with_entry (knowledge_of n h p) p (length (chart_of h p) + 1)

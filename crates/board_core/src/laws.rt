@@ -1,6 +1,6 @@
 //! What holds of every run of all instances on a board, and of what their lanes carry: the contracts of functions that do
 //! nothing.
-ghost use Rattle.board_core.specs.Laws.{LegalLaw, LaneLaw, ClockLaw, ReportLaw, RecorderLaw, GoodsLaw, GoodsGrowthLaw, OthersLaw, ClockGrowthLaw, ReportGrowthLaw, HistoryLaw};
+ghost use Rattle.board_core.specs.Laws.{LegalLaw, LaneLaw, ClockLaw, ReportLaw, RecorderLaw, GoodsLaw, DifferencesLaw, RestoringLaw, TellingLaw, RunRestoringLaw, GoodsGrowthLaw, OthersLaw, ClockGrowthLaw, ReportGrowthLaw, HistoryLaw};
 
 /// Of every run, with any number of instances and lanes of any capacity, in any order of their steps: what was sent,
 /// received and closed is a legal history. Each lane has passed on what this history says; the clock of each published
@@ -18,6 +18,17 @@ pub fn every_run()
 /// What a lane carries by a history is the messages that were sent on it, each with the clock of its send.
 pub fn goods_law()
     ensures { GoodsLaw }
+{}
+
+/// What the differences on a lane tell, in every legal history: what changed in each send's clock since the send before
+/// it on the lane, the first one's since zeros (Singhal and Kshemkalyani 1992). There are such differences, each of
+/// exactly the entries that differ, rising by instance. Applied in order from zeros they give the sends' clocks, and so
+/// the numbers that each send knows in the history's chart. Of every run they give the clocks of what was published.
+pub fn differences_law()
+    ensures exist { DifferencesLaw }
+    ensures restore { RestoringLaw }
+    ensures tell { TellingLaw }
+    ensures runs { RunRestoringLaw }
 {}
 
 /// What a later history leaves as it was: what a lane carries only grows; an instance's line, and the clock that its next

@@ -4,10 +4,11 @@ use Rattle.std.specs.Prelude.{Option, Some, None}
 use Rattle.atomic_table.specs.Table.{rest}
 use Rattle.chart.specs.Histories.{sent, received}
 use Rattle.board_core.specs.Parcels.{Parcel, goods}
+use Rattle.board_core.specs.Differences.{zeros}
 use Rattle.board_table.specs.declared.packet.Packet.{Packet}
 use Rattle.board_table.specs.declared.held.Hold.TheVariants.{Filling, Emptying}
 use Rattle.board_table.specs.Layout.{LaneView, slot_of}
-use Rattle.board_table.specs.Carrying.{AreCarried, zeros, last_clock, vacant_slots, full_slots}
+use Rattle.board_table.specs.Carrying.{AreCarried, last_clock, vacant_slots, full_slots}
 use Rattle.board_table.specs.Knowing.{Mine, held, packets_out, vacant_out, IsFilling, IsEmptying}
 use Rattle.board_table.proofs.OutSlots.{filling_slots, emptying_slots, is_filling}
 use Rattle.board_table.proofs.Receiving.{is_emptying}

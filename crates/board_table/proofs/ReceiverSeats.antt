@@ -6,10 +6,11 @@ use Rattle.chart.specs.Events.{MayHaveRegion}
 use Rattle.chart.specs.Histories.{sent, received, is_closed, chart_of, AreTwo}
 use Rattle.chart.specs.declared.line.TheConstants.{MAX_EVENTS}
 use Rattle.board_core.specs.Parcels.{goods}
+use Rattle.board_core.specs.Differences.{zeros}
 use Rattle.board_table.specs.declared.packet.Packet.{Packet}
 use Rattle.board_table.specs.declared.held.Hold.TheVariants.{Emptying}
 use Rattle.board_table.specs.Layout.{LaneView, put_word, taken_word}
-use Rattle.board_table.specs.Carrying.{AreCarried, zeros, last_clock}
+use Rattle.board_table.specs.Carrying.{AreCarried, last_clock}
 use Rattle.board_table.specs.Knowing.{Mine, held, packets_out, vacant_out, Rests, IsEmptying}
 use Rattle.board_table.specs.Rule.{closed_bit, Kept}
 use Rattle.board_table.specs.Plays.{FindsAnew, FindsAgain, Frees, PutsBack}

@@ -14,6 +14,7 @@ use Rattle.chart.specs.Events.{MayHaveRegion}
 use Rattle.chart.specs.Histories.{own, is_lane, sent, received, is_closed, chart_of, AreTwo}
 use Rattle.chart.proofs.Histories.{same_received, begins_same}
 use Rattle.board_core.specs.Parcels.{Parcel, goods}
+use Rattle.board_core.specs.Differences.{zeros}
 use Rattle.board_core.proofs.GoodsLemmas.{goods_many, goods_grow}
 use Rattle.board_core.proofs.OwnEvents.{same_line}
 use Rattle.board_core.proofs.Standing.{other_receiver}
@@ -21,7 +22,7 @@ use Rattle.board_table.specs.declared.packet.Packet.{Packet}
 use Rattle.board_table.specs.declared.held.Hold.TheVariants.{Nothing, Emptying}
 use Rattle.board_table.specs.declared.held.Held.{Held}
 use Rattle.board_table.specs.Layout.{LaneView, put_word, taken_word, slot_of, slot_count}
-use Rattle.board_table.specs.Carrying.{AreCarried, zeros, last_clock, with_received, vacant_slots, full_slots, packets_in, vacant_in}
+use Rattle.board_table.specs.Carrying.{AreCarried, last_clock, with_received, vacant_slots, full_slots, packets_in, vacant_in}
 use Rattle.board_table.specs.Knowing.{Mine, held, many_out, IsPost, IsEmptying, Moves, at_rest}
 use Rattle.board_table.specs.Rule.{closed_bit, IsLane, Fits, Kept}
 use Rattle.board_table.specs.Plays.{Finds, Makes, Frees, PutsBack}

@@ -13,6 +13,7 @@ use Rattle.chart.specs.Histories.{own, is_lane, sent, received, is_closed, chart
 use Rattle.chart.proofs.Histories.{same_sent, same_closed, begins_same, is_closed-close, is_closed-close_other}
 use Rattle.line_recorder.specs.Carried.{knowledge_of}
 use Rattle.board_core.specs.Parcels.{Parcel, goods}
+use Rattle.board_core.specs.Differences.{zeros}
 use Rattle.board_core.proofs.GoodsLemmas.{goods_many}
 use Rattle.board_core.proofs.OwnEvents.{same_goods, same_line, same_knowledge}
 use Rattle.board_core.proofs.Standing.{other_receiver}
@@ -20,7 +21,7 @@ use Rattle.board_table.specs.declared.packet.Packet.{Packet}
 use Rattle.board_table.specs.declared.held.Hold.TheVariants.{Nothing, Filling}
 use Rattle.board_table.specs.declared.held.Held.{Held}
 use Rattle.board_table.specs.Layout.{LaneView, put_word, taken_word, slot_of, slot_count}
-use Rattle.board_table.specs.Carrying.{AreCarried, AreNext, zeros, last_clock, sent_base, with_sent, vacant_slots, full_slots}
+use Rattle.board_table.specs.Carrying.{AreCarried, AreNext, last_clock, sent_base, with_sent, vacant_slots, full_slots}
 use Rattle.board_table.specs.Knowing.{Mine, held, many_out, Moves, at_rest}
 use Rattle.board_table.specs.Rule.{closed_bit, IsLane, Fits, Kept}
 use Rattle.board_table.specs.Plays.{Claims, Makes, Publishes, Closes, PutsBack}

@@ -1,11 +1,12 @@
 -- What the slots of a lane carry: messages, each with what changed in the sender's clock since the message before it on the
 -- lane, the first one since zeros (Singhal and Kshemkalyani 1992).
-use Rattle.std.specs.Prelude.{◌≡◌, ℕ, zero, suc, ◌≤◌, List, [], ◌∷◌, length, take, replicate, All, Option, Some, None}
+use Rattle.std.specs.Prelude.{◌≡◌, ℕ, zero, suc, ◌≤◌, List, [], ◌∷◌, length, take, All, Option, Some, None}
 use Rattle.chart.specs.declared.history.Occurrence.{Occurrence}
 use Rattle.chart.specs.declared.history.Occurrence.TheVariants.{Send, Receive}
 use Rattle.chart.specs.Histories.{received}
 use Rattle.clock.specs.Diffs.{apply_diff}
 use Rattle.board_core.specs.Parcels.{Parcel, next_clock, goods}
+use Rattle.board_core.specs.Differences.{zeros}
 use Rattle.board_table.specs.declared.packet.Packet.{Packet}
 use Rattle.board_table.specs.Layout.{slot_of}
 
@@ -26,10 +27,6 @@ AreCarried base (x ∷ xs) (y ∷ ys) = Carries base x y × AreCarried y.clock x
 abbrev pub last_clock : List ℕ → List Parcel → List ℕ
 last_clock base [] = base
 last_clock base (y ∷ ys) = last_clock y.clock ys
-
--- the clock before the first message
-abbrev pub zeros : ℕ → List ℕ
-zeros n = replicate n 0
 
 -- the clock of the last message that q sent to p
 abbrev pub sent_base : ℕ → List Occurrence → ℕ → ℕ → List ℕ

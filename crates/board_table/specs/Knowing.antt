@@ -4,12 +4,13 @@ use Rattle.atomic_table.specs.Table.{Me}
 use Rattle.chart.specs.declared.history.Occurrence.{Occurrence}
 use Rattle.chart.specs.Histories.{own, sent, received, IsLegal, Begins}
 use Rattle.board_core.specs.Parcels.{Parcel, goods}
+use Rattle.board_core.specs.Differences.{zeros}
 use Rattle.board_table.specs.declared.packet.Packet.{Packet}
 use Rattle.board_table.specs.declared.held.Hold.{Hold}
 use Rattle.board_table.specs.declared.held.Hold.TheVariants.{Nothing, Filling, Emptying}
 use Rattle.board_table.specs.declared.held.Held.{Held}
 use Rattle.board_table.specs.Layout.{LaneView}
-use Rattle.board_table.specs.Carrying.{AreCarried, zeros, last_clock, vacant_slots, full_slots, packets_in, vacant_in}
+use Rattle.board_table.specs.Carrying.{AreCarried, last_clock, vacant_slots, full_slots, packets_in, vacant_in}
 
 -- a seat's view, which is a list of what it knows of each post that it stands for, and the slots that are out with it
 abbrev pub Mine : Type 0

@@ -8,10 +8,11 @@ use Rattle.atomic_table.specs.Table.{State}
 use Rattle.chart.specs.declared.history.Occurrence.{Occurrence}
 use Rattle.chart.specs.Histories.{own, received, is_closed, AreTwo, IsLegal, Begins}
 use Rattle.board_core.specs.Parcels.{goods}
+use Rattle.board_core.specs.Differences.{zeros}
 use Rattle.board_table.specs.declared.packet.Packet.{Packet}
 use Rattle.board_table.specs.declared.held.Held.{Held}
 use Rattle.board_table.specs.Layout.{put_word, taken_word, word_count, slot_of, slot_count}
-use Rattle.board_table.specs.Carrying.{AreCarried, zeros}
+use Rattle.board_table.specs.Carrying.{AreCarried}
 use Rattle.board_table.specs.Knowing.{filling_to, emptying_from, new_held}
 
 -- what a lane's first word says beside the count
