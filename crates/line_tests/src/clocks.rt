@@ -3,8 +3,8 @@
 //! Where memory is refused, the same call is made once more, and gives the full answer.
 ghost use Rattle.std.specs.Prelude.{◌≡◌, ◌≤◌, length, IfOk};
 
-use clock::{Change, Clock, Diff};
 use chart::{InstanceNo, MAX_INSTANCES};
+use clock::{Change, Clock, Diff};
 use std::alloc::{AllocError, Global};
 use std::process::Abort;
 use std::test::Fail;

@@ -11,9 +11,9 @@ invariant_of-self c =
 pub returns-in-Some : goal.returns-in-Some
 returns-in-Some c =
     let before =
-      events_in-put c.args.range c.self.inside.backwards.items c.push_reserved.new.self.items
-      (joined_last c.args.range c.in-Some.next c.self.inside.backwards.items c.pop.new.self.items c.push_reserved.new.self.items (sym c.is_followed_by.ensures ∙ c.if-is_followed_by.true) c.in-Some.ensures.items c.push_reserved.ensures.items)
-      ∙ ap (λ es. events_of c.args.range ++ es) c.self.view_is in
+    events_in-put c.args.range c.self.inside.backwards.items c.push_reserved.new.self.items
+    (joined_last c.args.range c.in-Some.next c.self.inside.backwards.items c.pop.new.self.items c.push_reserved.new.self.items (sym c.is_followed_by.ensures ∙ c.if-is_followed_by.true) c.in-Some.ensures.items c.push_reserved.ensures.items)
+    ∙ ap (λ es. events_of c.args.range ++ es) c.self.view_is in
     record { ok = before; refused = tt }
 
 pub invariant_of-self-in-Continue-1 : goal.invariant_of-self-in-Continue-1
