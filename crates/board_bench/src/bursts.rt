@@ -1,29 +1,41 @@
-//! Bursts of messages on one thread: as many as a lane has places are sent, and then received.
-use crate::pattern::message;
+//! Bursts of messages on one thread: as many as a lane has places are sent, and then received; and the same messages passed
+//! by two recorders alone.
+use crate::load::{Calls, Load, Stopped};
 use crate::ports::{Port, board_ports, ring_ports};
-use crate::timing::{Load, Over};
+use crate::timing::Over;
 use board::Board;
+use chart::Name;
+use recorder_pair::{Pattern, exchange, partners};
 use std::alloc::Global;
 use std::time::{Clock, Instant};
 
 /// Messages of a run.
 pub const MESSAGES: usize = 4096;
 
+/// How many of a burst's messages a call passes.
+pub fn at_once(load: Load) -> usize {
+    match load.calls {
+        Calls::Single => 1,
+        Calls::Several => load.capacity.max(1),
+    }
+}
+
 fn pass_bursts<P: Port>(
     first: &mut P,
     second: &mut P,
     alloc: Global,
     load: Load,
-) -> anyhow::Result<()> {
+) -> Result<(), Stopped> {
+    let many = at_once(load).max(1);
     for _ in 0..MESSAGES / load.capacity.max(1) {
-        for _ in 0..load.capacity {
-            if first.send(1, message(alloc, load.body)?).is_some() {
-                anyhow::bail!("a message was refused");
+        for _ in 0..load.capacity / many {
+            if first.send(1, load.parcel(alloc, many)?)?.is_some() {
+                return Err(Stopped);
             }
         }
-        for _ in 0..load.capacity {
-            if second.receive(0).is_none() {
-                anyhow::bail!("no message came");
+        for _ in 0..load.capacity / many {
+            if second.receive(0, load.calls, many) != many {
+                return Err(Stopped);
             }
         }
     }
@@ -43,8 +55,12 @@ fn run_ports<R: Clock, P: Port + Drop>(
     let mut first = first;
     let mut second = second;
     let start = Instant::now(rt)?;
-    pass_bursts(&mut first, &mut second, alloc, load)?;
-    Ok(u64::try_from(start.elapsed(rt)?.as_nanos())?)
+    let passed = pass_bursts(&mut first, &mut second, alloc, load);
+    let took = start.elapsed(rt)?;
+    if passed.is_err() {
+        anyhow::bail!("a message was refused, or didn't come");
+    }
+    Ok(u64::try_from(took.as_nanos())?)
 }
 
 /// How many nanoseconds it took, on fresh lanes.
@@ -62,40 +78,15 @@ pub fn run_bursts<R: Clock>(rt: &R, alloc: Global, over: Over, load: Load) -> an
     }
 }
 
-/// What both ends of a lane know, as a board's posts keep it.
-#[derive(Clone, Copy, Debug)]
-struct Known {
-    put: usize,
-    taken: usize,
-    known_put: usize,
-    known_taken: usize,
-}
-
-/// How often the ends of a board's lane look at each other's word in these bursts: only where the number that an end knows
-/// leaves no place, or no message.
-pub fn looks(capacity: usize) -> u64 {
-    let mut looks = 0u64;
-    let mut ends = Known {
-        put: 0,
-        taken: 0,
-        known_put: 0,
-        known_taken: 0,
-    };
-    for _ in 0..MESSAGES / capacity.max(1) {
-        for _ in 0..capacity {
-            if ends.put.saturating_sub(ends.known_taken) >= capacity {
-                looks = looks.saturating_add(1);
-                ends.known_taken = ends.taken;
-            }
-            ends.put = ends.put.saturating_add(1);
-        }
-        for _ in 0..capacity {
-            if ends.taken >= ends.known_put {
-                looks = looks.saturating_add(1);
-                ends.known_put = ends.put;
-            }
-            ends.taken = ends.taken.saturating_add(1);
-        }
+/// How many nanoseconds as many sends and receives with their reports took two recorders, with no lane between them.
+pub fn run_recorders<R: Clock>(rt: &R, alloc: Global) -> anyhow::Result<u64> {
+    let name = Name::new(b"m")?;
+    let (mut first, mut second) = partners(alloc)?;
+    let start = Instant::now(rt)?;
+    let races = exchange(&mut first, &mut second, Pattern::OneWay, MESSAGES, name)?;
+    let took = start.elapsed(rt)?;
+    if races > 0 {
+        anyhow::bail!("a report has races");
     }
-    looks
+    Ok(u64::try_from(took.as_nanos())?)
 }

@@ -1,20 +1,25 @@
 //! What a message costs over a board's lanes, beside the kit's rings: on threads that pass messages at once, and in bursts on
-//! one thread. With the word `time` it tells the times, and else only which messages it would time.
+//! one thread, where two recorders pass the same messages too. With the word `time` it tells the times, and else only which
+//! messages it would time.
 #![tactic(auto)]
 
 mod bursts;
+mod load;
+mod looks;
 mod pattern;
 mod ports;
 mod timing;
 
-use bursts::{MESSAGES, looks, run_bursts};
+use bursts::{MESSAGES, run_bursts, run_recorders};
+use load::{Calls, Load};
+use looks::looks;
 use pattern::Pattern;
 use std::convert::AsStr;
 use std::env;
 use std::rt::Env;
 use std::thread::Threads;
 use std::time::Clock;
-use timing::{Load, Over, run_pattern};
+use timing::{Over, run_pattern};
 
 /// Runs of each kind, whose median is told.
 const RUNS: usize = 15;
@@ -28,6 +33,11 @@ fn median(mut took: Vec<u64>, messages: u64) -> anyhow::Result<u64> {
         Some(middle) => Ok(*middle / messages.max(1)),
         None => anyhow::bail!("nothing was timed"),
     }
+}
+
+/// So many hundredths of the other number.
+fn percent(number: u64, of: u64) -> u64 {
+    number.saturating_mul(100) / of.max(1)
 }
 
 /// Tells what a message of a pattern costs, over a board and over rings in turn.
@@ -46,25 +56,40 @@ fn tell_pattern<R: Threads + Sync + Clock + AllocGlobal + Print>(
     let messages = pattern.messages();
     let board = median(board, messages)?;
     let rings = median(rings, messages)?;
-    let Load { capacity, body } = load;
-    println!(rt; "{pattern},{capacity},{body},{messages},{board},{rings},")?;
+    let ratio = percent(board, rings);
+    let Load {
+        capacity,
+        body,
+        calls,
+    } = load;
+    println!(rt; "{pattern},{calls},{capacity},{body},{messages},{board},{rings},,{ratio},")?;
     Ok(())
 }
 
-/// Tells what a message costs in bursts on one thread, over a board and over rings in turn.
+/// Tells what a message costs in bursts on one thread, over a board, over rings and by recorders in turn.
 fn tell_bursts<R: Clock + AllocGlobal + Print>(rt: &R, load: Load) -> anyhow::Result<()> {
     let alloc = rt.alloc();
     let mut board = Vec::new(alloc);
     let mut rings = Vec::new(alloc);
+    let mut recorders = Vec::new(alloc);
     for _ in 0..RUNS {
         board.push(run_bursts(rt, alloc, Over::Board, load)?)?;
         rings.push(run_bursts(rt, alloc, Over::Rings, load)?)?;
+        recorders.push(run_recorders(rt, alloc)?)?;
     }
     let board = median(board, MESSAGES as u64)?;
     let rings = median(rings, MESSAGES as u64)?;
-    let Load { capacity, body } = load;
-    let looks = looks(capacity);
-    println!(rt; "one thread,{capacity},{body},{MESSAGES},{board},{rings},{looks}")?;
+    let recorders = median(recorders, MESSAGES as u64)?;
+    let ratio = percent(board, rings.saturating_add(recorders));
+    let Load {
+        capacity,
+        body,
+        calls,
+    } = load;
+    let looks = looks(load);
+    println!(rt;
+        "one thread,{calls},{capacity},{body},{MESSAGES},{board},{rings},{recorders},{ratio},{looks}"
+    )?;
     Ok(())
 }
 
@@ -74,18 +99,38 @@ fn tell_messages<R: Threads + Sync + Clock + AllocGlobal + Print>(
     load: Load,
 ) -> anyhow::Result<()> {
     let alloc = rt.alloc();
-    let Load { capacity, body } = load;
+    let Load {
+        capacity,
+        body,
+        calls,
+    } = load;
     for pattern in PATTERNS {
         let _board = run_pattern(rt, alloc, Over::Board, pattern, load)?;
         let _rings = run_pattern(rt, alloc, Over::Rings, pattern, load)?;
         let messages = pattern.messages();
-        println!(rt; "{pattern},{capacity},{body},{messages},")?;
+        println!(rt; "{pattern},{calls},{capacity},{body},{messages},")?;
     }
     let _board = run_bursts(rt, alloc, Over::Board, load)?;
     let _rings = run_bursts(rt, alloc, Over::Rings, load)?;
-    let looks = looks(capacity);
-    println!(rt; "one thread,{capacity},{body},{MESSAGES},{looks}")?;
+    let _recorders = run_recorders(rt, alloc)?;
+    let looks = looks(load);
+    println!(rt; "one thread,{calls},{capacity},{body},{MESSAGES},{looks}")?;
     Ok(())
+}
+
+/// Tells of all messages of this load.
+fn tell<R: Threads + Sync + Clock + AllocGlobal + Print>(
+    rt: &R,
+    timed: bool,
+    load: Load,
+) -> anyhow::Result<()> {
+    if !timed {
+        return tell_messages(rt, load);
+    }
+    for pattern in PATTERNS {
+        tell_pattern(rt, pattern, load)?;
+    }
+    tell_bursts(rt, load)
 }
 
 /// Whether the one word after the program's name is `time`.
@@ -97,20 +142,24 @@ fn asks_for_times<R: Env + AllocGlobal>(rt: &R) -> anyhow::Result<bool> {
 fn main(rt: HostRuntime) -> anyhow::Result<()> {
     let timed = asks_for_times(&rt)?;
     if timed {
-        println!(rt; "pattern,capacity,body,messages,board ns,rings ns,looks")?;
+        println!(rt;
+            "pattern,calls,capacity,body,messages,board ns,rings ns,recorders ns,percent,looks"
+        )?;
     } else {
-        println!(rt; "pattern,capacity,body,messages,looks")?;
+        println!(rt; "pattern,calls,capacity,body,messages,looks")?;
     }
-    for capacity in [1, 8, 64] {
-        for body in [0, 64] {
-            let load = Load { capacity, body };
-            if timed {
-                for pattern in PATTERNS {
-                    tell_pattern(&rt, pattern, load)?;
-                }
-                tell_bursts(&rt, load)?;
-            } else {
-                tell_messages(&rt, load)?;
+    for calls in [Calls::Single, Calls::Several] {
+        for capacity in [1, 8, 64] {
+            for body in [0, 64] {
+                tell(
+                    &rt,
+                    timed,
+                    Load {
+                        capacity,
+                        body,
+                        calls,
+                    },
+                )?;
             }
         }
     }

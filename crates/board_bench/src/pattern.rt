@@ -1,8 +1,8 @@
 //! Which messages are passed, and how an instance passes its own.
-ghost use Rattle.std.specs.Prelude.{◌≤◌, IfOk};
+ghost use Rattle.std.specs.Prelude.{◌≤◌};
 
+use crate::load::{Calls, Load, Parcel, Stopped};
 use crate::ports::Port;
-use chart::{Message, Name};
 use std::alloc::Global;
 use std::{fmt, thread};
 
@@ -11,7 +11,7 @@ use std::{fmt, thread};
 pub enum Pattern {
     /// From the first instance to the second.
     OneWay,
-    /// Each of two instances answers the other's message before it sends the next one.
+    /// Each of two instances answers the other's messages before it sends the next ones.
     Replies,
     /// From each of four instances to each other one.
     AllToAll,
@@ -30,11 +30,12 @@ impl fmt::Display for Pattern {
 /// How many turns an instance takes at most, where one is to try each lane once.
 const TURNS: u64 = 1 << 32;
 
-/// How many messages were passed on a lane and on the one back.
-#[derive(Clone, Copy, Debug)]
+/// What was passed on a lane and on the one back, and what a full lane gave back.
+#[derive(Drop)]
 struct Passed {
-    sent: u64,
-    got: u64,
+    sent: usize,
+    got: usize,
+    refused: Option<Parcel>,
 }
 
 impl Pattern {
@@ -48,7 +49,7 @@ impl Pattern {
     }
 
     /// How many messages an instance sends to another one: lines have at most 4,096 events.
-    fn share(self, from: usize, to: usize) -> u64 {
+    fn share(self, from: usize, to: usize) -> usize {
         match self {
             _ if from == to => 0,
             Pattern::OneWay => if from == 0 { 4096 } else { 0 },
@@ -58,7 +59,7 @@ impl Pattern {
     }
 
     /// How many messages an instance sends and receives.
-    fn events(self) -> u64 {
+    fn events(self) -> usize {
         match self {
             Pattern::OneWay | Pattern::Replies => 4096,
             Pattern::AllToAll => 6 * 682,
@@ -73,74 +74,102 @@ impl Pattern {
         }
     }
 
-    /// Whether it is an instance's turn to send.
-    fn may_send(self, own: usize, passed: Passed) -> bool {
+    /// Whether it is an instance's turn to send so many.
+    fn may_send(self, own: usize, passed: &Passed, many: usize) -> bool {
         match self {
             Pattern::Replies if own == 0 => passed.sent <= passed.got,
-            Pattern::Replies => passed.sent < passed.got,
+            Pattern::Replies => passed.sent.saturating_add(many) <= passed.got,
             _ => true,
         }
     }
 }
 
-/// A message with a body of so many bytes.
-pub fn message(alloc: Global, body: usize) -> anyhow::Result<Message> {
-    let name = Name::new(b"m")?;
-    match Message::new(name, vec![in alloc; 0; body]?) {
-        Ok(message) => Ok(message),
-        Err(_) => anyhow::bail!("the body is too long"),
+/// How many messages a call passes where so many are left: a quarter of the lane's places, so that both ends can go on.
+fn at_once(load: Load, left: usize) -> usize {
+    match load.calls {
+        Calls::Single => left.min(1),
+        Calls::Several => left.min((load.capacity / 4).max(1)),
     }
 }
 
-/// Tries to send to an instance and to receive from it. Answers how many messages were passed.
-fn try_lanes<P: Port>(
-    port: &mut P,
-    pattern: Pattern,
-    own: usize,
-    other: usize,
-    passed: &mut Passed,
-    alloc: Global,
-    body: usize,
-) -> anyhow::Result<u64>
-    ensures { IfOk result (λ many. many ≤ 2) }
-{
-    let mut many = 0;
-    if passed.sent < pattern.share(own, other)
-        && pattern.may_send(own, *passed)
-        && port.send(other, message(alloc, body)?).is_none()
-    {
-        passed.sent += 1;
-        many += 1;
-    }
-    if passed.got < pattern.share(other, own) && port.receive(other).is_some() {
-        passed.got += 1;
-        many += 1;
-    }
-    Ok(many)
+/// An instance, and how it passes its messages.
+#[derive(Clone, Copy)]
+pub struct Job {
+    pub pattern: Pattern,
+    pub load: Load,
+    pub own: usize,
+    pub alloc: Global,
 }
 
-/// Passes all messages of an instance.
-pub fn pass_all<P: Port>(
-    port: &mut P,
-    pattern: Pattern,
-    own: usize,
-    alloc: Global,
-    body: usize,
-) -> anyhow::Result<()> {
-    let mut passed = [Passed { sent: 0, got: 0 }; 4];
-    let mut left = pattern.events();
-    for _ in 0..TURNS {
-        if left == 0 {
-            return Ok(());
-        }
-        let before = left;
-        for place in 0..pattern.instances() {
-            let many = try_lanes(port, pattern, own, place, &mut passed[place], alloc, body)?;
-            left = left.saturating_sub(many);
-        }
-        if left == before {
-            thread::yield_now();
-        }
+impl Job {
+    /// Tries to send to an instance, what came back first. Answers how many messages were sent.
+    fn try_sending<P: Port>(
+        self,
+        port: &mut P,
+        other: usize,
+        passed: &mut Passed,
+    ) -> Result<usize, Stopped> {
+        let parcel = match passed.refused.take() {
+            Some(parcel) => parcel,
+            None => {
+                let share = self.pattern.share(self.own, other);
+                let many = at_once(self.load, share.saturating_sub(passed.sent));
+                if many == 0 || !self.pattern.may_send(self.own, passed, many) {
+                    return Ok(0);
+                }
+                self.load.parcel(self.alloc, many)?
+            }
+        };
+        let many = parcel.len();
+        passed.refused = port.send(other, parcel)?;
+        let left = match &passed.refused {
+            Some(back) => back.len(),
+            None => 0,
+        };
+        let sent = many.saturating_sub(left);
+        passed.sent = passed.sent.saturating_add(sent);
+        Ok(sent)
     }
-    anyhow::bail!("a message was refused")
+
+    /// Tries to receive from an instance. Answers how many messages came.
+    fn try_receiving<P: Port>(self, port: &mut P, other: usize, passed: &mut Passed) -> usize {
+        let share = self.pattern.share(other, self.own);
+        let most = at_once(self.load, share.saturating_sub(passed.got));
+        if most == 0 {
+            return 0;
+        }
+        let got = port.receive(other, self.load.calls, most);
+        passed.got = passed.got.saturating_add(got);
+        got
+    }
+
+    /// Passes all messages of the instance.
+    pub fn pass_all<P: Port>(self, port: &mut P) -> Result<(), Stopped> {
+        let mut lanes = Vec::new(self.alloc);
+        for _ in 0..self.pattern.instances() {
+            let fresh = Passed {
+                sent: 0,
+                got: 0,
+                refused: None,
+            };
+            if lanes.push(fresh).is_err() {
+                return Err(Stopped);
+            }
+        }
+        let mut left = self.pattern.events();
+        for _ in 0..TURNS {
+            if left == 0 {
+                return Ok(());
+            }
+            let before = left;
+            for (other, passed) in lanes.iter_mut().enumerate() {
+                left = left.saturating_sub(self.try_sending(port, other, passed)?);
+                left = left.saturating_sub(self.try_receiving(port, other, passed));
+            }
+            if left == before {
+                thread::yield_now();
+            }
+        }
+        Err(Stopped)
+    }
 }

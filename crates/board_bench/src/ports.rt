@@ -1,16 +1,17 @@
 //! The ends of an instance's lanes: of a board, or of the kit's rings.
-use board::{Board, Post, Taken};
+use crate::load::{Calls, Parcel, Stopped};
+use board::{Board, Post, Taken, TakenMany};
 use chart::{InstanceNo, Message};
 use rtrb::{Consumer, Producer, PushError, RingBuffer};
 use std::alloc::Global;
 
 /// What an instance passes messages by. Instances are named by their places, from 0.
 pub trait Port {
-    /// Sends a message, which comes back where the lane is full.
-    fn send(&mut self, place: usize, message: Message) -> Option<Message>;
+    /// Sends the messages. Those that the lane had no place for come back.
+    fn send(&mut self, place: usize, parcel: Parcel) -> Result<Option<Parcel>, Stopped>;
 
-    /// Receives the first message that waits.
-    fn receive(&mut self, place: usize) -> Option<Message>;
+    /// Receives the first messages that wait, at most so many, or a single one. Answers how many came.
+    fn receive(&mut self, place: usize, calls: Calls, most: usize) -> usize;
 }
 
 /// A post of a board.
@@ -20,21 +21,35 @@ pub struct BoardPort<'a> {
 }
 
 impl<'a> Port for BoardPort<'a> {
-    fn send(&mut self, place: usize, message: Message) -> Option<Message> {
+    fn send(&mut self, place: usize, parcel: Parcel) -> Result<Option<Parcel>, Stopped> {
         let Some(to) = InstanceNo::new(place.saturating_add(1)) else {
-            return Some(message);
+            return Ok(Some(parcel));
         };
-        match self.post.send(to, message) {
-            Ok(_) => None,
-            Err((back, _)) => Some(back),
+        match parcel {
+            Parcel::One(message) => match self.post.send(to, message) {
+                Ok(_) => Ok(None),
+                Err((back, _)) => Ok(Some(Parcel::One(back))),
+            },
+            Parcel::List(messages) => match self.post.send_all(to, messages) {
+                Ok(_) => Ok(None),
+                Err((back, _)) => Ok(Some(Parcel::List(back))),
+            },
         }
     }
 
-    fn receive(&mut self, place: usize) -> Option<Message> {
-        let from = InstanceNo::new(place.saturating_add(1))?;
-        match self.post.receive(from) {
-            Ok(Taken::Got(arrival)) => Some(arrival.message),
-            _ => None,
+    fn receive(&mut self, place: usize, calls: Calls, most: usize) -> usize {
+        let Some(from) = InstanceNo::new(place.saturating_add(1)) else {
+            return 0;
+        };
+        match calls {
+            Calls::Single => match self.post.receive(from) {
+                Ok(Taken::Got(_)) => 1,
+                _ => 0,
+            },
+            Calls::Several => match self.post.receive_up_to(from, most.max(1)) {
+                Ok(TakenMany::Got { arrivals, .. }) => arrivals.len(),
+                _ => 0,
+            },
         }
     }
 }
@@ -55,22 +70,56 @@ pub struct RingPort {
     incoming: Vec<Option<Consumer<Message>>>,
 }
 
-impl Port for RingPort {
-    fn send(&mut self, place: usize, message: Message) -> Option<Message> {
-        let Some(Some(producer)) = self.outgoing.get_mut(place) else {
-            return Some(message);
+/// Pushes one after another. A ring takes several at once only of values that are copied.
+fn push_each(
+    producer: &mut Producer<Message>,
+    messages: Vec<Message>,
+) -> Result<Option<Parcel>, Stopped> {
+    let mut messages = messages;
+    for _ in 0..messages.len() {
+        let Some(message) = messages.pop() else {
+            return Ok(None);
         };
-        match producer.push(message) {
-            Ok(()) => None,
-            Err(PushError::Full(back)) => Some(back),
+        if let Err(PushError::Full(back)) = producer.push(message) {
+            return match messages.push(back) {
+                Ok(()) => Ok(Some(Parcel::List(messages))),
+                Err(_) => Err(Stopped),
+            };
+        }
+    }
+    Ok(None)
+}
+
+impl Port for RingPort {
+    fn send(&mut self, place: usize, parcel: Parcel) -> Result<Option<Parcel>, Stopped> {
+        let Some(Some(producer)) = self.outgoing.get_mut(place) else {
+            return Ok(Some(parcel));
+        };
+        match parcel {
+            Parcel::One(message) => match producer.push(message) {
+                Ok(()) => Ok(None),
+                Err(PushError::Full(back)) => Ok(Some(Parcel::One(back))),
+            },
+            Parcel::List(messages) => push_each(producer, messages),
         }
     }
 
-    fn receive(&mut self, place: usize) -> Option<Message> {
-        match self.incoming.get_mut(place) {
-            Some(Some(consumer)) => consumer.pop().ok(),
-            _ => None,
+    fn receive(&mut self, place: usize, calls: Calls, most: usize) -> usize {
+        let Some(Some(consumer)) = self.incoming.get_mut(place) else {
+            return 0;
+        };
+        let most = match calls {
+            Calls::Single => 1,
+            Calls::Several => most,
+        };
+        let mut many = 0usize;
+        for _ in 0..most {
+            if consumer.pop().is_err() {
+                return many;
+            }
+            many = many.saturating_add(1);
         }
+        many
     }
 }
 

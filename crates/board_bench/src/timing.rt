@@ -1,5 +1,6 @@
-//! Runs that are timed: on threads that pass messages at once, and on one thread.
-use crate::pattern::{Pattern, message, pass_all};
+//! Runs on threads that pass messages at once.
+use crate::load::Load;
+use crate::pattern::{Job, Pattern};
 use crate::ports::{Port, board_ports, ring_ports};
 use board::Board;
 use std::alloc::Global;
@@ -15,16 +16,9 @@ pub enum Over {
     Rings,
 }
 
-/// Lanes of so many places, and messages whose bodies have so many bytes.
-#[derive(Clone, Copy, Debug)]
-pub struct Load {
-    pub capacity: usize,
-    pub body: usize,
-}
-
 /// An instance that a thread runs.
 #[derive(Drop)]
-struct Job<P> {
+struct Instance<P> {
     port: P,
     place: usize,
 }
@@ -33,16 +27,22 @@ struct Job<P> {
 const LOOKS: u64 = 1 << 32;
 
 /// Waits until all threads are there, and then passes the messages of an instance. Answers how many nanoseconds it took.
-fn run_job<R: Clock, P: Port + Drop>(
+fn run_instance<R: Clock, P: Port + Drop>(
     rt: &R,
     alloc: Global,
-    job: Job<P>,
+    instance: Instance<P>,
     pattern: Pattern,
     load: Load,
     there: &AtomicU64,
 ) -> anyhow::Result<u64> {
-    let Job { port, place } = job;
+    let Instance { port, place } = instance;
     let mut port = port;
+    let job = Job {
+        pattern,
+        load,
+        own: place,
+        alloc,
+    };
     there.fetch_add(1, Ordering::SeqCst);
     for _ in 0..LOOKS {
         if there.load(Ordering::SeqCst) >= pattern.instances() as u64 {
@@ -51,8 +51,12 @@ fn run_job<R: Clock, P: Port + Drop>(
         thread::yield_now();
     }
     let start = Instant::now(rt)?;
-    pass_all(&mut port, pattern, place, alloc, load.body)?;
-    Ok(u64::try_from(start.elapsed(rt)?.as_nanos())?)
+    let passed = job.pass_all(&mut port);
+    let took = start.elapsed(rt)?;
+    if passed.is_err() {
+        anyhow::bail!("a message was refused, or didn't come");
+    }
+    Ok(u64::try_from(took.as_nanos())?)
 }
 
 /// How many nanoseconds the slowest of the instances took, each on a thread of its own.
@@ -63,16 +67,16 @@ fn run_ports<R: Threads + Sync + Clock, P: Port + Send + Drop>(
     pattern: Pattern,
     load: Load,
 ) -> anyhow::Result<u64> {
-    let mut jobs = Vec::new(alloc);
+    let mut instances = Vec::new(alloc);
     for port in ports {
-        let place = jobs.len();
-        jobs.push(Job { port, place })?;
+        let place = instances.len();
+        instances.push(Instance { port, place })?;
     }
     let there = AtomicU64::new(0);
     let took = thread::map_vec(
         rt,
-        jobs,
-        &|job| { run_job(rt, alloc, job, pattern, load, &there).ok() },
+        instances,
+        &|instance| { run_instance(rt, alloc, instance, pattern, load, &there).ok() },
     )?;
     let mut slowest = 0;
     for nanoseconds in took {

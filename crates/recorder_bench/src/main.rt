@@ -2,11 +2,9 @@
 //! and else only which messages it would time.
 #![tactic(auto)]
 
-mod exchange;
-
 use anyhow::bail;
 use chart::Name;
-use exchange::{Pattern, exchange, partners};
+use recorder_pair::{Pattern, exchange, partners};
 use std::convert::AsStr;
 use std::env;
 use std::rt::Env;

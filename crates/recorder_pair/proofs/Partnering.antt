@@ -4,7 +4,7 @@ use Rattle.chart.specs.Reports.{ReportView}
 use Rattle.clock.proofs.ClockLemmas.{length-merged}
 use Rattle.line_recorder.specs.Recorders.{RecorderView, after_send, after_receive}
 use Rattle.line_recorder.proofs.EntryLemmas.{length-with_entry}
-use Rattle.recorder_bench.specs.Partners.{ArePartners}
+use Rattle.recorder_pair.specs.Partners.{ArePartners}
 
 -- whichever is named first
 pub turned : (a b : RecorderView) → ArePartners a b → ArePartners b a

@@ -1,5 +1,5 @@
 //! Two instances that record the messages between them.
-ghost use Rattle.recorder_bench.specs.Partners.{ArePartners};
+ghost use Rattle.recorder_pair.specs.Partners.{ArePartners};
 ghost use Rattle.std.specs.Prelude.{IfOk};
 
 use chart::{InstanceNo, Name};

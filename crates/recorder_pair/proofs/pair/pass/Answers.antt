@@ -1,8 +1,8 @@
 use Rattle.std.proofs.Common.{◌≡◌, ◌+◌, length, ap, ◌∙◌}
 use Rattle.line_recorder.specs.Recorders.{after_send}
 use Rattle.line_recorder.proofs.EntryLemmas.{length-with_entry}
-use Rattle.recorder_bench.proofs.Partnering.{sent, received}
-use Rattle.recorder_bench.proofs.exchange.pass.Goals as goal
+use Rattle.recorder_pair.proofs.Partnering.{sent, received}
+use Rattle.recorder_pair.proofs.pair.pass.Goals as goal
 
 pub returns : goal.returns
 returns c =

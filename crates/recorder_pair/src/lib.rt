@@ -1,0 +1,6 @@
+//! Two recorders that pass messages to each other, for programs that time them.
+#![tactic(auto)]
+
+mod pair;
+
+pub use pair::{Pattern, exchange, partners};
