@@ -13,6 +13,7 @@ use Rattle.chart.proofs.Regions.{greatest_region-push}
 use Rattle.chart.proofs.Sends.{line_after_send}
 use Rattle.clock.specs.declared.diff.Change.{Change}
 use Rattle.clock.specs.Clocks.{with_entry}
+use Rattle.clock.specs.Diffs.{IsDiff}
 use Rattle.line_recorder.specs.Carried.{knowledge_of}
 use Rattle.line_recorder.specs.Recorders.{RecorderView, send_clock, after_send, after_sends, send_clocks}
 use Rattle.line_recorder.specs.Recording.{IsRecorder}
@@ -89,7 +90,7 @@ are_next n p q (m ∷ ms) [] base h r its are = tt
 are_next n p q (m ∷ ms) (d ∷ ds) base h r its are =
     let clock = sender_clock n h p r its in
     let onward = are_next n p q ms ds (send_clock r) (Send p q m ∷ h) (after_send r q m.name) (sender_sent n h p q m r its) are.1 in (
-      record { message = refl; within = are.0.within; clock = are.0.applied ∙ clock },
+      record { message = refl; within = are.0.within; exact = subst (λ after. IsDiff base after d) clock are.0.exact; clock = are.0.applied ∙ clock },
       subst (λ c. AreNext n c (Send p q m ∷ h) p q (packets_of ms ds)) clock onward,
     )
 

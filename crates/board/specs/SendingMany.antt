@@ -4,7 +4,7 @@ use Rattle.std.specs.Prelude.{◌≡◌, ℕ, ◌+◌, ◌≤◌, List, [], ◌�
 use Rattle.chart.specs.Messages.{Content}
 use Rattle.chart.specs.Histories.{chart_of}
 use Rattle.clock.specs.declared.diff.Change.{Change}
-use Rattle.clock.specs.Diffs.{apply_diff}
+use Rattle.clock.specs.Diffs.{IsDiff, apply_diff}
 use Rattle.line_recorder.specs.Recorders.{RecorderView, after_sends, send_clocks}
 use Rattle.board_table.specs.declared.packet.Packet.{Packet}
 use Rattle.board_table.specs.Layout.{LaneView}
@@ -23,9 +23,10 @@ packets_of [] diffs = []
 packets_of (message ∷ messages) [] = []
 packets_of (message ∷ messages) (diff ∷ diffs) = record { message = message; diff = diff } ∷ packets_of messages diffs
 
--- the difference makes the clock of the base
+-- the difference has exactly what changed, and makes the clock of the base
 pub record IsDiffTo (base : List ℕ) (diff : List Change) (clock : List ℕ) : Type 0 where
   pub within : All (λ (change : Change). change.instance ≤ length base) diff
+  pub exact : IsDiff base clock diff
   pub applied : apply_diff base diff ≡ clock
 
 -- each of these makes a clock of the one before it, the first one of the base

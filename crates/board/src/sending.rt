@@ -3,7 +3,7 @@ ghost use Rattle.std.specs.Prelude.{◌≡◌, ◌≢◌, ◌+◌, ◌-◌, ◌<
 ghost use Rattle.chart.specs.Histories.{own, IsLegal};
 ghost use Rattle.chart.specs.declared.history.Occurrence.TheVariants as occurrence;
 ghost use Rattle.chart.specs.declared.line.TheConstants.{MAX_EVENTS};
-ghost use Rattle.clock.specs.Diffs.{apply_diff};
+ghost use Rattle.clock.specs.Diffs.{IsDiff, apply_diff};
 ghost use Rattle.clock.specs.declared.clock.TheConstants.{INLINE_ENTRIES};
 ghost use Rattle.line_recorder.specs.Recorders.{send_clock, after_send};
 ghost use Rattle.line_recorder.specs.Recording.{IsRecorder};
@@ -76,6 +76,7 @@ fn record(
     requires base { length base.now ≡ length recorder.old.knowledge }
     requires room { length recorder.old.line.events < MAX_EVENTS }
     ensures ok { OnOk result (recorder.new ≡ after_send recorder.old to name) }
+    ensures exact { IfOk result (IsDiff base.now (send_clock recorder.old)) }
     ensures clock { IfOk result (λ diff. apply_diff base.now diff ≡ send_clock recorder.old) }
     ensures within { IfOk result (All (λ change. change.instance ≤ length base.now)) }
     ensures succeeds { 0 < recorder.old.room → length recorder.old.knowledge ≤ INLINE_ENTRIES → IsOk result }

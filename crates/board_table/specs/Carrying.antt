@@ -4,16 +4,17 @@ use Rattle.std.specs.Prelude.{◌≡◌, ℕ, zero, suc, ◌≤◌, List, [], �
 use Rattle.chart.specs.declared.history.Occurrence.{Occurrence}
 use Rattle.chart.specs.declared.history.Occurrence.TheVariants.{Send, Receive}
 use Rattle.chart.specs.Histories.{received}
-use Rattle.clock.specs.Diffs.{apply_diff}
+use Rattle.clock.specs.Diffs.{IsDiff, apply_diff}
 use Rattle.board_core.specs.Parcels.{Parcel, next_clock, goods}
 use Rattle.board_core.specs.Differences.{zeros}
 use Rattle.board_table.specs.declared.packet.Packet.{Packet}
 use Rattle.board_table.specs.Layout.{slot_of}
 
--- the packet has this parcel for an end whose clock is the base
+-- the packet has this parcel for an end whose clock is the base: it names exactly the entries that changed
 pub record Carries (base : List ℕ) (x : Packet) (y : Parcel) : Type 0 where
   pub message : x.message ≡ y.message
   pub within : All (λ change. change.instance ≤ length base) x.diff
+  pub exact : IsDiff base y.clock x.diff
   pub clock : apply_diff base x.diff ≡ y.clock
 
 -- these packets have these parcels, each over the clock of the one before it

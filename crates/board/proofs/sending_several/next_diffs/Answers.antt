@@ -15,6 +15,7 @@ loop-place-preserved c =
     let clock : c.in_ok-clock.clock ≡ clock_at r (length r.line.events + suc place) = c.in_ok-clock.ensures.value ∙ clock_next r place _ _ _ c.knowledge.ensures.value (c.instance-own.ensures ∙ ap (λ l. l.instance) c.line.ensures) (omega (arith, c.len.ensures.value, ap (λ l. length l.events) c.line-in-loop-place.ensures)) in
     let it : IsDiffTo c.loop-place.last c.in_ok-diff.diff c.in_ok-clock.clock = record {
       within = subst (λ (n : ℕ). All (λ (change : Change). change.instance ≤ n) c.in_ok-diff.diff) same c.in_ok-diff.ensures.within;
+      exact = c.in_ok-diff.ensures.exact;
       applied = c.in_ok-diff.ensures.restores;
     } in
     let next = diffs_next r c.args.base.now c.loop-place.last c.loop-place.diffs.items place (place + 1) c.in_ok-diff.diff c.in_ok-clock.clock (omega arith) its.diffs its.last clock it in
