@@ -41,7 +41,7 @@ IsUnsent old to many LineFull new = MaySend old to × (many ≤ old.board.capaci
 IsUnsent old to many Full new = MaySend old to × (many ≤ old.board.capacity) × (length (line_of new) + many ≤ MAX_EVENTS) × IsFull old to many new
 IsUnsent old to many Memory new = MaySend old to × (0 < many) × (length (line_of new) + many ≤ MAX_EVENTS) × HasRoom new to many
 
--- the message was sent, last of all that was seen
+-- the message was sent, last of all that was seen; it took a place of the room, if there was one
 pub record IsSent (old : PostView) (to : ℕ) (message : Content) (sent : Sent) (new : PostView) : Type 0 where
   pub may : MaySend old to
   pub makes : (before : List Occurrence) × Makes old before (Send new.number to message ∷ []) new
@@ -62,7 +62,8 @@ abbrev pub numbered : ℕ → ℕ → List Content → List EventNo
 numbered p index [] = []
 numbered p index (m ∷ ms) = record { instance = p; index = index } ∷ numbered p (index + 1) ms
 
--- the messages were sent, one directly after another, last of all that was seen
+-- the messages were sent, one directly after another, last of all that was seen; each took a place of the room, while there
+-- was one
 pub record AreSent (old : PostView) (to : ℕ) (messages : List Content) (sents : List Sent) (new : PostView) : Type 0 where
   pub may : MaySend old to
   pub makes : (before : List Occurrence) × Makes old before (sends_of new.number to messages) new

@@ -19,7 +19,8 @@ pub record IsLaneFrom (post : PostView) (from : ℕ) (lane : LaneView) : Type 0 
   pub two : IsPartner post from
   pub is : lane ≡ record { instances = post.board.size; capacity = post.board.capacity; sender = from; receiver = post.number }
 
--- the first message that waited was received, last of all that was seen, in the open coregion and with its report
+-- the first message that waited was received, last of all that was seen, in the open coregion and with its report; it took
+-- a place of the room, if there was one
 pub record IsGot (old : PostView) (from : ℕ) (arrival : Arrival) (new : PostView) : Type 0 where
   pub two : IsPartner old from
   pub makes : (before : List Occurrence) × (rest : List Content) × Makes old before (Receive new.number from old.region ∷ []) new × (waiting before from new.number ≡ arrival.message ∷ rest)

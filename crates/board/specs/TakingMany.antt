@@ -19,7 +19,7 @@ abbrev pub messages_of : List Arrival → List Content
 messages_of arrivals = map (λ (arrival : Arrival). arrival.message) arrivals
 
 -- the first messages that waited were received, one directly after another and last of all that was seen, in the open
--- coregion and each with its report
+-- coregion and each with its report; each took a place of the room, while there was one
 pub record AreGot (old : PostView) (from : ℕ) (arrivals : List Arrival) (new : PostView) : Type 0 where
   pub two : IsPartner old from
   pub some : 0 < length arrivals
