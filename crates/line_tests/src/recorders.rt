@@ -14,8 +14,30 @@ const B: usize = 2;
 
 const C: usize = 3;
 
-fn name(rt: &impl Abort, bytes: &[u8]) -> Name {
-    Name::new(bytes).expect(rt, "a name")
+/// What is done in a schedule, and what has to come of it. A clock is told by its place: that of no message is 0, and
+/// the messages are counted from 1 on as they are sent.
+#[derive(Clone, Copy)]
+enum Step {
+    /// A send of one instance to another: the letter of its name, and the entries of its clock.
+    Send(usize, usize, u8, &'static [u32]),
+    /// Two at once: the letters of their names.
+    SendTwo(usize, usize, u8, u8),
+    /// A receive of one instance from another: the letter of its name, its clock, and the earlier events of its report.
+    Receive(usize, usize, u8, usize, &'static [u32]),
+    /// A clock's entries.
+    Clock(usize, &'static [u32]),
+    /// A clock's difference from another.
+    Differs(usize, usize, &'static [(usize, u32)]),
+    /// What an instance knows.
+    Knows(usize, &'static [u32]),
+    /// An instance's last report: its receive, and the earlier events.
+    Reported(usize, usize, &'static [u32]),
+}
+
+use Step::{Differs, Knows, Receive, Reported, Send, SendTwo};
+
+fn name(rt: &impl Abort, letter: u8) -> Name {
+    Name::new(&[letter]).expect(rt, "a name")
 }
 
 /// The recorder of one of so many instances, asked for once more where the growth was refused.
@@ -47,15 +69,9 @@ fn holds(rt: &impl Abort, clock: &Clock, entries: &[u32]) {
 }
 
 /// A send whose clock has these entries, made once more where the growth was refused: that changed nothing.
-fn send(
-    rt: &impl Abort,
-    recorder: &mut Recorder,
-    to: usize,
-    bytes: &[u8],
-    entries: &[u32],
-) -> Clock {
+fn send(rt: &impl Abort, recorder: &mut Recorder, to: usize, letter: u8, entries: &[u32]) -> Clock {
     let to = other(rt, recorder, to);
-    let message = name(rt, bytes);
+    let message = name(rt, letter);
     let events = recorder.line().len();
     let clock = match recorder.send(to, message) {
         Ok(clock) => clock,
@@ -97,12 +113,12 @@ fn receive(
     rt: &impl Abort,
     recorder: &mut Recorder,
     from: usize,
-    bytes: &[u8],
+    letter: u8,
     clock: &Clock,
     earlier: &[u32],
 ) {
     let from = other(rt, recorder, from);
-    let message = name(rt, bytes);
+    let message = name(rt, letter);
     assert!(rt; clock.len() == recorder.knowledge().len());
     let events = recorder.line().len();
     let kept = recorder.reports().len();
@@ -131,57 +147,124 @@ fn differs(rt: &impl Abort, alloc: Global, clock: &Clock, base: &Clock, changes:
     }
 }
 
+fn zero(rt: &impl Abort, alloc: Global, n: usize) -> Clock {
+    assert!(rt; 2 <= n && n <= MAX_INSTANCES);
+    Clock::zero(alloc, n)
+        .or_else(|_| Clock::zero(alloc, n))
+        .expect(rt, "a clock")
+}
+
+fn keep(rt: &impl Abort, clocks: &mut Vec<Clock>, clock: Clock) {
+    if clocks.reserve(1).is_err() {
+        clocks.reserve(1).expect(rt, "room for a clock");
+    }
+    clocks.push(clock).expect(rt, "a clock with room");
+}
+
+/// Takes a step of one instance.
+fn record(rt: &impl Abort, recorder: &mut Recorder, clocks: &mut Vec<Clock>, step: Step) {
+    match step {
+        Send(_, to, letter, entries) => {
+            let clock = send(rt, recorder, to, letter, entries);
+            keep(rt, clocks, clock);
+        }
+        SendTwo(_, to, first, second) => {
+            let two = send_two(rt, recorder, to, &[name(rt, first), name(rt, second)]);
+            assert_eq!(rt; two.len(), 2);
+            for clock in two {
+                keep(rt, clocks, clock);
+            }
+        }
+        Receive(_, from, letter, clock, earlier) => {
+            let clock = clocks.get(clock).expect(rt, "a clock");
+            receive(rt, recorder, from, letter, clock, earlier);
+        }
+        Knows(_, entries) => holds(rt, recorder.knowledge(), entries),
+        Reported(_, receive, earlier) => {
+            let last = recorder.reports().last().expect(rt, "a report");
+            reports(rt, last, receive, earlier);
+        }
+        Step::Clock(..) | Differs(..) => {}
+    }
+}
+
+/// Plays a schedule of so many instances, of which the first three do something.
+fn play(rt: &impl Abort, alloc: Global, n: usize, steps: &[Step]) {
+    let mut recorders = [
+        one_of(rt, alloc, A, n),
+        one_of(rt, alloc, B, n),
+        one_of(rt, alloc, C, n),
+    ];
+    let mut clocks = Vec::new(alloc);
+    keep(rt, &mut clocks, zero(rt, alloc, n));
+    for step in steps {
+        match *step {
+            Step::Clock(clock, entries) => {
+                let clock = clocks.get(clock).expect(rt, "a clock");
+                holds(rt, clock, entries);
+            }
+            Differs(clock, base, changes) => {
+                let clock = clocks.get(clock).expect(rt, "a clock");
+                let base = clocks.get(base).expect(rt, "a base");
+                differs(rt, alloc, clock, base, changes);
+            }
+            Send(at, ..) | SendTwo(at, ..) | Receive(at, ..) | Knows(at, ..) | Reported(at, ..) => {
+                let place = InstanceNo::new(at).expect(rt, "an instance").place();
+                let recorder = recorders.get_mut(place).expect(rt, "a recorder");
+                record(rt, recorder, &mut clocks, *step);
+            }
+        }
+    }
+}
+
+static CHAIN: [Step; 11] = [
+    Send(A, B, b'x', &[1, 0, 0]),
+    Receive(B, A, b'x', 1, &[]),
+    Send(B, C, b'm', &[1, 2, 0]),
+    Receive(C, B, b'm', 2, &[]),
+    Send(C, B, b'y', &[1, 2, 2]),
+    Receive(B, C, b'y', 3, &[]),
+    Send(B, C, b'm', &[1, 4, 2]),
+    Differs(1, 0, &[(1, 1)]),
+    Differs(2, 0, &[(1, 1), (2, 2)]),
+    Differs(3, 0, &[(1, 1), (2, 2), (3, 2)]),
+    Differs(4, 2, &[(2, 4), (3, 2)]),
+];
+
 #[test]
 fn chain_of_messages(rt: HostRuntime) {
-    let alloc = rt.alloc();
-    let mut a = one_of(&rt, alloc, A, 3);
-    let mut b = one_of(&rt, alloc, B, 3);
-    let mut c = one_of(&rt, alloc, C, 3);
-    let x = send(&rt, &mut a, B, b"x", &[1, 0, 0]);
-    receive(&rt, &mut b, A, b"x", &x, &[]);
-    let m = send(&rt, &mut b, C, b"m", &[1, 2, 0]);
-    receive(&rt, &mut c, B, b"m", &m, &[]);
-    let y = send(&rt, &mut c, B, b"y", &[1, 2, 2]);
-    receive(&rt, &mut b, C, b"y", &y, &[]);
-    let last = send(&rt, &mut b, C, b"m", &[1, 4, 2]);
-    let zero = Clock::zero(alloc, 3).expect(&rt, "a clock");
-    differs(&rt, alloc, &x, &zero, &[(1, 1)]);
-    differs(&rt, alloc, &m, &zero, &[(1, 1), (2, 2)]);
-    differs(&rt, alloc, &y, &zero, &[(1, 1), (2, 2), (3, 2)]);
-    differs(&rt, alloc, &last, &m, &[(2, 4), (3, 2)]);
+    play(&rt, rt.alloc(), 3, &CHAIN);
 }
+
+static RACE_AT_B: [Step; 8] = [
+    Send(A, B, b'x', &[1, 0, 0]),
+    Send(A, C, b'y', &[2, 0, 0]),
+    Receive(C, A, b'y', 2, &[]),
+    Send(C, B, b'z', &[2, 0, 2]),
+    Receive(B, A, b'x', 1, &[]),
+    Receive(B, C, b'z', 3, &[1]),
+    Knows(B, &[2, 0, 2]),
+    Reported(B, 2, &[1]),
+];
 
 /// x and z may come to b the other way round, and nothing that z's send knows says otherwise.
 #[test]
 fn race_at_b(rt: HostRuntime) {
-    let alloc = rt.alloc();
-    let mut a = one_of(&rt, alloc, A, 3);
-    let mut b = one_of(&rt, alloc, B, 3);
-    let mut c = one_of(&rt, alloc, C, 3);
-    let x = send(&rt, &mut a, B, b"x", &[1, 0, 0]);
-    let y = send(&rt, &mut a, C, b"y", &[2, 0, 0]);
-    receive(&rt, &mut c, A, b"y", &y, &[]);
-    let z = send(&rt, &mut c, B, b"z", &[2, 0, 2]);
-    receive(&rt, &mut b, A, b"x", &x, &[]);
-    receive(&rt, &mut b, C, b"z", &z, &[1]);
-    holds(&rt, b.knowledge(), &[2, 0, 2]);
-    let last = b.reports().last().expect(&rt, "a report");
-    reports(&rt, last, 2, &[1]);
+    play(&rt, rt.alloc(), 3, &RACE_AT_B);
 }
+
+static TWO_ON_ONE_LANE: [Step; 6] = [
+    SendTwo(A, B, b'x', b'y'),
+    Step::Clock(1, &[1, 0, 0]),
+    Step::Clock(2, &[2, 0, 0]),
+    Differs(2, 1, &[(1, 2)]),
+    Receive(B, A, b'x', 1, &[]),
+    Receive(B, A, b'y', 2, &[]),
+];
 
 #[test]
 fn two_on_one_lane(rt: HostRuntime) {
-    let alloc = rt.alloc();
-    let mut a = one_of(&rt, alloc, A, 3);
-    let mut b = one_of(&rt, alloc, B, 3);
-    let names = [name(&rt, b"x"), name(&rt, b"y")];
-    let clocks = send_two(&rt, &mut a, B, &names);
-    assert!(rt; clocks.len() == 2);
-    holds(&rt, &clocks[0], &[1, 0, 0]);
-    holds(&rt, &clocks[1], &[2, 0, 0]);
-    differs(&rt, alloc, &clocks[1], &clocks[0], &[(1, 2)]);
-    receive(&rt, &mut b, A, b"x", &clocks[0], &[]);
-    receive(&rt, &mut b, A, b"y", &clocks[1], &[]);
+    play(&rt, rt.alloc(), 3, &TWO_ON_ONE_LANE);
 }
 
 /// Receives of one coregion are no races of one another.
@@ -190,8 +273,8 @@ fn coregion(rt: HostRuntime) -> Result<(), Fail> {
     let alloc = rt.alloc();
     let zero = Clock::zero(alloc, 3)?;
     let mut b = Recorder::new(alloc, InstanceNo::at_place(1), 3)?;
-    let x = b.receive(InstanceNo::at_place(0), name(&rt, b"x"), &zero, 1)?;
-    let z = b.receive(InstanceNo::at_place(2), name(&rt, b"z"), &zero, 1)?;
+    let x = b.receive(InstanceNo::at_place(0), name(&rt, b'x'), &zero, 1)?;
+    let z = b.receive(InstanceNo::at_place(2), name(&rt, b'z'), &zero, 1)?;
     reports(&rt, &x, 1, &[]);
     reports(&rt, &z, 2, &[]);
     Ok(())
@@ -209,28 +292,27 @@ fn refused_growths_reserve(rt: HostRuntime) -> Result<(), Fail> {
     assert!(rt; a.room() >= 2);
     for number in [B, C] {
         let to = other(&rt, &a, number);
-        assert!(rt; a.send(to, name(&rt, b"x")).is_ok());
+        assert!(rt; a.send(to, name(&rt, b'x')).is_ok());
     }
     // A last growth, whose refusal tells that each one before it was refused in an earlier run of the test.
     Vec::<u8>::with_capacity(alloc, 1).map_err(|_| "every growth was refused")?;
     Ok(())
 }
 
+static NINE: [Step; 6] = [
+    Send(A, B, b'x', &[1, 0, 0, 0, 0, 0, 0, 0, 0]),
+    SendTwo(C, B, b'y', b'z'),
+    Receive(B, A, b'x', 1, &[]),
+    Receive(B, C, b'y', 2, &[1]),
+    Receive(B, C, b'z', 3, &[1]),
+    Knows(B, &[1, 0, 2, 0, 0, 0, 0, 0, 0]),
+];
+
 /// Each call among nine instances, whose clocks take memory.
 #[test]
 fn refused_growths(rt: HostRuntime) -> Result<(), Fail> {
     let alloc = rt.alloc();
-    let mut a = one_of(&rt, alloc, A, 9);
-    let mut b = one_of(&rt, alloc, B, 9);
-    let mut c = one_of(&rt, alloc, C, 9);
-    let x = send(&rt, &mut a, B, b"x", &[1, 0, 0, 0, 0, 0, 0, 0, 0]);
-    let names = [name(&rt, b"y"), name(&rt, b"z")];
-    let clocks = send_two(&rt, &mut c, B, &names);
-    assert!(rt; clocks.len() == 2);
-    receive(&rt, &mut b, A, b"x", &x, &[]);
-    receive(&rt, &mut b, C, b"y", &clocks[0], &[1]);
-    receive(&rt, &mut b, C, b"z", &clocks[1], &[1]);
-    holds(&rt, b.knowledge(), &[1, 0, 2, 0, 0, 0, 0, 0, 0]);
+    play(&rt, alloc, 9, &NINE);
     // A last growth, whose refusal tells that each one before it was refused in an earlier run of the test.
     Vec::<u8>::with_capacity(alloc, 1).map_err(|_| "every growth was refused")?;
     Ok(())
