@@ -26,14 +26,35 @@ enum Told {
 
 use Told::{In, Out};
 
+/// An event, by its instance and its number there.
+type Place = (usize, u32);
+
+/// Whether the one event is before the other.
+type Order = (Place, Place, bool);
+
+/// A report, by its receive and the numbers of the earlier events.
+type Races = (Place, &'static [u32]);
+
+/// A chart, by the lines of a, b and c.
+type Lines = [&'static [Told]; 3];
+
+/// Two send to b in turns.
+static TURNS: Lines = [
+    &[Out(B, b'x'), Out(B, b'z')],
+    &[In(A, b'x'), In(C, b'y'), In(A, b'z')],
+    &[Out(B, b'y')],
+];
+
+static TURNS_RACES: [Races; 3] = [((B, 1), &[]), ((B, 2), &[1]), ((B, 3), &[2])];
+
 fn instance(rt: &impl Abort, number: usize) -> InstanceNo {
     InstanceNo::new(number).expect(rt, "an instance")
 }
 
-fn event_no(rt: &impl Abort, number: usize, index: u32) -> EventNo {
+fn event_no(rt: &impl Abort, place: Place) -> EventNo {
     EventNo {
-        instance: instance(rt, number),
-        index,
+        instance: instance(rt, place.0),
+        index: place.1,
     }
 }
 
@@ -93,10 +114,10 @@ fn chart_of(rt: &impl Abort, alloc: Global, a: Line, b: Line, c: Line) -> Chart
     }
 }
 
-fn chart(rt: &impl Abort, alloc: Global, a: &[Told], b: &[Told], c: &[Told]) -> Chart {
-    let a = line(rt, alloc, InstanceNo::at_place(0), a);
-    let b = line(rt, alloc, InstanceNo::at_place(1), b);
-    let c = line(rt, alloc, InstanceNo::at_place(2), c);
+fn chart(rt: &impl Abort, alloc: Global, lines: &Lines) -> Chart {
+    let a = line(rt, alloc, InstanceNo::at_place(0), lines[0]);
+    let b = line(rt, alloc, InstanceNo::at_place(1), lines[1]);
+    let c = line(rt, alloc, InstanceNo::at_place(2), lines[2]);
     chart_of(rt, alloc, a, b, c)
 }
 
@@ -125,60 +146,79 @@ fn refuses(rt: &impl Abort, alloc: Global, chart: &Chart, error: &ChartError) {
     assert_eq!(rt; audited, Err(AuditError::Chart(*error)));
 }
 
-/// Whether the one event is before the other is answered so.
-fn before(
-    rt: &impl Abort,
-    closure: &Closure,
-    earlier: (usize, u32),
-    later: (usize, u32),
-    answer: bool,
-) {
-    let (p, i) = earlier;
-    let (q, j) = later;
-    let before = match closure.before(event_no(rt, p, i), event_no(rt, q, j)) {
-        Ok(before) => before,
-        Err(_) => closure
-            .before(event_no(rt, p, i), event_no(rt, q, j))
-            .expect(rt, "an answer"),
-    };
-    assert_eq!(rt; before, answer);
+/// The order of two events, asked for once more where the growth was refused.
+fn before(rt: &impl Abort, closure: &Closure, earlier: Place, later: Place) -> bool {
+    if let Ok(before) = closure.before(event_no(rt, earlier), event_no(rt, later)) {
+        return before;
+    }
+    closure
+        .before(event_no(rt, earlier), event_no(rt, later))
+        .expect(rt, "an answer")
+}
+
+/// The closure answers each of these orders.
+fn orders(rt: &impl Abort, closure: &Closure, expected: &[Order]) {
+    for (earlier, later, answer) in expected {
+        assert_eq!(rt; before(rt, closure, *earlier, *later), *answer);
+    }
 }
 
 fn races(rt: &impl Abort, closure: &Closure) -> Vec<Report> {
-    match closure.races() {
-        Ok(reports) => reports,
-        Err(_) => closure.races().expect(rt, "the reports"),
+    if let Ok(reports) = closure.races() {
+        return reports;
+    }
+    closure.races().expect(rt, "the reports")
+}
+
+/// The report is of this receive, and has these earlier events.
+fn reports(rt: &impl Abort, report: &Report, receive: Place, earlier: &[u32]) {
+    assert_eq!(rt; report.receive(), event_no(rt, receive));
+    assert_eq!(rt; report.earlier().len(), earlier.len());
+    for (race, index) in report.earlier().iter().zip(earlier) {
+        assert_eq!(rt; *race, event_no(rt, (receive.0, *index)));
     }
 }
 
-/// The report at this place is of this receive, and has these earlier events.
-fn reports(
-    rt: &impl Abort,
-    reports: &[Report],
-    place: usize,
-    receive: (usize, u32),
-    earlier: &[u32],
-) {
-    assert!(rt; place < reports.len());
-    let report = &reports[place];
-    assert_eq!(rt; report.receive(), event_no(rt, receive.0, receive.1));
-    assert_eq!(rt; report.earlier().len(), earlier.len());
-    for (race, index) in report.earlier().iter().zip(earlier) {
-        assert_eq!(rt; *race, event_no(rt, receive.0, *index));
+/// These are all reports.
+fn all_reports(rt: &impl Abort, found: &[Report], expected: &[Races]) {
+    assert_eq!(rt; found.len(), expected.len());
+    for (report, (receive, earlier)) in found.iter().zip(expected) {
+        reports(rt, report, *receive, earlier);
     }
+}
+
+/// The closure of the chart answers these orders, and these are its reports, which the audit takes.
+fn answers(rt: &impl Abort, alloc: Global, chart: &Chart, order: &[Order], expected: &[Races]) {
+    let closure = closure_of(rt, alloc, chart);
+    orders(rt, &closure, order);
+    let found = races(rt, &closure);
+    all_reports(rt, found.as_slice(), expected);
+    assert_eq!(rt; audited(rt, alloc, chart, found.as_slice()), Ok(()));
 }
 
 /// A report of this receive, with these earlier events.
-fn report(rt: &impl Abort, alloc: Global, receive: (usize, u32), earlier: &[u32]) -> Report {
+fn report(rt: &impl Abort, alloc: Global, receive: Place, earlier: &[u32]) -> Report {
     let mut events = Vec::new(alloc);
     for index in earlier {
-        if events.push(event_no(rt, receive.0, *index)).is_err() {
-            events
-                .push(event_no(rt, receive.0, *index))
-                .expect(rt, "an event");
+        let event = event_no(rt, (receive.0, *index));
+        if events.reserve(1).is_err() {
+            events.reserve(1).expect(rt, "room for an event");
         }
+        events.push(event).expect(rt, "an event with room");
     }
-    Report::new(event_no(rt, receive.0, receive.1), events)
+    Report::new(event_no(rt, receive), events)
+}
+
+fn reports_of(rt: &impl Abort, alloc: Global, told: &[Races]) -> Vec<Report> {
+    let mut reports = Vec::new(alloc);
+    for (receive, earlier) in told {
+        let report = report(rt, alloc, *receive, earlier);
+        if reports.reserve(1).is_err() {
+            reports.reserve(1).expect(rt, "room for a report");
+        }
+        reports.push(report).expect(rt, "a report with room");
+    }
+    reports
 }
 
 /// The audit of these reports, asked for once more where the growth was refused.
@@ -188,40 +228,9 @@ fn audited(
     chart: &Chart,
     reports: &[Report],
 ) -> Result<(), AuditError> {
-    match audit(alloc, chart, reports) {
-        Err(AuditError::Chart(error)) => {
-            assert_eq!(rt; error, ChartError::Memory);
-            audit(alloc, chart, reports)
-        }
-        answer => answer,
+    let answer = audit(alloc, chart, reports);
+    if answer == Err(AuditError::Chart(ChartError::Memory)) {
+        return audit(alloc, chart, reports);
     }
-}
-
-/// The first wrong report names this receive.
-fn wrong(rt: &impl Abort, alloc: Global, chart: &Chart, reports: &[Report], receive: (usize, u32)) {
-    let named = event_no(rt, receive.0, receive.1);
-    assert_eq!(rt;
-        audited(rt, alloc, chart, reports),
-        Err(AuditError::WrongReport(named))
-    );
-}
-
-fn turns(rt: &impl Abort, alloc: Global) -> Chart {
-    chart(
-        rt,
-        alloc,
-        &[Out(B, b'x'), Out(B, b'z')],
-        &[In(A, b'x'), In(C, b'y'), In(A, b'z')],
-        &[Out(B, b'y')],
-    )
-}
-
-fn reply(rt: &impl Abort, alloc: Global) -> Chart {
-    chart(
-        rt,
-        alloc,
-        &[Out(B, b'x')],
-        &[In(A, b'x'), Out(C, b'm'), In(C, b'y')],
-        &[In(B, b'm'), Out(B, b'y')],
-    )
+    answer
 }

@@ -1,26 +1,30 @@
 //! Calls whose growth is refused: each is made once more, and then answers in full. What was lent is as before. A test
 //! ends with a growth of its own, whose refusal tells that each one before it was refused in an earlier run of the test.
 
-use super::{A, B, audited, before, closure_of, races, report, reports, turns};
+use super::{
+    A, B, Order, TURNS, TURNS_RACES, all_reports, audited, chart, closure_of, orders, races,
+    reports_of,
+};
 use std::test::Fail;
+
+static NO_SUCH_EVENT: [Order; 1] = [((A, 1), (4, 1), false)];
 
 #[test]
 fn refused_growths_of_closures(rt: HostRuntime) -> Result<(), Fail> {
     let alloc = rt.alloc();
-    let chart = turns(&rt, alloc);
-    let closure = closure_of(&rt, alloc, &chart);
-    before(&rt, &closure, (A, 1), (4, 1), false);
+    let chart = chart(&rt, alloc, &TURNS);
+    orders(&rt, &closure_of(&rt, alloc, &chart), &NO_SUCH_EVENT);
     Vec::<u8>::with_capacity(alloc, 1).map_err(|_| "every growth was refused")?;
     Ok(())
 }
 
+static TURNS_ORDERS: [Order; 2] = [((A, 1), (B, 3), true), ((B, 2), (B, 3), false)];
+
 #[test]
 fn refused_growths_before(rt: HostRuntime) -> Result<(), Fail> {
     let alloc = rt.alloc();
-    let chart = turns(&rt, alloc);
-    let closure = closure_of(&rt, alloc, &chart);
-    before(&rt, &closure, (A, 1), (B, 3), true);
-    before(&rt, &closure, (B, 2), (B, 3), false);
+    let chart = chart(&rt, alloc, &TURNS);
+    orders(&rt, &closure_of(&rt, alloc, &chart), &TURNS_ORDERS);
     Vec::<u8>::with_capacity(alloc, 1).map_err(|_| "every growth was refused")?;
     Ok(())
 }
@@ -28,12 +32,9 @@ fn refused_growths_before(rt: HostRuntime) -> Result<(), Fail> {
 #[test]
 fn refused_growths_of_reports(rt: HostRuntime) -> Result<(), Fail> {
     let alloc = rt.alloc();
-    let chart = turns(&rt, alloc);
-    let closure = closure_of(&rt, alloc, &chart);
-    let found = races(&rt, &closure);
-    assert_eq!(rt; found.len(), 3);
-    reports(&rt, found.as_slice(), 1, (B, 2), &[1]);
-    reports(&rt, found.as_slice(), 2, (B, 3), &[2]);
+    let chart = chart(&rt, alloc, &TURNS);
+    let found = races(&rt, &closure_of(&rt, alloc, &chart));
+    all_reports(&rt, found.as_slice(), &TURNS_RACES);
     Vec::<u8>::with_capacity(alloc, 1).map_err(|_| "every growth was refused")?;
     Ok(())
 }
@@ -41,14 +42,9 @@ fn refused_growths_of_reports(rt: HostRuntime) -> Result<(), Fail> {
 #[test]
 fn refused_growths_of_audits(rt: HostRuntime) -> Result<(), Fail> {
     let alloc = rt.alloc();
-    let chart = turns(&rt, alloc);
-    let right = [
-        report(&rt, alloc, (B, 1), &[]),
-        report(&rt, alloc, (B, 2), &[1]),
-        report(&rt, alloc, (B, 3), &[2]),
-    ];
-    let right = right.as_slice();
-    assert_eq!(rt; audited(&rt, alloc, &chart, right), Ok(()));
+    let chart = chart(&rt, alloc, &TURNS);
+    let right = reports_of(&rt, alloc, &TURNS_RACES);
+    assert_eq!(rt; audited(&rt, alloc, &chart, right.as_slice()), Ok(()));
     Vec::<u8>::with_capacity(alloc, 1).map_err(|_| "every growth was refused")?;
     Ok(())
 }
