@@ -36,11 +36,9 @@ fn merges(
     ours: &[u32],
     theirs: &[u32],
     merged: &[u32],
-) -> Result<(), AllocError>
-    requires at_least_two { 2 ≤ length ours.now }
-    requires at_most { length ours.now ≤ MAX_INSTANCES }
-    requires same_length { length ours.now ≡ length theirs.now }
-{
+) -> Result<(), AllocError> {
+    assert!(rt; 2 <= ours.len() && ours.len() <= MAX_INSTANCES);
+    assert!(rt; ours.len() == theirs.len());
     let mut clock_of_ours = clock(alloc, ours).or_else(|_| clock(alloc, ours))?;
     let clock_of_theirs = clock(alloc, theirs).or_else(|_| clock(alloc, theirs))?;
     clock_of_ours.merge(&clock_of_theirs);
@@ -53,13 +51,12 @@ fn stamps(
     rt: &impl Abort,
     alloc: Global,
     entries: &[u32],
-    p: InstanceNo,
+    number: usize,
     stamped: &[u32],
-) -> Result<(), AllocError>
-    requires at_least_two { 2 ≤ length entries.now }
-    requires at_most { length entries.now ≤ MAX_INSTANCES }
-    requires within { p ≤ length entries.now }
-{
+) -> Result<(), AllocError> {
+    let p = InstanceNo::new(number).expect(rt, "an instance");
+    assert!(rt; 2 <= entries.len() && entries.len() <= MAX_INSTANCES);
+    assert!(rt; p.number() <= entries.len());
     let before = clock(alloc, entries).or_else(|_| clock(alloc, entries))?;
     let after = before
         .stamped(alloc, p, 77)
@@ -79,11 +76,9 @@ fn differs(
     base: &[u32],
     entries: &[u32],
     changes: &[(usize, u32)],
-) -> Result<(), AllocError>
-    requires at_least_two { 2 ≤ length entries.now }
-    requires at_most { length entries.now ≤ MAX_INSTANCES }
-    requires same_length { length entries.now ≡ length base.now }
-{
+) -> Result<(), AllocError> {
+    assert!(rt; 2 <= entries.len() && entries.len() <= MAX_INSTANCES);
+    assert!(rt; entries.len() == base.len());
     let after = clock(alloc, entries).or_else(|_| clock(alloc, entries))?;
     let mut before = clock(alloc, base).or_else(|_| clock(alloc, base))?;
     let diff = after
@@ -110,79 +105,120 @@ fn zeros(rt: HostRuntime) -> Result<(), Fail> {
     Ok(())
 }
 
+/// Two clocks, and the one merged with the other.
+static MERGES: [[&[u32]; 3]; 2] = [
+    [&[1, 5, 2], &[4, 0, 3], &[4, 5, 3]],
+    [
+        &[1, 2, 3, 4, 5, 6, 7, 8, 9],
+        &[9, 8, 7, 6, 5, 4, 3, 2, 1],
+        &[9, 8, 7, 6, 5, 6, 7, 8, 9],
+    ],
+];
+
 #[test]
 fn merged_clocks(rt: HostRuntime) -> Result<(), Fail> {
-    let alloc = rt.alloc();
-    merges(&rt, alloc, &[1, 5, 2], &[4, 0, 3], &[4, 5, 3])?;
-    let rising = [1, 2, 3, 4, 5, 6, 7, 8, 9];
-    let falling = [9, 8, 7, 6, 5, 4, 3, 2, 1];
-    merges(&rt, alloc, &rising, &falling, &[9, 8, 7, 6, 5, 6, 7, 8, 9])?;
+    for [ours, theirs, merged] in &MERGES {
+        merges(&rt, rt.alloc(), ours, theirs, merged)?;
+    }
     Ok(())
 }
+
+/// A clock, whose entry is stamped, and the clock after that.
+static STAMPS: [(&[u32], usize, &[u32]); 2] = [
+    (&[1, 5, 2], 2, &[1, 77, 2]),
+    (
+        &[1, 2, 3, 4, 5, 6, 7, 8, 9],
+        9,
+        &[1, 2, 3, 4, 5, 6, 7, 8, 77],
+    ),
+];
 
 #[test]
 fn stamped_clocks(rt: HostRuntime) -> Result<(), Fail> {
-    let alloc = rt.alloc();
-    stamps(&rt, alloc, &[1, 5, 2], InstanceNo::at_place(1), &[1, 77, 2])?;
-    let nine = [1, 2, 3, 4, 5, 6, 7, 8, 9];
-    stamps(
-        &rt,
-        alloc,
-        &nine,
-        InstanceNo::at_place(8),
-        &[1, 2, 3, 4, 5, 6, 7, 8, 77],
-    )?;
+    for (entries, number, stamped) in &STAMPS {
+        stamps(&rt, rt.alloc(), entries, *number, stamped)?;
+    }
     Ok(())
 }
+
+/// A base, a clock, and how it differs from the base.
+type Difference = (&'static [u32], &'static [u32], &'static [(usize, u32)]);
+
+static DIFFERENCES: [Difference; 5] = [
+    (&[0, 0, 0], &[1, 0, 0], &[(1, 1)]),
+    (&[0, 0, 0], &[1, 2, 0], &[(1, 1), (2, 2)]),
+    (&[0, 0, 0], &[1, 2, 2], &[(1, 1), (2, 2), (3, 2)]),
+    (&[1, 2, 0], &[1, 4, 2], &[(2, 4), (3, 2)]),
+    (&[1, 2, 0], &[1, 2, 0], &[]),
+];
 
 #[test]
 fn differences(rt: HostRuntime) -> Result<(), Fail> {
-    let alloc = rt.alloc();
-    differs(&rt, alloc, &[0, 0, 0], &[1, 0, 0], &[(1, 1)])?;
-    differs(&rt, alloc, &[0, 0, 0], &[1, 2, 0], &[(1, 1), (2, 2)])?;
-    differs(
-        &rt,
-        alloc,
-        &[0, 0, 0],
-        &[1, 2, 2],
-        &[(1, 1), (2, 2), (3, 2)],
-    )?;
-    differs(&rt, alloc, &[1, 2, 0], &[1, 4, 2], &[(2, 4), (3, 2)])?;
-    differs(&rt, alloc, &[1, 2, 0], &[1, 2, 0], &[])?;
+    for (base, entries, changes) in &DIFFERENCES {
+        differs(&rt, rt.alloc(), base, entries, changes)?;
+    }
     Ok(())
 }
 
+static DIFFERENCES_OF_NINE: [Difference; 2] = [
+    (
+        &[0, 0, 0, 0, 0, 0, 0, 0, 0],
+        &[1, 2, 3, 4, 5, 6, 7, 8, 9],
+        &[
+            (1, 1),
+            (2, 2),
+            (3, 3),
+            (4, 4),
+            (5, 5),
+            (6, 6),
+            (7, 7),
+            (8, 8),
+            (9, 9),
+        ],
+    ),
+    (
+        &[1, 2, 3, 4, 5, 6, 7, 8, 0],
+        &[1, 2, 3, 4, 5, 6, 7, 8, 9],
+        &[(9, 9)],
+    ),
+];
+
 #[test]
 fn differences_of_nine(rt: HostRuntime) -> Result<(), Fail> {
-    let alloc = rt.alloc();
-    let nine = [1, 2, 3, 4, 5, 6, 7, 8, 9];
-    let all = [
-        (1, 1),
-        (2, 2),
-        (3, 3),
-        (4, 4),
-        (5, 5),
-        (6, 6),
-        (7, 7),
-        (8, 8),
-        (9, 9),
-    ];
-    differs(&rt, alloc, &[0; 9], &nine, &all)?;
-    differs(&rt, alloc, &[1, 2, 3, 4, 5, 6, 7, 8, 0], &nine, &[(9, 9)])?;
+    for (base, entries, changes) in &DIFFERENCES_OF_NINE {
+        differs(&rt, rt.alloc(), base, entries, changes)?;
+    }
     Ok(())
 }
+
+/// The clock is equal to a copy, and its difference from the base, of so many entries, to another such difference. Each
+/// call is made once.
+fn compares(
+    rt: &impl Abort,
+    alloc: Global,
+    clock: &Clock,
+    base: &Clock,
+    changes: usize,
+) -> Result<(), AllocError> {
+    assert!(rt; clock.len() == base.len());
+    assert_eq!(rt; clock.copied(alloc)?, *clock);
+    let diff = clock.diff_from(alloc, base)?;
+    assert_eq!(rt; diff.len(), changes);
+    assert_eq!(rt; diff, clock.diff_from(alloc, base)?);
+    assert_ne!(rt; diff, base.diff_from(alloc, base)?);
+    Ok(())
+}
+
+static EIGHT: [u32; 8] = [1, 2, 3, 4, 5, 6, 7, 8];
 
 /// Up to eight instances no memory is taken, so no refusal comes.
 #[test]
 fn difference_of_eight(rt: HostRuntime) -> Result<(), Fail> {
     let alloc = rt.alloc();
+    let entries = EIGHT.as_slice();
+    assert!(rt; entries.len() == 8);
     let zero = Clock::zero(alloc, 8)?;
-    let clock = clock(alloc, &[1, 2, 3, 4, 5, 6, 7, 8])?;
-    assert_eq!(rt; clock.copied(alloc)?, clock);
-    let diff = clock.diff_from(alloc, &zero)?;
-    assert_eq!(rt; diff.len(), 8);
-    assert_eq!(rt; diff, clock.diff_from(alloc, &zero)?);
-    assert_ne!(rt; diff, zero.diff_from(alloc, &zero)?);
+    compares(&rt, alloc, &clock(alloc, entries)?, &zero, 8)?;
     Ok(())
 }
 
