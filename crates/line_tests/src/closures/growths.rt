@@ -1,5 +1,6 @@
-//! Calls whose growth is refused: each is made once more, and then answers in full. What was lent is as before. A test
-//! ends with a growth of its own, whose refusal tells that each one before it was refused in an earlier run of the test.
+//! Calls whose growth is refused: each is made once more, and then answers in full. What was lent is as before.
+//!
+//! A test ends with a growth of its own, whose refusal tells that each one before it was refused in an earlier run.
 
 use super::{
     A, B, Order, TURNS, TURNS_RACES, all_reports, audited, chart, closure_of, orders, races,
