@@ -89,13 +89,18 @@ fn refused_growths(rt: HostRuntime) -> Result<(), Fail> {
     if perform(alloc, &Task::Replay, schedule, &mut out, &mut err) == 0 {
         assert_eq!(rt; out.as_bytes(), written.as_slice());
     } else {
-        if err.as_bytes() != b"refused: F24 Write\n".as_slice() {
-            assert_eq!(rt; err.as_bytes(), b"refused: F6 Memory\n".as_slice());
-            assert!(rt; out.as_bytes().is_empty());
-        }
+        fails_for_memory(&rt, out.as_bytes(), err.as_bytes());
         replays(&rt, alloc, schedule, written, 0);
     }
     every_growth_was_refused(alloc)
+}
+
+/// The output's own growth was refused, or another one before anything was written.
+fn fails_for_memory(rt: &impl Abort, written: &[u8], said: &[u8]) {
+    if said != b"refused: F24 Write\n".as_slice() {
+        assert_eq!(rt; said, b"refused: F6 Memory\n".as_slice());
+        assert!(rt; written.is_empty());
+    }
 }
 
 /// A last growth, whose refusal tells that each one before it was refused in an earlier run of the test.

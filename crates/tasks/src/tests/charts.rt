@@ -1,6 +1,6 @@
 //! Charts that are checked: worked cases, and the charts of what schedules come to.
 
-use super::{every_growth_was_refused, performs};
+use super::{every_growth_was_refused, fails_for_memory, performs};
 use crate::{Task, perform};
 use closure::audit;
 use msc_reader::read;
@@ -28,6 +28,24 @@ fn has_races(rt: &impl Abort, alloc: Global, outcome: &Outcome<'_>, chart: &[u8]
     assert!(rt; notes.is_empty() || notes.starts_with(b"note "));
 }
 
+/// The text is of a chart, whose text it is.
+fn is_written_back(rt: &impl Abort, alloc: Global, text: &[u8]) {
+    let (names, chart) = read(alloc, text).expect(rt, "names and a chart");
+    let mut again = MemoryOut::new(alloc);
+    write(&names, &chart, &mut again).expect(rt, "the text again");
+    assert_eq!(rt; again.as_bytes(), text);
+}
+
+/// The checker finds the races of the outcome, whose chart this is.
+fn finds_races(rt: &impl Abort, alloc: Global, outcome: &Outcome<'_>, chart: &[u8]) {
+    let mut races = MemoryOut::new(alloc);
+    let mut err = MemoryOut::new(alloc);
+    let status = perform(alloc, &Task::Check, chart, &mut races, &mut err);
+    assert_eq!(rt; status, u8::from(outcome.has_races()));
+    assert!(rt; err.as_bytes().is_empty());
+    has_races(rt, alloc, outcome, chart, races.as_bytes());
+}
+
 /// The chart of what the schedule comes to is written, read and written again; the checker finds the races that the
 /// clocks found; and the audit accepts the reports.
 pub(super) fn is_checked(rt: &impl Abort, alloc: Global, schedule: &Schedule) {
@@ -35,16 +53,8 @@ pub(super) fn is_checked(rt: &impl Abort, alloc: Global, schedule: &Schedule) {
     audit(alloc, outcome.chart(), outcome.reports()).expect(rt, "the same reports");
     let mut text = MemoryOut::new(alloc);
     write(outcome.names(), outcome.chart(), &mut text).expect(rt, "the chart's text");
-    let (names, chart) = read(alloc, text.as_bytes()).expect(rt, "names and a chart");
-    let mut again = MemoryOut::new(alloc);
-    write(&names, &chart, &mut again).expect(rt, "the text again");
-    assert_eq!(rt; again.as_bytes(), text.as_bytes());
-    let mut races = MemoryOut::new(alloc);
-    let mut err = MemoryOut::new(alloc);
-    let status = perform(alloc, &Task::Check, text.as_bytes(), &mut races, &mut err);
-    assert_eq!(rt; status, u8::from(outcome.has_races()));
-    assert!(rt; err.as_bytes().is_empty());
-    has_races(rt, alloc, &outcome, text.as_bytes(), races.as_bytes());
+    is_written_back(rt, alloc, text.as_bytes());
+    finds_races(rt, alloc, &outcome, text.as_bytes());
 }
 
 #[test]
@@ -172,10 +182,7 @@ fn refused_growths_of_a_check(rt: HostRuntime) -> Result<(), Fail> {
     if perform(alloc, &Task::Check, chart, &mut out, &mut err) == 1 {
         assert_eq!(rt; out.as_bytes(), races.as_slice());
     } else {
-        if err.as_bytes() != b"refused: F24 Write\n".as_slice() {
-            assert_eq!(rt; err.as_bytes(), b"refused: F6 Memory\n".as_slice());
-            assert!(rt; out.as_bytes().is_empty());
-        }
+        fails_for_memory(&rt, out.as_bytes(), err.as_bytes());
         checks(&rt, alloc, chart, races, 1);
     }
     every_growth_was_refused(alloc)

@@ -1,7 +1,7 @@
 //! Schedules that are replayed in a drawn order.
 
 use super::charts::is_checked;
-use super::{every_growth_was_refused, repeated};
+use super::{every_growth_was_refused, fails_for_memory, repeated};
 use crate::{Task, perform};
 use chart::{Event, InstanceNo, Line};
 use interleaver::drawn;
@@ -163,10 +163,7 @@ fn refused_growths_of_a_draw(rt: HostRuntime) -> Result<(), Fail> {
     let task = Task::Random { seed: 0 };
     let schedule = b"instances a b\ncapacity 1\na send b x\na close b\na send b y\n";
     if perform(alloc, &task, schedule, &mut out, &mut err) != 0 {
-        if err.as_bytes() != b"refused: F24 Write\n".as_slice() {
-            assert_eq!(rt; err.as_bytes(), b"refused: F6 Memory\n".as_slice());
-            assert!(rt; out.as_bytes().is_empty());
-        }
+        fails_for_memory(&rt, out.as_bytes(), err.as_bytes());
         draws_closed(&rt, alloc, 0);
     }
     every_growth_was_refused(alloc)

@@ -3,7 +3,7 @@
 use super::every_growth_was_refused;
 use crate::{Task, perform};
 use msc_text::{MemoryOut, StreamOut};
-use replayer::replay;
+use replayer::{Outcome, replay};
 use schedule::Schedule;
 use std::alloc::Global;
 use std::process::Abort;
@@ -67,6 +67,18 @@ fn refused_growths_of_nine_instances(rt: HostRuntime) -> Result<(), Fail> {
     every_growth_was_refused(alloc)
 }
 
+/// This is what is written of the outcome where there is no room for more, with success where it is the whole.
+fn is_cut(rt: &impl Abort, outcome: &Outcome<'_>, beginning: &[u8], is_whole: bool) {
+    let left = beginning.len();
+    let mut place = [0; 256];
+    let room = place.get_mut(..left).expect(rt, "room");
+    let mut out = StreamOut::new(room);
+    let result = outcome.write(&mut out);
+    drop(out);
+    assert_eq!(rt; result.is_ok(), is_whole, "at {left}");
+    assert!(rt; place.starts_with(beginning), "at {left}");
+}
+
 #[test]
 fn outcome_is_cut_at_each_byte(rt: HostRuntime) -> Result<(), Fail> {
     let text =
@@ -76,12 +88,7 @@ fn outcome_is_cut_at_each_byte(rt: HostRuntime) -> Result<(), Fail> {
     let schedule = Schedule::read(rt.alloc(), text)?;
     let outcome = replay(rt.alloc(), &schedule)?;
     for left in 0..=written.len() {
-        let mut place = [0; 256];
-        let mut out = StreamOut::new(&mut place[..left]);
-        let result = outcome.write(&mut out);
-        drop(out);
-        assert_eq!(rt; result.is_ok(), left == written.len(), "at {left}");
-        assert_eq!(rt; &place[..left], &written[..left], "at {left}");
+        is_cut(&rt, &outcome, &written[..left], left == written.len());
     }
     Ok(())
 }
