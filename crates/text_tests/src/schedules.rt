@@ -4,6 +4,7 @@ use chart::{InstanceNo, Name, NameError};
 use msc_text::{Cause, Fault, TextError};
 use schedule::{Action, Command, Schedule};
 use std::alloc::{AllocError, Global};
+use std::process::Abort;
 use std::test::Fail;
 
 /// Each form of a command, from line 3 on.
@@ -205,6 +206,13 @@ fn two_senders() -> Result<[Command; 4], Fail> {
     }))
 }
 
+/// The schedule has so many names, the capacity 1, and these commands.
+fn holds(rt: &impl Abort, schedule: &Schedule, names: usize, commands: &[Command]) {
+    assert_eq!(rt; schedule.names().len(), names);
+    assert_eq!(rt; schedule.capacity().places(), 1);
+    assert_eq!(rt; schedule.commands(), commands);
+}
+
 /// The 74 beginnings of a schedule of 73 bytes.
 #[test]
 fn beginnings(rt: HostRuntime) -> Result<(), Fail> {
@@ -224,9 +232,8 @@ fn beginnings(rt: HostRuntime) -> Result<(), Fail> {
             }
             Some(count) => {
                 let schedule = Schedule::read(rt.alloc(), &text[..end])?;
-                assert_eq!(rt; schedule.names().len(), 3);
-                assert_eq!(rt; schedule.capacity().places(), 1);
-                assert_eq!(rt; Some(schedule.commands()), commands.get(..count));
+                let commands = commands.get(..count).ok_or("too many commands")?;
+                holds(&rt, &schedule, 3, commands);
             }
         }
     }
@@ -274,13 +281,11 @@ fn expected() -> Result<[Command; 6], Fail> {
 #[test]
 fn forms(rt: HostRuntime) -> Result<(), Fail> {
     let schedule = Schedule::read(rt.alloc(), FORMS)?;
-    assert_eq!(rt; schedule.names().len(), 2);
+    holds(&rt, &schedule, 2, expected()?.as_slice());
     assert_eq!(rt;
         schedule.names().instance(Name::new(b"b")?),
         InstanceNo::new(2)
     );
-    assert_eq!(rt; schedule.capacity().places(), 1);
-    assert_eq!(rt; schedule.commands(), expected()?.as_slice());
     Ok(())
 }
 
@@ -293,8 +298,7 @@ fn refused_growths(rt: HostRuntime) -> Result<(), Fail> {
             Schedule::read(rt.alloc(), FORMS)?
         }
     };
-    assert_eq!(rt; schedule.names().len(), 2);
-    assert_eq!(rt; schedule.commands(), expected()?.as_slice());
+    holds(&rt, &schedule, 2, expected()?.as_slice());
     // A last growth, whose refusal tells that each one before it was refused in an earlier run of the test.
     Vec::<u8>::with_capacity(rt.alloc(), 1).map_err(|_| "every growth was refused")?;
     Ok(())
