@@ -1,12 +1,12 @@
 -- What a schedule comes to.
-use Rattle.std.specs.Prelude.{◌≡◌, ℕ, ◌≤◌, ◌==◌, List, length, map, filter, AllPairs}
+use Rattle.std.specs.Prelude.{◌≡◌, ℕ, ◌≤◌, ◌==◌, List, length, map, filter, All, AllPairs}
 use Rattle.std.specs.List.{range_with_len}
 use Rattle.chart.specs.declared.history.Occurrence.{Occurrence}
-use Rattle.chart.specs.Charts.{LineView}
+use Rattle.chart.specs.Charts.{LineView, IsPossible, chart_lines}
 use Rattle.chart.specs.Histories.{chart_of}
 use Rattle.chart.specs.Reports.{ReportView, AreReports}
 use Rattle.schedule.specs.declared.command.Note.{Note}
-use Rattle.schedule.specs.Plans.{Plan}
+use Rattle.schedule.specs.Plans.{Plan, IsPlan, IsNumbered}
 use Rattle.schedule.specs.Meaning.{meaning}
 
 -- the instances' names, the chart's lines, the reports of its receives, and the notes
@@ -36,3 +36,7 @@ pub record IsOutcome (plan : Plan) (o : OutcomeView) : Type 0 where
 -- a plan comes to one outcome
 abbrev pub OneOutcomeLaw : Type 0
 OneOutcomeLaw = (plan : Plan) (a b : OutcomeView) → IsOutcome plan a → IsOutcome plan b → a ≡ b
+
+-- the chart of what a plan comes to is one that some run has
+abbrev pub PossibleOutcomeLaw : Type 0
+PossibleOutcomeLaw = (plan : Plan) (o : OutcomeView) → IsPlan plan → All IsNumbered plan.commands → IsOutcome plan o → IsPossible (length o.names) (chart_lines o.chart)

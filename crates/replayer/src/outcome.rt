@@ -1,7 +1,7 @@
 //! What a replay gives.
 ghost use Rattle.std.specs.Prelude.{◌≡◌, length};
 ghost use Rattle.chart.specs.Reports.{has_races};
-ghost use Rattle.replayer.specs.Outcomes.{OneOutcomeLaw};
+ghost use Rattle.replayer.specs.Outcomes.{OneOutcomeLaw, PossibleOutcomeLaw};
 
 use chart::{Chart, Names, Report, has_races};
 use schedule::Note;
@@ -87,4 +87,9 @@ impl<'a> Outcome<'a> {
 /// A schedule comes to one outcome, and no other: a receive has one report.
 pub fn one_outcome_law()
     ensures { OneOutcomeLaw }
+{}
+
+/// What a schedule comes to has a possible chart: one that some run has.
+pub fn possible_outcome_law()
+    ensures { PossibleOutcomeLaw }
 {}
