@@ -81,7 +81,7 @@ pub fn run_bursts<R: Clock>(rt: &R, alloc: Global, over: Over, load: Load) -> an
 /// How many nanoseconds as many sends and receives with their reports took two recorders, with no lane between them.
 pub fn run_recorders<R: Clock>(rt: &R, alloc: Global) -> anyhow::Result<u64> {
     let name = Name::new(b"m")?;
-    let (mut first, mut second) = partners(alloc)?;
+    let (mut first, mut second) = partners(alloc, 2)?;
     let start = Instant::now(rt)?;
     let races = exchange(&mut first, &mut second, Pattern::OneWay, MESSAGES, name)?;
     let took = start.elapsed(rt)?;

@@ -2,8 +2,12 @@
 //! and else only which messages it would time.
 #![tactic(auto)]
 
+ghost use Rattle.chart.specs.declared.instance.TheConstants.{MAX_INSTANCES};
+ghost use Rattle.std.specs.Prelude.{◌≤◌};
+
 use anyhow::bail;
 use chart::Name;
+use clock::INLINE_ENTRIES;
 use recorder_pair::{Pattern, exchange, partners};
 use std::convert::AsStr;
 use std::env;
@@ -24,25 +28,31 @@ const FRESH: usize = 64;
 /// Repetitions, whose median is told.
 const REPETITIONS: usize = 15;
 
-/// The nanoseconds that the timed messages of fresh lines took in all, with so many events on each line before them.
-fn repetition<R: Clock + AllocGlobal>(
-    rt: &R,
+/// What is timed: which way messages go, among how many instances.
+#[derive(Clone, Copy)]
+struct Load {
     pattern: Pattern,
-    events: usize,
-) -> anyhow::Result<u64> {
+    instances: usize,
+}
+
+/// The nanoseconds that the timed messages of fresh lines took in all, with so many events on each line before them.
+fn repetition<R: Clock + AllocGlobal>(rt: &R, load: Load, events: usize) -> anyhow::Result<u64>
+    requires at_least_two { 2 ≤ load.instances }
+    requires at_most { load.instances ≤ MAX_INSTANCES }
+{
     let name = Name::new(b"ping")?;
     let mut nanoseconds = 0u64;
     for _ in 0..FRESH {
-        let (mut first, mut second) = partners(rt.alloc())?;
+        let (mut first, mut second) = partners(rt.alloc(), load.instances)?;
         let before = exchange(
             &mut first,
             &mut second,
-            pattern,
+            load.pattern,
             events.saturating_add(1),
             name,
         )?;
         let start = Instant::now(rt)?;
-        let after = exchange(&mut first, &mut second, pattern, TIMED, name)?;
+        let after = exchange(&mut first, &mut second, load.pattern, TIMED, name)?;
         let took = start.elapsed(rt)?;
         if before > 0 || after > 0 {
             bail!("a report has races");
@@ -62,29 +72,37 @@ fn median(mut took: Vec<u64>) -> anyhow::Result<u64> {
 }
 
 /// Tells what a message costs on short lines and on long ones, which are timed in turn.
-fn tell_times<R: Clock + AllocGlobal + Print>(rt: &R, pattern: Pattern) -> anyhow::Result<()> {
+fn tell_times<R: Clock + AllocGlobal + Print>(rt: &R, load: Load) -> anyhow::Result<()>
+    requires at_least_two { 2 ≤ load.instances }
+    requires at_most { load.instances ≤ MAX_INSTANCES }
+{
     let mut on_short = Vec::new(rt.alloc());
     let mut on_long = Vec::new(rt.alloc());
     for _ in 0..REPETITIONS {
-        on_short.push(repetition(rt, pattern, SHORT)?)?;
-        on_long.push(repetition(rt, pattern, LONG)?)?;
+        on_short.push(repetition(rt, load, SHORT)?)?;
+        on_long.push(repetition(rt, load, LONG)?)?;
     }
     let short = median(on_short)?;
     let long = median(on_long)?;
     let percent = long.saturating_mul(100) / short.max(1);
+    let Load { pattern, instances } = load;
     println!(rt;
-        "{pattern}: {short} ns a message on a line of {SHORT} events, {long} ns on one of {LONG}: {percent} %"
+        "{pattern}, {instances} instances: {short} ns a message on a line of {SHORT} events, {long} ns on one of {LONG}: {percent} %"
     )?;
     Ok(())
 }
 
 /// Passes the messages once, and tells how many would be timed.
-fn tell_messages<R: Clock + AllocGlobal + Print>(rt: &R, pattern: Pattern) -> anyhow::Result<()> {
-    let _short = repetition(rt, pattern, SHORT)?;
-    let _long = repetition(rt, pattern, LONG)?;
+fn tell_messages<R: Clock + AllocGlobal + Print>(rt: &R, load: Load) -> anyhow::Result<()>
+    requires at_least_two { 2 ≤ load.instances }
+    requires at_most { load.instances ≤ MAX_INSTANCES }
+{
+    let _short = repetition(rt, load, SHORT)?;
+    let _long = repetition(rt, load, LONG)?;
     let messages = FRESH * TIMED;
+    let Load { pattern, instances } = load;
     println!(rt;
-        "{pattern}: {messages} messages each on lines of {SHORT} and of {LONG} events, without races"
+        "{pattern}, {instances} instances: {messages} messages each on lines of {SHORT} and of {LONG} events, without races"
     )?;
     Ok(())
 }
@@ -95,14 +113,26 @@ fn asks_for_times<R: Env + AllocGlobal>(rt: &R) -> anyhow::Result<bool> {
     Ok(matches!(words.as_slice(), [_, word] if word.as_str() == "time"))
 }
 
-fn main(rt: HostRuntime) -> anyhow::Result<()> {
-    let timed = asks_for_times(&rt)?;
+/// Tells of both patterns among so many instances.
+fn tell<R: Clock + AllocGlobal + Print>(rt: &R, timed: bool, instances: usize) -> anyhow::Result<()>
+    requires at_least_two { 2 ≤ instances }
+    requires at_most { instances ≤ MAX_INSTANCES }
+{
     for pattern in [Pattern::OneWay, Pattern::Replies] {
+        let load = Load { pattern, instances };
         if timed {
-            tell_times(&rt, pattern)?;
+            tell_times(rt, load)?;
         } else {
-            tell_messages(&rt, pattern)?;
+            tell_messages(rt, load)?;
         }
     }
     Ok(())
+}
+
+fn main(rt: HostRuntime) -> anyhow::Result<()> {
+    let timed = asks_for_times(&rt)?;
+    // Two instances, as many as a clock keeps without memory, and one more.
+    tell(&rt, timed, 2)?;
+    tell(&rt, timed, INLINE_ENTRIES)?;
+    tell(&rt, timed, INLINE_ENTRIES + 1)
 }

@@ -1,8 +1,9 @@
 //! Two instances that record the messages between them.
 ghost use Rattle.recorder_pair.specs.Partners.{ArePartners};
-ghost use Rattle.std.specs.Prelude.{IfOk};
+ghost use Rattle.chart.specs.declared.instance.TheConstants.{MAX_INSTANCES};
+ghost use Rattle.std.specs.Prelude.{◌≡◌, ◌≤◌, length, IfOk};
 
-use chart::{InstanceNo, Name};
+use chart::{InstanceNo, MAX_INSTANCES, Name};
 use line_recorder::{RecordError, Recorder};
 use std::alloc::{AllocError, Global};
 use std::fmt;
@@ -25,12 +26,16 @@ impl fmt::Display for Pattern {
     }
 }
 
-/// The recorders of two instances, of which each knows of the other.
-pub fn partners(alloc: Global) -> Result<(Recorder, Recorder), AllocError>
-    ensures { IfOk result (λ both. ArePartners both.0 both.1) }
+/// The recorders of the first two of so many instances, 2 to [`MAX_INSTANCES`].
+pub fn partners(alloc: Global, instances: usize) -> Result<(Recorder, Recorder), AllocError>
+    requires at_least_two { 2 ≤ instances }
+    requires at_most { instances ≤ MAX_INSTANCES }
+    ensures partners { IfOk result (λ both. ArePartners both.0 both.1) }
+    ensures instances { IfOk result (λ both. length both.0.knowledge ≡ instances) }
 {
-    let first = Recorder::new(alloc, InstanceNo::at_place(0), 2)?;
-    let second = Recorder::new(alloc, InstanceNo::at_place(1), 2)?;
+    prove!(2 <= instances && instances <= MAX_INSTANCES);
+    let first = Recorder::new(alloc, InstanceNo::at_place(0), instances)?;
+    let second = Recorder::new(alloc, InstanceNo::at_place(1), instances)?;
     Ok((first, second))
 }
 
