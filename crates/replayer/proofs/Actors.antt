@@ -1,10 +1,9 @@
 -- What an instance holds, when the history grows.
-use Rattle.std.proofs.Common.{◌≡◌, ◌≢◌, ℕ, suc, ◌+◌, ◌<◌, ◌≤◌, max, List, [], ◌∷◌, ◌++◌, length, set, sym, ap, ◌∙◌, arith}
-use Rattle.std.proofs.lemmas.List.{length-set, length_push}
+use Rattle.std.proofs.Common.{◌≡◌, ◌≢◌, ℕ, suc, ◌≤◌, List, [], ◌∷◌, ◌++◌, set, sym, ap, ◌∙◌, arith}
+use Rattle.std.proofs.lemmas.List.{length-set}
 use Rattle.chart.specs.declared.history.Occurrence.{Occurrence}
 use Rattle.chart.specs.declared.event.Event.{Event}
-use Rattle.chart.specs.declared.line.TheConstants.{MAX_EVENTS}
-use Rattle.chart.specs.Events.{region_of, greatest_region, MayHaveRegion}
+use Rattle.chart.specs.Events.{region_of, MayHaveRegion}
 use Rattle.chart.specs.Histories.{waiting, is_closed, chart_of, IsLegal, Begins}
 use Rattle.line_recorder.specs.Carried.{knowledge_of, waiting_clocks}
 use Rattle.schedule.specs.Meaning.{Run}
@@ -12,7 +11,7 @@ use Rattle.replayer.specs.Views.{LaneView, ActorView}
 use Rattle.line_recorder.specs.Recording.{IsRecorder}
 use Rattle.replayer.specs.Agreement.{names_of, IsLane, AreLanes, IsOwn}
 use Rattle.replayer.proofs.Places.{each-set}
-use Rattle.chart.proofs.Regions.{greatest_region-push, may_be-small, may-again}
+use Rattle.chart.proofs.Regions.{may-again}
 use Rattle.line_recorder.proofs.Recording.{IsRecorder-idle}
 
 -- of n instances, p did nothing between two runs
@@ -37,9 +36,6 @@ IsOwn-idle n k r s p a lanes legal idle own = record {
   known = rw idle.last own.known;
   region = own.region ∙ sym idle.region;
   may = rw (idle.line, idle.region) own.may;
-  greatest = rw idle.line own.greatest;
-  few = rw idle.line own.few;
-  short = rw idle.line own.short;
 }
 
 -- and so are lanes to which nothing was done
@@ -69,25 +65,14 @@ AreLanes-set n h g p j lanes lane idle new old = record {
 }
 
 -- an instance whose line grew by an event of its open coregion
-pub IsOwn-push : (n : ℕ) (r s : Run) (p : ℕ) (a b : ActorView) (m : Event) → IsOwn n r p a → IsRecorder n s.history p b.recorder → chart_of s.history p ≡ chart_of r.history p ++ m ∷ [] → s.region p ≡ r.region p → region_of m ≡ r.region p → length (chart_of r.history p) < MAX_EVENTS
-    → b.last ≡ s.last p → s.last p ≤ n → b.region ≡ a.region → b.greatest ≡ max a.greatest (region_of m) → IsOwn n s p b
-IsOwn-push n r s p a b m own recorder grown same its room last known region greatest =
+pub IsOwn-push : (n : ℕ) (r s : Run) (p : ℕ) (a b : ActorView) (m : Event) → IsOwn n r p a → IsRecorder n s.history p b.recorder → chart_of s.history p ≡ chart_of r.history p ++ m ∷ [] → s.region p ≡ r.region p → region_of m ≡ r.region p → b.last ≡ s.last p → s.last p ≤ n → b.region ≡ a.region → IsOwn n s p b
+IsOwn-push n r s p a b m own recorder grown same its last known region =
     let chart : List Event = chart_of r.history p in
     let may : MayHaveRegion chart (region_of m) = rw its own.may in
-    let next : greatest_region (chart ++ m ∷ []) ≡ max (greatest_region chart) (region_of m) = greatest_region-push chart m in
-    let small : region_of m ≤ greatest_region chart + 1 = may_be-small chart (region_of m) may in
-    let long : length (chart ++ m ∷ []) ≡ length chart + 1 = length_push chart m in
-    let few : greatest_region chart ≤ length chart = own.few in
-    let most : b.greatest ≡ max (greatest_region chart) (region_of m) = greatest ∙ ap (λ g. max g (region_of m)) own.greatest in
-    let over : greatest_region (chart ++ m ∷ []) ≤ length (chart ++ m ∷ []) = omega arith in
-    let short : length (chart ++ m ∷ []) ≤ MAX_EVENTS = omega arith in
     record {
       recorder = recorder;
       last = last;
       known = known;
       region = region ∙ own.region ∙ sym same;
       may = rw (grown, same, ← its) (may-again chart m may);
-      greatest = rw grown (most ∙ sym next);
-      few = rw grown over;
-      short = rw grown short;
     }

@@ -6,11 +6,10 @@ use Rattle.std.proofs.lemmas.Bool.{lt-ltb, le-ltb}
 use Rattle.std.proofs.lemmas.List.{length-drop, get_or-drop}
 use Rattle.std.proofs.lemmas.Option.{slice_get-get_or}
 use Rattle.std.proofs.lemmas.List.Elements.{All-weaker}
-use Rattle.chart.specs.declared.line.TheConstants.{MAX_EVENTS}
 use Rattle.chart.specs.declared.history.Occurrence.{Occurrence}
 use Rattle.chart.specs.declared.history.Occurrence.TheVariants as events
-use Rattle.chart.specs.Events.{MayHaveRegion}
-use Rattle.chart.specs.Histories.{waiting, is_closed, sent as history_sent, received as history_received}
+use Rattle.chart.specs.Events.{MayHaveRegion, greatest_region}
+use Rattle.chart.specs.Histories.{chart_of, waiting, is_closed, sent as history_sent, received as history_received}
 use Rattle.chart.specs.Reports.{ReportView}
 use Rattle.line_recorder.specs.Carried.{clocks_of}
 use Rattle.line_recorder.specs.Recorders.{send_clock, after_send, IsReportOf}
@@ -22,7 +21,7 @@ use Rattle.replayer.specs.Views.{LaneView, ActorView, empty_lane, popped, after_
 use Rattle.replayer.specs.Words.{send_word, receive_word}
 use Rattle.replayer.specs.Agreement.{AreLanes, Agrees, HasActed}
 use Rattle.replayer.proofs.Kept.{sent, taken, shut-off, reopened}
-use Rattle.schedule.proofs.Scanning.{IsOther, scan-others, find-found, first-other}
+use Rattle.schedule.proofs.Scanning.{IsOther, scan-others, first-other}
 use Rattle.replayer.proofs.Scans.{find-same, all-same}
 use Rattle.replayer.proofs.Words.{by_word, received, message, names-many, sends-by, sends-none, receives-by, receives-none}
 
@@ -65,12 +64,6 @@ pub may-now : (n k : ℕ) (r : Run) (actors : List ActorView) (i : ℕ) (a : Act
 may-now n k r actors i a agrees at_a =
     let mine = (agrees.each i a at_a).own in
     rw (mine.recorder.line, mine.region) mine.may
-
--- the greatest coregion of a line is at most as great as the line may be long
-pub greatest-small : (n k : ℕ) (r : Run) (actors : List ActorView) (i : ℕ) (a : ActorView) → Agrees n k r actors → slice_get actors i ≡ Some a → a.greatest ≤ MAX_EVENTS
-greatest-small n k r actors i a agrees at_a =
-    let mine = (agrees.each i a at_a).own in
-    omega (arith, mine.greatest, mine.few, mine.short)
 
 -- a word in place of a run
 refused-by : (n k : ℕ) (actors : List ActorView) (word : Word) (o : Option Word) (s : Run) → o ≡ Some word → HasActed n k actors actors (Ok (Some word)) (by_word o s)
@@ -148,11 +141,12 @@ open-refused n k r actors p i a agrees at_p at_a some =
     rw (at_p, e) (refl, refl)
 
 -- one that does
-pub open-done : (n k : ℕ) (r : Run) (actors : List ActorView) (p i : ℕ) (a a' : ActorView) → Agrees n k r actors → p ≡ suc i → slice_get actors i ≡ Some a → a.region ≤ 0 → a' ≡ record a { region = a.greatest + 1 } → HasActed n k actors (set actors i a') (Ok None) (opens r p)
+pub open-done : (n k : ℕ) (r : Run) (actors : List ActorView) (p i : ℕ) (a a' : ActorView) → Agrees n k r actors → p ≡ suc i → slice_get actors i ≡ Some a → a.region ≤ 0 → a' ≡ record a { region = greatest_region a.recorder.line.events + 1 } → HasActed n k actors (set actors i a') (Ok None) (opens r p)
 open-done n k r actors p i a a' agrees at_p at_a none new =
     let mine = (agrees.each i a at_a).own in
     let e : nat_lt 0 (r.region (suc i)) ≡ false = le-ltb 0 (r.region (suc i)) (subst (λ x. x ≤ 0) mine.region none) in
-    rw (new, at_p, e, ← mine.greatest) (reopened n k r actors i (a.greatest + 1) a agrees at_a (inr (inl (ap (λ g. g + 1) mine.greatest))))
+    let line : greatest_region a.recorder.line.events ≡ greatest_region (chart_of r.history (suc i)) = ap (λ l. greatest_region l.events) mine.recorder.line in
+    rw (new, at_p, e, line) (reopened n k r actors i (greatest_region (chart_of r.history (suc i)) + 1) a agrees at_a (inr (inl refl)))
 
 -- no coregion ends
 pub shut-refused : (n k : ℕ) (r : Run) (actors : List ActorView) (p i : ℕ) (a : ActorView) → Agrees n k r actors → p ≡ suc i → slice_get actors i ≡ Some a → a.region ≡ 0 → HasActed n k actors actors (Ok (Some words.NotOpen)) (shuts r p)

@@ -108,7 +108,7 @@ module _ (n k : ℕ) (r : Run) (actors : List ActorView) (agrees : Agrees n k r 
         lanes = AreLanes-idle n h s.history (suc l) x.lanes (idle (suc l) (λ same. other (omega arith))) old.lanes;
       })
       (record {
-        own = IsOwn-push n r s p a _ (send_event q name) mine.own (IsRecorder-send n k h p q m a.recorder agrees.legal mine.own.recorder) (line_after_send h p q m) refl (sym none) few mine.own.last mine.own.known refl (omega arith);
+        own = IsOwn-push n r s p a _ (send_event q name) mine.own (IsRecorder-send n k h p q m a.recorder agrees.legal mine.own.recorder) (line_after_send h p q m) refl (sym none) mine.own.last mine.own.known refl;
         lanes = AreLanes-idle n h s.history p a.lanes (idle p (λ same. ne (omega arith))) mine.lanes;
       })
       (record {
@@ -156,7 +156,7 @@ module _ (n k : ℕ) (r : Run) (actors : List ActorView) (agrees : Agrees n k r 
         }) old.lanes;
       })
       (record {
-        own = IsOwn-push n r s p a _ (receive_event q name a.region) mine.own recorder grown refl mine.own.region few last known refl refl;
+        own = IsOwn-push n r s p a _ (receive_event q name a.region) mine.own recorder grown refl mine.own.region last known refl;
         lanes = AreLanes-set n h s.history p j a.lanes _ (λ o past. (waiting-receive_other h p q c o p (is_lane-from q p o p past), waiting_clocks-receive_other n h p q c o p (is_lane-from q p o p past), refl))
             (record {
               names = sym first.4 ∙ ap names_of (sym (waiting-receive h p q c first.0 first.1 first.2));
@@ -211,9 +211,6 @@ reopened n k r actors i c a agrees at_a may =
         known = mine.own.known;
         region = sym now;
         may = subst (MayHaveRegion (chart_of r.history p)) (sym now) may;
-        greatest = mine.own.greatest;
-        few = mine.own.few;
-        short = mine.own.short;
       };
       lanes = mine.lanes;
     })

@@ -1,8 +1,7 @@
 -- What a replay holds of the history so far.
 use Rattle.std.specs.Prelude.{◌≡◌, ℕ, suc, ◌≤◌, List, length, map, slice_get, Option, None, Some, Result, Ok, Err}
 use Rattle.chart.specs.declared.history.Occurrence.{Occurrence}
-use Rattle.chart.specs.declared.line.TheConstants.{MAX_EVENTS}
-use Rattle.chart.specs.Events.{greatest_region, MayHaveRegion}
+use Rattle.chart.specs.Events.{MayHaveRegion}
 use Rattle.chart.specs.Messages.{Content}
 use Rattle.chart.specs.Histories.{waiting, is_closed, chart_of, IsLegal}
 use Rattle.line_recorder.specs.Carried.{waiting_clocks}
@@ -34,9 +33,6 @@ pub record IsOwn (n : ℕ) (r : Run) (p : ℕ) (a : ActorView) : Type 0 where
   pub known : r.last p ≤ n
   pub region : a.region ≡ r.region p
   pub may : MayHaveRegion (chart_of r.history p) (r.region p)
-  pub greatest : a.greatest ≡ greatest_region (chart_of r.history p)
-  pub few : greatest_region (chart_of r.history p) ≤ length (chart_of r.history p)
-  pub short : length (chart_of r.history p) ≤ MAX_EVENTS
 
 -- the instance p of n is as far as the run
 pub record IsActor (n : ℕ) (r : Run) (p : ℕ) (a : ActorView) : Type 0 where

@@ -1,5 +1,5 @@
 -- What a replay holds of an instance, as a contract sees it.
-use Rattle.std.specs.Prelude.{ℕ, zero, suc, max, Bool, false, List, [], length, replicate, slice_get, Option, None, Some, nat_lt}
+use Rattle.std.specs.Prelude.{ℕ, zero, suc, Bool, false, List, [], length, replicate, slice_get, Option, None, Some, nat_lt}
 use Rattle.chart.specs.Reports.{ReportView}
 use Rattle.line_recorder.specs.Recorders.{RecorderView, new_recorder, after_receive}
 
@@ -9,13 +9,12 @@ pub record LaneView : Type 0 where
   pub clocks : List (List ℕ)
   pub closed : Bool
 
--- an instance: its recorder; from whom it received last, 0 for nobody; its open coregion, 0 for none; the greatest coregion
--- of its line; and the lane from each instance
+-- an instance: its recorder; from whom it received last, 0 for nobody; its open coregion, 0 for none; and the
+-- lane from each instance
 pub record ActorView : Type 0 where
   pub recorder : RecorderView
   pub last : ℕ
   pub region : ℕ
-  pub greatest : ℕ
   pub lanes : List LaneView
 
 -- a lane on which nothing happened
@@ -24,7 +23,7 @@ empty_lane = record { names = []; clocks = []; closed = false }
 
 -- the instance p among so many, before the first command
 abbrev pub fresh_actor : ℕ → ℕ → ActorView
-fresh_actor instances p = record { recorder = new_recorder p instances; last = 0; region = 0; greatest = 0; lanes = replicate instances empty_lane }
+fresh_actor instances p = record { recorder = new_recorder p instances; last = 0; region = 0; lanes = replicate instances empty_lane }
 
 -- the first message is off the lane
 abbrev pub popped : LaneView → List (List ℕ) → List (List ℕ) → LaneView
@@ -33,7 +32,7 @@ popped lane names clocks = record { names = names; clocks = clocks; closed = lan
 -- the instance after it received a message of this name with this clock from q, and reported its races
 abbrev pub after_receipt : ActorView → ℕ → List ℕ → List ℕ → ReportView → ActorView
 after_receipt a q name clock report =
-    record { recorder = after_receive a.recorder q name a.region clock report; last = q; region = a.region; greatest = max a.greatest a.region; lanes = a.lanes }
+    record { recorder = after_receive a.recorder q name a.region clock report; last = q; region = a.region; lanes = a.lanes }
 
 -- the number of the instance, 0 for none
 abbrev pub number_or_zero : Option ℕ → ℕ

@@ -1,6 +1,6 @@
 //! The instances of a replay.
 ghost use Rattle.std.specs.Prelude.{ℕ, ◌≡◌, ◌≢◌, ◌≤◌, ◌<◌, ◌+◌, ◌++◌, ◌∷◌, [], true, suc, List, length, slice_get, slice_set, replicate, Some, All, IfOk, OnOk};
-ghost use Rattle.chart.specs.Events.{MayHaveRegion};
+ghost use Rattle.chart.specs.Events.{MayHaveRegion, greatest_region};
 ghost use Rattle.chart.specs.Reports.{ReportView};
 ghost use Rattle.chart.specs.declared.instance.TheConstants.{MAX_INSTANCES};
 ghost use Rattle.chart.specs.declared.line.TheConstants.{MAX_EVENTS};
@@ -25,8 +25,6 @@ pub struct Actor {
     last: Option<InstanceNo>,
     /// The coregion that is open, or 0.
     region: u32,
-    /// The greatest coregion of its line, or 0.
-    greatest: u32,
     /// The lane from each instance; that from itself is never used.
     lanes: Vec<Lane>,
 }
@@ -36,7 +34,7 @@ impl Model for Actor {
 
     ghost Value = { ActorView };
 
-    ghost view = { λ a. record { recorder = a.recorder; last = number_or_zero a.last; region = a.region; greatest = a.greatest; lanes = a.lanes.items } };
+    ghost view = { λ a. record { recorder = a.recorder; last = number_or_zero a.last; region = a.region; lanes = a.lanes.items } };
 }
 
 /// A lane from each of so many instances.
@@ -99,7 +97,6 @@ impl Actor {
             recorder: Recorder::new(alloc, instance, instances)?,
             last: None,
             region: 0,
-            greatest: 0,
             lanes: open_lanes(alloc, instances)?,
         })
     }
@@ -238,16 +235,16 @@ impl Actor {
         let region = self.region;
         receive(&mut self.recorder, from, parcel.name, &parcel.clock, region)?;
         self.last = Some(from);
-        self.greatest = self.greatest.max(region);
         Ok(())
     }
 
     /// Opens a coregion, above each one of its line.
     pub fn open(&mut self)
-        requires { self.old.greatest ≤ MAX_EVENTS }
-        ensures { self.new ≡ record self.old { region = self.old.greatest + 1 } }
+        ensures { self.new ≡ record self.old { region = greatest_region self.old.recorder.line.events + 1 } }
     {
-        self.region = self.greatest + 1;
+        let line = self.recorder.line();
+        prove!(line.len() <= MAX_EVENTS);
+        self.region = line.greatest_region() + 1;
     }
 
     /// Ends the coregion that is open.

@@ -1,6 +1,6 @@
 use Rattle.std.proofs.Common.{get_or, arith}
 use Rattle.std.proofs.lemmas.Option.{get_or_from_slice_get, slice_get-get_or}
-use Rattle.replayer.proofs.Commands.{open-refused, open-done, greatest-small}
+use Rattle.replayer.proofs.Commands.{open-refused, open-done}
 use Rattle.replayer.proofs.steps.open.Goals as goal
 
 pub returns-then-region-gt0 : goal.returns-then-region-gt0
@@ -10,15 +10,6 @@ returns-then-region-gt0 c n k r agrees =
     let a = get_or actors i c.index-actors-place.result in
     let at_a = slice_get-get_or actors i c.index-actors-place.result (omega arith) in
     open-refused n k r actors c.args.opener i a agrees c.place-place.ensures.value at_a (omega arith)
-
-pub open-requires : goal.open-requires
-open-requires c =
-    let actors = c.args.actors.now in
-    let i = c.place-place.result in
-    let a = get_or actors i c.index-actors-place.result in
-    let reached = c.requires.reached in
-    let at_a = slice_get-get_or actors i c.index-actors-place.result (omega arith) in
-    rw (get_or_from_slice_get actors i a c.index-actors-place-2.result at_a) (greatest-small reached.1.0 reached.0 reached.1.1 actors i a reached.1.2 at_a)
 
 pub returns : goal.returns
 returns c n k r agrees =
