@@ -7,7 +7,7 @@ use Rattle.chart.specs.declared.history.Occurrence.{Occurrence}
 use Rattle.chart.specs.declared.history.Occurrence.TheVariants.{Send, Receive, Close}
 use Rattle.chart.specs.declared.line.TheConstants.{MAX_EVENTS}
 use Rattle.chart.specs.Messages.{Content}
-use Rattle.chart.specs.Events.{send_event, receive_event, greatest_region, MayHaveRegion}
+use Rattle.chart.specs.Events.{send_event, receive_event, MayHaveRegion}
 use Rattle.chart.specs.Histories.{own, waiting, receive_of, chart_of, IsLegal}
 use Rattle.chart.proofs.Histories.{is_closed-close}
 use Rattle.line_recorder.specs.Recorders.{RecorderView}
@@ -50,7 +50,7 @@ line_short n k (Close a b ∷ h) legal p = simp append-nil (line_short n k h leg
 pub put_few : (n k : ℕ) (h : List Occurrence) (p q : ℕ) (o : Outgoing) → IsLegal n k h → IsOutgoing n h p q o → o.put ≤ MAX_EVENTS
 put_few n k h p q o legal end = let within = sent_within h p q in let short = line_short n k h legal p in omega (arith, end.put)
 
-module _ (key : Shape) (table chair chair_after : TableId) (m w : Mine) (n k p : ℕ) (r : RecorderView) (region greatest : ℕ) (outgoing : List Outgoing) (incoming : List Incoming) (post : IsPost key table chair m n k p r region greatest outgoing incoming) (seated : chair_after ≡ chair) (l : LaneView) (j : ℕ) (lane : l ≡ record { instances = n; capacity = k; sender = p; receiver = suc j }) (closes : play.Closes l m w) where
+module _ (key : Shape) (table chair chair_after : TableId) (m w : Mine) (n k p : ℕ) (r : RecorderView) (region : ℕ) (outgoing : List Outgoing) (incoming : List Incoming) (post : IsPost key table chair m n k p r region outgoing incoming) (seated : chair_after ≡ chair) (l : LaneView) (j : ℕ) (lane : l ≡ record { instances = n; capacity = k; sender = p; receiver = suc j }) (closes : play.Closes l m w) where
   abbrev before : List Occurrence
   before = drop 1 (held w).seen
 
@@ -60,7 +60,7 @@ module _ (key : Shape) (table chair chair_after : TableId) (m w : Mine) (n k p :
   pub close_did : Did n k p (held m) (held w) (drop 1 (held w).seen) (Close p (suc j) ∷ [])
   close_did = did_move n k p (held m) (held m) (held w) before (Close p (suc j) ∷ []) (λ h. Close p (suc j) ∷ h) (did_nothing n k p (held m) post.knows.legal post.made) post.rests.post.number (λ h. refl) makes.moves
 
-  pub post_closed : (o : Outgoing) → j < length outgoing → IsOutgoing n (held m).seen p (suc j) o → IsPost key table chair_after w n k p r region greatest (set outgoing j (record o { closed = true })) incoming
+  pub post_closed : (o : Outgoing) → j < length outgoing → IsOutgoing n (held m).seen p (suc j) o → IsPost key table chair_after w n k p r region (set outgoing j (record o { closed = true })) incoming
   post_closed o within end =
       let did = close_did in
       let same : own before p ≡ own (held m).seen p = did.own_before ∙ sym post.made in
@@ -81,8 +81,6 @@ module _ (key : Shape) (table chair chair_after : TableId) (m w : Mine) (n k p :
         knows = record {
           legal = did.legal;
           own = record { recorder = subst (λ h. IsRecorder n h p r) (sym did.seen) recorder_now; may = subst (λ x. MayHaveRegion x region) (sym line) post.knows.own.may };
-          greatest_is = post.knows.greatest_is ∙ ap greatest_region (sym line);
-          few_regions = let i = ap length line in omega (arith, post.knows.few_regions);
           ends = with_outgoing n (held w).seen p j (record o { closed = true }) outgoing incoming within now (subst (λ h. IsOutgoing n h p (suc j) (record o { closed = true })) (sym did.seen) its);
         };
         made = did.own;

@@ -1,7 +1,6 @@
 -- A post that has met a note.
-use Rattle.std.proofs.Common.{◌≡◌, ℕ, List, [], ◌∷◌, length, sym, ap, ◌∙◌, subst, arith}
+use Rattle.std.proofs.Common.{◌≡◌, ℕ, List, [], ◌∷◌, sym, ap, ◌∙◌, subst}
 use Rattle.atomic_table.specs.Seated.{TableId}
-use Rattle.chart.specs.Events.{greatest_region}
 use Rattle.chart.specs.Histories.{own, IsLegal}
 use Rattle.line_recorder.specs.Recorders.{RecorderView}
 use Rattle.board_core.proofs.OwnEvents.{same_line, same_instance}
@@ -16,14 +15,14 @@ use Rattle.board.specs.Known.{IsPost, view_of}
 use Rattle.board.specs.Meeting.{Hears}
 use Rattle.board.proofs.EndLemmas.{ends_later}
 
-module _ (key : Shape) (table chair chair_after : TableId) (m w : Mine) (n k p : ℕ) (r : RecorderView) (region greatest : ℕ) (outgoing : List Outgoing) (incoming : List Incoming) (post : IsPost key table chair m n k p r region greatest outgoing incoming) (note : Held) (same : knowing.IsPost (held m).instances (held m).capacity (held m).number w) (meets : Meets (held m).instances (held m).capacity (held m) note (held w)) where
+module _ (key : Shape) (table chair chair_after : TableId) (m w : Mine) (n k p : ℕ) (r : RecorderView) (region : ℕ) (outgoing : List Outgoing) (incoming : List Incoming) (post : IsPost key table chair m n k p r region outgoing incoming) (note : Held) (same : knowing.IsPost (held m).instances (held m).capacity (held m).number w) (meets : Meets (held m).instances (held m).capacity (held m) note (held w)) where
   met_legal : IsLegal n k (held w).seen
   met_legal = subst (λ z. IsLegal z k (held w).seen) post.rests.post.instances (subst (λ z. IsLegal (held m).instances z (held w).seen) post.rests.post.capacity meets.legal)
 
   met_own : own (held w).seen p ≡ (held m).made
   met_own = subst (λ z. own (held w).seen z ≡ (held m).made) post.rests.post.number meets.own
 
-  pub post_met : chair_after ≡ chair → w.1 ≡ m.1 → IsPost key table chair_after w n k p r region greatest outgoing incoming
+  pub post_met : chair_after ≡ chair → w.1 ≡ m.1 → IsPost key table chair_after w n k p r region outgoing incoming
   post_met seated slots =
       let its : own (held w).seen p ≡ own (held m).seen p = met_own ∙ sym post.made in
       let line = same_line n (held m).seen (held w).seen meets.later p its in
@@ -46,8 +45,6 @@ module _ (key : Shape) (table chair chair_after : TableId) (m w : Mine) (n k p :
         knows = record {
           legal = met_legal;
           own = same_instance n (held m).seen (held w).seen meets.later k p r region post.knows.legal its post.knows.own;
-          greatest_is = post.knows.greatest_is ∙ ap greatest_region (sym line);
-          few_regions = let same_length = ap length line in omega (arith, post.knows.few_regions);
           ends = ends_later n k (held m).seen (held w).seen p 0 0 outgoing incoming post.knows.legal meets.later its post.knows.ends;
         };
         made = met_own ∙ sym (ap (λ (e : Held). e.made) meets.rest);

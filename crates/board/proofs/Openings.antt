@@ -23,7 +23,7 @@ outgoing_new n p q = record { put = refl; known = omega arith; unsent = refl; ba
 incoming_new : (n p q : ℕ) → IsIncoming n [] p q (new_incoming n)
 incoming_new n p q = record { taken = refl; known = omega arith; base = refl; long = length-replicate n 0 }
 
-post_at : (key : Shape) (table chair : TableId) (n k p : ℕ) (outgoing : List Outgoing) (incoming : List Incoming) → IsSized n k → IsBoard n k key table → chair ≡ table → 1 ≤ p → p ≤ n → AreNewEnds n n outgoing incoming → IsPost key table chair (new_seat n k p) n k p (new_recorder p n) 0 0 outgoing incoming
+post_at : (key : Shape) (table chair : TableId) (n k p : ℕ) (outgoing : List Outgoing) (incoming : List Incoming) → IsSized n k → IsBoard n k key table → chair ≡ table → 1 ≤ p → p ≤ n → AreNewEnds n n outgoing incoming → IsPost key table chair (new_seat n k p) n k p (new_recorder p n) 0 outgoing incoming
 post_at key table chair n k p outgoing incoming sized board same low high ends = record {
   chair_is = same;
   board = board;
@@ -34,8 +34,6 @@ post_at key table chair n k p outgoing incoming sized board same low high ends =
   knows = record {
     legal = tt;
     own = record { recorder = record { line = refl; knowledge = refl; receives = refl; reports = λ i d lt. absurd (omega (arith, lt)) }; may = inl refl };
-    greatest_is = refl;
-    few_regions = omega arith;
     ends = record {
       as_many = ends.as_many;
       of_each = ends.of_each;
@@ -47,10 +45,10 @@ post_at key table chair n k p outgoing incoming sized board same low high ends =
 }
 
 -- a post is made
-pub post_new : (key : Shape) (table chair : TableId) (me : Mine) (n k p : ℕ) (r : RecorderView) (outgoing : List Outgoing) (incoming : List Incoming) → IsSized n k → IsBoard n k key table → IsNewSeat n k p table chair me → 1 ≤ p → p ≤ n → AreNewEnds n n outgoing incoming → r ≡ new_recorder p n → IsPost key table chair me n k p r 0 0 outgoing incoming
+pub post_new : (key : Shape) (table chair : TableId) (me : Mine) (n k p : ℕ) (r : RecorderView) (outgoing : List Outgoing) (incoming : List Incoming) → IsSized n k → IsBoard n k key table → IsNewSeat n k p table chair me → 1 ≤ p → p ≤ n → AreNewEnds n n outgoing incoming → r ≡ new_recorder p n → IsPost key table chair me n k p r 0 outgoing incoming
 post_new key table chair me n k p r outgoing incoming sized board seat low high ends recorder =
-    subst (λ (m : Mine). IsPost key table chair m n k p r 0 0 outgoing incoming) (sym seat.new)
-    (subst (λ (u : RecorderView). IsPost key table chair (new_seat n k p) n k p u 0 0 outgoing incoming) (sym recorder)
+    subst (λ (m : Mine). IsPost key table chair m n k p r 0 outgoing incoming) (sym seat.new)
+    (subst (λ (u : RecorderView). IsPost key table chair (new_seat n k p) n k p u 0 outgoing incoming) (sym recorder)
     (post_at key table chair n k p outgoing incoming sized board seat.same low high ends))
 
 -- the first of the posts that are left

@@ -5,11 +5,10 @@ use Rattle.std.specs.Prelude.{slice_get, None, Some}
 use Rattle.atomic_table.specs.Seated.{TableId}
 use Rattle.chart.specs.declared.history.Occurrence.{Occurrence}
 use Rattle.chart.specs.Messages.{Content}
-use Rattle.chart.specs.Events.{greatest_region, MayHaveRegion}
-use Rattle.chart.specs.Histories.{own, chart_of}
+use Rattle.chart.specs.Events.{MayHaveRegion}
+use Rattle.chart.specs.Histories.{own}
 use Rattle.line_recorder.specs.Recorders.{RecorderView}
 use Rattle.line_recorder.specs.Recording.{IsRecorder}
-use Rattle.board_core.proofs.OwnEvents.{same_line}
 use Rattle.board_table.specs.declared.shape.Shape.{Shape}
 use Rattle.board_table.specs.Knowing.{Mine, held, Rests}
 use Rattle.board.specs.declared.ends.Outgoing.{Outgoing}
@@ -18,7 +17,7 @@ use Rattle.board.specs.Known.{IsOutgoing, AreEndsBut, AreEnds, IsPost, Did}
 use Rattle.board.specs.Sending.{sends_of}
 use Rattle.board.proofs.EndLemmas.{ends_later, ends_but}
 use Rattle.board.proofs.OneSend.{saw_same, line_saw}
-use Rattle.board.proofs.SeveralSends.{sends_after, sends_are, line_sends, ends_sends}
+use Rattle.board.proofs.SeveralSends.{sends_after, sends_are, ends_sends}
 
 -- an element of a list in which one was put is this one, or another that was there before
 pub at_set : {X : Type 0} (xs : List X) (j i : ℕ) (e o : X) → slice_get (set xs j e) i ≡ Some o → ((i ≡ j) × (e ≡ o)) ⊎ ((i ≢ j) × (slice_get xs i ≡ Some o))
@@ -48,9 +47,9 @@ with_outgoing n h p j e outgoing incoming within old its = record {
     go i o ne (inl (here, same)) = subst (λ (x : ℕ). IsOutgoing n h p (suc x) o) (sym here) (subst (λ (x : Outgoing). IsOutgoing n h p (suc j) x) same its)
     go i o ne (inr (other, there)) = old.sends i o ne (λ same. other (omega arith)) there
 
-module _ (key : Shape) (table chair chair_after : TableId) (m w : Mine) (n k p : ℕ) (r u : RecorderView) (region greatest : ℕ) (outgoing : List Outgoing) (incoming : List Incoming) (post : IsPost key table chair m n k p r region greatest outgoing incoming) (seated : chair_after ≡ chair) (rests : Rests n k p w) (recorder : IsRecorder n (held w).seen p u) (j : ℕ) (e : Outgoing) (within : j < length outgoing) (end : IsOutgoing n (held w).seen p (suc j) e) where
+module _ (key : Shape) (table chair chair_after : TableId) (m w : Mine) (n k p : ℕ) (r u : RecorderView) (region : ℕ) (outgoing : List Outgoing) (incoming : List Incoming) (post : IsPost key table chair m n k p r region outgoing incoming) (seated : chair_after ≡ chair) (rests : Rests n k p w) (recorder : IsRecorder n (held w).seen p u) (j : ℕ) (e : Outgoing) (within : j < length outgoing) (end : IsOutgoing n (held w).seen p (suc j) e) where
   -- the call that touched this end saw, and made nothing
-  pub post_saw : Did n k p (held m) (held w) (held w).seen [] → IsPost key table chair_after w n k p u region greatest (set outgoing j e) incoming
+  pub post_saw : Did n k p (held m) (held w) (held w).seen [] → IsPost key table chair_after w n k p u region (set outgoing j e) incoming
   post_saw did =
       let same = saw_same n k p (held m) (held w) post.knows.legal post.made did in
       let line = line_saw n k p (held m) (held w) post.knows.legal post.made did in
@@ -65,20 +64,16 @@ module _ (key : Shape) (table chair chair_after : TableId) (m w : Mine) (n k p :
         knows = record {
           legal = did.legal;
           own = record { recorder = recorder; may = subst (λ l. MayHaveRegion l region) (sym line) post.knows.own.may };
-          greatest_is = post.knows.greatest_is ∙ ap greatest_region (sym line);
-          few_regions = let same_length = ap length line in omega (arith, post.knows.few_regions);
           ends = with_outgoing n (held w).seen p j e outgoing incoming within others end;
         };
         made = did.own;
       }
 
   -- it sent these messages
-  pub post_sends : (before : List Occurrence) (ms : List Content) → region ≡ 0 → Did n k p (held m) (held w) before (sends_of p (suc j) ms) → IsPost key table chair_after w n k p u region greatest (set outgoing j e) incoming
+  pub post_sends : (before : List Occurrence) (ms : List Content) → region ≡ 0 → Did n k p (held m) (held w) before (sends_of p (suc j) ms) → IsPost key table chair_after w n k p u region (set outgoing j e) incoming
   post_sends before ms outside did =
       let same : own before p ≡ own (held m).seen p = did.own_before ∙ sym post.made in
-      let line = same_line n (held m).seen before did.later p same in
       let seen : (held w).seen ≡ sends_after p (suc j) ms before = did.seen ∙ sym (sends_are p (suc j) ms before) in
-      let grown = line_sends p (suc j) ms before in
       let others = ends_later n k (held m).seen before p (suc j) 0 outgoing incoming post.knows.legal did.later same (ends_but n (held m).seen p (suc j) 0 outgoing incoming post.knows.ends) in
       let now : AreEndsBut n (held w).seen p (suc j) 0 outgoing incoming = subst (λ h. AreEndsBut n h p (suc j) 0 outgoing incoming) (sym seen) (ends_sends n p (suc j) 0 ms before outgoing incoming others) in
       record {
@@ -91,8 +86,6 @@ module _ (key : Shape) (table chair chair_after : TableId) (m w : Mine) (n k p :
         knows = record {
           legal = did.legal;
           own = record { recorder = recorder; may = inl outside };
-          greatest_is = post.knows.greatest_is ∙ sym (ap (λ (h : List Occurrence). greatest_region (chart_of h p)) seen ∙ grown.1 ∙ ap greatest_region line);
-          few_regions = omega (arith, post.knows.few_regions, ap (λ (h : List Occurrence). length (chart_of h p)) seen, grown.0, ap length line);
           ends = with_outgoing n (held w).seen p j e outgoing incoming within now end;
         };
         made = did.own;

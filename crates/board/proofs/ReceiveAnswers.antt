@@ -1,16 +1,16 @@
 -- What a post's receive leaves and answers.
-use Rattle.std.proofs.Common.{◌≡◌, ◌≢◌, ℕ, zero, suc, max, ◌+◌, ◌-◌, ◌<◌, ◌≤◌, inl, inr, ◌⊎◌, List, [], ◌∷◌, ◌++◌, length, drop, set, replicate, get_or, sym, ap, ◌∙◌, subst, arith}
-use Rattle.std.proofs.lemmas.List.{length-set, length_push}
+use Rattle.std.proofs.Common.{◌≡◌, ◌≢◌, ℕ, zero, suc, ◌+◌, ◌-◌, ◌<◌, ◌≤◌, inl, inr, ◌⊎◌, List, [], ◌∷◌, ◌++◌, length, drop, set, replicate, get_or, sym, ap, ◌∙◌, subst, arith}
+use Rattle.std.proofs.lemmas.List.{length-set}
 use Rattle.std.proofs.lemmas.Option.{slice_get-get_or}
 use Rattle.std.specs.Prelude.{slice_get, Some}
 use Rattle.atomic_table.specs.Seated.{TableId}
 use Rattle.chart.specs.declared.history.Occurrence.{Occurrence}
 use Rattle.chart.specs.declared.history.Occurrence.TheVariants.{Receive}
 use Rattle.chart.specs.Messages.{Content}
-use Rattle.chart.specs.Events.{receive_event, greatest_region, MayHaveRegion}
+use Rattle.chart.specs.Events.{receive_event, MayHaveRegion}
 use Rattle.chart.specs.Histories.{own, waiting, chart_of, IsLegal}
 use Rattle.chart.proofs.Histories.{begins_onward}
-use Rattle.chart.proofs.Regions.{greatest_region-push, may_be-small, may-again}
+use Rattle.chart.proofs.Regions.{may-again}
 use Rattle.chart.proofs.Sends.{line_after_receive}
 use Rattle.line_recorder.specs.Recorders.{RecorderView}
 use Rattle.line_recorder.specs.Recording.{IsRecorder}
@@ -52,35 +52,17 @@ did_onward n k p e f g before events saw did = record {
   looks = omega (arith, saw.looks, did.looks);
 }
 
--- p's line may go on in this coregion, and this is the greatest one on it
-record HasRegions (p c greatest : ℕ) (h : List Occurrence) : Type 0 where
-  may : MayHaveRegion (chart_of h p) c
-  greatest_is : greatest ≡ greatest_region (chart_of h p)
-  few : greatest ≤ length (chart_of h p)
-
--- it does after a receive in it
-regions_one : (n k p q c greatest : ℕ) (h : List Occurrence) → IsLegal n k (Receive p q c ∷ h) → HasRegions p c greatest h → HasRegions p c (max greatest c) (Receive p q c ∷ h)
-regions_one n k p q c greatest h legal old = go (first_message (waiting h q p) legal.0.1)
+-- p's line may go on in a coregion after a receive in it
+may_one : (n k p q c : ℕ) (h : List Occurrence) → IsLegal n k (Receive p q c ∷ h) → MayHaveRegion (chart_of h p) c → MayHaveRegion (chart_of (Receive p q c ∷ h) p) c
+may_one n k p q c h legal may = go (first_message (waiting h q p) legal.0.1)
   where
-    go : (m : Content) × (rest : List Content) × (waiting h q p ≡ m ∷ rest) → HasRegions p c (max greatest c) (Receive p q c ∷ h)
-    go (m, rest, first) =
-        let event = receive_event q m.name c in
-        let line = line_after_receive h p q c m rest first in
-        let regions = greatest_region-push (chart_of h p) event in
-        let small = may_be-small (chart_of h p) c old.may in
-        record {
-          may = subst (λ l. MayHaveRegion l c) (sym line) (may-again (chart_of h p) event old.may);
-          greatest_is = ap (λ g. max g c) old.greatest_is ∙ sym regions ∙ sym (ap greatest_region line);
-          few = let i = ap length line in omega (arith, small, old.greatest_is, old.few, length_push (chart_of h p) event);
-        }
+    go : (m : Content) × (rest : List Content) × (waiting h q p ≡ m ∷ rest) → MayHaveRegion (chart_of (Receive p q c ∷ h) p) c
+    go (m, rest, first) = subst (λ l. MayHaveRegion l c) (sym (line_after_receive h p q c m rest first)) (may-again (chart_of h p) (receive_event q m.name c) may)
 
 -- and after several
-regions_several : (n k p q c greatest many : ℕ) (h : List Occurrence) → IsLegal n k (replicate (suc many) (Receive p q c) ++ h) → HasRegions p c greatest h → HasRegions p c (max greatest c) (replicate (suc many) (Receive p q c) ++ h)
-regions_several n k p q c greatest zero h legal old = regions_one n k p q c greatest h legal old
-regions_several n k p q c greatest (suc many) h legal old =
-    let again : max (max greatest c) c ≡ max greatest c = omega arith in
-    subst (λ g. HasRegions p c g (replicate (suc (suc many)) (Receive p q c) ++ h)) again
-    (regions_one n k p q c (max greatest c) (replicate (suc many) (Receive p q c) ++ h) legal (regions_several n k p q c greatest many h legal.1 old))
+may_several : (n k p q c many : ℕ) (h : List Occurrence) → IsLegal n k (replicate (suc many) (Receive p q c) ++ h) → MayHaveRegion (chart_of h p) c → MayHaveRegion (chart_of (replicate (suc many) (Receive p q c) ++ h) p) c
+may_several n k p q c zero h legal may = may_one n k p q c h legal may
+may_several n k p q c (suc many) h legal may = may_one n k p q c (replicate (suc many) (Receive p q c) ++ h) legal (may_several n k p q c many h legal.1 may)
 
 -- the other ends, when several were received on one
 ends_several : (n p q to_one c : ℕ) (outgoing : List Outgoing) (incoming : List Incoming) (many : ℕ) (h : List Occurrence) → AreEndsBut n h p to_one q outgoing incoming → AreEndsBut n (replicate many (Receive p q c) ++ h) p to_one q outgoing incoming
@@ -100,7 +82,7 @@ with_incoming n h p j e outgoing incoming within old its = record {
     go i o ne (inl (here, same)) = subst (λ (x : ℕ). IsIncoming n h p (suc x) o) (sym here) (subst (λ (x : Incoming). IsIncoming n h p (suc j) x) same its)
     go i o ne (inr (other, there)) = old.takes i o ne (λ same. other (omega arith)) there
 
-module _ (key : Shape) (table chair : TableId) (m : Mine) (n k p : ℕ) (r : RecorderView) (region greatest : ℕ) (outgoing : List Outgoing) (incoming : List Incoming) (post : IsPost key table chair m n k p r region greatest outgoing incoming) where
+module _ (key : Shape) (table chair : TableId) (m : Mine) (n k p : ℕ) (r : RecorderView) (region : ℕ) (outgoing : List Outgoing) (incoming : List Incoming) (post : IsPost key table chair m n k p r region outgoing incoming) where
   -- the end of the lane from an instance
   pub incoming_at : (from j : ℕ) (i : Incoming) → from ≡ suc j → from ≢ p → from ≤ n → i ≡ get_or incoming j i → IsIncoming n (held m).seen p from i
   incoming_at from j i place ne most read =
@@ -122,7 +104,7 @@ module _ (key : Shape) (table chair : TableId) (m : Mine) (n k p : ℕ) (r : Rec
 
   module _ (chair_after : TableId) (w : Mine) (u : RecorderView) (seated : chair_after ≡ chair) (rests : Rests n k p w) (recorder : IsRecorder n (held w).seen p u) (j : ℕ) (e : Incoming) (within : j < length incoming) (end : IsIncoming n (held w).seen p (suc j) e) where
     -- the call that touched this end saw, and made nothing
-    pub post_looked : Did n k p (held m) (held w) (held w).seen [] → IsPost key table chair_after w n k p u region greatest outgoing (set incoming j e)
+    pub post_looked : Did n k p (held m) (held w) (held w).seen [] → IsPost key table chair_after w n k p u region outgoing (set incoming j e)
     post_looked did =
         let same = saw_same n k p (held m) (held w) post.knows.legal post.made did in
         let line = line_saw n k p (held m) (held w) post.knows.legal post.made did in
@@ -137,27 +119,21 @@ module _ (key : Shape) (table chair : TableId) (m : Mine) (n k p : ℕ) (r : Rec
           knows = record {
             legal = did.legal;
             own = record { recorder = recorder; may = subst (λ l. MayHaveRegion l region) (sym line) post.knows.own.may };
-            greatest_is = post.knows.greatest_is ∙ ap greatest_region (sym line);
-            few_regions = let same_length = ap length line in omega (arith, post.knows.few_regions);
             ends = with_incoming n (held w).seen p j e outgoing incoming within others end;
           };
           made = did.own;
         }
 
     -- it received one message or more
-    pub post_received : (before : List Occurrence) (many : ℕ) → Did n k p (held m) (held w) before (replicate (suc many) (Receive p (suc j) region)) → IsPost key table chair_after w n k p u region (max greatest region) outgoing (set incoming j e)
+    pub post_received : (before : List Occurrence) (many : ℕ) → Did n k p (held m) (held w) before (replicate (suc many) (Receive p (suc j) region)) → IsPost key table chair_after w n k p u region outgoing (set incoming j e)
     post_received before many did =
         let same : own before p ≡ own (held m).seen p = did.own_before ∙ sym post.made in
         let line : chart_of before p ≡ chart_of (held m).seen p = same_line n (held m).seen before did.later p same in
         let others = ends_later n k (held m).seen before p 0 (suc j) outgoing incoming post.knows.legal did.later same (ends_but n (held m).seen p 0 (suc j) outgoing incoming post.knows.ends) in
         let now : AreEndsBut n (held w).seen p 0 (suc j) outgoing incoming = subst (λ h. AreEndsBut n h p 0 (suc j) outgoing incoming) (sym did.seen) (ends_several n p (suc j) 0 region outgoing incoming (suc many) before others) in
-        let start : HasRegions p region greatest before = record {
-          may = subst (λ l. MayHaveRegion l region) (sym line) post.knows.own.may;
-          greatest_is = post.knows.greatest_is ∙ ap greatest_region (sym line);
-          few = let same_length = ap length line in omega (arith, post.knows.few_regions);
-        } in
-        let regions : HasRegions p region (max greatest region) (held w).seen = subst (λ h. HasRegions p region (max greatest region) h) (sym did.seen)
-        (regions_several n k p (suc j) region greatest many before (subst (λ h. IsLegal n k h) did.seen did.legal) start) in
+        let start : MayHaveRegion (chart_of before p) region = subst (λ l. MayHaveRegion l region) (sym line) post.knows.own.may in
+        let may : MayHaveRegion (chart_of (held w).seen p) region = subst (λ h. MayHaveRegion (chart_of h p) region) (sym did.seen)
+        (may_several n k p (suc j) region many before (subst (λ h. IsLegal n k h) did.seen did.legal) start) in
         record {
           chair_is = seated ∙ post.chair_is;
           board = post.board;
@@ -167,9 +143,7 @@ module _ (key : Shape) (table chair : TableId) (m : Mine) (n k p : ℕ) (r : Rec
           rests = rests;
           knows = record {
             legal = did.legal;
-            own = record { recorder = recorder; may = regions.may };
-            greatest_is = regions.greatest_is;
-            few_regions = regions.few;
+            own = record { recorder = recorder; may = may };
             ends = with_incoming n (held w).seen p j e outgoing incoming within now end;
           };
           made = did.own;

@@ -8,8 +8,8 @@ use Rattle.board.specs.declared.ends.Outgoing.{Outgoing}
 use Rattle.board.specs.declared.ends.Incoming.{Incoming}
 use Rattle.board.specs.Known.{IsPost}
 
-pub post_roomy : (key : Shape) (table chair : TableId) (m : Mine) (n k p : ℕ) (r : RecorderView) (region greatest : ℕ) (outgoing : List Outgoing) (incoming : List Incoming) (events : ℕ) → IsPost key table chair m n k p r region greatest outgoing incoming → IsPost key table chair m n k p (with_room r events) region greatest outgoing incoming
-post_roomy key table chair m n k p r region greatest outgoing incoming events post =
+pub post_roomy : (key : Shape) (table chair : TableId) (m : Mine) (n k p : ℕ) (r : RecorderView) (region : ℕ) (outgoing : List Outgoing) (incoming : List Incoming) (events : ℕ) → IsPost key table chair m n k p r region outgoing incoming → IsPost key table chair m n k p (with_room r events) region outgoing incoming
+post_roomy key table chair m n k p r region outgoing incoming events post =
     let knows = post.knows in
     let recorder = knows.own.recorder in
     record {
@@ -22,8 +22,6 @@ post_roomy key table chair m n k p r region greatest outgoing incoming events po
       knows = record {
         legal = knows.legal;
         own = record { recorder = record { line = recorder.line; knowledge = recorder.knowledge; receives = recorder.receives; reports = recorder.reports }; may = knows.own.may };
-        greatest_is = knows.greatest_is;
-        few_regions = knows.few_regions;
         ends = knows.ends;
       };
       made = post.made;

@@ -1,15 +1,14 @@
 -- Several messages, sent one directly after another.
 use Rattle.std.proofs.Common.{◌≡◌, ℕ, suc, ◌+◌, List, [], ◌∷◌, ◌++◌, length, map, refl, sym, ap, ap₂, ◌∙◌, subst, arith, append_assoc}
 use Rattle.std.proofs.lemmas.Bool.{eq-eqb}
-use Rattle.std.proofs.lemmas.List.{length_push, reverse-append}
+use Rattle.std.proofs.lemmas.List.{reverse-append}
 use Rattle.chart.specs.declared.history.Occurrence.{Occurrence}
 use Rattle.chart.specs.declared.history.Occurrence.TheVariants.{Send}
-use Rattle.chart.specs.Events.{send_event, greatest_region}
+use Rattle.chart.specs.Events.{send_event}
 use Rattle.chart.specs.Charts.{LineView}
 use Rattle.chart.specs.Messages.{Content}
 use Rattle.chart.specs.Histories.{chart_of, IsLegal}
 use Rattle.chart.proofs.Begun.{legal_begun}
-use Rattle.chart.proofs.Regions.{greatest_region-push}
 use Rattle.chart.proofs.Sends.{line_after_send}
 use Rattle.clock.specs.declared.diff.Change.{Change}
 use Rattle.clock.specs.Clocks.{with_entry}
@@ -115,11 +114,3 @@ end_sends n p q (m ∷ ms) h r o put its long old many =
 pub ends_sends : (n p q from_one : ℕ) (ms : List Content) (h : List Occurrence) (outgoing : List Outgoing) (incoming : List Incoming) → AreEndsBut n h p q from_one outgoing incoming → AreEndsBut n (sends_after p q ms h) p q from_one outgoing incoming
 ends_sends n p q from_one [] h outgoing incoming old = old
 ends_sends n p q from_one (m ∷ ms) h outgoing incoming old = ends_sends n p q from_one ms (Send p q m ∷ h) outgoing incoming (ends_sent n h p q from_one m outgoing incoming old)
-
-pub line_sends : (p q : ℕ) (ms : List Content) (h : List Occurrence) → (length (chart_of (sends_after p q ms h) p) ≡ length (chart_of h p) + length ms) × (greatest_region (chart_of (sends_after p q ms h) p) ≡ greatest_region (chart_of h p))
-line_sends p q [] h = (omega arith, refl)
-line_sends p q (m ∷ ms) h =
-    let line = line_after_send h p q m in
-    let rest = line_sends p q ms (Send p q m ∷ h) in
-    let regions = greatest_region-push (chart_of h p) (send_event q m.name) in
-    (omega (arith, rest.0, ap length line, length_push (chart_of h p) (send_event q m.name)), omega (arith, rest.1, ap greatest_region line, regions))

@@ -2,8 +2,7 @@
 -- have them; kept numbers are this project's profile).
 use Rattle.std.specs.Prelude.{◌≡◌, ◌≢◌, ℕ, suc, ◌≤◌, List, ◌++◌, length, slice_get, Some}
 use Rattle.chart.specs.declared.history.Occurrence.{Occurrence}
-use Rattle.chart.specs.Events.{greatest_region}
-use Rattle.chart.specs.Histories.{own, sent, received, is_closed, chart_of, IsLegal, Begins}
+use Rattle.chart.specs.Histories.{own, sent, received, is_closed, IsLegal, Begins}
 use Rattle.chart.specs.declared.instance.TheConstants.{MAX_INSTANCES}
 use Rattle.line_recorder.specs.Recorders.{RecorderView}
 use Rattle.board_core.specs.Instances.{IsInstance}
@@ -52,22 +51,20 @@ pub record IsSized (n k : ℕ) : Type 0 where
   pub places : k ≤ MAX_CAPACITY
 
 -- what a post knows is so in what it has seen, which is legal
-pub record Knows (n k : ℕ) (h : List Occurrence) (p : ℕ) (recorder : RecorderView) (region greatest : ℕ) (outgoing : List Outgoing) (incoming : List Incoming) : Type 0 where
+pub record Knows (n k : ℕ) (h : List Occurrence) (p : ℕ) (recorder : RecorderView) (region : ℕ) (outgoing : List Outgoing) (incoming : List Incoming) : Type 0 where
   pub legal : IsLegal n k h
   pub own : IsInstance n h p recorder region
-  pub greatest_is : greatest ≡ greatest_region (chart_of h p)
-  pub few_regions : greatest ≤ length (chart_of h p)
   pub ends : AreEnds n h p outgoing incoming
 
 -- a post between two calls: its table, its seat, its number, and what it knows
-pub record IsPost (key : Shape) (table chair : TableId) (me : Mine) (n k p : ℕ) (recorder : RecorderView) (region greatest : ℕ) (outgoing : List Outgoing) (incoming : List Incoming) : Type 0 where
+pub record IsPost (key : Shape) (table chair : TableId) (me : Mine) (n k p : ℕ) (recorder : RecorderView) (region : ℕ) (outgoing : List Outgoing) (incoming : List Incoming) : Type 0 where
   pub chair_is : chair ≡ table
   pub board : IsBoard n k key table
   pub sized : IsSized n k
   pub least : 1 ≤ p
   pub most : p ≤ n
   pub rests : Rests n k p me
-  pub knows : Knows n k (held me).seen p recorder region greatest outgoing incoming
+  pub knows : Knows n k (held me).seen p recorder region outgoing incoming
   pub made : own (held me).seen p ≡ (held me).made
 
 -- what a call of p makes of what its seat knows: these events, the newest first, one directly after another and after all that

@@ -62,7 +62,6 @@ fn make_post<'a>(
         outgoing,
         incoming,
         region: 0,
-        greatest: 0,
     })
 }
 

@@ -7,7 +7,7 @@ ghost use Rattle.board.specs.declared.error.RegionError.TheVariants.{CoregionOpe
 use crate::ends::{Incoming, Outgoing};
 use crate::error::RegionError;
 use board_table::{Seat, Shape, Words};
-use chart::{GrowingLine, InstanceNo};
+use chart::{GrowingLine, InstanceNo, MAX_EVENTS};
 use line_recorder::Recorder;
 use std::alloc::Global;
 use std::marker::Model;
@@ -31,8 +31,6 @@ pub struct Post<'a> {
     pub(crate) incoming: Vec<Incoming>,
     /// The open coregion, 0 for none.
     pub(crate) region: u32,
-    /// The greatest coregion of the line, 0 for none.
-    pub(crate) greatest: u32,
 }
 
 impl<'a> Model for Post<'a> {
@@ -43,7 +41,7 @@ impl<'a> Model for Post<'a> {
 
     ghost view = { λ post. view_of post.words.now.table_id post.seat.me post.shape.instances post.shape.capacity post.number post.region post.recorder.room };
 
-    ghost invariant = { λ post. IsPost post.words.now.key post.words.now.table_id post.seat.table_id post.seat.me post.shape.instances post.shape.capacity post.number post.recorder post.region post.greatest post.outgoing.items post.incoming.items };
+    ghost invariant = { λ post. IsPost post.words.now.key post.words.now.table_id post.seat.table_id post.seat.me post.shape.instances post.shape.capacity post.number post.recorder post.region post.outgoing.items post.incoming.items };
 }
 
 impl<'a> Post<'a> {
@@ -71,7 +69,9 @@ impl<'a> Post<'a> {
         if self.region > 0 {
             return Err(RegionError::CoregionOpen);
         }
-        self.region = self.greatest + 1;
+        let line = self.recorder.line();
+        prove!(line.len() <= MAX_EVENTS);
+        self.region = line.greatest_region() + 1;
         Ok(())
     }
 

@@ -35,7 +35,6 @@ impl<'a> Post<'a> {
             from,
             self.region,
         )?;
-        self.greatest = self.greatest.max(self.region);
         Ok(Taken::Got(arrival))
     }
 

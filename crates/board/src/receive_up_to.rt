@@ -40,7 +40,6 @@ impl<'a> Post<'a> {
             self.region,
             max as u64,
         )?;
-        self.greatest = self.greatest.max(self.region);
         Ok(TakenMany::Got { arrivals, stop })
     }
 }

@@ -39,7 +39,6 @@ fn first_difference(rt: &impl Abort, post: Post, from: usize) -> Diff {
         outgoing: _,
         incoming,
         region: _,
-        greatest: _,
     } = post;
     assert!(rt; from.number() <= shape.instances);
     if from == number {

@@ -7,7 +7,7 @@ use Rattle.board.proofs.post.Post.receive.Goals as goal
 pub find_messages-requires-clause-end : goal.find_messages-requires-clause-end
 find_messages-requires-clause-end c =
     let its = rw (← c.self.view_is) at c.in_ok-lane.ensures.ok in
-    rw its.is (incoming_at _ _ _ _ _ _ _ _ _ _ _ _ c.self.invariant c.args.from c.place.result c.index_mut-end.result.now c.place.ensures.value (λ e. its.two.4 (sym e)) its.two.3 c.index_mut-end.ensures.value)
+    rw its.is (incoming_at _ _ _ _ _ _ _ _ _ _ _ c.self.invariant c.args.from c.place.result c.index_mut-end.result.now c.place.ensures.value (λ e. its.two.4 (sym e)) its.two.3 c.index_mut-end.ensures.value)
 
 pub invariant_of-self : goal.invariant_of-self
 invariant_of-self c =
@@ -17,7 +17,7 @@ invariant_of-self c =
     let within : c.place.result < length c.self.inside.incoming.items = omega (arith, post.knows.ends.of_each, c.place.ensures.value, its.two.3) in
     let end = rw (its.is, c.place.ensures.value) at c.find_messages.ensures.end in
     let rests = rw its.is at c.in-Nothing.ensures.found.rests in
-    post_looked _ _ _ _ _ _ _ _ _ _ _ _ post _ _ _ c.find_messages.ensures.table rests (recorder_then _ _ _ _ _ _ _ _ _ _ _ _ post c.find_messages.new.seat.me did) c.place.result _ within end did
+    post_looked _ _ _ _ _ _ _ _ _ _ _ post _ _ _ c.find_messages.ensures.table rests (recorder_then _ _ _ _ _ _ _ _ _ _ _ post c.find_messages.new.seat.me did) c.place.result _ within end did
 
 pub invariant_of-self-in-Ended : goal.invariant_of-self-in-Ended
 invariant_of-self-in-Ended c =
@@ -27,7 +27,7 @@ invariant_of-self-in-Ended c =
     let within : c.place.result < length c.self.inside.incoming.items = omega (arith, post.knows.ends.of_each, c.place.ensures.value, its.two.3) in
     let end = rw (its.is, c.place.ensures.value) at c.find_messages.ensures.end in
     let rests = rw its.is at c.in-Ended.ensures.found.rests in
-    post_looked _ _ _ _ _ _ _ _ _ _ _ _ post _ _ _ c.find_messages.ensures.table rests (recorder_then _ _ _ _ _ _ _ _ _ _ _ _ post c.find_messages.new.seat.me did) c.place.result _ within end did
+    post_looked _ _ _ _ _ _ _ _ _ _ _ post _ _ _ c.find_messages.ensures.table rests (recorder_then _ _ _ _ _ _ _ _ _ _ _ post c.find_messages.new.seat.me did) c.place.result _ within end did
 
 pub receive_one-requires-clause-may : goal.receive_one-requires-clause-may
 receive_one-requires-clause-may c =
@@ -36,7 +36,7 @@ receive_one-requires-clause-may c =
     let did = rw its.is at c.find_messages.ensures.did in
     let found = rw its.is at c.in-Messages.ensures.found in
     let end = rw its.is at c.find_messages.ensures.end in
-    rw its.is (may_receive _ _ _ _ _ _ _ _ _ _ _ _ post c.find_messages.new.seat.me did c.args.from c.find_messages.new.end its.two found end)
+    rw its.is (may_receive _ _ _ _ _ _ _ _ _ _ _ post c.find_messages.new.seat.me did c.args.from c.find_messages.new.end its.two found end)
 
 pub invariant_of-self-in_err-arrival : goal.invariant_of-self-in_err-arrival
 invariant_of-self-in_err-arrival c =
@@ -49,7 +49,7 @@ invariant_of-self-in_err-arrival c =
     let end = rw (its.is, c.place.ensures.value) at c.receive_one.ensures.end in
     let unmade = rw its.is at c.in_err-arrival.ensures.err in
     let then_ = did_onward _ _ _ (held c.self.inside.seat.me) (held c.find_messages.new.seat.me) (held c.receive_one.new.seat.me) _ _ did unmade.did in
-    post_looked _ _ _ _ _ _ _ _ _ _ _ _ post _ _ _ (c.receive_one.ensures.table ∙ c.find_messages.ensures.table) rests recorder c.place.result _ within end then_
+    post_looked _ _ _ _ _ _ _ _ _ _ _ post _ _ _ (c.receive_one.ensures.table ∙ c.find_messages.ensures.table) rests recorder c.place.result _ within end then_
 
 pub returns-in_err-arrival-clause-sound : goal.returns-in_err-arrival-clause-sound
 returns-in_err-arrival-clause-sound c =
@@ -70,7 +70,7 @@ invariant_of-self-2 c =
     let end = rw (its.is, c.place.ensures.value) at c.receive_one.ensures.end in
     let made = rw (its.is, c.place.ensures.value) at c.in_ok-arrival.ensures.ok in
     let then_ = did_onward _ _ _ (held c.self.inside.seat.me) (held c.find_messages.new.seat.me) (held c.receive_one.new.seat.me) _ _ did made.did in
-    rw c.max-self-inside.ensures (post_received _ _ _ _ _ _ _ _ _ _ _ _ post _ _ _ (c.receive_one.ensures.table ∙ c.find_messages.ensures.table) rests recorder c.place.result _ within end _ 0 then_)
+    post_received _ _ _ _ _ _ _ _ _ _ _ post _ _ _ (c.receive_one.ensures.table ∙ c.find_messages.ensures.table) rests recorder c.place.result _ within end _ 0 then_
 
 pub returns-clause-sound : goal.returns-clause-sound
 returns-clause-sound c =
@@ -85,4 +85,4 @@ returns-clause-answer c =
     let its = rw (← c.self.view_is) at c.in_ok-lane.ensures.ok in
     let did = rw its.is at c.find_messages.ensures.did in
     let made = rw its.is at c.in_ok-arrival.ensures.ok in
-    rw (← c.self.view_is) (got _ _ _ _ _ _ _ _ _ _ _ _ c.self.invariant c.args.from its.two c.find_messages.new.seat.me c.receive_one.new.seat.me c.receive_one.new.recorder.room _ did made c.in_ok-arrival.ensures.left)
+    rw (← c.self.view_is) (got _ _ _ _ _ _ _ _ _ _ _ c.self.invariant c.args.from its.two c.find_messages.new.seat.me c.receive_one.new.seat.me c.receive_one.new.recorder.room _ did made c.in_ok-arrival.ensures.left)

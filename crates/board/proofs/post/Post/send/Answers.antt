@@ -7,8 +7,8 @@ use Rattle.board.proofs.post.Post.send.Goals.{in-Ok, in-Err}
 pub send_one-requires-clause-may : goal.send_one-requires-clause-may
 send_one-requires-clause-may c =
     let may = rw (← c.self.view_is) at c.in_default.ensures.none in
-    let end = outgoing_at _ _ _ _ _ _ _ _ _ _ _ _ c.self.invariant c.args.to c.place.result c.index_mut-end.result.now c.place.ensures.value (λ e. may.may.two.4 (sym e)) may.may.two.3 c.index_mut-end.ensures.value in
-    rw c.new-lane.ensures (may_put _ _ _ _ c.self.inside.seat.me _ _ _ _ _ _ _ _ c.self.invariant c.args.to 1 may _ end)
+    let end = outgoing_at _ _ _ _ _ _ _ _ _ _ _ c.self.invariant c.args.to c.place.result c.index_mut-end.result.now c.place.ensures.value (λ e. may.may.two.4 (sym e)) may.may.two.3 c.index_mut-end.ensures.value in
+    rw c.new-lane.ensures (may_put _ _ _ _ c.self.inside.seat.me _ _ _ _ _ _ _ c.self.invariant c.args.to 1 may _ end)
 
 pub invariant_of-self : goal.invariant_of-self
 invariant_of-self c =
@@ -20,10 +20,10 @@ invariant_of-self c =
     elim c.match-send_one.branch [
       | in-Ok w ↦
           let did = rw (c.new-lane.ensures, c.place.ensures.value) at w.in-Ok.ensures.ok in
-          post_sends _ _ _ _ _ _ _ _ _ _ _ _ _ _ _ c.self.invariant c.send_one.ensures.table rests recorder c.place.result _ within end _ (c.args.message ∷ []) may.may.outside did
+          post_sends _ _ _ _ _ _ _ _ _ _ _ _ _ _ c.self.invariant c.send_one.ensures.table rests recorder c.place.result _ within end _ (c.args.message ∷ []) may.may.outside did
       | in-Err w ↦
           let unmade = rw c.new-lane.ensures at w.in-Err.ensures.err in
-          post_saw _ _ _ _ _ _ _ _ _ _ _ _ _ _ _ c.self.invariant c.send_one.ensures.table rests recorder c.place.result _ within end unmade.1.did
+          post_saw _ _ _ _ _ _ _ _ _ _ _ _ _ _ c.self.invariant c.send_one.ensures.table rests recorder c.place.result _ within end unmade.1.did
     ]
 
 pub returns-clause-sound : goal.returns-clause-sound
@@ -52,5 +52,5 @@ returns-clause-answer c =
           })
       | in-Err w ↦
           let unmade = rw c.new-lane.ensures at w.in-Err.ensures.err in
-          rw (w.result-is, ← c.self.view_is) (unmade.0, did_stays c.self.inside.words.now.table_id c.self.inside.seat.me c.send_one.new.seat.me _ _ _ c.self.inside.region c.self.inside.recorder.room c.send_one.new.recorder.room unmade.1.did w.in-Err.ensures.kept, unsent _ _ _ _ c.send_one.new.seat.me _ _ _ _ _ _ _ _ c.self.invariant c.args.to 1 may c.send_one.new.recorder.room c.new-lane.result c.new-lane.ensures _ unmade.1.did (omega arith) w.in-Err.ensures.err.1.cause)
+          rw (w.result-is, ← c.self.view_is) (unmade.0, did_stays c.self.inside.words.now.table_id c.self.inside.seat.me c.send_one.new.seat.me _ _ _ c.self.inside.region c.self.inside.recorder.room c.send_one.new.recorder.room unmade.1.did w.in-Err.ensures.kept, unsent _ _ _ _ c.send_one.new.seat.me _ _ _ _ _ _ _ c.self.invariant c.args.to 1 may c.send_one.new.recorder.room c.new-lane.result c.new-lane.ensures _ unmade.1.did (omega arith) w.in-Err.ensures.err.1.cause)
     ]

@@ -13,8 +13,8 @@ pub send_several-requires-clause-may : goal.send_several-requires-clause-may
 send_several-requires-clause-may c =
     let many : c.len.result ≡ length c.args.messages.items = search rules in
     let may = rw (← c.self.view_is, many) at c.in_default.ensures.none in
-    let end = outgoing_at _ _ _ _ _ _ _ _ _ _ _ _ c.self.invariant c.args.to c.place.result c.index_mut-end.result.now c.place.ensures.value (λ e. may.may.two.4 (sym e)) may.may.two.3 c.index_mut-end.ensures.value in
-    rw c.new-lane.ensures (may_put _ _ _ _ c.self.inside.seat.me _ _ _ _ _ _ _ _ c.self.invariant c.args.to _ may _ end)
+    let end = outgoing_at _ _ _ _ _ _ _ _ _ _ _ c.self.invariant c.args.to c.place.result c.index_mut-end.result.now c.place.ensures.value (λ e. may.may.two.4 (sym e)) may.may.two.3 c.index_mut-end.ensures.value in
+    rw c.new-lane.ensures (may_put _ _ _ _ c.self.inside.seat.me _ _ _ _ _ _ _ c.self.invariant c.args.to _ may _ end)
 
 pub invariant_of-self : goal.invariant_of-self
 invariant_of-self c =
@@ -25,7 +25,7 @@ invariant_of-self c =
     let made = rw (c.new-lane.ensures, c.place.ensures.value) at c.send_several.ensures.ok in
     let unmade = rw (c.new-lane.ensures, c.place.ensures.value) at c.send_several.ensures.err in
     let within : c.place.result < length c.self.inside.outgoing.items = omega (arith, c.self.invariant.knows.ends.as_many, c.place.ensures.value, may.may.two.3) in
-    post_all _ _ _ _ _ _ _ _ _ _ _ _ _ _ _ c.self.invariant c.send_several.ensures.table rests recorder c.place.result _ within end may.may.outside c.args.messages.items c.send_several.result made unmade
+    post_all _ _ _ _ _ _ _ _ _ _ _ _ _ _ c.self.invariant c.send_several.ensures.table rests recorder c.place.result _ within end may.may.outside c.args.messages.items c.send_several.result made unmade
 
 pub returns-clause-sound : goal.returns-clause-sound
 returns-clause-sound c =
@@ -40,4 +40,4 @@ returns-clause-answer c =
     let some : length c.args.messages.items ≢ 0 = search rules in
     let made = rw c.new-lane.ensures at c.send_several.ensures.ok in
     let unmade = rw c.new-lane.ensures at c.send_several.ensures.err in
-    rw (← c.self.view_is) (answer_all _ _ _ _ c.send_several.new.seat.me _ _ _ _ _ _ _ _ c.self.invariant c.args.to c.send_several.new.recorder.room c.args.messages.items may (omega (arith, some)) c.send_several.result made unmade c.send_several.ensures.left c.send_several.ensures.kept)
+    rw (← c.self.view_is) (answer_all _ _ _ _ c.send_several.new.seat.me _ _ _ _ _ _ _ c.self.invariant c.args.to c.send_several.new.recorder.room c.args.messages.items may (omega (arith, some)) c.send_several.result made unmade c.send_several.ensures.left c.send_several.ensures.kept)
