@@ -7,7 +7,7 @@ use Rattle.std.proofs.lemmas.Bool.{lt-leb, le-ltb}
 use Rattle.std.proofs.lemmas.Option.{slice_get-get_or, slice_get_within, get_or_from_slice_get}
 use Rattle.chart.proofs.Places.{slice_get-append}
 use Rattle.chart.specs.Charts.{LineView, IsLine}
-use Rattle.chart.specs.Events.{partner_of, region_of, greatest_region, MayHaveRegion, HasRegionsInOrder}
+use Rattle.chart.specs.Events.{partner_of, region_of, MayHaveRegion, HasRegionsInOrder}
 use Rattle.chart.specs.Names.{IsName, instance_of}
 use Rattle.chart.specs.NameSets.{AreNames}
 use Rattle.chart.specs.declared.event.Event.{Event}
@@ -38,7 +38,7 @@ use Rattle.msc_reader.proofs.TextSayings.{body, closing, last_from, part, chart_
 
 -- outside of an instance, behind these lines
 abbrev spot_outside : List (List ℕ) → List LineView → Spot
-spot_outside begun lines = record { begun = begun; state = states.Outside; builder = record { lines = lines; line = None; open_region = 0; greatest = 0 } }
+spot_outside begun lines = record { begun = begun; state = states.Outside; builder = record { lines = lines; line = None; open_region = 0 } }
 
 -- a line that can be spelled, behind so many
 record IsPart (names : List (List ℕ)) (own : List ℕ) (done : ℕ) (line : LineView) : Type 0 where
@@ -52,15 +52,15 @@ record IsPart (names : List (List ℕ)) (own : List ℕ) (done : ℕ) (line : Li
 head_pass : (names begun : List (List ℕ)) (own : List ℕ) (lines : List LineView) → IsName own → (Contains begun own → ⊥) → length begun < MAX_INSTANCES → length begun ≡ length lines
     → Passes names (spot_outside begun lines) (sayings.Head own) (spot_behind (begun ++ own ∷ []) own (suc (length lines)) lines [])
 head_pass names begun own lines name absent room many =
-    let e : BuilderView = record { lines = lines; line = Some (record { instance = suc (length lines); events = [] }); open_region = 0; greatest = 0 } in
+    let e : BuilderView = record { lines = lines; line = Some (record { instance = suc (length lines); events = [] }); open_region = 0 } in
     record {
       moves = heads name;
       adds = with_name-ok begun own absent (omega arith);
       builds = ap (λ b. cond b (Err Instances) (Ok e)) (lt-leb MAX_INSTANCES (length lines) (omega arith));
     }
 
-foot_pass : (names begun : List (List ℕ)) (own : List ℕ) (events : ℕ) (lines : List LineView) (line : LineView) (g : ℕ) → Passes names (spot_in begun own events regions.Closed lines line 0 g) sayings.Foot (spot_outside begun (lines ++ line ∷ []))
-foot_pass names begun own events lines line g = record { moves = leaves; adds = refl; builds = refl }
+foot_pass : (names begun : List (List ℕ)) (own : List ℕ) (events : ℕ) (lines : List LineView) (line : LineView) → Passes names (spot_in begun own events regions.Closed lines line 0) sayings.Foot (spot_outside begun (lines ++ line ∷ []))
+foot_pass names begun own events lines line = record { moves = leaves; adds = refl; builds = refl }
 
 part_path : (names begun : List (List ℕ)) (own : List ℕ) (lines : List LineView) (line : LineView) → IsPart names own (length lines) line → (Contains begun own → ⊥) → length begun < MAX_INSTANCES → length begun ≡ length lines
     → Path names (spot_outside begun lines) (part names line) (spot_outside (begun ++ own ∷ []) (lines ++ line ∷ []))
@@ -71,7 +71,7 @@ part_path names begun own lines line h absent room many =
     let head = subst (λ k. Passes names (spot_outside begun lines) (sayings.Head own) (spot_behind more own k lines [])) (sym h.next) head0 in
     let events = body_path names more own p lines [] line.events h.spelled h.follow (omega (arith, h.short)) in
     let close = close_path names more own p lines line.events in
-    let foot = foot_pass names more own (length line.events) lines line (greatest_region line.events) in
+    let foot = foot_pass names more own (length line.events) lines line in
     let all = pass head (path_then events (path_then close (one_pass foot))) in
     subst (λ w. Path names (spot_outside begun lines) (sayings.Head w ∷ (body names 0 line.events ++ (closing (last_from 0 line.events) 0 ++ sayings.Foot ∷ []))) (spot_outside more (lines ++ line ∷ []))) (sym h.owner) all
 
@@ -121,7 +121,7 @@ abbrev spot_start : Spot
 spot_start = record { begun = []; state = states.Start; builder = blank }
 
 abbrev spot_done : List (List ℕ) → List LineView → Spot
-spot_done names lines = record { begun = names; state = states.Done; builder = record { lines = lines; line = None; open_region = 0; greatest = 0 } }
+spot_done names lines = record { begun = names; state = states.Done; builder = record { lines = lines; line = None; open_region = 0 } }
 
 -- ---- what has a text has such parts
 

@@ -18,7 +18,7 @@ use Rattle.msc_text.proofs.Lookups.{IsNamed, instance_is}
 use Rattle.msc_text.proofs.NewNames.{with_name-names}
 use Rattle.msc_text.proofs.Results.{guard_ok, ok_is}
 use Rattle.msc_text.specs.Instances.{known, known_of}
-use Rattle.msc_reader.specs.Builders.{BuilderView, with_event, with_foot, with_send, with_receive, built}
+use Rattle.msc_reader.specs.Builders.{BuilderView, with_event, with_foot, with_send, with_receive, built, next_region}
 use Rattle.msc_text.specs.Instances.{with_name}
 use Rattle.msc_reader.specs.Reading.{names_after}
 use Rattle.msc_reader.specs.Steps.{after_receive}
@@ -79,8 +79,8 @@ head-on names begun more later own d name s e prefix =
     let whole : names ≡ (begun ++ own ∷ []) ++ later = prefix ∙ ap (λ l. l ++ later) add.1 in
     let owner : name_at names (suc (length d.lines)) ≡ own = ap (λ k. name_at names (suc k)) (sym many) ∙ ap (λ l. name_at l (suc (length begun))) whole ∙ name_at-there begun own later in
     let line : LineView = record { instance = suc (length d.lines); events = [] } in
-    let e : BuilderView = record { lines = d.lines; line = Some line; open_region = 0; greatest = 0 } in
-    let inside : IsInside names own 0 regions.Closed e line = record { there = refl; next = refl; owner = owner; many = refl; most = refl; open_is = refl; among = empty_line (length names) (suc (length d.lines)) } in
+    let e : BuilderView = record { lines = d.lines; line = Some line; open_region = 0 } in
+    let inside : IsInside names own 0 regions.Closed e line = record { there = refl; next = refl; owner = owner; many = refl; open_is = refl; among = empty_line (length names) (suc (length d.lines)) } in
     let made : SoFar names (begun ++ own ∷ []) (states.Inside own 0 regions.Closed) e = record {
       are = are;
       each = all-push IsName begun own s.each name;
@@ -161,7 +161,7 @@ region-state c line s i opened = record {
   each = s.each;
   numbered = s.numbered;
   among = s.among;
-  stands = (s.stands.0, (line, record { there = i.there; next = i.next; owner = i.owner; many = i.many; most = i.most; open_is = opened; among = i.among }));
+  stands = (s.stands.0, (line, record { there = i.there; next = i.next; owner = i.owner; many = i.many; open_is = opened; among = i.among }));
 }
 
 -- what is said there
@@ -185,10 +185,10 @@ open-on names begun own events d s =
     let line = inside.0 in
     let i = inside.1 in
     inr (
-      record d { open_region = d.greatest + 1 },
+      record d { open_region = next_region d.line },
       record {
         is_built = refl;
-        made = region-state (d.greatest + 1) line s i (ap (λ g. g + 1) i.most);
+        made = region-state (next_region d.line) line s i (ap next_region i.there);
         says = said-on names own regions.Closed regions.Empty d line sayings.Open i.there refl;
       },
     )
@@ -220,7 +220,7 @@ foot-on names begun own events d s =
     let front = flat_map (part names) d.lines in
     let r = last_from 0 line.events in
     let b = body names 0 line.events in
-    let e : BuilderView = record { lines = d.lines ++ line ∷ []; line = None; open_region = 0; greatest = 0 } in
+    let e : BuilderView = record { lines = d.lines ++ line ∷ []; line = None; open_region = 0 } in
     let here : part names line ≡ (sayings.Head own ∷ (b ++ closing r 0)) ++ sayings.Foot ∷ [] = ap (λ w. sayings.Head w ∷ (b ++ (closing r 0 ++ sayings.Foot ∷ []))) i.owner ∙ ap (λ l. sayings.Head own ∷ l) (sym (append_assoc b (closing r 0) (sayings.Foot ∷ []))) in
     inr (
       e,

@@ -4,15 +4,14 @@ use Rattle.std.specs.List.{flat_map, AllByRecursion}
 use Rattle.std.proofs.lemmas.Bool.{ne_eqb}
 use Rattle.chart.proofs.Layouts.{IsLine-push}
 use Rattle.chart.specs.Charts.{LineView, IsLine, IsNumbered}
-use Rattle.chart.specs.Events.{partner_of, name_of, region_of, greatest_region}
+use Rattle.chart.specs.Events.{partner_of, name_of, region_of}
 use Rattle.chart.specs.Names.{IsName}
 use Rattle.chart.specs.NameSets.{AreNames}
 use Rattle.chart.specs.declared.event.Event.{Event}
 use Rattle.chart.specs.declared.line.TheConstants.{MAX_EVENTS}
-use Rattle.chart.proofs.Regions.{greatest_region-push}
 use Rattle.msc_text.specs.ChartText.{name_at}
 use Rattle.msc_text.proofs.Results.{bind_at}
-use Rattle.msc_reader.specs.Builders.{BuilderView, blank, pushed, greater, with_event}
+use Rattle.msc_reader.specs.Builders.{BuilderView, blank, pushed, with_event}
 use Rattle.msc_reader.specs.Steps.{after_receive}
 use Rattle.msc_reader.specs.declared.state.State.{State}
 use Rattle.msc_reader.specs.declared.state.State.TheVariants as states
@@ -20,7 +19,6 @@ use Rattle.msc_reader.specs.declared.state.Region.{Region}
 use Rattle.msc_reader.specs.declared.state.Saying.{Saying}
 use Rattle.msc_reader.specs.declared.state.Saying.TheVariants as sayings
 use Rattle.msc_reader.proofs.Coregions.{HasOpen, open-may, open-more, tail_of, last_from-push, body-push, tail-more}
-use Rattle.msc_reader.proofs.Builders.{greater-most}
 use Rattle.msc_reader.proofs.TextSayings.{said, event_sayings, body, last_from, part}
 
 -- ---- what is built
@@ -42,7 +40,6 @@ pub record IsInside (names : List (List ℕ)) (own : List ℕ) (events : ℕ) (r
   pub next : line.instance ≡ suc (length d.lines)
   pub owner : name_at names line.instance ≡ own
   pub many : length line.events ≡ events
-  pub most : d.greatest ≡ greatest_region line.events
   pub open_is : HasOpen region d.open_region line.events
   pub among : IsLineAmong (length names) line
 
@@ -96,7 +93,7 @@ abbrev pub more_line : LineView → Event → LineView
 more_line line m = record line { events = line.events ++ m ∷ [] }
 
 abbrev pub more_built : BuilderView → LineView → Event → BuilderView
-more_built d line m = record { lines = d.lines; line = Some (more_line line m); open_region = region_of m; greatest = greater (region_of m) d.greatest }
+more_built d line m = record { lines = d.lines; line = Some (more_line line m); open_region = region_of m }
 
 pub pushed-more : (line : LineView) (m : Event) → partner_of m ≢ line.instance → length line.events ≢ MAX_EVENTS → pushed line m ≡ Ok (more_line line m)
 unfolding pushed
@@ -106,7 +103,7 @@ pub event-built : {names : List (List ℕ)} {own : List ℕ} {events : ℕ} {reg
 event-built {d = d} {line = line} {m = m} p =
     let many = p.inside.many in
     let room = p.room in
-    ap (λ o. with_event d o m) p.inside.there ∙ bind_at (pushed line m) (λ more. Ok (record { lines = d.lines; line = Some more; open_region = region_of m; greatest = greater (region_of m) d.greatest })) (more_line line m) (pushed-more line m p.other (omega arith))
+    ap (λ o. with_event d o m) p.inside.there ∙ bind_at (pushed line m) (λ more. Ok (record { lines = d.lines; line = Some more; open_region = region_of m })) (more_line line m) (pushed-more line m p.other (omega arith))
 
 pub event-inside : {names : List (List ℕ)} {own : List ℕ} {events : ℕ} {region : Region} {d : BuilderView} {line : LineView} {m : Event} → Pushes names own events region d line m
     → IsInside names own (events + 1) (after_receive region) (more_built d line m) (more_line line m)
@@ -120,7 +117,6 @@ event-inside {names} {own} {events} {region} {d} {line} {m} p =
       next = i.next;
       owner = i.owner;
       many = omega (arith, length-append line.events (m ∷ []));
-      most = ap (greater (region_of m)) i.most ∙ greater-most (region_of m) line.events may ∙ sym (greatest_region-push line.events m);
       open_is = open-more region line.events m p.open_is;
       among = record {
         line_is = IsLine-push line.instance line.events m i.among.line_is p.other room may;

@@ -1,5 +1,5 @@
 -- The second look at a chart's text: what its lines build, now that all names are known (this project's profile).
-use Rattle.std.specs.Prelude.{◌≡◌, ℕ, suc, ◌+◌, ◌≤◌, ◌==◌, List, [], ◌∷◌, ◌++◌, length, Option, None, Some, Result, Ok, Err, nat_le, MatchOption, if◌then◌else◌}
+use Rattle.std.specs.Prelude.{◌≡◌, ℕ, suc, ◌+◌, ◌==◌, List, [], ◌∷◌, ◌++◌, length, Option, None, Some, Result, Ok, Err, nat_le, MatchOption, if◌then◌else◌}
 use Rattle.chart.specs.Charts.{LineView, IsNumbered}
 use Rattle.chart.specs.Events.{partner_of, region_of, greatest_region, MayHaveRegion}
 use Rattle.chart.specs.declared.event.Event.{Event}
@@ -13,17 +13,15 @@ use Rattle.msc_text.specs.declared.fault.Cause.TheVariants.{Syntax, Instances, T
 use Rattle.msc_reader.specs.declared.state.Saying.{Saying}
 use Rattle.msc_reader.specs.declared.state.Saying.TheVariants.{Begin, Head, Send, Receive, Open, Shut, Foot, End}
 
--- the lines that are built whole, and that which is being built, if there is one; its open coregion and the greatest that it
--- has, each 0 where there is none
+-- the lines that are built whole, and that which is being built, if there is one; its open coregion, 0 where there is none
 pub record BuilderView : Type 0 where
   pub lines : List LineView
   pub line : Option LineView
   pub open_region : ℕ
-  pub greatest : ℕ
 
 -- nothing is built
 abbrev pub blank : BuilderView
-blank = record { lines = []; line = None; open_region = 0; greatest = 0 }
+blank = record { lines = []; line = None; open_region = 0 }
 
 -- the line with an event more
 unfoldable pub pushed : LineView → Event → Result LineView Cause
@@ -31,26 +29,27 @@ pushed line m =
     if partner_of m == line.instance then Err ToItself else (
     if length line.events == MAX_EVENTS then Err LineFull else Ok (record line { events = line.events ++ m ∷ [] }))
 
--- the greatest coregion with one more event
-abbrev pub greater : ℕ → ℕ → ℕ
-greater region greatest = if region == 0 then greatest else region
+-- the next coregion of the line that is being built
+abbrev pub next_region : Option LineView → ℕ
+next_region None = 1
+next_region (Some line) = greatest_region line.events + 1
 
 -- the line that is being built gets an event
 abbrev pub with_event : BuilderView → Option LineView → Event → Result BuilderView Cause
 with_event d None m = Err Syntax
 with_event d (Some line) m = do
   more ← pushed line m
-  Ok (record { lines = d.lines; line = Some more; open_region = region_of m; greatest = greater (region_of m) d.greatest })
+  Ok (record { lines = d.lines; line = Some more; open_region = region_of m })
 
 -- the next instance's line begins
 abbrev pub with_head : BuilderView → Result BuilderView Cause
 with_head d =
-    if nat_le MAX_INSTANCES (length d.lines) then Err Instances else Ok (record { lines = d.lines; line = Some (record { instance = suc (length d.lines); events = [] }); open_region = 0; greatest = 0 })
+    if nat_le MAX_INSTANCES (length d.lines) then Err Instances else Ok (record { lines = d.lines; line = Some (record { instance = suc (length d.lines); events = [] }); open_region = 0 })
 
 -- the line that is being built is whole
 abbrev pub with_foot : BuilderView → Option LineView → Result BuilderView Cause
 with_foot d None = Err Syntax
-with_foot d (Some line) = Ok (record { lines = d.lines ++ line ∷ []; line = None; open_region = 0; greatest = 0 })
+with_foot d (Some line) = Ok (record { lines = d.lines ++ line ∷ []; line = None; open_region = 0 })
 
 -- a send
 unfoldable pub with_send : List (List ℕ) → BuilderView → List ℕ → List ℕ → Result BuilderView Cause
@@ -70,21 +69,17 @@ built names d Begin = Ok d
 built names d (Head own) = with_head d
 built names d (Send to name) = with_send names d to name
 built names d (Receive from name) = with_receive names d from name
-built names d Open = Ok (record d { open_region = d.greatest + 1 })
+built names d Open = Ok (record d { open_region = next_region d.line })
 built names d Shut = Ok (record d { open_region = 0 })
 built names d Foot = with_foot d d.line
 built names d End = Ok d
 
--- what a line keeps that is being built behind so many lines, with this open coregion and this greatest
-pub record IsNextLine (lines open_region greatest : ℕ) (line : LineView) : Type 0 where
+-- what a line keeps that is being built behind so many lines, with this open coregion
+pub record IsNextLine (lines open_region : ℕ) (line : LineView) : Type 0 where
   pub next : line.instance ≡ suc lines
   pub may : MayHaveRegion line.events open_region
-  pub most : greatest ≡ greatest_region line.events
-  pub few : greatest_region line.events ≤ length line.events
-  pub short : length line.events ≤ MAX_EVENTS
 
 -- what a builder keeps
 pub record IsBuilder (d : BuilderView) : Type 0 where
   pub numbered : IsNumbered d.lines
-  pub few : d.greatest ≤ MAX_EVENTS
-  pub line : MatchOption d.line (Unit {0}) (IsNextLine (length d.lines) d.open_region d.greatest)
+  pub line : MatchOption d.line (Unit {0}) (IsNextLine (length d.lines) d.open_region)

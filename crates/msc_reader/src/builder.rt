@@ -3,10 +3,10 @@ ghost use Rattle.std.specs.Prelude.{◌≡◌, ◌+◌, ◌⊎◌, ◌≤◌, if
 ghost use Rattle.chart.specs.Charts.{IsNumbered};
 ghost use Rattle.chart.specs.Events.{region_of, MayHaveRegion};
 ghost use Rattle.msc_text.specs.Faults.{Gives, in_line};
-ghost use Rattle.msc_reader.specs.Builders.{blank, pushed, greater, with_event, with_head, with_foot, with_send, with_receive, built};
+ghost use Rattle.msc_reader.specs.Builders.{blank, pushed, next_region, with_event, with_head, with_foot, with_send, with_receive, built};
 
 use crate::state::Saying;
-use chart::{Event, InstanceNo, Line, LineError, MAX_INSTANCES, Name, Names};
+use chart::{Event, InstanceNo, Line, LineError, MAX_EVENTS, MAX_INSTANCES, Name, Names};
 use msc_text::{Cause, TextError, at_line, fault_at, known_in};
 use std::alloc::Global;
 use std::marker::Model;
@@ -19,8 +19,6 @@ pub(crate) struct Builder {
     line: Option<Line>,
     /// Its coregion that is open, or 0.
     open_region: u32,
-    /// Its greatest coregion, or 0.
-    greatest: u32,
 }
 
 impl Model for Builder {
@@ -28,9 +26,9 @@ impl Model for Builder {
 
     ghost Value = { BuilderView };
 
-    ghost view = { λ d. record { lines = d.lines.items; line = d.line; open_region = d.open_region; greatest = d.greatest } };
+    ghost view = { λ d. record { lines = d.lines.items; line = d.line; open_region = d.open_region } };
 
-    ghost invariant = { λ d. IsBuilder (record { lines = d.lines.items; line = d.line; open_region = d.open_region; greatest = d.greatest }) };
+    ghost invariant = { λ d. IsBuilder (record { lines = d.lines.items; line = d.line; open_region = d.open_region }) };
 }
 
 /// Adds an event to the line, which may have its coregion.
@@ -47,11 +45,17 @@ fn push(number: u64, line: &mut Line, event: Event) -> Result<(), TextError>
     }
 }
 
-/// The greatest coregion with one more event.
-fn greater(region: u32, greatest: u32) -> u32
-    ensures { result ≡ greater region greatest }
+/// The next coregion of the line that is being built.
+fn next_region(line: &Option<Line>) -> u32
+    ensures { result ≡ next_region line.now }
 {
-    if region == 0 { greatest } else { region }
+    match line {
+        Some(line) => {
+            prove!(line.len() <= MAX_EVENTS);
+            line.greatest_region() + 1
+        }
+        None => 1,
+    }
 }
 
 impl Builder {
@@ -63,7 +67,6 @@ impl Builder {
             lines: Vec::new(alloc),
             line: None,
             open_region: 0,
-            greatest: 0,
         }
     }
 
@@ -89,7 +92,6 @@ impl Builder {
             lines,
             line: Some(Line::new(alloc, instance)),
             open_region: 0,
-            greatest: 0,
         })
     }
 
@@ -110,7 +112,6 @@ impl Builder {
             lines,
             line: None,
             open_region: 0,
-            greatest: 0,
         })
     }
 
@@ -119,12 +120,7 @@ impl Builder {
         requires { (region_of event ≡ 0) ⊎ (region_of event ≡ self.open_region) }
         ensures { Gives (λ d. d) result (in_line number (with_event self self.line event)) }
     {
-        let Builder {
-            lines,
-            line,
-            greatest,
-            ..
-        } = self;
+        let Builder { lines, line, .. } = self;
         let Some(mut line) = line else {
             return Err(fault_at(number, Cause::Syntax));
         };
@@ -134,15 +130,14 @@ impl Builder {
             lines,
             line: Some(line),
             open_region: region,
-            greatest: greater(region, greatest),
         })
     }
 
     /// A coregion begins, the next of its line.
     fn with_coregion(mut self) -> Builder
-        ensures { result ≡ record self { open_region = self.greatest + 1 } }
+        ensures { result ≡ record self { open_region = next_region self.line } }
     {
-        self.open_region = self.greatest + 1;
+        self.open_region = next_region(&self.line);
         self
     }
 

@@ -4,4 +4,4 @@ use Rattle.msc_reader.proofs.builder.Builder.with_event.Goals as goal
 pub invariant_of-result : goal.invariant_of-result
 invariant_of-result c =
     let region = rw (← c.self.view_is) at c.requires in
-    rw (c.greater.ensures, c.region-region.ensures) (IsBuilder-event c.args.number _ c.in-Some.line c.push.new.line c.args.event c.self.invariant c.in-Some.is region c.in_ok-push.ensures)
+    rw c.region-region.ensures (IsBuilder-event c.args.number _ c.in-Some.line c.push.new.line c.args.event c.self.invariant c.in-Some.is region c.in_ok-push.ensures)
