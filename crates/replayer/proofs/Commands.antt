@@ -6,6 +6,7 @@ use Rattle.std.proofs.lemmas.Bool.{lt-ltb, le-ltb}
 use Rattle.std.proofs.lemmas.List.{length-drop, get_or-drop}
 use Rattle.std.proofs.lemmas.Option.{slice_get-get_or}
 use Rattle.std.proofs.lemmas.List.Elements.{All-weaker}
+use Rattle.chart.specs.declared.instance.TheConstants.{MAX_INSTANCES}
 use Rattle.chart.specs.declared.history.Occurrence.{Occurrence}
 use Rattle.chart.specs.declared.history.Occurrence.TheVariants as events
 use Rattle.chart.specs.Events.{MayHaveRegion, greatest_region}
@@ -216,7 +217,7 @@ module _ (n k : ℕ) (r : Run) (actors : List ActorView) (p i : ℕ) (a : ActorV
   any-none b found all = (sym first-is ∙ sym found, sym (all ∙ rw in_lanes (all-closed-same n k r actors p i a agrees at_p at_a)))
 
   -- what is read is within bounds
-  pub bounds-any : (last ≤ length lanes) × (length lanes ≤ 32)
+  pub bounds-any : (last ≤ length lanes) × (length lanes ≤ MAX_INSTANCES)
   bounds-any =
       let mine = agrees.each i a at_a in
       let long : length lanes ≡ n = ap length in_lanes ∙ mine.lanes.many in

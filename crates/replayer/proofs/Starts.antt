@@ -4,6 +4,7 @@ use Rattle.std.specs.Prelude.{slice_get}
 use Rattle.std.proofs.lemmas.List.{length-replicate, get_or-replicate}
 use Rattle.std.proofs.lemmas.Option.{slice_get_within, get_or_from_slice_get}
 use Rattle.std.proofs.lemmas.List.Elements.{All-nil}
+use Rattle.chart.specs.declared.instance.TheConstants.{MAX_INSTANCES}
 use Rattle.chart.specs.Histories.{chart_of}
 use Rattle.chart.specs.Reports.{IsReportIn}
 use Rattle.schedule.specs.Meaning.{start}
@@ -27,7 +28,7 @@ IsActor-start n p = record {
 }
 
 -- fresh instances are
-pub Agrees-start : (n k : ℕ) (actors : List ActorView) → length actors ≡ n → n ≤ 32 → ((i : ℕ) (a : ActorView) → slice_get actors i ≡ Some a → a ≡ fresh_actor n (suc i)) → Agrees n k start.run actors
+pub Agrees-start : (n k : ℕ) (actors : List ActorView) → length actors ≡ n → n ≤ MAX_INSTANCES → ((i : ℕ) (a : ActorView) → slice_get actors i ≡ Some a → a ≡ fresh_actor n (suc i)) → Agrees n k start.run actors
 Agrees-start n k actors many limit each = record {
   many = many;
   limit = limit;

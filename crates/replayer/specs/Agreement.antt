@@ -1,5 +1,6 @@
 -- What a replay holds of the history so far.
 use Rattle.std.specs.Prelude.{◌≡◌, ℕ, suc, ◌≤◌, List, length, map, slice_get, Option, None, Some, Result, Ok, Err}
+use Rattle.chart.specs.declared.instance.TheConstants.{MAX_INSTANCES}
 use Rattle.chart.specs.declared.history.Occurrence.{Occurrence}
 use Rattle.chart.specs.Events.{MayHaveRegion}
 use Rattle.chart.specs.Messages.{Content}
@@ -42,7 +43,7 @@ pub record IsActor (n : ℕ) (r : Run) (p : ℕ) (a : ActorView) : Type 0 where
 -- the n instances are as far as the run, which is legal over lanes of k places
 pub record Agrees (n k : ℕ) (r : Run) (actors : List ActorView) : Type 0 where
   pub many : length actors ≡ n
-  pub limit : n ≤ 32
+  pub limit : n ≤ MAX_INSTANCES
   pub legal : IsLegal n k r.history
   pub each : (i : ℕ) (a : ActorView) → slice_get actors i ≡ Some a → IsActor n r (suc i) a
 
