@@ -43,7 +43,3 @@ front-of_popped lane read new name name' clock clock' names clocks same is_names
     let stamp : clock ≡ clock' = cc in
     let shut : lane.closed ≡ new.closed = ap (λ (l : LaneView). l.closed) same ∙ sym closed in
     (ap (λ ns. popped lane ns clocks) rest_names ∙ ap (λ cs. popped lane new.names cs) rest_clocks ∙ ap (λ (b : Bool). record { names = new.names; clocks = new.clocks; closed = b }) shut, first, stamp)
-
--- a lane on which a message waits isn't empty
-pub none-in_front : (lane : LaneView) (name : List ℕ) (names : List (List ℕ)) → lane.names ≡ name ∷ names → lane.names ≡ [] → ⊥
-none-in_front lane name names some none = cc

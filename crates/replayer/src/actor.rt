@@ -203,13 +203,14 @@ impl Actor {
         lane.close();
     }
 
-    /// Receives the first message that waits on the lane from an instance, if one does.
+    /// Receives the first message on the lane from an instance, where one waits.
     pub fn take(&mut self, from: InstanceNo) -> Result<(), ReplayError>
         requires within { from ≤ length self.old.lanes }
         requires one { from ≤ length self.old.recorder.knowledge }
         requires other { from ≢ self.old.recorder.line.instance }
         requires entries { (j : ℕ) (lane : LaneView) → from ≡ suc j → slice_get self.old.lanes j ≡ Some lane
             → All (λ clock. length clock ≡ length self.old.recorder.knowledge) lane.clocks }
+        requires waits { (j : ℕ) (lane : LaneView) → from ≡ suc j → slice_get self.old.lanes j ≡ Some lane → 0 < length lane.names }
         requires may { MayHaveRegion self.old.recorder.line.events self.old.region }
         requires room { length self.old.recorder.line.events < MAX_EVENTS }
         ensures { (j : ℕ) (lane : LaneView) (name clock : List ℕ) (names clocks : List (List ℕ)) → from ≡ suc j
@@ -219,7 +220,7 @@ impl Actor {
         let lane = &mut self.lanes[from.place()];
         match lane.pop() {
             Some(parcel) => self.receive(from, &parcel),
-            None => Ok(()),
+            None => unreachable!(),
         }
     }
 

@@ -1,7 +1,9 @@
-use Rattle.std.proofs.Common.{get_or, arith, sym, ◌∙◌}
-use Rattle.std.proofs.lemmas.Option.{get_or_from_slice_get, slice_get-get_or}
+use Rattle.std.proofs.Common.{◌≡◌, ◌<◌, get_or, length, slice_get, arith, sym, ap, subst, ◌∙◌}
+use Rattle.std.proofs.lemmas.Option.{get_or_from_slice_get, slice_get-get_or, same_Some}
+use Rattle.replayer.specs.Views.{LaneView}
 use Rattle.replayer.proofs.Places.{slice_get-read_in}
 use Rattle.replayer.proofs.Commands.{lane-within, instance-is, known-many, clocks-long, may-now, receive-refused, receive-done}
+use Rattle.replayer.proofs.Words.{receives-none}
 use Rattle.replayer.proofs.steps.receive.Goals as goal
 
 pub bounds-lanes-from : goal.bounds-lanes-from
@@ -51,6 +53,22 @@ take-requires-clause-entries c =
     let reached = c.requires.reached in
     let at_a = slice_get-get_or actors i c.index-actors-to.result (omega arith) in
     rw (get_or_from_slice_get actors i a c.index-actors-to-2.result at_a) (λ j lane from at_lane. clocks-long reached.1.0 reached.0 reached.1.1 actors i j a lane reached.1.2 at_a at_lane)
+
+pub take-requires-clause-waits : goal.take-requires-clause-waits
+take-requires-clause-waits c =
+    let actors = c.args.actors.now in
+    let i = c.place-to.result in
+    let a = get_or actors i c.index-actors-to.result in
+    let lane = c.index-lanes-from.result in
+    let reached = c.requires.reached in
+    let at_a = slice_get-get_or actors i c.index-actors-to.result (omega arith) in
+    let within = lane-within reached.1.0 reached.0 reached.1.1 actors c.place-from.result i a reached.1.2 (omega arith) at_a in
+    let at_lane = slice_get-read_in c.lanes.result.now a.lanes c.place-from.result lane c.lanes.ensures within c.index-lanes-from.is in
+    let waits : 0 < length lane.names = (receives-none a lane (sym c.receive_word.ensures ∙ c.in_default.is)).0 in
+    rw (get_or_from_slice_get actors i a c.index-actors-to-2.result at_a) (λ j other from at_other.
+    let place : j ≡ c.place-from.result = omega (arith, from, c.place-from.ensures.value) in
+    let same : other ≡ lane = same_Some other lane (sym at_other ∙ ap (slice_get a.lanes) place ∙ at_lane) in
+    subst (λ (l : LaneView). 0 < length l.names) (sym same) waits)
 
 pub take-requires-clause-may : goal.take-requires-clause-may
 take-requires-clause-may c =
