@@ -7,6 +7,7 @@ pub mod Cycles
 pub mod Existence
 pub mod Growing
 pub mod Histories
+pub mod HistoryLines
 pub mod InRegions
 pub mod Knowledge
 pub mod Lanes

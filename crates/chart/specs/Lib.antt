@@ -1,5 +1,6 @@
 pub mod Charts
 pub mod Histories
+pub mod HistoryLines
 pub mod Knowing
 pub mod Laws
 pub mod LineLayout
@@ -13,3 +14,4 @@ pub mod Places
 pub mod Ranges
 pub mod Reports
 pub mod Runs
+pub mod Scans

@@ -17,7 +17,8 @@ use Rattle.line_recorder.specs.Recorders.{send_clock, after_send, IsReportOf}
 use Rattle.line_recorder.proofs.Carrying.{clocks_many, carried_right}
 use Rattle.schedule.specs.declared.command.Word.{Word}
 use Rattle.schedule.specs.declared.command.Word.TheVariants as words
-use Rattle.schedule.specs.Meaning.{Run, scan, has_waiting, happens, sends, receives, receives_any, first_waiting, are_closed, closes, opens, shuts}
+use Rattle.chart.specs.Scans.{scan}
+use Rattle.schedule.specs.Meaning.{Run, has_waiting, happens, sends, receives, receives_any, first_waiting, are_closed, closes, opens, shuts}
 use Rattle.replayer.specs.Views.{LaneView, ActorView, empty_lane, popped, after_receipt, some_wait, is_closed_lane, lane_waits, lane_is_closed}
 use Rattle.replayer.specs.Words.{send_word, receive_word}
 use Rattle.replayer.specs.Agreement.{AreLanes, Agrees, HasActed}

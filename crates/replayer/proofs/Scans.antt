@@ -5,7 +5,7 @@ use Rattle.std.specs.List.{range_with_len, list_all}
 use Rattle.std.specs.Option.{option_or}
 use Rattle.std.proofs.lemmas.List.Elements.{All-head, All-tail, filter-append}
 use Rattle.std.proofs.lemmas.List.Folds.{find-append}
-use Rattle.schedule.specs.Meaning.{scan}
+use Rattle.chart.specs.Scans.{scan}
 
 -- the numbers from a + 1 to b begin with a + 1
 pub range-next : (a b : ℕ) → a < b → range_with_len (a + 1) (b - a) ≡ (a + 1) ∷ range_with_len (a + 1 + 1) (b - (a + 1))

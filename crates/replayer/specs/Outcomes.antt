@@ -3,7 +3,7 @@ use Rattle.std.specs.Prelude.{◌≡◌, ℕ, ◌≤◌, ◌==◌, List, length,
 use Rattle.std.specs.List.{range_with_len}
 use Rattle.chart.specs.declared.history.Occurrence.{Occurrence}
 use Rattle.chart.specs.Charts.{LineView, IsPossible, chart_lines}
-use Rattle.chart.specs.Histories.{chart_of}
+use Rattle.chart.specs.HistoryLines.{history_lines}
 use Rattle.chart.specs.Reports.{ReportView, AreReports}
 use Rattle.schedule.specs.declared.command.Note.{Note}
 use Rattle.schedule.specs.Plans.{Plan, IsPlan, IsNumbered}
@@ -16,10 +16,6 @@ pub record OutcomeView : Type 0 where
   pub reports : List ReportView
   pub notes : List Note
 
--- the lines of n instances in the chart of a history
-abbrev pub lines_of : ℕ → List Occurrence → List LineView
-lines_of n h = map (λ p. record { instance = p; events = chart_of h p }) (range_with_len 1 n)
-
 -- the notes that came, now by line: those of each line as they came
 pub record AreByLine (came listed : List Note) : Type 0 where
   pub rising : AllPairs (λ a b. a.line ≤ b.line) listed
@@ -29,7 +25,7 @@ pub record AreByLine (came listed : List Note) : Type 0 where
 -- notes by line
 pub record IsOutcome (plan : Plan) (o : OutcomeView) : Type 0 where
   pub names : o.names ≡ plan.names
-  pub chart : o.chart ≡ lines_of (length plan.names) (meaning plan).run.history
+  pub chart : o.chart ≡ history_lines (length plan.names) (meaning plan).run.history
   pub reports : AreReports o.chart o.reports
   pub notes : AreByLine (meaning plan).notes o.notes
 

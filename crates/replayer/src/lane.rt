@@ -3,7 +3,7 @@ ghost use Rattle.std.specs.Prelude.{ℕ, ◌≡◌, ◌≤◌, ◌-◌, ◌+◌,
 ghost use Rattle.std.specs.List.{range_with_len, list_all};
 ghost use Rattle.std.specs.Option.{option_to_list};
 ghost use Rattle.chart.specs.declared.instance.TheConstants.{MAX_INSTANCES};
-ghost use Rattle.schedule.specs.Meaning.{scan};
+ghost use Rattle.chart.specs.Scans.{scan};
 ghost use Rattle.replayer.specs.Views.{empty_lane, lane_waits, lane_is_closed};
 
 use crate::error::ReplayError;

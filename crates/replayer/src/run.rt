@@ -7,7 +7,8 @@ ghost use Rattle.chart.specs.Histories.{IsLegal};
 ghost use Rattle.schedule.specs.Plans.{IsAmong};
 ghost use Rattle.schedule.specs.Meaning.{start, after, meaning};
 ghost use Rattle.replayer.specs.Agreement.{Agrees};
-ghost use Rattle.replayer.specs.Outcomes.{lines_of, IsOutcome};
+ghost use Rattle.chart.specs.HistoryLines.{history_lines};
+ghost use Rattle.replayer.specs.Outcomes.{IsOutcome};
 
 use crate::actor::Actor;
 use crate::error::ReplayError;
@@ -73,7 +74,7 @@ fn parts(alloc: Global, actors: Vec<Actor>) -> Result<(Vec<Line>, Vec<Report>), 
 
 /// The chart of these lines, which are those of a run.
 fn chart(lines: Vec<Line>) -> Chart
-    requires { (n k : ℕ) × (h : List Occurrence) × (2 ≤ n) × (n ≤ MAX_INSTANCES) × IsLegal n k h × (lines.items ≡ lines_of n h) }
+    requires { (n k : ℕ) × (h : List Occurrence) × (2 ≤ n) × (n ≤ MAX_INSTANCES) × IsLegal n k h × (lines.items ≡ history_lines n h) }
     ensures { result ≡ lines.items }
 {
     match Chart::new(lines) {

@@ -6,7 +6,8 @@ use Rattle.std.proofs.lemmas.Bool.{eqb-false, not-true}
 use Rattle.std.proofs.lemmas.Option.{none-some, same_Some}
 use Rattle.std.proofs.lemmas.List.Elements.{All-head, All-tail, All-append, All-filter, All-weaker, filter_passes}
 use Rattle.std.proofs.lemmas.List.FromFn.{length-range_with_len, get_or-range_with_len}
-use Rattle.schedule.specs.Meaning.{Run, scan, has_waiting, first_waiting}
+use Rattle.chart.specs.Scans.{scan}
+use Rattle.schedule.specs.Meaning.{Run, has_waiting, first_waiting}
 
 -- one of n instances, and not p
 abbrev pub IsOther : ℕ → ℕ → ℕ → Type 0

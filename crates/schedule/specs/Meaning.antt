@@ -1,11 +1,12 @@
 -- What a schedule means: its commands, one after the other, over a history (this project's profile).
-use Rattle.std.specs.Prelude.{ℕ, ◌+◌, ◌-◌, Bool, not, ◌==◌, List, [], ◌∷◌, ◌++◌, length, filter, find, fold, Option, None, Some, Result, Ok, Err, nat_lt, nat_le, if◌then◌else◌, All}
-use Rattle.std.specs.List.{range_with_len, list_all}
+use Rattle.std.specs.Prelude.{ℕ, ◌+◌, Bool, ◌==◌, List, [], ◌∷◌, ◌++◌, length, find, fold, Option, None, Some, Result, Ok, Err, nat_lt, nat_le, if◌then◌else◌, All}
+use Rattle.std.specs.List.{list_all}
 use Rattle.chart.specs.declared.history.Occurrence.{Occurrence}
 use Rattle.chart.specs.declared.history.Occurrence.TheVariants as events
 use Rattle.chart.specs.declared.line.TheConstants.{MAX_EVENTS}
 use Rattle.chart.specs.Events.{greatest_region}
 use Rattle.chart.specs.Histories.{waiting, is_closed, chart_of, IsLegal}
+use Rattle.chart.specs.Scans.{scan}
 use Rattle.schedule.specs.declared.command.Action.{Action}
 use Rattle.schedule.specs.declared.command.Action.TheVariants.{Send, Receive, Any, Close, Open, Shut}
 use Rattle.schedule.specs.declared.command.Command.{Command}
@@ -24,10 +25,6 @@ pub record Run : Type 0 where
 -- the function with the value v at p
 abbrev pub changed : (ℕ → ℕ) → ℕ → ℕ → ℕ → ℕ
 changed f p v q = if q == p then v else f q
-
--- the other instances in cyclic order, beginning after the instance l, or with 1 where l is 0
-abbrev pub scan : ℕ → ℕ → ℕ → List ℕ
-scan n p l = filter (λ q. not (q == p)) (range_with_len (l + 1) (n - l) ++ range_with_len 1 l)
 
 -- a message waits from q to p
 abbrev pub has_waiting : List Occurrence → ℕ → ℕ → Bool

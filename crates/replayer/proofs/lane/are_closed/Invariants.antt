@@ -2,7 +2,7 @@ use Rattle.std.proofs.Common.{◌≡◌, ◌-◌, ◌+◌, ◌==◌, not, length
 use Rattle.std.specs.Prelude.{filter}
 use Rattle.std.specs.List.{range_with_len, list_all}
 use Rattle.replayer.specs.Views.{lane_is_closed}
-use Rattle.schedule.specs.Meaning.{scan}
+use Rattle.chart.specs.Scans.{scan}
 use Rattle.replayer.proofs.lane.are_closed.Given as goal
 
 abbrev pub invariant-loop-place : goal.invariant-loop-place

@@ -2,7 +2,8 @@ use Rattle.std.proofs.Common.{length, sym, ap, ◌∙◌, subst}
 use Rattle.chart.specs.Reports.{AreReports}
 use Rattle.schedule.specs.Meaning.{meaning}
 use Rattle.replayer.specs.Outcomes.{AreByLine, IsOutcome}
-use Rattle.replayer.proofs.Charts.{lines-are, reports-are, length-lines_of}
+use Rattle.replayer.proofs.Charts.{lines-are, reports-are}
+use Rattle.chart.proofs.HistoryLines.{length-history_lines}
 use Rattle.replayer.proofs.run.replay.Goals as goal
 
 pub chart-requires : goal.chart-requires
@@ -17,7 +18,7 @@ new-requires c =
     let plan = c.args.schedule.now in
     let n = length plan.names in
     let lines = c.in_ok-lines.ensures.lines ∙ lines-are n plan.capacity (meaning plan).run c.in_ok-actors.actors.items c.in_ok-actors.ensures.agrees in
-    ap length c.names.ensures.value ∙ sym (length-lines_of n (meaning plan).run.history) ∙ ap length (sym (c.chart.ensures ∙ lines))
+    ap length c.names.ensures.value ∙ sym (length-history_lines n (meaning plan).run.history) ∙ ap length (sym (c.chart.ensures ∙ lines))
 
 pub returns : goal.returns
 returns c =
