@@ -25,7 +25,7 @@ use Rattle.board.specs.declared.ends.Outgoing.{Outgoing}
 use Rattle.board.specs.declared.ends.Incoming.{Incoming}
 use Rattle.board.specs.Known.{IsOutgoing, AreEndsBut}
 use Rattle.board.specs.Sending.{sends_of}
-use Rattle.board.specs.SendingMany.{names_of, packets_of, AreDiffs, last_of}
+use Rattle.board.specs.SendingMany.{names_of, packets_of, AreDiffsTo, last_of}
 use Rattle.board.proofs.Claiming.{outgoing_sent}
 use Rattle.board.proofs.EndLemmas.{ends_sent}
 
@@ -52,7 +52,7 @@ packets_contents (m ∷ ms) [] many = absurd (omega (arith, many))
 packets_contents (m ∷ ms) (d ∷ ds) many = ap (λ xs. m ∷ xs) (packets_contents ms ds (omega (arith, many)))
 
 -- there is a difference for each clock, and a clock for each message
-diffs_many : (base : List ℕ) (ds : List (List Change)) (clocks : List (List ℕ)) → AreDiffs base ds clocks → length ds ≡ length clocks
+diffs_many : (base : List ℕ) (ds : List (List Change)) (clocks : List (List ℕ)) → AreDiffsTo base ds clocks → length ds ≡ length clocks
 diffs_many base [] [] are = refl
 diffs_many base [] (c ∷ cs) are = absurd are
 diffs_many base (d ∷ ds) [] are = absurd are
@@ -62,7 +62,7 @@ clocks_many : (r : RecorderView) (to : ℕ) (ms : List Content) → length (send
 clocks_many r to [] = refl
 clocks_many r to (m ∷ ms) = ap suc (clocks_many (after_send r to m.name) to ms)
 
-pub as_many_diffs : (base : List ℕ) (r : RecorderView) (to : ℕ) (ms : List Content) (ds : List (List Change)) → AreDiffs base ds (send_clocks r to (names_of ms)) → length ds ≡ length ms
+pub as_many_diffs : (base : List ℕ) (r : RecorderView) (to : ℕ) (ms : List Content) (ds : List (List Change)) → AreDiffsTo base ds (send_clocks r to (names_of ms)) → length ds ≡ length ms
 as_many_diffs base r to ms ds are = diffs_many base ds (send_clocks r to (names_of ms)) are ∙ clocks_many r to ms
 
 -- the recorder has p's line and what p knows
@@ -83,7 +83,7 @@ sender_sent n h p q m r its = record {
 }
 
 -- packets with these differences are p's next sends
-pub are_next : (n p q : ℕ) (ms : List Content) (ds : List (List Change)) (base : List ℕ) (h : List Occurrence) (r : RecorderView) → IsSender n h p r → AreDiffs base ds (send_clocks r q (names_of ms)) → AreNext n base h p q (packets_of ms ds)
+pub are_next : (n p q : ℕ) (ms : List Content) (ds : List (List Change)) (base : List ℕ) (h : List Occurrence) (r : RecorderView) → IsSender n h p r → AreDiffsTo base ds (send_clocks r q (names_of ms)) → AreNext n base h p q (packets_of ms ds)
 are_next n p q [] ds base h r its are = tt
 are_next n p q (m ∷ ms) [] base h r its are = tt
 are_next n p q (m ∷ ms) (d ∷ ds) base h r its are =

@@ -30,11 +30,11 @@ pub record IsDiffTo (base : List ℕ) (diff : List Change) (clock : List ℕ) : 
   pub applied : apply_diff base diff ≡ clock
 
 -- each of these makes a clock of the one before it, the first one of the base
-abbrev pub AreDiffs : List ℕ → List (List Change) → List (List ℕ) → Type 0
-AreDiffs base [] [] = Unit {0}
-AreDiffs base [] (clock ∷ clocks) = ⊥
-AreDiffs base (diff ∷ diffs) [] = ⊥
-AreDiffs base (diff ∷ diffs) (clock ∷ clocks) = IsDiffTo base diff clock × AreDiffs clock diffs clocks
+abbrev pub AreDiffsTo : List ℕ → List (List Change) → List (List ℕ) → Type 0
+AreDiffsTo base [] [] = Unit {0}
+AreDiffsTo base [] (clock ∷ clocks) = ⊥
+AreDiffsTo base (diff ∷ diffs) [] = ⊥
+AreDiffsTo base (diff ∷ diffs) (clock ∷ clocks) = IsDiffTo base diff clock × AreDiffsTo clock diffs clocks
 
 -- the last of these clocks, or the base where there is none
 abbrev pub last_of : List ℕ → List (List ℕ) → List ℕ
@@ -43,7 +43,7 @@ last_of base (clock ∷ clocks) = last_of clock clocks
 
 -- what the sends of these messages need is there, and the recorder has recorded them
 pub record IsPrepared (base : List ℕ) (old : RecorderView) (to : ℕ) (messages : List Content) (it : Prepared) (new : RecorderView) : Type 0 where
-  pub diffs : AreDiffs base it.diffs.items (send_clocks old to (names_of messages))
+  pub diffs : AreDiffsTo base it.diffs.items (send_clocks old to (names_of messages))
   pub last : it.last ≡ last_of base (send_clocks old to (names_of messages))
   pub sents : map (λ (sent : Sent). sent.event) it.sents.items ≡ numbered old.line.instance (length old.line.events + 1) messages
   pub recorded : new ≡ after_sends old to (names_of messages)

@@ -10,7 +10,7 @@ ghost use Rattle.board_table.specs.Knowing.{held, packets_out, Rests, IsFilling}
 ghost use Rattle.board.specs.Known.{IsOutgoing};
 ghost use Rattle.board.specs.Parts.{MayPut, HasPlaces, IsUnmade};
 ghost use Rattle.board.specs.Sending.{numbered};
-ghost use Rattle.board.specs.SendingMany.{names_of, packets_of, AreDiffs, last_of, IsPrepared, AreMade};
+ghost use Rattle.board.specs.SendingMany.{names_of, packets_of, AreDiffsTo, last_of, IsPrepared, AreMade};
 
 use crate::answer::Sent;
 use crate::ends::Outgoing;
@@ -74,7 +74,7 @@ fn next_diffs(
 ) -> Result<(Vec<Diff>, Clock), AllocError>
     requires room { length recorder.now.line.events + sends ≤ MAX_EVENTS }
     requires base { length base.now ≡ length recorder.now.knowledge }
-    ensures diffs { IfOk result (λ made. AreDiffs base.now made.0.items (next_clocks recorder.now sends)) }
+    ensures diffs { IfOk result (λ made. AreDiffsTo base.now made.0.items (next_clocks recorder.now sends)) }
     ensures last { IfOk result (λ made. made.1 ≡ last_of base.now (next_clocks recorder.now sends)) }
 {
     let own = recorder.line().instance();

@@ -1,6 +1,8 @@
 //! mscrun: reads the command line and one file, and hands the file's bytes to the library.
 #![tactic(auto)]
 
+ghost use Rattle.std.specs.Prelude.{◌≡◌};
+
 use command_line::{CommandLineError, Request, requested};
 use msc_text::StreamOut;
 use std::alloc::Global;
@@ -19,7 +21,10 @@ fn cause(error: &io::Error, other: ProgramError) -> ProgramError {
 }
 
 /// The refusal of a command line.
-fn refusal(error: CommandLineError) -> ProgramError {
+fn refusal(error: CommandLineError) -> ProgramError
+    ensures usage { error ≡ CommandLineError.Usage → result ≡ ProgramError.Usage }
+    ensures memory { error ≡ CommandLineError.Memory → result ≡ ProgramError.Memory }
+{
     match error {
         CommandLineError::Usage => ProgramError::Usage,
         CommandLineError::Memory => ProgramError::Memory,

@@ -3,7 +3,7 @@ use Rattle.line_recorder.specs.Recorders.{RecorderView, send_clock, after_send}
 use Rattle.line_recorder.specs.Recording.{IsRecorder}
 use Rattle.board_table.specs.declared.packet.Packet.{Packet}
 use Rattle.board_table.specs.Knowing.{Mine, held, packets_out}
-use Rattle.board.specs.SendingMany.{AreDiffs}
+use Rattle.board.specs.SendingMany.{AreDiffsTo}
 use Rattle.board.proofs.OneSend.{known_many, recorder_saw, put_less, line_saw}
 use Rattle.board.proofs.SeveralSends.{are_next}
 use Rattle.board.proofs.SentAtOnce.{Fills, fills_of, unclosed, short, sender, next, did_send, recorder_sent, end_sent}
@@ -57,7 +57,7 @@ publish-requires-clause-unclosed c =
     let yes : c.claim_places.result ≡ true = search rules in
     let places = c.claim_places.ensures.yes yes in
     let filled : packets_out f ≡ x ∷ [] = c.fill.ensures.packets ∙ ap (λ (xs : List Packet). xs ++ x ∷ []) places.unfilled in
-    let diffs : AreDiffs u.base (x.diff ∷ []) (send_clock r ∷ []) = (record { within = c.in-Ok.ensures.within; exact = c.in-Ok.ensures.exact; applied = c.in-Ok.ensures.clock }, tt) in
+    let diffs : AreDiffsTo u.base (x.diff ∷ []) (send_clock r ∷ []) = (record { within = c.in-Ok.ensures.within; exact = c.in-Ok.ensures.exact; applied = c.in-Ok.ensures.clock }, tt) in
     let fills : Fills l m s f r u (x.message ∷ []) (x ∷ []) = fills_of l m s f r u (x.message ∷ []) (x.diff ∷ []) c.requires.may.legal c.requires.may.own c.claim_places.ensures.did c.requires.may.recorded c.claim_places.ensures.end places c.fill.ensures.held filled diffs in
     unclosed l m s f r u (x.message ∷ []) (x ∷ []) fills c.requires.may.unclosed
 
@@ -73,7 +73,7 @@ publish-requires-clause-short c =
     let yes : c.claim_places.result ≡ true = search rules in
     let places = c.claim_places.ensures.yes yes in
     let filled : packets_out f ≡ x ∷ [] = c.fill.ensures.packets ∙ ap (λ (xs : List Packet). xs ++ x ∷ []) places.unfilled in
-    let diffs : AreDiffs u.base (x.diff ∷ []) (send_clock r ∷ []) = (record { within = c.in-Ok.ensures.within; exact = c.in-Ok.ensures.exact; applied = c.in-Ok.ensures.clock }, tt) in
+    let diffs : AreDiffsTo u.base (x.diff ∷ []) (send_clock r ∷ []) = (record { within = c.in-Ok.ensures.within; exact = c.in-Ok.ensures.exact; applied = c.in-Ok.ensures.clock }, tt) in
     let fills : Fills l m s f r u (x.message ∷ []) (x ∷ []) = fills_of l m s f r u (x.message ∷ []) (x.diff ∷ []) c.requires.may.legal c.requires.may.own c.claim_places.ensures.did c.requires.may.recorded c.claim_places.ensures.end places c.fill.ensures.held filled diffs in
     short l m s f r u (x.message ∷ []) (x ∷ []) fills (omega (arith, c.requires.may.short))
 
@@ -89,7 +89,7 @@ publish-requires-clause-next c =
     let yes : c.claim_places.result ≡ true = search rules in
     let places = c.claim_places.ensures.yes yes in
     let filled : packets_out f ≡ x ∷ [] = c.fill.ensures.packets ∙ ap (λ (xs : List Packet). xs ++ x ∷ []) places.unfilled in
-    let diffs : AreDiffs u.base (x.diff ∷ []) (send_clock r ∷ []) = (record { within = c.in-Ok.ensures.within; exact = c.in-Ok.ensures.exact; applied = c.in-Ok.ensures.clock }, tt) in
+    let diffs : AreDiffsTo u.base (x.diff ∷ []) (send_clock r ∷ []) = (record { within = c.in-Ok.ensures.within; exact = c.in-Ok.ensures.exact; applied = c.in-Ok.ensures.clock }, tt) in
     let fills : Fills l m s f r u (x.message ∷ []) (x ∷ []) = fills_of l m s f r u (x.message ∷ []) (x.diff ∷ []) c.requires.may.legal c.requires.may.own c.claim_places.ensures.did c.requires.may.recorded c.claim_places.ensures.end places c.fill.ensures.held filled diffs in
     next l m s f r u (x.message ∷ []) (x ∷ []) fills (are_next l.instances l.sender l.receiver (x.message ∷ []) (x.diff ∷ []) u.base (held s).seen r (sender l m s f r u (x.message ∷ []) (x ∷ []) fills) diffs)
 
@@ -105,7 +105,7 @@ returns-clause-recorder c =
     let yes : c.claim_places.result ≡ true = search rules in
     let places = c.claim_places.ensures.yes yes in
     let filled : packets_out f ≡ x ∷ [] = c.fill.ensures.packets ∙ ap (λ (xs : List Packet). xs ++ x ∷ []) places.unfilled in
-    let diffs : AreDiffs u.base (x.diff ∷ []) (send_clock r ∷ []) = (record { within = c.in-Ok.ensures.within; exact = c.in-Ok.ensures.exact; applied = c.in-Ok.ensures.clock }, tt) in
+    let diffs : AreDiffsTo u.base (x.diff ∷ []) (send_clock r ∷ []) = (record { within = c.in-Ok.ensures.within; exact = c.in-Ok.ensures.exact; applied = c.in-Ok.ensures.clock }, tt) in
     let fills : Fills l m s f r u (x.message ∷ []) (x ∷ []) = fills_of l m s f r u (x.message ∷ []) (x.diff ∷ []) c.requires.may.legal c.requires.may.own c.claim_places.ensures.did c.requires.may.recorded c.claim_places.ensures.end places c.fill.ensures.held filled diffs in
     let made : c.record.new.recorder ≡ after_send r l.receiver x.message.name = c.in-Ok.ensures.ok ∙ ap (λ (to : ℕ). after_send r to c.name.result) c.requires.to ∙ ap (λ (name : List ℕ). after_send r l.receiver name) c.name.ensures in
     subst (λ (o : RecorderView). IsRecorder l.instances (held c.publish.new.seat.me).seen l.sender o) (sym made) (recorder_sent l m s f r u (x.message ∷ []) (x ∷ []) fills c.publish.new.seat.me c.publish.ensures.publishes)
@@ -122,7 +122,7 @@ returns-clause-end c =
     let yes : c.claim_places.result ≡ true = search rules in
     let places = c.claim_places.ensures.yes yes in
     let filled : packets_out f ≡ x ∷ [] = c.fill.ensures.packets ∙ ap (λ (xs : List Packet). xs ++ x ∷ []) places.unfilled in
-    let diffs : AreDiffs u.base (x.diff ∷ []) (send_clock r ∷ []) = (record { within = c.in-Ok.ensures.within; exact = c.in-Ok.ensures.exact; applied = c.in-Ok.ensures.clock }, tt) in
+    let diffs : AreDiffsTo u.base (x.diff ∷ []) (send_clock r ∷ []) = (record { within = c.in-Ok.ensures.within; exact = c.in-Ok.ensures.exact; applied = c.in-Ok.ensures.clock }, tt) in
     let fills : Fills l m s f r u (x.message ∷ []) (x ∷ []) = fills_of l m s f r u (x.message ∷ []) (x.diff ∷ []) c.requires.may.legal c.requires.may.own c.claim_places.ensures.did c.requires.may.recorded c.claim_places.ensures.end places c.fill.ensures.held filled diffs in
     rw (c.apply.ensures.value, c.in-Ok.ensures.clock) (end_sent l m s f r u (x.message ∷ []) (x ∷ []) fills c.publish.new.seat.me c.publish.ensures.publishes (u.put + 1) refl)
 
@@ -138,6 +138,6 @@ returns-clause-ok c =
     let yes : c.claim_places.result ≡ true = search rules in
     let places = c.claim_places.ensures.yes yes in
     let filled : packets_out f ≡ x ∷ [] = c.fill.ensures.packets ∙ ap (λ (xs : List Packet). xs ++ x ∷ []) places.unfilled in
-    let diffs : AreDiffs u.base (x.diff ∷ []) (send_clock r ∷ []) = (record { within = c.in-Ok.ensures.within; exact = c.in-Ok.ensures.exact; applied = c.in-Ok.ensures.clock }, tt) in
+    let diffs : AreDiffsTo u.base (x.diff ∷ []) (send_clock r ∷ []) = (record { within = c.in-Ok.ensures.within; exact = c.in-Ok.ensures.exact; applied = c.in-Ok.ensures.clock }, tt) in
     let fills : Fills l m s f r u (x.message ∷ []) (x ∷ []) = fills_of l m s f r u (x.message ∷ []) (x.diff ∷ []) c.requires.may.legal c.requires.may.own c.claim_places.ensures.did c.requires.may.recorded c.claim_places.ensures.end places c.fill.ensures.held filled diffs in
     did_send l m s f r u (x.message ∷ []) (x ∷ []) fills c.publish.new.seat.me c.publish.ensures.publishes

@@ -2,7 +2,7 @@ use Rattle.std.proofs.Common.{◌≡◌, ◌≤◌, ◌+◌, ◌∙◌, ℕ, suc
 use Rattle.std.specs.Prelude.{All}
 use Rattle.clock.specs.declared.diff.Change.{Change}
 use Rattle.line_recorder.specs.Sends.{clock_at, next_clocks}
-use Rattle.board.specs.SendingMany.{IsDiffTo, AreDiffs}
+use Rattle.board.specs.SendingMany.{IsDiffTo, AreDiffsTo}
 use Rattle.board.proofs.Preparing.{clock_next, diffs_next}
 use Rattle.board.proofs.sending_several.next_diffs.Goals as goal
 
@@ -20,7 +20,7 @@ loop-place-preserved c =
     } in
     let next = diffs_next r c.args.base.now c.loop-place.last c.loop-place.diffs.items place (place + 1) c.in_ok-diff.diff c.in_ok-clock.clock (omega arith) its.diffs its.last clock it in
     record {
-      diffs = subst (λ (ds : List (List Change)). AreDiffs c.args.base.now ds (next_clocks r (place + 1))) (sym c.push_reserved.ensures.items) next.0;
+      diffs = subst (λ (ds : List (List Change)). AreDiffsTo c.args.base.now ds (next_clocks r (place + 1))) (sym c.push_reserved.ensures.items) next.0;
       last = c.apply.ensures.value ∙ c.in_ok-diff.ensures.restores ∙ next.1;
       long = c.apply.ensures.len ∙ its.long;
       as_many = omega (arith, c.push_reserved.ensures.len, its.as_many);
