@@ -37,6 +37,3 @@ pub use error::{
 };
 pub use meeting::{meet, meet_all};
 pub use post::Post;
-
-#[cfg(test)]
-mod tests;

@@ -1,13 +1,13 @@
 //! Worked schedules with each growth of memory refused in turn, and the text of an outcome that is cut at each byte.
 
 use super::every_growth_was_refused;
-use crate::{Task, perform};
 use msc_text::{MemoryOut, StreamOut};
 use replayer::{Outcome, replay};
 use schedule::Schedule;
 use std::alloc::Global;
 use std::process::Abort;
 use std::test::Fail;
+use tasks::{Task, perform};
 
 /// The schedule comes to this, or a growth was refused and nothing was written, or a beginning where the writer's own was.
 fn replays_or_fails(rt: &impl Abort, alloc: Global, text: &[u8], written: &[u8], status: u8) {

@@ -2,7 +2,6 @@
 
 use super::charts::is_checked;
 use super::{every_growth_was_refused, fails_for_memory, repeated};
-use crate::{Task, perform};
 use chart::{Event, InstanceNo, Line};
 use interleaver::drawn;
 use msc_text::MemoryOut;
@@ -11,6 +10,7 @@ use schedule::Schedule;
 use std::alloc::Global;
 use std::process::Abort;
 use std::test::Fail;
+use tasks::{Task, perform};
 
 /// Only one instance has commands, so each seed draws their order.
 fn draws_closed(rt: &impl Abort, alloc: Global, seed: u64) {

@@ -6,13 +6,13 @@ mod failures;
 mod refusals;
 mod schedules;
 
-use crate::{Task, perform};
 use charts::is_checked;
 use msc_text::MemoryOut;
 use schedule::Schedule;
 use std::alloc::Global;
 use std::process::Abort;
 use std::test::Fail;
+use tasks::{Task, perform};
 
 /// What is written for the text, what is said of it, and the status.
 fn performs(

@@ -1,7 +1,6 @@
 //! Charts that are checked: worked cases, and the charts of what schedules come to.
 
 use super::{every_growth_was_refused, fails_for_memory, performs};
-use crate::{Task, perform};
 use closure::audit;
 use msc_reader::read;
 use msc_text::{MemoryOut, write};
@@ -10,6 +9,7 @@ use schedule::Schedule;
 use std::alloc::Global;
 use std::process::Abort;
 use std::test::Fail;
+use tasks::{Task, perform};
 
 fn checks(rt: &impl Abort, alloc: Global, text: &[u8], written: &[u8], status: u8) {
     performs(rt, alloc, Task::Check, text, written, b"", status);
