@@ -6,6 +6,8 @@ use chart::{
     Event, EventNo, EventRanges, GrowingLine, InstanceNo, Line, LineError, MAX_BODY, MAX_EVENTS,
     MAX_NAME, Message, Name, NameError, Names, NamesError,
 };
+use std::alloc::Global;
+use std::process::Abort;
 use std::test::Fail;
 
 fn name(bytes: &[u8]) -> Result<Name, Fail> {
@@ -125,29 +127,43 @@ fn runs(rt: HostRuntime) -> Result<(), Fail> {
     Ok(())
 }
 
+/// The names nAa, nBa and so on, as many as there may be.
+fn as_many_as_may_be(alloc: Global) -> Result<Names, Fail> {
+    let mut names = Names::new(alloc);
+    for number in 0..32u8 {
+        names.add(name(&[b'n', b'A' + number % 26, b'a' + number / 26])?)?;
+    }
+    Ok(names)
+}
+
 #[test]
 fn instance_names(rt: HostRuntime) -> Result<(), Fail> {
-    let mut names = Names::new(rt.alloc());
-    for number in 0..32u8 {
-        assert_eq!(rt;
-            names
-                .add(name(&[b'n', b'A' + number % 26, b'a' + number / 26])?)?
-                .place(),
-            usize::from(number)
-        );
-    }
-    assert_eq!(rt; names.add(name(b"nAa")?), Err(NamesError::Duplicate));
-    assert_eq!(rt; names.add(name(b"other")?), Err(NamesError::Instances));
+    let names = as_many_as_may_be(rt.alloc())?;
     assert_eq!(rt; names.len(), 32);
-    assert_eq!(rt; names.instance(name(b"nBb")?), InstanceNo::new(28));
+    for (word, number) in [(b"nAa", 1), (b"nBb", 28), (b"nFb", 32)] {
+        assert_eq!(rt; names.instance(name(word)?), InstanceNo::new(number));
+        assert_eq!(rt; names.name(instance(number)?), Some(name(word)?));
+    }
     assert_eq!(rt; names.instance(name(b"nBB")?), None);
-    assert_eq!(rt; names.name(instance(28)?), Some(name(b"nBb")?));
     Ok(())
 }
 
 #[test]
-fn refused_growths(rt: HostRuntime) -> Result<(), Fail> {
-    let mut line = Line::new(rt.alloc(), instance(1)?);
+fn names_that_are_refused(rt: HostRuntime) -> Result<(), Fail> {
+    let mut names = as_many_as_may_be(rt.alloc())?;
+    for (word, fault) in [
+        (b"nAa".as_slice(), NamesError::Duplicate),
+        (b"other".as_slice(), NamesError::Instances),
+    ] {
+        assert_eq!(rt; names.add(name(word)?), Err(fault));
+    }
+    assert_eq!(rt; names.len(), 32);
+    Ok(())
+}
+
+/// A line takes its first event, at the second try where a growth was refused.
+fn takes_an_event(rt: &impl Abort, alloc: Global) -> Result<(), Fail> {
+    let mut line = Line::new(alloc, instance(1)?);
     let ping = send_to(2)?;
     if let Err(error) = line.push(ping) {
         assert_eq!(rt; error, LineError::Memory);
@@ -155,13 +171,26 @@ fn refused_growths(rt: HostRuntime) -> Result<(), Fail> {
         line.push(ping)?;
     }
     assert_eq!(rt; line.events(), [ping].as_slice());
-    let mut names = Names::new(rt.alloc());
-    if let Err(error) = names.add(name(b"a")?) {
+    Ok(())
+}
+
+/// Names take their first one alike.
+fn takes_a_name(rt: &impl Abort, alloc: Global) -> Result<(), Fail> {
+    let mut names = Names::new(alloc);
+    let first = name(b"a")?;
+    if let Err(error) = names.add(first) {
         assert_eq!(rt; error, NamesError::Memory);
         assert_eq!(rt; names.len(), 0);
-        names.add(name(b"a")?)?;
+        names.add(first)?;
     }
-    assert_eq!(rt; names.instance(name(b"a")?), InstanceNo::new(1));
+    assert_eq!(rt; names.instance(first), InstanceNo::new(1));
+    Ok(())
+}
+
+#[test]
+fn refused_growths(rt: HostRuntime) -> Result<(), Fail> {
+    takes_an_event(&rt, rt.alloc())?;
+    takes_a_name(&rt, rt.alloc())?;
     // A last growth, whose refusal tells that each one before it was refused in an earlier run of the test.
     Vec::<u8>::with_capacity(rt.alloc(), 1).map_err(|_| "every growth was refused")?;
     Ok(())
