@@ -35,7 +35,7 @@ pub enum NameError {
 /// The name of an instance or of a message: 1 to [`MAX_NAME`] bytes, held in place. A contract sees the bytes.
 #[derive(Clone, Copy, Debug)]
 pub struct Name {
-    bytes: [u8; 32],
+    bytes: [u8; MAX_NAME],
     len: u64,
 }
 
