@@ -7,7 +7,7 @@ use Rattle.chart.specs.Events.{region_of}
 use Rattle.chart.specs.Charts.{LineView}
 use Rattle.chart.specs.Keywords.{spelled}
 use Rattle.chart.specs.declared.keyword.Keyword.{Keyword}
-use Rattle.chart.specs.declared.keyword.Keyword.TheVariants as keyword
+use Rattle.chart.specs.declared.keyword.Keyword.TheVariants as keywords
 
 -- the name of an instance, by its number from 1
 abbrev pub name_at : List (List ℕ) → ℕ → List ℕ
@@ -24,16 +24,16 @@ lone_line word = spelled word ++ codes ";\n"
 
 -- out MESSAGE to NAME; or in MESSAGE from NAME;
 unfoldable pub event_text : List (List ℕ) → Event → List ℕ
-event_text names (Send to name) = event_line keyword.Out name keyword.To (name_at names to)
-event_text names (Receive from name region) = event_line keyword.In name keyword.From (name_at names from)
+event_text names (Send to name) = event_line keywords.Out name keywords.To (name_at names to)
+event_text names (Receive from name region) = event_line keywords.In name keywords.From (name_at names from)
 
 -- the line that ends the coregion r, where what comes next is in c
 unfoldable pub ending : ℕ → ℕ → List ℕ
-ending r c = if r == c || r == 0 then [] else lone_line keyword.EndConcurrent
+ending r c = if r == c || r == 0 then [] else lone_line keywords.EndConcurrent
 
 -- the line that begins the coregion c, where what came before was in r
 unfoldable pub beginning : ℕ → ℕ → List ℕ
-beginning r c = if r == c || c == 0 then [] else lone_line keyword.Concurrent
+beginning r c = if r == c || c == 0 then [] else lone_line keywords.Concurrent
 
 -- an event behind one that is in the coregion r
 unfoldable pub event_lines_text : List (List ℕ) → ℕ → Event → List ℕ
@@ -46,10 +46,10 @@ events_text names r (m ∷ line) = event_lines_text names r m ++ events_text nam
 
 -- instance NAME;
 unfoldable pub head_text : List (List ℕ) → ℕ → List ℕ
-head_text names p = spelled keyword.Instance ++ (codes " " ++ (name_at names p ++ codes ";\n"))
+head_text names p = spelled keywords.Instance ++ (codes " " ++ (name_at names p ++ codes ";\n"))
 
 unfoldable pub foot_text : List ℕ
-foot_text = lone_line keyword.EndInstance
+foot_text = lone_line keywords.EndInstance
 
 -- an instance and the events of its line
 unfoldable pub line_text : List (List ℕ) → LineView → List ℕ
@@ -60,10 +60,10 @@ unfoldable pub chart_name : List ℕ
 chart_name = codes "run"
 
 unfoldable pub begin_text : List ℕ
-begin_text = spelled keyword.Msc ++ (codes " " ++ (chart_name ++ codes ";\n"))
+begin_text = spelled keywords.Msc ++ (codes " " ++ (chart_name ++ codes ";\n"))
 
 unfoldable pub end_text : List ℕ
-end_text = lone_line keyword.EndMsc
+end_text = lone_line keywords.EndMsc
 
 -- the text of the chart, whose instances have these names
 unfoldable pub chart_text : List (List ℕ) → List LineView → List ℕ
