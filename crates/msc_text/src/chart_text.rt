@@ -1,6 +1,7 @@
 //! Charts as text.
-ghost use Rattle.std.specs.Prelude.{◌≡◌, ◌≤◌, length, unwrap_or, []};
-ghost use Rattle.chart.specs.declared.name.TheConstants.{MAX_NAME};
+ghost use Rattle.std.specs.Prelude.{◌≡◌, ◌≤◌, length, All};
+ghost use Rattle.chart.specs.Charts.{HasPartners};
+ghost use Rattle.chart.specs.Events.{partner_of};
 ghost use Rattle.std.specs.List.{flat_map};
 ghost use Rattle.msc_text.specs.ChartText.{name_at, event_line, lone_line, event_text, ending, beginning, event_lines_text, events_text, head_text, foot_text, line_text, chart_name, begin_text, end_text, chart_text};
 ghost use Rattle.msc_text.specs.Writing.{Wrote, Adds};
@@ -9,22 +10,17 @@ use crate::out::Out;
 use crate::text_buffer::{TextBuffer, WriteError};
 use chart::{Chart, Event, InstanceNo, Keyword, Line, Name, Names};
 
-/// The bytes of the name, or none.
-pub(crate) fn bytes_of(name: &Option<Name>) -> &[u8]
-    ensures value { result.now ≡ unwrap_or name.now [] }
-    ensures short { length result.now ≤ MAX_NAME }
+/// The name of the instance, which has one. It takes no memory.
+pub fn named(names: &Names, instance: InstanceNo) -> Name
+    requires { instance ≤ length names.now }
+    ensures { result ≡ name_at names.now instance }
 {
-    match name {
-        Some(name) => name.as_bytes(),
-        None => &[],
+    let place = instance.place();
+    prove!(place < names.len());
+    match names.name(instance) {
+        Some(name) => name,
+        None => unreachable!(),
     }
-}
-
-/// The name of the instance.
-pub(crate) fn name_at(names: &Names, instance: InstanceNo) -> Option<Name>
-    ensures { unwrap_or result [] ≡ name_at names.now instance }
-{
-    names.name(instance)
 }
 
 /// Adds a line of one word.
@@ -72,9 +68,9 @@ fn add_event_line<W: Out>(
     direction: Keyword,
     message: Name,
     side: Keyword,
-    partner: &[u8],
+    partner: Name,
 ) -> Result<(), WriteError>
-    ensures { Adds W.contents W.failures text.old text.new result (event_line direction message side partner.now) }
+    ensures { Adds W.contents W.failures text.old text.new result (event_line direction message side partner) }
 {
     text.add_all(&[
         direction.as_bytes(),
@@ -83,7 +79,7 @@ fn add_event_line<W: Out>(
         b" ",
         side.as_bytes(),
         b" ",
-        partner,
+        partner.as_bytes(),
         b";\n",
     ])
 }
@@ -95,16 +91,15 @@ fn add_event<W: Out>(
     names: &Names,
     event: &Event,
 ) -> Result<(), WriteError>
+    requires { partner_of event.now ≤ length names.now }
     ensures { Adds W.contents W.failures text.old text.new result (event_text names.now event.now) }
 {
-    let partner = name_at(names, event.partner());
-    let partner = bytes_of(&partner);
     match event {
-        Event::Send { name, .. } => {
-            add_event_line(text, Keyword::Out, *name, Keyword::To, partner)
+        Event::Send { to, name } => {
+            add_event_line(text, Keyword::Out, *name, Keyword::To, named(names, *to))
         }
-        Event::Receive { name, .. } => {
-            add_event_line(text, Keyword::In, *name, Keyword::From, partner)
+        Event::Receive { from, name, .. } => {
+            add_event_line(text, Keyword::In, *name, Keyword::From, named(names, *from))
         }
     }
 }
@@ -117,6 +112,7 @@ fn add_event_lines<W: Out>(
     before: u32,
     event: &Event,
 ) -> Result<(), WriteError>
+    requires { partner_of event.now ≤ length names.now }
     ensures { Adds W.contents W.failures text.old text.new result (event_lines_text names.now before event.now) }
 {
     let region = event.region();
@@ -131,6 +127,7 @@ fn add_events<W: Out>(
     names: &Names,
     events: &[Event],
 ) -> Result<(), WriteError>
+    requires { All (λ m. partner_of m ≤ length names.now) events.now }
     ensures { Adds W.contents W.failures text.old text.new result (events_text names.now 0 events.now) }
 {
     let mut before = 0;
@@ -147,10 +144,11 @@ fn add_head<W: Out>(
     names: &Names,
     instance: InstanceNo,
 ) -> Result<(), WriteError>
+    requires { instance ≤ length names.now }
     ensures { Adds W.contents W.failures text.old text.new result (head_text names.now instance) }
 {
-    let name = name_at(names, instance);
-    text.add_all(&[Keyword::Instance.as_bytes(), b" ", bytes_of(&name), b";\n"])
+    let name = named(names, instance);
+    text.add_all(&[Keyword::Instance.as_bytes(), b" ", name.as_bytes(), b";\n"])
 }
 
 #[tactic(auto, unfolding(crate::specs::ChartText::foot_text))]
@@ -167,6 +165,8 @@ fn add_line<W: Out>(
     names: &Names,
     line: &Line,
 ) -> Result<(), WriteError>
+    requires instance { line.now.instance ≤ length names.now }
+    requires partners { All (λ m. partner_of m ≤ length names.now) line.now.events }
     ensures { Adds W.contents W.failures text.old text.new result (line_text names.now line.now) }
 {
     add_head(text, names, line.instance())?;
@@ -179,6 +179,8 @@ fn add_lines<W: Out>(
     names: &Names,
     lines: &[Line],
 ) -> Result<(), WriteError>
+    requires instances { All (λ l. l.instance ≤ length names.now) lines.now }
+    requires partners { HasPartners (length names.now) lines.now }
     ensures { Adds W.contents W.failures text.old text.new result (flat_map (line_text names.now) lines.now) }
 {
     for line in lines {
