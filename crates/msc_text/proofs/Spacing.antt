@@ -2,9 +2,12 @@
 use Rattle.std.proofs.Common.{◌≡◌, ℕ, List, [], ◌∷◌, refl, sym, All}
 use Rattle.std.specs.List.{join_with_byte, AllByRecursion}
 use Rattle.std.proofs.lemmas.List.Elements.{recursion_from_All}
+use Rattle.chart.specs.Keywords.{spelled}
 use Rattle.chart.specs.Names.{IsName}
+use Rattle.chart.specs.declared.keyword.Keyword.{Keyword}
+use Rattle.chart.specs.declared.keyword.Keyword.TheVariants.{Msc, EndMsc, Instance, EndInstance, Out, To, In, From, Concurrent, EndConcurrent}
 use Rattle.msc_text.specs.Lines.{Lacks, words_of}
-use Rattle.msc_text.proofs.Parts.{joined_lacks, words_again, words_joined}
+use Rattle.msc_text.proofs.Parts.{lacks_if, joined_lacks, words_again, words_joined}
 use Rattle.msc_text.proofs.Results.{name_has_no_space, name_has_no_line_feed}
 
 -- the bytes have neither a space nor a line feed
@@ -17,6 +20,20 @@ ArePlain words = AllByRecursion IsPlain words
 
 pub plain_name : (word : List ℕ) → IsName word → IsPlain word
 plain_name word h = (name_has_no_space word h, name_has_no_line_feed word h)
+
+-- a word that the chart text keeps for itself
+pub plain_keyword : (word : Keyword) → IsPlain (spelled word)
+unfolding spelled
+plain_keyword Msc = (lacks_if 32 (spelled Msc) refl, lacks_if 10 (spelled Msc) refl)
+plain_keyword EndMsc = (lacks_if 32 (spelled EndMsc) refl, lacks_if 10 (spelled EndMsc) refl)
+plain_keyword Instance = (lacks_if 32 (spelled Instance) refl, lacks_if 10 (spelled Instance) refl)
+plain_keyword EndInstance = (lacks_if 32 (spelled EndInstance) refl, lacks_if 10 (spelled EndInstance) refl)
+plain_keyword Out = (lacks_if 32 (spelled Out) refl, lacks_if 10 (spelled Out) refl)
+plain_keyword To = (lacks_if 32 (spelled To) refl, lacks_if 10 (spelled To) refl)
+plain_keyword In = (lacks_if 32 (spelled In) refl, lacks_if 10 (spelled In) refl)
+plain_keyword From = (lacks_if 32 (spelled From) refl, lacks_if 10 (spelled From) refl)
+plain_keyword Concurrent = (lacks_if 32 (spelled Concurrent) refl, lacks_if 10 (spelled Concurrent) refl)
+plain_keyword EndConcurrent = (lacks_if 32 (spelled EndConcurrent) refl, lacks_if 10 (spelled EndConcurrent) refl)
 
 plain_each : (words : List (List ℕ)) → AllByRecursion IsName words → ArePlain words
 plain_each [] h = tt

@@ -1,15 +1,15 @@
 //! The races of a chart as text.
-ghost use Rattle.std.specs.Prelude.{◌≡◌, ◌≤◌, length};
+ghost use Rattle.std.specs.Prelude.{◌≡◌, ◌≤◌, length, unwrap_or, []};
 ghost use Rattle.chart.specs.declared.name.TheConstants.{MAX_NAME};
 ghost use Rattle.std.specs.List.{flat_map};
+ghost use Rattle.msc_text.specs.ChartText.{name_at};
 ghost use Rattle.msc_text.specs.RaceText.{race_front, race_end, race_line, report_text, races_text};
 ghost use Rattle.msc_text.specs.Writing.{Adds};
 
-use crate::chart_text::{bytes_of, name_at};
 use crate::held::Held;
 use crate::out::Out;
 use crate::text_buffer::{TextBuffer, WriteError};
-use chart::{EventNo, Names, Report};
+use chart::{EventNo, InstanceNo, Name, Names, Report};
 use itoa::Buffer;
 
 /// The line of a race, but for the number of the earlier event: it is made once for all races of a receive.
@@ -68,6 +68,24 @@ impl RaceLine {
             self.add(text, *event)?;
         }
         Ok(())
+    }
+}
+
+/// The name of the instance, if it has one.
+fn name_at(names: &Names, instance: InstanceNo) -> Option<Name>
+    ensures { unwrap_or result [] ≡ name_at names.now instance }
+{
+    names.name(instance)
+}
+
+/// The bytes of the name, or none.
+fn bytes_of(name: &Option<Name>) -> &[u8]
+    ensures value { result.now ≡ unwrap_or name.now [] }
+    ensures short { length result.now ≤ MAX_NAME }
+{
+    match name {
+        Some(name) => name.as_bytes(),
+        None => &[],
     }
 }
 

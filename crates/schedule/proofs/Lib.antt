@@ -7,5 +7,6 @@ pub mod FirstFault
 pub mod InstanceLine
 pub mod Legal
 pub mod Numbers
+pub mod PlainWords
 pub mod Read
 pub mod Scanning

@@ -1,6 +1,6 @@
 use Rattle.std.proofs.Common.{[], get_or, sym, ◌∙◌, arith}
 use Rattle.std.proofs.lemmas.Option.{none-some, slice_get-get_or}
-use Rattle.tasks.proofs.checking.named.Goals as goal
+use Rattle.msc_text.proofs.chart_text.named.Goals as goal
 
 pub unreachable-requires : goal.unreachable-requires
 unreachable-requires c =
