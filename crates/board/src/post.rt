@@ -57,7 +57,7 @@ impl<'a> Post<'a> {
     pub fn board_size(&self) -> usize
         ensures value { result ≡ self.now.board.size }
         ensures last { result ≤ MAX_INSTANCES }
-        ensures among { self.now.number ≤ result }
+        ensures among { (1 ≤ self.now.number) × (self.now.number ≤ self.now.board.size) }
         ensures sound { Sound self.now self.now }
     {
         self.shape.instances
