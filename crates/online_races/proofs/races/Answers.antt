@@ -1,4 +1,4 @@
-use Rattle.std.proofs.Common.{[], map, subst}
+use Rattle.std.proofs.Common.{map, subst}
 use Rattle.chart.specs.Charts.{LineView}
 use Rattle.chart.specs.Order.{IsRaces}
 use Rattle.online_races.proofs.PassingLemmas.{none_found}

@@ -1,6 +1,5 @@
-use Rattle.std.proofs.Common.{◌≡◌, suc, List, map, take, All, sym, ap, ◌∙◌, subst, add-one}
+use Rattle.std.proofs.Common.{◌≡◌, suc, List, map, take, All, ap, ◌∙◌, subst, add-one}
 use Rattle.chart.specs.declared.event.Event.{Event}
-use Rattle.chart.specs.declared.instance.EventNo.{EventNo}
 use Rattle.chart.specs.Charts.{at, LineView, chart_lines}
 use Rattle.chart.specs.Order.{IsRaces}
 use Rattle.closure.proofs.KnowLemmas.{known_entry}

@@ -1,6 +1,4 @@
-use Rattle.std.proofs.Common.{◌∙◌, ap, subst}
-use Rattle.std.specs.List.{flat_map}
-use Rattle.msc_text.specs.RaceText.{race_text}
+use Rattle.std.proofs.Common.{◌∙◌, subst}
 use Rattle.msc_text.specs.Writing.{Adds}
 use Rattle.msc_text.proofs.RaceLines.{race_lines}
 use Rattle.msc_text.proofs.race_text.add_report.Goals as goal

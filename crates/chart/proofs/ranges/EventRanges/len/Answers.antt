@@ -1,6 +1,5 @@
-use Rattle.std.proofs.Common.{rules, ap, sym, ◌∙◌, ◌+◌, length, take, arith}
+use Rattle.std.proofs.Common.{ap, arith}
 use Rattle.chart.specs.declared.ranges.EventRange.{EventRange}
-use Rattle.chart.specs.Ranges.{events_in}
 use Rattle.chart.proofs.RangeLists.{events_in-more}
 use Rattle.chart.proofs.ranges.EventRanges.len.Goals as goal
 

@@ -1,5 +1,5 @@
 use Rattle.std.proofs.Common.{rules, ◌∷◌, ◌∙◌, ◌+◌, drop, length, All, ◌<◌, ap, ap₂, sym, subst, arith}
-use Rattle.std.proofs.lemmas.List.Elements.{All-head, All-tail}
+use Rattle.std.proofs.lemmas.List.Elements.{All-tail}
 use Rattle.chart.specs.Ranges.{IsRange, IsWithinFirst, events_in}
 use Rattle.chart.proofs.RangeLists.{next_event, last_event, none_passed}
 use Rattle.chart.proofs.ranges.EventsIterator.next.Goals as goal
