@@ -1,29 +1,21 @@
 -- The chart of what the instances did.
-use Rattle.std.proofs.Common.{◌≡◌, ℕ, zero, suc, ◌+◌, ◌<◌, ◌≤◌, ◌⊎◌, inl, inr, List, [], ◌∷◌, length, map, get_or, Some, refl, sym, ap, ◌∙◌, subst, subst₂, arith}
+use Rattle.std.proofs.Common.{◌≡◌, ℕ, suc, ◌+◌, ◌<◌, List, [], ◌∷◌, length, map, get_or, Some, refl, sym, ap, ◌∙◌, subst, subst₂, arith}
 use Rattle.std.specs.Prelude.{slice_get, All}
-use Rattle.std.specs.List.{range_with_len, flat_map}
+use Rattle.std.specs.List.{flat_map}
 use Rattle.std.specs.Option.{option_map}
-use Rattle.std.proofs.lemmas.List.{length-map, same_lists, get_or_past}
-use Rattle.std.proofs.lemmas.List.Elements.{All-map}
+use Rattle.std.proofs.lemmas.List.{length-map, same_lists}
 use Rattle.std.proofs.lemmas.List.FromFn.{length-map-range_with_len, get_or-map-range_with_len}
-use Rattle.std.proofs.lemmas.Option.{slice_get-map, slice_get-get_or, slice_get_within, get_or_from_slice_get}
-use Rattle.std.proofs.Math.Path.{fun_ext}
-use Rattle.std.proofs.lemmas.Bool.{cases_lt}
+use Rattle.std.proofs.lemmas.Option.{slice_get-map, slice_get-get_or, get_or_from_slice_get}
 use Rattle.std.proofs.lemmas.List.Concat.{flat_map-cons}
-use Rattle.chart.specs.declared.history.Occurrence.{Occurrence}
-use Rattle.chart.specs.declared.history.Occurrence.TheVariants as events
-use Rattle.chart.specs.Events.{partner_of}
-use Rattle.chart.specs.Histories.{by, chart_of, MayFollow, IsLegal}
+use Rattle.chart.specs.Histories.{chart_of}
 use Rattle.chart.specs.Reports.{ReportView, IsReportIn, AreReportsOf, AreReports, receives_of}
 use Rattle.chart.proofs.ReportLists.{AreReportsOf-nil, AreReportsOf-cons}
-use Rattle.chart.proofs.Steps.{line_of_other}
-use Rattle.chart.specs.Charts.{Chart, LineView, IsNumbered, HasPartners, chart_lines}
+use Rattle.chart.specs.Charts.{Chart}
 use Rattle.schedule.specs.Meaning.{Run}
 use Rattle.replayer.specs.Views.{ActorView, fresh_actor}
 use Rattle.replayer.specs.Agreement.{Agrees}
 use Rattle.chart.specs.HistoryLines.{history_line, history_lines}
 use Rattle.chart.proofs.HistoryLines.{chart-is}
-use Rattle.chart.proofs.Histories.{partners-known}
 
 -- the instances' lines are those of the history's chart
 pub lines-are : (n k : ℕ) (r : Run) (actors : List ActorView) → Agrees n k r actors → map (λ (a : ActorView). a.recorder.line) actors ≡ history_lines n r.history

@@ -1,7 +1,5 @@
 -- What a schedule comes to.
-use Rattle.std.specs.Prelude.{◌≡◌, ℕ, ◌≤◌, ◌==◌, List, length, map, filter, All, AllPairs}
-use Rattle.std.specs.List.{range_with_len}
-use Rattle.chart.specs.declared.history.Occurrence.{Occurrence}
+use Rattle.std.specs.Prelude.{◌≡◌, ℕ, ◌≤◌, ◌==◌, List, length, filter, All, AllPairs}
 use Rattle.chart.specs.Charts.{LineView, IsPossible, chart_lines}
 use Rattle.chart.specs.HistoryLines.{history_lines}
 use Rattle.chart.specs.Reports.{ReportView, AreReports}

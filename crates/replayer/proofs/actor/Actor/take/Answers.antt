@@ -2,7 +2,7 @@ use Rattle.std.proofs.Common.{◌≡◌, length, sym, ap, ◌∙◌, subst, arit
 use Rattle.std.specs.Prelude.{slice_get, All}
 use Rattle.std.proofs.lemmas.List.Elements.{All-head}
 use Rattle.std.proofs.lemmas.Option.{same_Some}
-use Rattle.replayer.specs.Views.{LaneView, ActorView}
+use Rattle.replayer.specs.Views.{ActorView}
 use Rattle.replayer.proofs.Lanes.{lane-read, front-of_popped}
 use Rattle.replayer.proofs.actor.Actor.take.Goals as goal
 
