@@ -4,7 +4,7 @@ ghost use Rattle.chart.specs.Events.{region_of};
 
 use chart::{
     Event, EventNo, EventRanges, GrowingLine, InstanceNo, Line, LineError, MAX_BODY, MAX_EVENTS,
-    MAX_NAME, Message, Name, NameError, Names, NamesError,
+    MAX_NAME, Message, Name, NameError, Names, NamesError, Report, has_races,
 };
 use std::test::Fail;
 
@@ -187,5 +187,23 @@ fn event_ranges(rt: HostRuntime) -> Result<(), Fail> {
     let none = EventRanges::of(rt.alloc(), &[])?;
     assert!(rt; none.is_empty());
     assert!(rt; !ranges.is(&none));
+    Ok(())
+}
+
+#[test]
+fn reports_by_ranges(rt: HostRuntime) -> Result<(), Fail> {
+    let events = [event(2)?, event(3)?, event(4)?, event(7)?];
+    let report = Report::of(rt.alloc(), event(8)?, &events)?;
+    assert_eq!(rt; report.receive().index, 8);
+    assert_eq!(rt; report.earlier().as_slice().len(), 2, "2 to 4, and 7");
+    assert_eq!(rt; report.earlier().len(), 4);
+    let indices = report.earlier().iter().map(|race| race.index);
+    let indices: Vec<u32> = indices.collect(rt.alloc())?;
+    assert_eq!(rt; indices.as_slice(), [2, 3, 4, 7].as_slice());
+    let made = Report::new(event(8)?, EventRanges::of(rt.alloc(), &events)?);
+    assert!(rt; made.is(&report.copied(rt.alloc())?));
+    let none = Report::of(rt.alloc(), event(8)?, &[])?;
+    assert!(rt; !made.is(&none));
+    assert!(rt; has_races([none, made].as_slice()));
     Ok(())
 }
