@@ -6,6 +6,7 @@ use chart::{
     Event, EventNo, EventRanges, GrowingLine, InstanceNo, Line, LineError, MAX_BODY, MAX_EVENTS,
     MAX_NAME, Message, Name, NameError, Names, NamesError, Report, has_races,
 };
+use std::alloc::Global;
 use std::test::Fail;
 
 fn name(bytes: &[u8]) -> Result<Name, Fail> {
@@ -190,20 +191,32 @@ fn event_ranges(rt: HostRuntime) -> Result<(), Fail> {
     Ok(())
 }
 
+/// The report of event 8, with the earlier events of these numbers.
+fn report(alloc: Global, earlier: &[u32]) -> Result<Report, Fail> {
+    let mut events = Vec::new(alloc);
+    for index in earlier {
+        events.push(event(*index)?)?;
+    }
+    Ok(Report::of(alloc, event(8)?, events.as_slice())?)
+}
+
 #[test]
 fn reports_by_ranges(rt: HostRuntime) -> Result<(), Fail> {
-    let events = [event(2)?, event(3)?, event(4)?, event(7)?];
-    let report = Report::of(rt.alloc(), event(8)?, &events)?;
-    assert_eq!(rt; report.receive().index, 8);
+    let report = report(rt.alloc(), &[2, 3, 4, 7])?;
     assert_eq!(rt; report.earlier().as_slice().len(), 2, "2 to 4, and 7");
     assert_eq!(rt; report.earlier().len(), 4);
     let indices = report.earlier().iter().map(|race| race.index);
     let indices: Vec<u32> = indices.collect(rt.alloc())?;
     assert_eq!(rt; indices.as_slice(), [2, 3, 4, 7].as_slice());
-    let made = Report::new(event(8)?, EventRanges::of(rt.alloc(), &events)?);
-    assert!(rt; made.is(&report.copied(rt.alloc())?));
-    let none = Report::of(rt.alloc(), event(8)?, &[])?;
-    assert!(rt; !made.is(&none));
-    assert!(rt; has_races([none, made].as_slice()));
+    Ok(())
+}
+
+#[test]
+fn same_reports(rt: HostRuntime) -> Result<(), Fail> {
+    let some = report(rt.alloc(), &[2, 3])?;
+    let none = report(rt.alloc(), &[])?;
+    assert!(rt; some.is(&some.copied(rt.alloc())?));
+    assert!(rt; !some.is(&none));
+    assert!(rt; has_races([none, some].as_slice()));
     Ok(())
 }
