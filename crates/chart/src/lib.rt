@@ -37,5 +37,5 @@ pub use line::{GrowingLine, Line, LineError, MAX_EVENTS};
 pub use message::{MAX_BODY, Message};
 pub use name::{MAX_NAME, Name, NameError};
 pub use names::{Names, NamesError};
-pub use ranges::{EventRange, EventRanges, RangesBuilder};
+pub use ranges::{EventRange, EventRanges, Events, RangesBuilder};
 pub use report::{Report, has_races};

@@ -4,7 +4,7 @@ ghost use Rattle.chart.specs.Events.{region_of};
 
 use chart::{
     Event, EventNo, EventRanges, GrowingLine, InstanceNo, Line, LineError, MAX_BODY, MAX_EVENTS,
-    MAX_NAME, Message, Name, NameError, Names, NamesError,
+    MAX_NAME, Message, Name, NameError, Names, NamesError, Report, has_races,
 };
 use std::alloc::Global;
 use std::process::Abort;
@@ -216,5 +216,35 @@ fn event_ranges(rt: HostRuntime) -> Result<(), Fail> {
     let none = EventRanges::of(rt.alloc(), &[])?;
     assert!(rt; none.is_empty());
     assert!(rt; !ranges.is(&none));
+    Ok(())
+}
+
+/// The report of event 8, with the earlier events of these numbers.
+fn report(alloc: Global, earlier: &[u32]) -> Result<Report, Fail> {
+    let mut events = Vec::new(alloc);
+    for index in earlier {
+        events.push(event(*index)?)?;
+    }
+    Ok(Report::of(alloc, event(8)?, events.as_slice())?)
+}
+
+#[test]
+fn reports_by_ranges(rt: HostRuntime) -> Result<(), Fail> {
+    let report = report(rt.alloc(), &[2, 3, 4, 7])?;
+    assert_eq!(rt; report.earlier().as_slice().len(), 2, "2 to 4, and 7");
+    assert_eq!(rt; report.earlier().len(), 4);
+    let indices = report.earlier().iter().map(|race| race.index);
+    let indices: Vec<u32> = indices.collect(rt.alloc())?;
+    assert_eq!(rt; indices.as_slice(), [2, 3, 4, 7].as_slice());
+    Ok(())
+}
+
+#[test]
+fn same_reports(rt: HostRuntime) -> Result<(), Fail> {
+    let some = report(rt.alloc(), &[2, 3])?;
+    let none = report(rt.alloc(), &[])?;
+    assert!(rt; some.is(&some.copied(rt.alloc())?));
+    assert!(rt; !some.is(&none));
+    assert!(rt; has_races([none, some].as_slice()));
     Ok(())
 }
