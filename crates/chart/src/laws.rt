@@ -14,7 +14,7 @@ pub fn report_law()
 /// another line the most that was heard of it before.
 pub fn knowledge_law()
     ensures own { OwnKnowledgeLaw }
-    ensures other { KnowledgeLaw }
+    ensures other_lines { KnowledgeLaw }
 {}
 
 /// What is heard along a line: nothing at first, by a receive what its send knows, and nothing by a send.
@@ -34,7 +34,7 @@ pub fn legal_law()
 
 /// What one more event adds to the lines.
 pub fn line_law()
-    ensures other { OtherLineLaw }
+    ensures other_lines { OtherLineLaw }
     ensures close { CloseLineLaw }
     ensures send { SendLineLaw }
     ensures receive { ReceiveLineLaw }
@@ -44,7 +44,7 @@ pub fn line_law()
 pub fn new_send_law()
     ensures send { NewSendLaw }
     ensures own { NewSendOwnLaw }
-    ensures other { NewSendKnowledgeLaw }
+    ensures other_lines { NewSendKnowledgeLaw }
     ensures hearing { NewSendHearingLaw }
 {}
 
