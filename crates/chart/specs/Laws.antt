@@ -1,6 +1,6 @@
 -- The laws of charts: statements that the functions of `laws` prove. Those of knowledge and of what is heard are vector
 -- time's (Fidge 1988, Mattern 1989); the others are this project's profile, over the definitions that they cite.
-use Rattle.std.specs.Prelude.{◌≡◌, ℕ, ◌+◌, ◌<◌, ◌≤◌, ◌↔◌, ◌⊎◌, max, List, [], ◌∷◌, ◌++◌, take, length, slice_get, Some}
+use Rattle.std.specs.Prelude.{◌≡◌, ℕ, ◌+◌, ◌<◌, ◌≤◌, ◌↔◌, ◌⊎◌, max, List, [], ◌∷◌, ◌++◌, take, length, slice_get, Some, Err}
 use Rattle.chart.specs.declared.history.Occurrence.{Occurrence}
 use Rattle.chart.specs.declared.history.Occurrence.TheVariants.{Send, Receive, Close}
 use Rattle.chart.specs.declared.event.Event.{Event}
@@ -11,6 +11,16 @@ use Rattle.chart.specs.Charts.{Chart, Place, at, chart_event, IsSendTo, IsReceiv
 use Rattle.chart.specs.Places.{IsEvent, IsSendAfter}
 use Rattle.chart.specs.Order.{Before, IsCyclic, IsReport, IsRaces, region_of_event}
 use Rattle.chart.specs.Knowing.{IsKnown, IsGreatestHeard}
+use Rattle.chart.specs.Keywords.{spelled}
+use Rattle.chart.specs.Names.{name_of}
+use Rattle.chart.specs.declared.keyword.Keyword.{Keyword}
+use Rattle.chart.specs.declared.name.NameError.TheVariants.{Reserved}
+
+-- Of names.
+
+-- no word that the chart text keeps for itself is a name
+abbrev pub KeywordLaw : Type 0
+KeywordLaw = (keyword : Keyword) → name_of (spelled keyword) ≡ Err Reserved
 
 -- Of any chart.
 

@@ -1,8 +1,14 @@
-//! The laws of charts, each the contract of a function that does nothing. Of any chart: what is before a receive on its own
+//! The laws of charts, each the contract of a function that does nothing. Of names: that no word of the chart text's own is
+//! one. Of any chart: what is before a receive on its own
 //! line, what a send knows of each line, and what a receive hears. Of the charts of legal histories: that each receive has
 //! its send and no event is before itself, what one more event adds, what later events leave as it is, and what is there
 //! once.
-ghost use Rattle.chart.specs.Laws.{ReportLaw, RacesLaw, OwnKnowledgeLaw, KnowledgeLaw, FirstHearingLaw, ReceiveHearingLaw, SendHearingLaw, NoSendLaw, OtherNameLaw, SendLaw, NoCycleLaw, OtherLineLaw, CloseLineLaw, SendLineLaw, ReceiveLineLaw, NewSendLaw, NewSendOwnLaw, NewSendKnowledgeLaw, NewSendHearingLaw, MessageSendLaw, OneSendLaw, NewReceiveLaw, NewReceiveHearingLaw, NewReportLaw, LegalGrowthLaw, PlaceGrowthLaw, SendGrowthLaw, BelongingGrowthLaw, OrderGrowthLaw, KnowledgeGrowthLaw, ReportGrowthLaw, HearingGrowthLaw, OneKnowledgeLaw, OneHearingLaw, OneReportLaw};
+ghost use Rattle.chart.specs.Laws.{KeywordLaw, ReportLaw, RacesLaw, OwnKnowledgeLaw, KnowledgeLaw, FirstHearingLaw, ReceiveHearingLaw, SendHearingLaw, NoSendLaw, OtherNameLaw, SendLaw, NoCycleLaw, OtherLineLaw, CloseLineLaw, SendLineLaw, ReceiveLineLaw, NewSendLaw, NewSendOwnLaw, NewSendKnowledgeLaw, NewSendHearingLaw, MessageSendLaw, OneSendLaw, NewReceiveLaw, NewReceiveHearingLaw, NewReportLaw, LegalGrowthLaw, PlaceGrowthLaw, SendGrowthLaw, BelongingGrowthLaw, OrderGrowthLaw, KnowledgeGrowthLaw, ReportGrowthLaw, HearingGrowthLaw, OneKnowledgeLaw, OneHearingLaw, OneReportLaw};
+
+/// A word that the chart text keeps for itself is refused as a name, by F4 and not by another fault.
+pub fn keyword_law()
+    ensures { KeywordLaw }
+{}
 
 /// What is enforced before a receive on its own line, by what its send knows, and so what its report is.
 pub fn report_law()
