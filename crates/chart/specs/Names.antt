@@ -14,7 +14,7 @@ is_letter b = (nat_le 65 b && nat_le b 90) || (nat_le 97 b && nat_le b 122)
 abbrev pub is_name_byte : ℕ → Bool
 is_name_byte b = is_letter b || (nat_le 48 b && nat_le b 57) || b == 95
 
--- the first place, from 1, of a byte that doesn't belong: a name is a letter, and then letters, digits and _
+-- the number, from 1, of the first byte that doesn't belong: a name is a letter, and then letters, digits and _
 abbrev pub bad_place : List ℕ → Option ℕ
 bad_place [] = None
 bad_place (b ∷ bs) = if is_letter b then option_map (λ i. i + 2) (position (λ c. not (is_name_byte c)) bs) else Some 1
@@ -32,6 +32,6 @@ name_of w =
 abbrev pub IsName : List ℕ → Type 0
 IsName w = name_of w ≡ Ok w
 
--- the instance that has the name: its place in the list of names, from 1
+-- the instance that has the name: its number in the list of names, from 1
 abbrev pub instance_of : List (List ℕ) → List ℕ → Option ℕ
 instance_of names w = option_map suc (position (bytes_eq w) names)

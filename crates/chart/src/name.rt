@@ -24,7 +24,7 @@ pub enum NameError {
     /// F2: there are more than [`MAX_NAME`] bytes.
     #[error("the name is longer than 32 bytes")]
     TooLong,
-    /// F3: the byte at this place, from 1, is the first that doesn't belong. A name is a letter `A` to `Z` or
+    /// F3: the byte of this number, from 1, is the first that doesn't belong. A name is a letter `A` to `Z` or
     /// `a` to `z`, and then letters, digits and `_`.
     #[error("byte {0} doesn't belong in a name")]
     BadByte(usize),
@@ -77,7 +77,7 @@ fn first_other(bytes: &[u8]) -> Option<usize>
     bytes.iter().position(|b| !is_name_byte(*b))
 }
 
-/// The first place, from 1, of a byte that doesn't belong in a name.
+/// The number, from 1, of the first byte that doesn't belong in a name.
 fn bad_place(bytes: &[u8]) -> Option<usize>
     requires { length bytes.now ≤ MAX_NAME }
     ensures { result ≡ bad_place bytes.now }

@@ -4,7 +4,7 @@ use Rattle.std.specs.Prelude.{bytes_eq}
 use Rattle.std.specs.Cmp.Lexicographic.{bytes_decides}
 use Rattle.std.proofs.Math.Seq.{get_or-append_seam}
 use Rattle.std.proofs.lemmas.List.{append_cancel_right, drop_all}
-use Rattle.msc_reader.specs.Keywords.{semi, is_last_word}
+use Rattle.msc_reader.specs.LastWords.{semi, is_last_word}
 
 -- all but the last byte
 abbrev pub front_of : List ℕ → List ℕ

@@ -5,7 +5,7 @@ use Rattle.chart.specs.declared.keyword.Keyword.TheVariants as keywords
 use Rattle.chart.specs.Names.{IsName}
 use Rattle.chart.specs.declared.line.TheConstants.{MAX_EVENTS}
 use Rattle.msc_text.specs.ChartText.{chart_name}
-use Rattle.msc_reader.specs.Keywords.{semi}
+use Rattle.msc_reader.specs.LastWords.{semi}
 use Rattle.msc_reader.specs.Steps.{after_receive}
 use Rattle.msc_reader.specs.declared.state.State.{State}
 use Rattle.msc_reader.specs.declared.state.State.TheVariants as states

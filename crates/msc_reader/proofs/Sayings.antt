@@ -12,7 +12,7 @@ use Rattle.msc_text.specs.declared.fault.Cause.TheVariants.{Syntax, ToItself, Li
 use Rattle.msc_text.proofs.Lookups.{same_bytes, same_itself}
 use Rattle.msc_text.proofs.Results.{bind_ok, guard_ok, when_ok, chosen, ok_is, name_is}
 use Rattle.msc_text.specs.ChartText.{chart_name}
-use Rattle.msc_reader.specs.Keywords.{semi, is_last_word}
+use Rattle.msc_reader.specs.LastWords.{semi, is_last_word}
 use Rattle.msc_reader.specs.Steps.{Step, name_part, is_plain, start_by, head_of, outside_by, pair_of, names_of, after_receive, send_of, receive_of, is_closed, event_of, alone_of, inside_by, step_by}
 use Rattle.msc_reader.specs.declared.state.State.{State}
 use Rattle.msc_reader.specs.declared.state.State.TheVariants as states

@@ -14,9 +14,9 @@ use Rattle.msc_text.specs.declared.fault.Cause.TheVariants.{Syntax, ToItself, Li
 use Rattle.msc_text.proofs.Lookups.{same_bytes}
 use Rattle.msc_text.proofs.Parts.{lacks_if, lacks_append}
 use Rattle.msc_text.proofs.Results.{bind_at, name_again}
-use Rattle.msc_text.proofs.Spacing.{IsPlain, ArePlain, plain_name, plain_keyword, spaced_again, spaced_lacks, is_spaced}
+use Rattle.msc_text.proofs.Spacing.{IsPlain, ArePlain, plain_name, plain_literal, plain_keyword, spaced_again, spaced_lacks, is_spaced}
 use Rattle.msc_text.specs.ChartText.{chart_name}
-use Rattle.msc_reader.specs.Keywords.{semi, is_last_word}
+use Rattle.msc_reader.specs.LastWords.{semi, is_last_word}
 use Rattle.msc_reader.specs.Steps.{Step, name_part, head_of, pair_of, names_of, after_receive, send_of, receive_of, event_of, alone_of, step_by, step_of}
 use Rattle.msc_reader.specs.declared.state.State.{State}
 use Rattle.msc_reader.specs.declared.state.State.TheVariants as states
@@ -113,7 +113,7 @@ plain_last word = plain_semi (spelled word) (plain_keyword word)
 
 plain_chart_name : IsPlain chart_name
 unfolding chart_name
-plain_chart_name = (lacks_if 32 (codes "run") refl, lacks_if 10 (codes "run") refl)
+plain_chart_name = plain_literal (codes "run") refl refl
 
 plain-words : {state next : State} {saying : Saying} → Moves state saying next → ArePlain (saying_words saying)
 plain-words begins = (plain_keyword keywords.Msc, (plain_semi chart_name plain_chart_name, tt))

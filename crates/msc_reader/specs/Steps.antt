@@ -9,7 +9,7 @@ use Rattle.msc_text.specs.Faults.{◌>>=◌}
 use Rattle.msc_text.specs.Lines.{words_of, name_or_cause}
 use Rattle.msc_text.specs.declared.fault.Cause.{Cause}
 use Rattle.msc_text.specs.declared.fault.Cause.TheVariants.{Syntax, ToItself, LineFull}
-use Rattle.msc_reader.specs.Keywords.{is_last_word}
+use Rattle.msc_reader.specs.LastWords.{is_last_word}
 use Rattle.msc_reader.specs.declared.state.State.{State}
 use Rattle.msc_reader.specs.declared.state.State.TheVariants as states
 use Rattle.msc_reader.specs.declared.state.Region.{Region}

@@ -5,7 +5,7 @@ ghost use Rattle.chart.specs.declared.line.TheConstants.{MAX_EVENTS};
 ghost use Rattle.msc_reader.specs.Steps.{is_semicolon, is_other, name_part, is_plain, start_by, head_of, outside_by, pair_of, names_of, after_receive, is_closed, send_of, receive_of, event_of, alone_of, inside_by, step_of};
 ghost use Rattle.msc_text.specs.Lines.{words_of};
 
-use crate::keyword::is_last_word;
+use crate::last_word::is_last_word;
 use crate::state::{Region, Saying, State};
 use chart::{Keyword, MAX_EVENTS, Name};
 use msc_text::{Cause, Words, chart_name, name_in, words_in};

@@ -1,7 +1,7 @@
 use Rattle.std.proofs.Common.{sym, ◌∙◌}
 use Rattle.std.proofs.lemmas.Bool.{ne_eqb}
 use Rattle.msc_reader.proofs.LastWords.{last_word-is, last_word-other}
-use Rattle.msc_reader.proofs.keyword.is_last_word.Goals as goal
+use Rattle.msc_reader.proofs.last_word.is_last_word.Goals as goal
 
 pub returns-then-last-eq59 : goal.returns-then-last-eq59
 returns-then-last-eq59 c = c.eq.ensures ∙ last_word-is c.args.word.now c.args.front.now c.in-len1-up.len_at_least c.if-last-eq59.true
