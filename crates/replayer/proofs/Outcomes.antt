@@ -10,7 +10,7 @@ use Rattle.schedule.specs.Meaning.{meaning}
 use Rattle.schedule.proofs.Legal.{legal}
 use Rattle.replayer.specs.Outcomes.{OutcomeView, IsOutcome, PossibleOutcomeLaw}
 use Rattle.replayer.proofs.ByLine.{same_by_line}
-use Rattle.replayer.proofs.Charts.{chart-is}
+use Rattle.chart.proofs.HistoryLines.{chart-is}
 
 abbrev with_these : List (List ℕ) → List LineView → List ReportView → List Note → OutcomeView
 with_these names chart reports notes = record { names = names; chart = chart; reports = reports; notes = notes }
