@@ -14,6 +14,7 @@ pub mod Preparing
 pub mod ReceiveAnswers
 pub mod Receives
 pub mod Rooms
+pub mod RoomsMade
 pub mod SendAllAnswers
 pub mod SendAnswers
 pub mod SentAtOnce

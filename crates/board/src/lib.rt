@@ -26,7 +26,9 @@ mod receive;
 mod receive_up_to;
 mod receiving;
 mod receiving_several;
+mod reserving;
 mod room;
+
 mod send;
 mod send_all;
 mod sending;
