@@ -4,6 +4,7 @@ pub mod DidLemmas
 pub mod Drawing
 pub mod EndLemmas
 pub mod Finding
+pub mod Leavers
 pub mod Meetings
 pub mod NoteLemmas
 pub mod OneBoard

@@ -12,7 +12,7 @@ use Rattle.chart.specs.declared.event.Event.{Event}
 use Rattle.chart.specs.declared.event.Event.TheVariants.{Send, Receive}
 use Rattle.chart.specs.declared.line.TheConstants.{MAX_EVENTS}
 use Rattle.chart.specs.Histories.{own, sent, received, waiting, chart_of, AreTwo, IsLegal}
-use Rattle.chart.specs.HistoryLines.{history_line}
+use Rattle.chart.specs.HistoryLines.{history_line, history_lines}
 use Rattle.chart.specs.Reports.{ReportView, receives_from, receives_of}
 use Rattle.chart.proofs.Histories.{same_sent}
 use Rattle.chart.proofs.Histories as histories
@@ -105,12 +105,12 @@ lanes_next lanes q place = append_assoc lanes (map (lane_to q) (range_with_len 1
 -- what a function makes of one number more
 pub numbers_next : {A : Type 0} (f : ℕ → List A) (place : ℕ) → flat_map f (range_with_len 1 (place + 1)) ≡ flat_map f (range_with_len 1 place) ++ f (place + 1)
 numbers_next {A} f place =
-    ap (flat_map f) (sym (map-same (range_with_len 1 (place + 1))) ∙ map-range_with_len_more (λ (i : ℕ). i) 1 place (place + 1) (omega arith) ∙ ap (λ is. is ++ (place + 1) ∷ []) (map-same (range_with_len 1 place)))
+    ap (flat_map f) (sym (map_same (range_with_len 1 (place + 1))) ∙ map-range_with_len_more (λ (i : ℕ). i) 1 place (place + 1) (omega arith) ∙ ap (λ is. is ++ (place + 1) ∷ []) (map_same (range_with_len 1 place)))
     ∙ flat_map-append f (range_with_len 1 place) ((place + 1) ∷ []) ∙ ap (λ xs. flat_map f (range_with_len 1 place) ++ xs) (append-nil (f (place + 1)))
   where
-    map-same : (xs : List ℕ) → map (λ (i : ℕ). i) xs ≡ xs
-    map-same [] = refl
-    map-same (x ∷ xs) = ap (λ ys. x ∷ ys) (map-same xs)
+    map_same : (xs : List ℕ) → map (λ (i : ℕ). i) xs ≡ xs
+    map_same [] = refl
+    map_same (x ∷ xs) = ap (λ ys. x ∷ ys) (map_same xs)
 
 -- Receives, counted.
 
@@ -128,9 +128,24 @@ count_few n k h p r legal its =
     let few = receives_few p 1 (chart_of h p) in
     omega (arith, count_is n h p r its, few, short)
 
+-- the line of one instance more
+pub lines_next : (h : List Occurrence) (place : ℕ) → history_lines (place + 1) h ≡ history_lines place h ++ history_line h (place + 1) ∷ []
+lines_next h place = map-range_with_len_more (history_line h) 1 place (place + 1) (omega arith)
+
+pub receives_next : (h : List Occurrence) (place : ℕ) → receives_until h (place + 1) ≡ receives_until h place ++ receives_of (history_line h (place + 1))
+receives_next h place = ap (flat_map receives_of) (lines_next h place) ∙ flat_map-append receives_of (history_lines place h) (history_line h (place + 1) ∷ []) ∙ ap (λ xs. receives_until h place ++ xs) (append-nil (receives_of (history_line h (place + 1))))
+
+pub receives_grow : (h : List Occurrence) (place more : ℕ) → length (receives_until h place) ≤ length (receives_until h (place + more))
+receives_grow h place zero = let same : place + 0 ≡ place = omega arith in subst (λ i. length (receives_until h place) ≤ length (receives_until h i)) (sym same) (omega arith)
+receives_grow h place (suc more) =
+    let before = receives_grow h place more in
+    let same : place + suc more ≡ place + more + 1 = omega arith in
+    subst (λ i. length (receives_until h place) ≤ length (receives_until h i)) (sym same)
+    (omega (arith, before, ap length (receives_next h (place + more)), length-append (receives_until h (place + more)) (receives_of (history_line h (place + more + 1)))))
+
 pub counted_next : (h : List Occurrence) (place total more : ℕ) → AreCounted h place total → more ≡ length (receives_of (history_line h (place + 1))) → AreCounted h (place + 1) (total + more)
 counted_next h place total more before same =
-    omega (arith, before, same, ap length (numbers_next (λ p. receives_of (history_line h p)) place), length-append (receives_until h place) (receives_of (history_line h (place + 1))))
+    omega (arith, before, same, ap length (receives_next h place), length-append (receives_until h place) (receives_of (history_line h (place + 1))))
 
 -- the room of two of these posts is theirs by any history that all of them have in common
 pub room_for : (n k : ℕ) (posts : List PostView) → AreOf n k posts → (to from : PostView) (q p : ℕ) (room : Room) → IsAmong posts to → IsAmong posts from → to.number ≡ p → from.number ≡ q

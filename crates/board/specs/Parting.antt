@@ -1,17 +1,21 @@
 -- What the parts of a gathering tell each other (this project's profile).
-use Rattle.std.specs.Prelude.{◌≡◌, ℕ, ◌+◌, ◌≤◌, List, [], ◌++◌, length, map, filter, take, drop, All, slice_get, vec_capacity, Option, Some}
-use Rattle.std.specs.List.{range_with_len, flat_map}
+use Rattle.std.specs.Prelude.{◌≡◌, ℕ, suc, ◌+◌, ◌<◌, ◌≤◌, ◌==◌, List, [], ◌∷◌, ◌++◌, length, map, filter, take, drop, All, slice_get, vec_capacity, Option, Some}
+use Rattle.std.specs.List.{flat_map}
 use Rattle.chart.specs.declared.history.Occurrence.{Occurrence}
 use Rattle.chart.specs.declared.instance.EventNo.{EventNo}
 use Rattle.chart.specs.declared.line.TheConstants.{MAX_EVENTS}
+use Rattle.chart.specs.Charts.{LineView}
 use Rattle.chart.specs.Messages.{Content}
-use Rattle.chart.specs.Histories.{received, waiting, AreTwo}
-use Rattle.chart.specs.HistoryLines.{history_line}
-use Rattle.chart.specs.Reports.{receives_of}
+use Rattle.chart.specs.Histories.{received, waiting, chart_of, AreTwo}
+use Rattle.chart.specs.HistoryLines.{history_lines}
+use Rattle.chart.specs.Reports.{ReportView, AreReportsOf, receives_of}
+use Rattle.atomic_table.specs.Seated.{TableId}
 use Rattle.board_table.specs.declared.packet.Packet.{Packet}
 use Rattle.board_table.specs.Layout.{LaneView}
-use Rattle.board_table.specs.Leaving.{ComeFirst}
+use Rattle.board_table.specs.Leaving.{ComeFirst, HaveLeft}
+use Rattle.board.specs.declared.parting.Leaver.{Leaver}
 use Rattle.board.specs.declared.parting.Room.{Room}
+use Rattle.board_table.specs.Knowing.{Mine}
 use Rattle.board.specs.Views.{PostView}
 use Rattle.board.specs.Meeting.{HasPost}
 use Rattle.board.specs.Gathering.{AreJoint, LaneEnds, lane_to, is_waiting}
@@ -62,7 +66,43 @@ pub record HaveRooms (n k : ℕ) (posts : List PostView) (lanes : List LaneEnds)
 
 -- the receives of so many instances
 abbrev pub receives_until : List Occurrence → ℕ → List EventNo
-receives_until h many = flat_map (λ p. receives_of (history_line h p)) (range_with_len 1 many)
+receives_until h many = flat_map receives_of (history_lines many h)
 
 abbrev pub AreCounted : List Occurrence → ℕ → ℕ → Type 0
 AreCounted h many count = count ≡ length (receives_until h many)
+
+-- Posts that have met, and what they leave.
+
+-- a post of this board that has seen the history
+pub record HasMet (n k : ℕ) (table : TableId) (h : List Occurrence) (post : PostView) : Type 0 where
+  pub board : post.board ≡ record { table = table; size = n; capacity = k }
+  pub seen : post.seen ≡ h
+
+-- all of these have, and there is one of each number above this one
+pub record HaveSeen (n k : ℕ) (table : TableId) (h : List Occurrence) (from : ℕ) (posts : List PostView) : Type 0 where
+  pub each : (i : ℕ) (post : PostView) → slice_get posts i ≡ Some post → HasMet n k table h post
+  pub all : (number : ℕ) → from < number → number ≤ n → HasPost posts number
+
+-- the lines and reports of so many posts, which have left with the messages that wait for them
+pub record HaveParted (n k : ℕ) (table : TableId) (h : List Occurrence) (many : ℕ) (lines : List LineView) (reports : List ReportView) (leavers : List Leaver) : Type 0 where
+  pub lined : lines ≡ history_lines many h
+  pub reported : AreReportsOf (chart_of h) (history_lines many h) reports
+  pub as_many : length leavers ≡ many
+  pub seated : (i : ℕ) (leaver : Leaver) → slice_get leavers i ≡ Some leaver → leaver.seat.table_id ≡ table
+  pub left : (i : ℕ) (leaver : Leaver) → slice_get leavers i ≡ Some leaver → HaveLeft n k (suc i) h 1 n leaver.seat.me.1
+
+-- The messages of the lanes, to be drawn one lane after another.
+
+-- who sends to p on these lanes
+abbrev pub senders_to : ℕ → List LaneEnds → List ℕ
+senders_to p lanes = map (λ (lane : LaneEnds). lane.sender) (filter (λ (lane : LaneEnds). lane.receiver == p) lanes)
+
+-- for each of these senders come slots with what waits for p, and then others
+abbrev pub AreNext : ℕ → ℕ → ℕ → List Occurrence → List ℕ → Slots → Type 0
+AreNext n k p h [] slots = Unit {0}
+AreNext n k p h (q ∷ qs) slots = (packets : List Packet) × (others : Slots) × ComeFirst n k q p (received h q p) packets slots others × (messages_in packets ≡ waiting h q p) × AreNext n k p h qs others
+
+pub record AreReady (n k : ℕ) (table : TableId) (h : List Occurrence) (lanes : List LaneEnds) (leavers : List Leaver) : Type 0 where
+  pub as_many : length leavers ≡ n
+  pub seated : (i : ℕ) (leaver : Leaver) → slice_get leavers i ≡ Some leaver → leaver.seat.table_id ≡ table
+  pub next : (i : ℕ) (leaver : Leaver) → slice_get leavers i ≡ Some leaver → AreNext n k (suc i) h (senders_to (suc i) lanes) leaver.seat.me.1
