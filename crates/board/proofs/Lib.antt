@@ -2,6 +2,7 @@ pub mod Claiming
 pub mod Closes
 pub mod DidLemmas
 pub mod Drawing
+pub mod DrawnLanes
 pub mod EndLemmas
 pub mod Finding
 pub mod Leavers
