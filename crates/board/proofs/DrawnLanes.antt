@@ -1,6 +1,6 @@
 -- The messages of all lanes, drawn one lane after another from the slots that left with each post.
-use Rattle.std.proofs.Common.{◌≡◌, ◌≢◌, ℕ, zero, suc, ◌+◌, ◌<◌, ◌≤◌, ◌⊎◌, inl, inr, ⊎_elim, Bool, true, false, cond, ◌==◌, List, [], ◌∷◌, ◌++◌, length, map, get_or, set, refl, sym, ap, ap₂, ◌∙◌, subst, arith, append_assoc}
-use Rattle.std.specs.Prelude.{filter, slice_get, None, Some, All}
+use Rattle.std.proofs.Common.{◌≡◌, ◌≢◌, ℕ, zero, suc, ◌+◌, ◌<◌, ◌≤◌, ◌⊎◌, inl, inr, ⊎_elim, Bool, true, false, cond, ◌==◌, List, [], ◌∷◌, ◌++◌, length, map, get_or, set, refl, sym, ap, ◌∙◌, subst, arith, append_assoc}
+use Rattle.std.specs.Prelude.{filter, slice_get, Some, All}
 use Rattle.std.specs.List.{range_with_len, flat_map}
 use Rattle.std.proofs.lemmas.Bool.{eq-eqb, ne_eqb}
 use Rattle.std.proofs.lemmas.Bool.Decides.{leb_tells}
@@ -10,7 +10,6 @@ use Rattle.std.proofs.lemmas.Option.{slice_get-get_or}
 use native.Mathlib.Decide.{ℕ_discrete as dec_eq}
 use Rattle.atomic_table.specs.Seated.{TableId}
 use Rattle.chart.specs.declared.history.Occurrence.{Occurrence}
-use Rattle.chart.specs.Messages.{Content}
 use Rattle.chart.specs.Histories.{received, waiting}
 use Rattle.board_table.specs.declared.packet.Packet.{Packet}
 use Rattle.board_table.specs.Carrying.{full_slots}
@@ -18,7 +17,7 @@ use Rattle.board_table.specs.Leaving.{ComeFirst, HaveLeft}
 use Rattle.board.specs.declared.gathering.Left.{Left}
 use Rattle.board.specs.declared.parting.Leaver.{Leaver}
 use Rattle.board.specs.declared.parting.Room.{Room}
-use Rattle.board.specs.Gathering.{LaneEnds, lane_to, lanes_of, is_waiting, waiting_lanes, left_view, left_on}
+use Rattle.board.specs.Gathering.{LaneEnds, lane_to, lanes_of, is_waiting, left_view, left_on}
 use Rattle.board.specs.Parting.{Slots, messages_in, room_lane, IsLaneRoom, senders_to, AreNext, AreReady}
 use Rattle.board.proofs.PostLemmas.{at_set}
 

@@ -1,7 +1,6 @@
 -- Posts that leave, one after another.
 use Rattle.std.proofs.Common.{◌≡◌, ◌≢◌, ℕ, zero, suc, ◌+◌, ◌-◌, ◌<◌, ◌≤◌, ◌⊎◌, inl, inr, ⊎_elim, List, [], ◌∷◌, ◌++◌, length, take, drop, map, refl, sym, ap, ap₂, ◌∙◌, subst, arith, length-append}
 use Rattle.std.specs.Prelude.{slice_get, None, Some, All}
-use Rattle.std.specs.List.{flat_map, remove}
 use Rattle.std.proofs.lemmas.List.{map-append, length-map}
 use Rattle.std.proofs.lemmas.List.Concat.{flat_map-append}
 use Rattle.std.proofs.lemmas.List.Elements.{All-append}
@@ -86,8 +85,16 @@ module _ (n k : ℕ) (table : TableId) (h : List Occurrence) (place : ℕ) where
         let rest : ℕ = n - (place + 1) in
         let whole : place + 1 + rest ≡ n = omega arith in
         let grown = subst (λ i. length (receives_until h (place + 1)) ≤ length (receives_until h i)) whole (receives_grow h (place + 1) rest) in
-        omega (arith, grown, ap length (receives_next h place), length-append (receives_until h place) (receives_of (history_line h (place + 1))),
-        ap length parted.reported.receives, length-map reports (λ (r : ReportView). r.receive), ap length (own_is own receives), length-map own (λ (r : ReportView). r.receive))
+        omega (
+          arith,
+          grown,
+          ap length (receives_next h place),
+          length-append (receives_until h place) (receives_of (history_line h (place + 1))),
+          ap length parted.reported.receives,
+          length-map reports (λ (r : ReportView). r.receive),
+          ap length (own_is own receives),
+          length-map own (λ (r : ReportView). r.receive),
+        )
 
     pub parted_next : (lines : List LineView) (reports own : List ReportView) (leavers : List Leaver) (line : LineView) (leaver : Leaver) → HaveParted n k table h place lines reports leavers
         → line ≡ record { instance = post.number; events = line_of post } → map (λ (r : ReportView). r.receive) own ≡ receives_of (record { instance = post.number; events = line_of post }) → All (IsReportIn (chart_of post.seen)) own

@@ -21,3 +21,4 @@ pub mod SendAllAnswers
 pub mod SendAnswers
 pub mod SentAtOnce
 pub mod SeveralSends
+pub mod WholeBoards

@@ -1,8 +1,8 @@
 -- Room for what a board comes to, of whatever history its posts have in common.
 use Rattle.std.proofs.Common.{◌≡◌, ◌≢◌, ℕ, zero, suc, ◌+◌, ◌-◌, ◌≤◌, ⊎_elim, Bool, true, false, cond, List, [], ◌∷◌, ◌++◌, length, map, refl, sym, ap, ap₂, ◌∙◌, subst, arith, append-nil, append_assoc, length-append}
-use Rattle.std.specs.Prelude.{filter, All, nat_lt, slice_get, vec_capacity, Some}
+use Rattle.std.specs.Prelude.{filter, nat_lt, vec_capacity}
 use Rattle.std.specs.List.{range_with_len, flat_map}
-use Rattle.std.proofs.lemmas.List.{length-map, map_push, map-append}
+use Rattle.std.proofs.lemmas.List.{length-map, map_push}
 use Rattle.std.proofs.lemmas.Bool.Decides.{leb_tells}
 use Rattle.std.proofs.lemmas.List.Concat.{flat_map-append}
 use Rattle.std.proofs.lemmas.List.Elements.{All-push, filter-append}
@@ -18,7 +18,6 @@ use Rattle.chart.proofs.Histories.{same_sent}
 use Rattle.chart.proofs.Histories as histories
 use Rattle.line_recorder.specs.Recorders.{RecorderView}
 use Rattle.line_recorder.specs.Recording.{IsRecorder}
-use Rattle.board_core.proofs.OwnEvents.{same_line}
 use Rattle.board_table.proofs.LastMessages.{waiting_back}
 use Rattle.board.specs.declared.ends.Outgoing.{Outgoing}
 use Rattle.board.specs.declared.ends.Incoming.{Incoming}
@@ -26,7 +25,7 @@ use Rattle.board.specs.declared.parting.Room.{Room}
 use Rattle.board.specs.Known.{IsOutgoing, IsIncoming}
 use Rattle.board.specs.Views.{PostView}
 use Rattle.board.specs.Meeting.{IsJoint}
-use Rattle.board.specs.Gathering.{AreJoint, LaneEnds, lane_to, lanes_of, is_waiting}
+use Rattle.board.specs.Gathering.{AreJoint, LaneEnds, lane_to, is_waiting}
 use Rattle.board.specs.Parting.{IsAmong, AreOf, room_lane, IsRoom, IsLaneRoom, HaveRooms, receives_until, AreCounted}
 use Rattle.board.proofs.Claiming.{sent_within}
 use Rattle.board.proofs.Closes.{line_short}

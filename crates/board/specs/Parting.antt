@@ -15,7 +15,6 @@ use Rattle.board_table.specs.Layout.{LaneView}
 use Rattle.board_table.specs.Leaving.{ComeFirst, HaveLeft}
 use Rattle.board.specs.declared.parting.Leaver.{Leaver}
 use Rattle.board.specs.declared.parting.Room.{Room}
-use Rattle.board_table.specs.Knowing.{Mine}
 use Rattle.board.specs.Views.{PostView}
 use Rattle.board.specs.Meeting.{HasPost}
 use Rattle.board.specs.Gathering.{AreJoint, LaneEnds, lane_to, is_waiting}

@@ -28,7 +28,6 @@ mod receiving;
 mod receiving_several;
 mod reserving;
 mod room;
-
 mod send;
 mod send_all;
 mod sending;
@@ -40,7 +39,7 @@ pub use error::{
     BoardError, CloseError, GatherCause, MeetError, Memory, PostsError, RegionError, SendError,
     TakeError,
 };
-pub use gathering::{GatherError, Gathered, Left};
+pub use gathering::{GatherError, Gathered, Left, gather};
 pub use meeting::{meet, meet_all};
 pub use post::Post;
 

@@ -1,12 +1,10 @@
-use Rattle.std.proofs.Common.{◌≡◌, ◌∷◌, [], ◌++◌, ℕ, List, length, map, get_or, refl, sym, ap, ap₂, ◌∙◌, subst, append_assoc, append-nil, length-append, arith}
+use Rattle.std.proofs.Common.{◌≡◌, ◌∷◌, [], ◌++◌, List, length, map, get_or, refl, sym, ap, ap₂, ◌∙◌, subst, append_assoc, append-nil, length-append, arith}
 use Rattle.std.specs.Prelude.{All}
 use Rattle.std.specs.Vec.Iter.{into_iter_items}
 use Rattle.std.proofs.lemmas.List.{map_push}
-use Rattle.chart.specs.Messages.{Content}
-use Rattle.board.specs.declared.gathering.Left.{Left}
 use Rattle.board.specs.declared.parting.Leaver.{Leaver}
 use Rattle.board.specs.declared.parting.Room.{Room}
-use Rattle.board.specs.Gathering.{LaneEnds, left_view, left_on}
+use Rattle.board.specs.Gathering.{left_view, left_on}
 use Rattle.board.specs.Parting.{room_lane, IsLaneRoom, AreReady}
 use Rattle.board.proofs.DrawnLanes.{is_first, ready_next, now_of, left_is}
 use Rattle.board.proofs.parting.draw_lanes.Goals as goal

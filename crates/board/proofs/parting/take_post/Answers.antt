@@ -1,8 +1,7 @@
-use Rattle.std.proofs.Common.{◌≡◌, ◌≢◌, ◌∙◌, List, sym, ap, subst}
+use Rattle.std.proofs.Common.{◌≡◌, ◌∙◌, List, sym, ap, subst}
 use Rattle.std.specs.Prelude.{slice_get, Some}
 use Rattle.board.specs.Views.{PostView}
 use Rattle.board.specs.Meeting.{HasPost}
-use Rattle.board.specs.Parting.{IsAmong}
 use Rattle.board.proofs.Leavers.{kept_there, others_there}
 use Rattle.board.proofs.parting.take_post.Goals as goal
 

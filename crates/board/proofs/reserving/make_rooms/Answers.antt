@@ -1,4 +1,4 @@
-use Rattle.std.proofs.Common.{◌+◌, sym, subst}
+use Rattle.std.proofs.Common.{sym, subst}
 use Rattle.std.specs.List.{range_with_len, flat_map}
 use Rattle.board.specs.Gathering.{lanes_of}
 use Rattle.board.specs.Parting.{HaveRooms}

@@ -1,7 +1,5 @@
-use Rattle.std.proofs.Common.{length, sym, ap, ◌∙◌, ◌≡◌, subst, arith}
-use Rattle.chart.specs.Histories.{own}
+use Rattle.std.proofs.Common.{length, sym, ap, ◌∙◌, subst, arith}
 use Rattle.chart.specs.HistoryLines.{history_line}
-use Rattle.chart.specs.Charts.{LineView}
 use Rattle.chart.specs.Reports.{receives_of}
 use Rattle.board_table.specs.Knowing.{held}
 use Rattle.board_core.proofs.OwnEvents.{same_recorder}

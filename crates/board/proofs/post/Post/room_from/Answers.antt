@@ -1,6 +1,5 @@
-use Rattle.std.proofs.Common.{◌≡◌, ◌≢◌, ◌≤◌, vec_capacity, ℕ, length, refl, sym, ap, ◌∙◌, subst, arith}
+use Rattle.std.proofs.Common.{◌≡◌, ◌≢◌, ◌≤◌, vec_capacity, refl, sym, ap, ◌∙◌, subst, arith}
 use Rattle.board_table.specs.Knowing.{held}
-use Rattle.board_table.specs.Layout.{LaneView}
 use Rattle.board.specs.declared.parting.Room.{Room}
 use Rattle.board.specs.Known.{IsOutgoing}
 use Rattle.board.specs.Views.{PostView}
