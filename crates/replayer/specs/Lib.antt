@@ -1,9 +1,0 @@
-pub use Rattle.msc_text.specs.ChartText
-pub use Rattle.msc_text.specs.Writing
-pub use Rattle.schedule.specs.Meaning
-pub use Rattle.schedule.specs.Plans
-pub mod Agreement
-pub mod OutcomeText
-pub mod Outcomes
-pub mod Views
-pub mod Words
