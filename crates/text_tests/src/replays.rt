@@ -4,7 +4,8 @@ ghost use Rattle.chart.specs.NameSets.{AreNames};
 ghost use Rattle.schedule.specs.Plans.{IsAmong};
 
 use chart::{Event, InstanceNo, Line, MAX_EVENTS, Name, Names};
-use replayer::{Outcome, ReplayError, replay};
+use outcomes::{Outcome, ReplayError};
+use plain_replayer::plain_replay;
 use schedule::{Action, Capacity, Command, Note, Schedule, Word};
 use std::alloc::Global;
 use std::test::Fail;
@@ -130,7 +131,7 @@ fn schedule_of(
 
 /// The outcome, at the second attempt where the first found no memory.
 fn outcome<'a>(alloc: Global, schedule: &'a Schedule) -> Result<Outcome<'a>, Fail> {
-    Ok(replay(alloc, schedule).or_else(|_| replay(alloc, schedule))?)
+    Ok(plain_replay(alloc, schedule).or_else(|_| plain_replay(alloc, schedule))?)
 }
 
 /// Whether these are sends to instance 2 of these names.
@@ -270,7 +271,7 @@ static NOTHING: [(u64, Word); 1] = [(5, Word::Nothing)];
 
 /// Whether the schedule comes to one message and one note.
 fn comes_to(alloc: Global, schedule: &Schedule) -> Result<bool, ReplayError> {
-    let outcome = replay(alloc, schedule)?;
+    let outcome = plain_replay(alloc, schedule)?;
     let lines = outcome.chart().lines();
     Ok(lines.iter().all(|line| line.len() == 1) && are_notes(outcome.notes(), NOTHING.as_slice()))
 }

@@ -4,7 +4,8 @@ use super::{every_growth_was_refused, fails_for_memory, performs};
 use closure::audit;
 use msc_reader::read;
 use msc_text::{MemoryOut, write};
-use replayer::{Outcome, replay};
+use outcomes::Outcome;
+use plain_replayer::plain_replay;
 use schedule::Schedule;
 use std::alloc::Global;
 use std::process::Abort;
@@ -49,7 +50,7 @@ fn finds_races(rt: &impl Abort, alloc: Global, outcome: &Outcome<'_>, chart: &[u
 /// The chart of what the schedule comes to is written, read and written again; the checker finds the races that the
 /// clocks found; and the audit accepts the reports.
 pub(super) fn is_checked(rt: &impl Abort, alloc: Global, schedule: &Schedule) {
-    let outcome = replay(alloc, schedule).expect(rt, "an outcome");
+    let outcome = plain_replay(alloc, schedule).expect(rt, "an outcome");
     audit(alloc, outcome.chart(), outcome.reports()).expect(rt, "the same reports");
     let mut text = MemoryOut::new(alloc);
     write(outcome.names(), outcome.chart(), &mut text).expect(rt, "the chart's text");
