@@ -1,5 +1,5 @@
 //! Acts without the bodies of their messages.
-ghost use Rattle.std.specs.Prelude.{◌≡◌};
+ghost use Rattle.std.specs.Prelude.{◌≡◌, ◌↔◌, IsTrue};
 ghost use Rattle.behaviour.specs.Bare.{with_empty_body};
 
 use crate::act::Act;
@@ -7,7 +7,7 @@ use chart::{InstanceNo, Message, Name};
 use std::alloc::Global;
 
 /// An [`Act`] by its kind, its partner and its message's name.
-#[derive(Clone, Copy, Debug)]
+#[derive(Clone, Copy, Debug, PartialEq, Eq)]
 pub enum BareAct {
     /// Send a message of this name to an instance.
     Send(InstanceNo, Name),
@@ -26,6 +26,13 @@ pub enum BareAct {
 }
 
 impl BareAct {
+    /// Whether it is this one.
+    pub fn is(&self, other: &BareAct) -> bool
+        ensures { IsTrue result ↔ (self.now ≡ other.now) }
+    {
+        self == other
+    }
+
     /// The act, whose message has an empty body. It takes no memory.
     pub fn with_empty_body(self, alloc: Global) -> Act
         ensures { result ≡ with_empty_body self }

@@ -1,9 +1,11 @@
 //! Answers without messages and reports.
+ghost use Rattle.std.specs.Prelude.{◌≡◌, ◌↔◌, IsTrue};
+
 use board::{CloseError, RegionError, SendError, TakeError};
 use chart::{EventNo, InstanceNo};
 
 /// An [`crate::Answer`] by its kind and its event or refusal.
-#[derive(Clone, Copy, Debug)]
+#[derive(Clone, Copy, Debug, PartialEq, Eq)]
 pub enum BareAnswer {
     /// There was no act before.
     Start,
@@ -27,4 +29,13 @@ pub enum BareAnswer {
     Marked,
     /// No coregion begins, and none ended.
     Unmarked(RegionError),
+}
+
+impl BareAnswer {
+    /// Whether it is this one.
+    pub fn is(&self, other: &BareAnswer) -> bool
+        ensures { IsTrue result ↔ (self.now ≡ other.now) }
+    {
+        self == other
+    }
 }
