@@ -1,11 +1,10 @@
 -- A run so far, one turn more, and its ends.
-use Rattle.std.proofs.Common.{◌≡◌, ℕ, ◌+◌, ◌<◌, ◌≤◌, List, [], ◌∷◌, ◌++◌, length, Some, refl, sym, ap, ◌∙◌, subst, arith, append-nil, append_assoc, length-append}
+use Rattle.std.proofs.Common.{◌≡◌, ℕ, ◌+◌, ◌<◌, List, [], ◌∷◌, ◌++◌, length, refl, sym, ap, ◌∙◌, subst, arith, append-nil, append_assoc, length-append}
 use Rattle.mailbox.specs.Mailboxes.{MailboxView}
 use Rattle.behaviour.specs.declared.act.Act.{Act}
 use Rattle.behaviour.specs.declared.act.Act.TheVariants.{Stop}
 use Rattle.behaviour.specs.declared.answer.Answer.{Answer}
 use Rattle.behaviour.specs.declared.answer.Answer.TheVariants.{Start}
-use Rattle.behaviour.specs.Bare.{bare_act, bare_answer}
 use Rattle.instances.specs.declared.end.End.TheVariants.{Stopped, TurnsSpent, Memory}
 use Rattle.instances.specs.declared.turn.Turn.{Turn}
 use Rattle.instances.specs.Answering.{Allows}

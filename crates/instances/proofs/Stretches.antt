@@ -1,6 +1,6 @@
 -- Turns as stretches of equal neighbours, and one turn more.
-use Rattle.std.proofs.Common.{◌≡◌, ℕ, zero, suc, ◌+◌, ◌-◌, List, [], ◌∷◌, ◌++◌, length, replicate, Some, refl, sym, ap, ◌∙◌, subst, arith, append-nil, append_assoc}
-use Rattle.std.specs.Prelude.{slice_get, slice_set, slice_index_or}
+use Rattle.std.proofs.Common.{◌≡◌, ℕ, zero, suc, ◌+◌, List, [], ◌∷◌, ◌++◌, length, replicate, refl, sym, ap, ◌∙◌, arith, append-nil, append_assoc}
+use Rattle.std.specs.Prelude.{slice_set, slice_index_or}
 use Rattle.instances.specs.declared.trace.Stretch.{Stretch}
 use Rattle.instances.specs.declared.turn.Turn.{Turn}
 use Rattle.instances.specs.Traces.{turns_of}

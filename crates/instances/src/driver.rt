@@ -6,7 +6,6 @@ use crate::acting::perform;
 use crate::end::End;
 use crate::gate::Gate;
 use crate::trace::{Trace, add_turn};
-use crate::turn::Turn;
 use behaviour::{Answer, Behaviour};
 use mailbox::Mailbox;
 use std::alloc::Global;
@@ -38,24 +37,11 @@ pub fn drive<'a, G: Gate>(
         gate.before(mailbox.number(), turn + 1);
         match perform(&mut mailbox, act) {
             Some(answer) => {
-                let bare_answer = Some(answer.bare());
-                add_turn(
-                    &mut stretches,
-                    Turn {
-                        act: bare,
-                        answer: bare_answer,
-                    },
-                );
+                add_turn(&mut stretches, bare, Some(answer.bare()));
                 last = answer;
             }
             None => {
-                add_turn(
-                    &mut stretches,
-                    Turn {
-                        act: bare,
-                        answer: None,
-                    },
-                );
+                add_turn(&mut stretches, bare, None);
                 return (mailbox, Trace::of(stretches), End::Stopped);
             }
         }

@@ -3,6 +3,7 @@ ghost use Rattle.std.specs.Prelude.{◌≡◌, ◌<◌, ◌++◌, ◌∷◌, [],
 ghost use Rattle.instances.specs.Traces.{turns_of};
 
 use crate::turn::Turn;
+use behaviour::{BareAct, BareAnswer};
 use std::marker::Model;
 
 /// One turn and equal ones directly after it, so many in all.
@@ -45,10 +46,11 @@ impl Trace {
 }
 
 /// Adds a turn, for which there is room.
-pub(crate) fn add_turn(stretches: &mut Vec<Stretch>, turn: Turn)
+pub(crate) fn add_turn(stretches: &mut Vec<Stretch>, act: BareAct, answer: Option<BareAnswer>)
     requires { vec_len stretches.old < vec_capacity stretches.old }
-    ensures { turns_of stretches.new.items ≡ turns_of stretches.old.items ++ turn ∷ [] }
+    ensures { turns_of stretches.new.items ≡ turns_of stretches.old.items ++ record { act = act; answer = answer } ∷ [] }
 {
+    let turn = Turn { act, answer };
     if let Some(last) = stretches.last_mut() {
         if last.turn.is(&turn) && last.count < u32::MAX {
             last.count += 1;

@@ -1,6 +1,7 @@
-use Rattle.std.proofs.Common.{◌≡◌, ◌+◌, ◌-◌, suc, sym, ap, ◌∙◌, subst, rules, arith}
+use Rattle.std.proofs.Common.{◌≡◌, ◌-◌, suc, sym, ap, ◌∙◌, subst, arith}
 use Rattle.std.specs.Global.{Vec}
 use Rattle.instances.specs.declared.trace.Stretch.{Stretch}
+use Rattle.instances.specs.declared.turn.Turn.{Turn}
 use Rattle.std.proofs.lemmas.List.{set-get_or}
 use Rattle.instances.proofs.Stretches.{turns_of-push, turns_of-longer, longer}
 use Rattle.instances.specs.Traces.{turns_of}
@@ -20,6 +21,7 @@ returns-then-last-lt4294967295 c =
 
 pub returns : goal.returns
 returns c =
+    let turn : Turn = record { act = c.args.act; answer = c.args.answer } in
     let all = c.args.stretches.now.items in
     let k = vec_len c.args.stretches.now - 1 in
     let items = λ (stretches : Vec Stretch). stretches.items in
@@ -31,5 +33,5 @@ returns c =
       ]
       | in_default w ↦ ap items w.stretches-is
     ] in
-    ap turns_of c.push_reserved.ensures.items ∙ turns_of-push c.match-last_mut.stretches.items (record { turn = c.args.turn; count = 1 })
-    ∙ ap (λ stretches. turns_of stretches ++ c.args.turn ∷ []) same
+    ap turns_of c.push_reserved.ensures.items ∙ turns_of-push c.match-last_mut.stretches.items (record { turn = turn; count = 1 })
+    ∙ ap (λ stretches. turns_of stretches ++ turn ∷ []) same
