@@ -1,0 +1,63 @@
+-- Runs of a behaviour over a mailbox (this project's profile).
+use Rattle.std.specs.Prelude.{◌≡◌, ℕ, ◌<◌, ◌≤◌, List, [], ◌∷◌, ◌++◌, length, map, reverse}
+use Rattle.chart.specs.declared.history.Occurrence.{Occurrence}
+use Rattle.chart.specs.Histories.{Begins}
+use Rattle.board.specs.Views.{IsSamePost}
+use Rattle.mailbox.specs.Mailboxes.{MailboxView}
+use Rattle.behaviour.specs.declared.act.Act.{Act}
+use Rattle.behaviour.specs.declared.act.Act.TheVariants as act
+use Rattle.behaviour.specs.declared.answer.Answer.{Answer}
+use Rattle.behaviour.specs.declared.answer.Answer.TheVariants.{Start}
+use Rattle.behaviour.specs.declared.bare_act.BareAct.{BareAct}
+use Rattle.instances.specs.declared.end.End.{End}
+use Rattle.instances.specs.declared.end.End.TheVariants.{Stopped, TurnsSpent, Memory}
+use Rattle.instances.specs.declared.turn.Turn.{Turn}
+use Rattle.instances.specs.Answering.{Allows}
+use Rattle.instances.specs.Traces.{turn_of, last_turn, made_by, all_accepted}
+
+-- what a behaviour does: for a state and the last answer the act, and the new state
+pub record Meaning (S : Type 0) : Type 0 where
+  pub act : S → Answer → Act
+  pub after : S → Answer → S
+
+-- the meaning of a behaviour that does these
+abbrev pub meaning : {S : Type 0} → (S → Answer → Act) → (S → Answer → S) → Meaning S
+meaning act after = record { act = act; after = after }
+
+-- a behaviour's state, the last answer that it has not been told yet, and the mailbox's view
+pub record Moment (S : Type 0) : Type 0 where
+  pub state : S
+  pub last : Answer
+  pub view : MailboxView
+
+-- These turns lead from one moment to another: each is that of the act that the behaviour does and of an answer that the
+-- mailbox may give to it.
+abbrev pub Leads : {S : Type 0} → Meaning S → Moment S → List Turn → Moment S → Type 0
+Leads m now [] end = end ≡ now
+Leads m now (turn ∷ turns) end = (answer : Answer) × (view : MailboxView)
+    × (turn ≡ turn_of (m.act now.state now.last) answer)
+    × Allows now.view (m.act now.state now.last) answer view
+    × Leads m (record { state = m.after now.state now.last; last = answer; view = view }) turns end
+
+-- Why so many turns at most ended with this trace. Stopped: the last turn is that of the act of stopping. Turns spent: there
+-- were all of them, and none was that. Memory: there were fewer, and the behaviour wasn't asked again.
+abbrev pub Ends : {S : Type 0} → Meaning S → ℕ → Moment S → List Turn → End → S → MailboxView → Type 0
+Ends m most start trace Stopped left new = (turns : List Turn) × (now : _)
+    × (trace ≡ turns ++ last_turn ∷ []) × (length trace ≤ most) × Leads m start turns now
+    × (m.act now.state now.last ≡ act.Stop) × (left ≡ m.after now.state now.last) × (new ≡ now.view)
+Ends m most start trace TurnsSpent left new = (now : _)
+    × (length trace ≡ most) × Leads m start trace now × (left ≡ now.state) × (new ≡ now.view)
+Ends m most start trace Memory left new = (now : _)
+    × (length trace < most) × Leads m start trace now × (left ≡ now.state) × (new ≡ now.view)
+
+-- What was made is just what these acts made, in their order.
+abbrev pub Made : MailboxView → List BareAct → MailboxView → Type 0
+Made old acts new = (events : List Occurrence) × (new.post.made ≡ events ++ old.post.made)
+    × (map made_by (reverse events) ≡ acts)
+
+-- A run of so many turns at most, from a behaviour's state and a mailbox's view to those that it left.
+pub record IsRun {S : Type 0} (m : Meaning S) (most : ℕ) (state : S) (old : MailboxView) (trace : List Turn) (end : End) (left : S) (new : MailboxView) : Type 0 where
+  pub ends : Ends m most (record { state = state; last = Start; view = old }) trace end left new
+  pub made : Made old (all_accepted trace) new
+  pub same : IsSamePost old.post new.post
+  pub later : Begins old.post.seen new.post.seen

@@ -1,0 +1,20 @@
+//! Instances that are driven by behaviours, and what is recorded of it.
+//!
+//! [`drive`] hands a behaviour's acts to a mailbox and the mailbox's answers to the behaviour, turn by turn, until the
+//! behaviour stops or its turns are spent. It answers a [`Trace`] of all turns. A [`Gate`] is called before each act.
+//! `specs/Answering.antt` says what a mailbox may answer to an act, `Driving` what a run of a behaviour is, and `Traces` what a
+//! trace keeps.
+#![tactic(auto)]
+
+mod acting;
+mod driver;
+mod end;
+mod gate;
+mod trace;
+mod turn;
+
+pub use driver::drive;
+pub use end::End;
+pub use gate::{Gate, Open};
+pub use trace::{Stretch, Trace};
+pub use turn::Turn;

@@ -1,0 +1,25 @@
+//! Turns of a run.
+ghost use Rattle.std.specs.Prelude.{◌≡◌, ◌↔◌, IsTrue};
+
+use behaviour::{BareAct, BareAnswer};
+
+/// A turn of a run: what the behaviour did, and what came of it. Stopping has no answer.
+#[derive(Clone, Copy, Debug, PartialEq, Eq)]
+pub struct Turn {
+    pub act: BareAct,
+    pub answer: Option<BareAnswer>,
+}
+
+impl Turn {
+    /// Whether it is this one.
+    pub(crate) fn is(&self, other: &Turn) -> bool
+        ensures { IsTrue result ↔ (self.now ≡ other.now) }
+    {
+        self.act.is(&other.act)
+            && match (&self.answer, &other.answer) {
+                (Some(answer), Some(same)) => answer.is(same),
+                (None, None) => true,
+                _ => false,
+            }
+    }
+}
