@@ -9,13 +9,15 @@ use std::alloc::Global;
 use std::process::Abort;
 use std::test::Fail;
 
-/// The first of two posts sends a message of this name to the second one.
+/// The first post sends a message of this name to the second one, once more where memory was refused.
 fn sends(rt: &impl Abort, alloc: Global, posts: &mut [Post], name: &[u8])
     requires { AreOfOneBoard posts.old }
     ensures { AreOfOneBoard posts.new }
 {
-    assert!(rt; posts.len() == 2);
-    assert!(rt; send(rt, alloc, &mut posts[0], 2, name).is_ok());
+    assert!(rt; posts.len() >= 2);
+    if send(rt, alloc, &mut posts[0], 2, name).is_err() {
+        assert!(rt; send(rt, alloc, &mut posts[0], 2, name).is_ok());
+    }
 }
 
 /// The post receives a message of this name from the first one.
@@ -37,8 +39,8 @@ fn receives(rt: &impl Abort, posts: &mut [Post], name: &[u8])
     takes(rt, &mut posts[1], name);
 }
 
-/// The board of these posts, of so many instances, has one message left, on the lane from 1 to 2.
-fn one_is_left(rt: &impl Abort, alloc: Global, posts: Vec<Post>)
+/// The board of these posts, which made so many receives, has one message left, on the lane from 1 to 2.
+fn one_is_left(rt: &impl Abort, alloc: Global, posts: Vec<Post>, receives: usize)
     requires { AreOfOneBoard posts.items }
 {
     let many = posts.len();
@@ -47,7 +49,7 @@ fn one_is_left(rt: &impl Abort, alloc: Global, posts: Vec<Post>)
         Err(GatherError { posts: _, cause: _ }) => panic!(rt; "a gathered board"),
     };
     assert_eq!(rt; gathered.chart.lines().len(), many);
-    assert_eq!(rt; gathered.reports.len(), 1);
+    assert_eq!(rt; gathered.reports.len(), receives);
     assert_eq!(rt; gathered.left.len(), 1);
     let left = &gathered.left[0];
     assert!(rt; left.sender == instance(rt, 1));
@@ -64,7 +66,7 @@ fn gathered_board(rt: HostRuntime) -> Result<(), Fail> {
     sends(&rt, alloc, posts.as_mut_slice(), b"x");
     sends(&rt, alloc, posts.as_mut_slice(), b"y");
     receives(&rt, posts.as_mut_slice(), b"x");
-    one_is_left(&rt, alloc, posts);
+    one_is_left(&rt, alloc, posts, 1);
     Ok(())
 }
 
@@ -98,7 +100,7 @@ fn gathers(rt: &impl Abort, alloc: Global, posts: Vec<Post>)
         Ok(gathered) => assert_eq!(rt; gathered.left.len(), 1),
         Err(GatherError { posts, cause }) => {
             assert_eq!(rt; cause, GatherCause::Memory);
-            one_is_left(rt, alloc, posts);
+            one_is_left(rt, alloc, posts, 0);
         }
     }
 }
@@ -113,5 +115,14 @@ fn gathered_of(rt: &impl Abort, alloc: Global, instances: usize) -> Result<(), F
     };
     sends(rt, alloc, posts.as_mut_slice(), b"y");
     gathers(rt, alloc, posts);
+    Ok(())
+}
+
+#[test]
+fn refused_growths_of_a_gathering(rt: HostRuntime) -> Result<(), Fail> {
+    let alloc = rt.alloc();
+    gathered_of(&rt, alloc, 2)?;
+    gathered_of(&rt, alloc, 3)?;
+    Vec::<u8>::with_capacity(alloc, 1).map_err(|_| "every growth was refused")?;
     Ok(())
 }
