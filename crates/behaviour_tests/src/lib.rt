@@ -11,3 +11,5 @@ mod ends;
 mod gates;
 #[cfg(test)]
 mod growths;
+#[cfg(test)]
+mod reader;

@@ -1,0 +1,14 @@
+-- What a behaviour does that receives from one instance until the lane ends, and keeps how long the last body was.
+use Rattle.std.specs.Prelude.{ℕ, length}
+use Rattle.behaviour.specs.declared.act.Act.{Act}
+use Rattle.behaviour.specs.declared.act.Act.TheVariants.{Receive, Stop}
+use Rattle.behaviour.specs.declared.answer.Answer.{Answer}
+use Rattle.behaviour.specs.declared.answer.Answer.TheVariants.{Got, Ended}
+
+abbrev pub reader_act : ℕ → Answer → Act
+reader_act from Ended = Stop
+reader_act from _ = Receive from
+
+abbrev pub bytes_after : ℕ → Answer → ℕ
+bytes_after bytes (Got arrival) = length arrival.message.body
+bytes_after bytes _ = bytes
