@@ -1,0 +1,5 @@
+pub mod Alone
+pub mod Answers
+pub mod Calls
+pub mod Performed
+pub mod Posts

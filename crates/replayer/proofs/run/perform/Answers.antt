@@ -1,0 +1,37 @@
+use Rattle.std.proofs.Common.{◌≡◌, length, take, subst, arith}
+use Rattle.std.proofs.lemmas.List.{take_all}
+use Rattle.board.specs.Views.{BoardView}
+use Rattle.schedule.specs.declared.command.Command.{Command}
+use Rattle.schedule.specs.Meaning.{acts, after}
+use Rattle.replayer.specs.Agreement.{Agrees}
+use Rattle.replayer.proofs.Performed.{noted_next, silent_next, after_more}
+use Rattle.replayer.proofs.Posts.{agrees_met}
+use Rattle.replayer.proofs.run.perform.Goals as goal
+use Rattle.replayer.proofs.run.perform.Goals.{in-Some+in_ok-push, in_default}
+
+pub loop-command-init : goal.loop-command-init
+loop-command-init c board agrees = (agrees_met board _ c.args.posts.now c.args.last.now c.meet_them.new.posts agrees c.meet_them.ensures.met, c.new-notes.ensures.items)
+
+pub loop-command-preserved : goal.loop-command-preserved
+loop-command-preserved c board fresh =
+    let i = c.loop-command.command-index in
+    let command = c.command-item.result in
+    let inv = c.loop-command.invariant board fresh in
+    let s = after board.size board.capacity (take i c.args.commands.now) in
+    let more = after_more board.size board.capacity c.args.commands.now i command (omega arith) c.command-item.is in
+    let acted = c.in_ok-word.ensures board s.run inv.0 in
+    elim c.match-branch-2.branch [
+      | in-Some+in_ok-push w ↦
+          let next = noted_next board s c.perform_one.new.posts c.perform_one.new.last command.line w.in-Some.word c.in_ok-word.field-0 (acts board.size board.capacity s.run command.actor command.action) c.loop-command.notes.items acted w.in-Some.is inv.1 in
+          let pushed = w.in_ok-push.ensures.items in
+          (rw more next.agrees, rw (more, w.notes-is, pushed) next.notes)
+      | in_default w ↦
+          let next = silent_next board s c.perform_one.new.posts c.perform_one.new.last command.line c.in_ok-word.field-0 (acts board.size board.capacity s.run command.actor command.action) c.loop-command.notes.items acted w.in_default.is inv.1 in
+          (rw more next.agrees, rw (more, w.notes-is) next.notes)
+    ]
+
+pub returns : goal.returns
+returns c board fresh =
+    let whole : take c.loop-command.command-index c.args.commands.now ≡ c.args.commands.now = take_all c.loop-command.command-index c.args.commands.now (omega arith) in
+    let inv = c.loop-command.invariant board fresh in
+    (rw whole at inv.0, rw whole at inv.1)

@@ -1,0 +1,75 @@
+-- How far the posts of a replay are (this project's profile).
+use Rattle.std.specs.Prelude.{◌≡◌, ◌≢◌, ℕ, suc, ◌≤◌, List, length, slice_get, Option, None, Some, unwrap_or, Result, Ok, Err}
+use Rattle.chart.specs.declared.history.Occurrence.{Occurrence}
+use Rattle.chart.specs.Histories.{own, Begins}
+use Rattle.board.specs.Views.{BoardView, PostView, IsSamePost}
+use Rattle.board.specs.Meeting.{IsJoint}
+use Rattle.board.specs.Known.{IsSized}
+use Rattle.schedule.specs.declared.command.Word.{Word}
+use Rattle.schedule.specs.Meaning.{Run}
+use Rattle.outcomes.specs.declared.error.ReplayError.{ReplayError}
+
+-- a call leaves the same post, which has seen what it had seen
+pub record GoesOn (old new : PostView) : Type 0 where
+  pub same : IsSamePost old new
+  pub later : Begins old.seen new.seen
+
+-- the post, whose instance received from this one last, is as far as the run, of which it has seen all
+pub record IsAsFar (r : Run) (from : Option ℕ) (post : PostView) : Type 0 where
+  pub seen : post.seen ≡ r.history
+  pub made : post.made ≡ own r.history post.number
+  pub region : post.region ≡ r.region post.number
+  pub last : unwrap_or from 0 ≡ r.last post.number
+  pub known : unwrap_or from 0 ≤ post.board.size
+
+-- what all posts see when they meet after a call of this one: no other instance has gone on since the history
+pub record IsMet (h : List Occurrence) (new : PostView) (met : List Occurrence) : Type 0 where
+  pub joint : IsJoint met new
+  pub others : (q : ℕ) → 1 ≤ q → q ≤ new.board.size → q ≢ new.number → own met q ≡ own h q
+
+-- the run t is as far as what was met, and p's post, whose instance received from this one last, as the run has it; of the
+-- other instances it has what the run s had
+pub record HasGone (s t : Run) (p : ℕ) (met : List Occurrence) (from : Option ℕ) (post : PostView) : Type 0 where
+  pub history : t.history ≡ met
+  pub region : post.region ≡ t.region p
+  pub last : unwrap_or from 0 ≡ t.last p
+  pub known : unwrap_or from 0 ≤ post.board.size
+  pub other_regions : (q : ℕ) → q ≢ p → t.region q ≡ s.region q
+  pub other_lasts : (q : ℕ) → q ≢ p → t.last q ≡ s.last q
+
+-- what a call for a command left, memory aside: the command's run, or the old one with the word of its note
+abbrev pub HasDone : Run → ℕ → List Occurrence → Option ℕ → PostView → Result (Option Word) ReplayError → Result Run Word → Type 0
+HasDone r p met from new (Ok None) (Ok s) = HasGone r s p met from new
+HasDone r p met from new (Ok None) (Err word) = ⊥
+HasDone r p met from new (Ok (Some noted)) (Ok s) = ⊥
+HasDone r p met from new (Ok (Some noted)) (Err word) = (noted ≡ word) × HasGone r r p met from new
+HasDone r p met from new (Err e) acted = Unit {0}
+
+-- a call does what the command means, as the next meeting shows
+abbrev pub Does : PostView → Option ℕ → Result (Option Word) ReplayError → PostView → Option ℕ → (Run → Result Run Word) → Type 0
+Does old was answer new from acts =
+    (r : Run) → IsAsFar r was old → (met : List Occurrence) → IsMet r.history new met → HasDone r old.number met from new answer (acts r)
+
+-- these are all posts of the board, in order of their numbers
+pub record ArePosts (board : BoardView) (posts : List PostView) : Type 0 where
+  pub sized : IsSized board.size board.capacity
+  pub many : length posts ≡ board.size
+  pub each : (i : ℕ) (post : PostView) → slice_get posts i ≡ Some post → (post.board ≡ board) × (post.number ≡ suc i)
+
+-- a board's posts, each with the instance from which it received last, are as far as the run
+pub record Agrees (board : BoardView) (r : Run) (them : List PostView) (last : List (Option ℕ)) : Type 0 where
+  pub posts : ArePosts board them
+  pub as_many : length last ≡ board.size
+  pub far : (i : ℕ) (post : PostView) (from : Option ℕ) → slice_get them i ≡ Some post → slice_get last i ≡ Some from → IsAsFar r from post
+
+-- they are as far as some run
+abbrev pub IsReached : List PostView → List (Option ℕ) → Type 0
+IsReached posts last = (board : BoardView) × (r : Run) × Agrees board r posts last
+
+-- what a command left, memory aside: the posts are as far as the command's run, or as the old one, with the word of its note
+abbrev pub HasActed : BoardView → Run → Result (Option Word) ReplayError → List PostView → List (Option ℕ) → Result Run Word → Type 0
+HasActed board r (Ok None) posts last (Ok s) = Agrees board s posts last
+HasActed board r (Ok None) posts last (Err word) = ⊥
+HasActed board r (Ok (Some noted)) posts last (Ok s) = ⊥
+HasActed board r (Ok (Some noted)) posts last (Err word) = (noted ≡ word) × Agrees board r posts last
+HasActed board r (Err e) posts last acted = Unit {0}
