@@ -27,13 +27,6 @@ impl<'a> Post<'a> {
     {
         meet_note(self.words, &mut self.seat, note)
     }
-
-    /// How many posts its board has.
-    fn board_size(&self) -> usize
-        ensures { result ≡ self.now.board.size }
-    {
-        self.shape.instances
-    }
 }
 
 /// Brings the note to each post in turn, and hands it on.

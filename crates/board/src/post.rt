@@ -1,7 +1,8 @@
 //! The post of an instance.
-ghost use Rattle.std.specs.Prelude.{◌≡◌, ◌+◌, ◌<◌, ◌↔◌, Ok, Err, OnOk, OnErr};
+ghost use Rattle.std.specs.Prelude.{◌≡◌, ◌+◌, ◌<◌, ◌≤◌, ◌↔◌, Ok, Err, OnOk, OnErr};
+ghost use Rattle.chart.specs.declared.instance.TheConstants.{MAX_INSTANCES};
 ghost use Rattle.chart.specs.Events.{greatest_region};
-ghost use Rattle.board.specs.Views.{line_of};
+ghost use Rattle.board.specs.Views.{Sound, line_of};
 ghost use Rattle.board.specs.declared.error.RegionError.TheVariants.{CoregionOpen, CoregionNotOpen};
 
 use crate::ends::{Incoming, Outgoing};
@@ -50,6 +51,16 @@ impl<'a> Post<'a> {
         ensures { result ≡ self.now.number }
     {
         self.number
+    }
+
+    /// How many posts its board has. What it has seen is sound, before its first call too.
+    pub fn board_size(&self) -> usize
+        ensures value { result ≡ self.now.board.size }
+        ensures last { result ≤ MAX_INSTANCES }
+        ensures among { (1 ≤ self.now.number) × (self.now.number ≤ self.now.board.size) }
+        ensures sound { Sound self.now self.now }
+    {
+        self.shape.instances
     }
 
     /// Its line in the chart of what it has seen. It takes no memory.

@@ -1,8 +1,8 @@
 -- The lanes of histories that grow by an event.
 use Rattle.std.proofs.Common.{◌≡◌, ◌≢◌, ℕ, ◌+◌, ◌<◌, ◌≤◌, ◌==◌, ◌&&◌, ◌||◌, Bool, true, false, cond, List, [], ◌∷◌, ◌++◌, length, drop, refl, sym, ap, ◌∙◌, subst, arith, append-nil, append_assoc, length-append, length-drop}
 use Rattle.std.specs.Prelude.{All}
-use Rattle.std.proofs.lemmas.Bool.{eqb-true, eq-eqb, ne_eqb, and_parts, and_from, and_left, and_right}
-use Rattle.std.proofs.lemmas.List.{drop-append-le, drop-drop, length_push}
+use Rattle.std.proofs.lemmas.Bool.{false≢true, eqb-true, eq-eqb, ne_eqb, and_parts, and_from, and_left, and_right}
+use Rattle.std.proofs.lemmas.List.{drop_all, drop-append-le, drop-drop, length_push}
 use Rattle.std.proofs.lemmas.List.Elements.{All-nil, All-cons, All-append}
 use Rattle.chart.specs.declared.history.Occurrence.{Occurrence}
 use Rattle.chart.specs.declared.history.Occurrence.TheVariants.{Send, Receive, Close}
@@ -208,3 +208,31 @@ closed_begins h g (more, e) q p closed = ap (λ x. is_closed x q p) e ∙ severa
         go : (its : Bool) → is_closed (more ++ h) q p ≡ true → its || is_closed (more ++ h) q p ≡ true
         go true before = refl
         go false before = before
+
+-- on a closed lane no more messages are sent
+pub sent_closed : (n k : ℕ) (h g : List Occurrence) → Begins h g → IsLegal n k g → (q p : ℕ) → is_closed h q p ≡ true → sent g q p ≡ sent h q p
+sent_closed n k h g (more, e) legal q p closed = ap (λ x. sent x q p) e ∙ several more (subst (IsLegal n k) e legal)
+  where
+    several : (more : List Occurrence) → IsLegal n k (more ++ h) → sent (more ++ h) q p ≡ sent h q p
+    several [] legal = refl
+    several (Send a b m ∷ more) legal = go (is_lane a b q p) refl (several more legal.1)
+      where
+        go : (its : Bool) → is_lane a b q p ≡ its → sent (more ++ h) q p ≡ sent h q p → cond its (sent (more ++ h) q p ++ m ∷ []) (sent (more ++ h) q p) ≡ sent h q p
+        go true lane before =
+            let ends = and_parts (a == q) (b == p) lane in
+            let opened : is_closed (more ++ h) q b ≡ false = subst (λ x. is_closed (more ++ h) x b ≡ false) (eqb-true a q ends.0) legal.0.1 in
+            let it : is_closed (more ++ h) q p ≡ false = subst (λ x. is_closed (more ++ h) q x ≡ false) (eqb-true b p ends.1) opened in
+            absurd (false≢true (sym it ∙ closed_begins h (more ++ h) (more, refl) q p closed))
+        go false lane before = before
+    several (Receive a b c ∷ more) legal = several more legal.1
+    several (Close a b ∷ more) legal = several more legal.1
+
+-- so where none waits on a closed lane, none will
+pub drained_begins : (n k : ℕ) (h g : List Occurrence) → Begins h g → IsLegal n k g → (q p : ℕ) → is_closed h q p ≡ true → waiting h q p ≡ [] → waiting g q p ≡ []
+drained_begins n k h g begins legal q p closed none =
+    drop_all (received g q p) (sent g q p) (omega (arith, ap length none, length-drop (received h q p) (sent h q p), ap length (sent_closed n k h g begins legal q p closed), received_begins h g begins q p))
+
+-- where none waits and none was received in between, none waited
+pub none_begins : (h g : List Occurrence) → Begins h g → (q p : ℕ) → own g p ≡ own h p → waiting g q p ≡ [] → waiting h q p ≡ []
+none_begins h g begins q p same none =
+    drop_all (received h q p) (sent h q p) (omega (arith, ap length none, length-drop (received g q p) (sent g q p), sent_begins-le h g begins q p, same_received h g q p same))

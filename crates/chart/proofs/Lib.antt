@@ -20,6 +20,7 @@ pub mod ReportLists
 pub mod Reports
 pub mod Rising
 pub mod Runs
+pub mod Scans
 pub mod Sends
 pub mod Steps
 pub mod Tally

@@ -23,7 +23,8 @@ use Rattle.plain_replayer.specs.Views.{LaneView, ActorView, empty_lane, popped, 
 use Rattle.plain_replayer.specs.Words.{send_word, receive_word}
 use Rattle.plain_replayer.specs.Agreement.{AreLanes, Agrees, HasActed}
 use Rattle.plain_replayer.proofs.Kept.{sent, taken, shut-off, reopened}
-use Rattle.schedule.proofs.Scanning.{IsOther, scan-others, first-other}
+use Rattle.chart.proofs.Scans.{IsOther, scan-others}
+use Rattle.schedule.proofs.Scanning.{first-other}
 use Rattle.plain_replayer.proofs.Scans.{find-same, all-same}
 use Rattle.plain_replayer.proofs.Words.{by_word, received, message, names-many, sends-by, sends-none, receives-by, receives-none}
 

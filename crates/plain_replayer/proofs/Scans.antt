@@ -1,17 +1,12 @@
 -- Where a search along the instances finds something.
-use Rattle.std.proofs.Common.{◌≡◌, ℕ, suc, ◌+◌, ◌-◌, ◌<◌, ◌==◌, not, Bool, true, false, List, [], ◌∷◌, Option, refl, ap, ◌∙◌, arith}
+use Rattle.std.proofs.Common.{◌≡◌, ℕ, ◌+◌, ◌-◌, ◌<◌, ◌==◌, not, Bool, true, false, List, [], ◌∷◌, Option, refl, ap, ◌∙◌, arith}
 use Rattle.std.specs.Prelude.{filter, find, All}
 use Rattle.std.specs.List.{range_with_len, list_all}
 use Rattle.std.specs.Option.{option_or}
 use Rattle.std.proofs.lemmas.List.Elements.{All-head, All-tail, filter-append}
 use Rattle.std.proofs.lemmas.List.Folds.{find-append}
 use Rattle.chart.specs.Scans.{scan}
-
--- the numbers from a + 1 to b begin with a + 1
-pub range-next : (a b : ℕ) → a < b → range_with_len (a + 1) (b - a) ≡ (a + 1) ∷ range_with_len (a + 1 + 1) (b - (a + 1))
-range-next a b h =
-    let e : b - a ≡ suc (b - (a + 1)) = omega arith in
-    ap (range_with_len (a + 1)) e
+use Rattle.chart.proofs.Scans.{range-next}
 
 -- a search goes past a number that doesn't count
 pub find-past : (g t : ℕ → Bool) (a b : ℕ) → a < b → t (a + 1) ≡ false → find g (filter t (range_with_len (a + 1) (b - a))) ≡ find g (filter t (range_with_len (a + 1 + 1) (b - (a + 1))))

@@ -1,0 +1,228 @@
+-- Looks at one lane after another, of which none found a message so far.
+use Rattle.std.proofs.Common.{◌≡◌, ◌≢◌, ℕ, suc, ◌+◌, ◌-◌, ◌<◌, ◌≤◌, ◌&&◌, inl, inr, Bool, true, false, List, [], ◌∷◌, ◌++◌, length, drop, Ok, Err, refl, sym, ap, ap₂, ◌∙◌, subst, arith, append-nil, append_assoc, length-append}
+use Rattle.std.specs.Prelude.{All, Result, IsErrAnd}
+use Rattle.std.proofs.lemmas.Bool.{and_right, eq-eqb, ne_eqb}
+use Rattle.std.proofs.lemmas.List.{map-append}
+use Rattle.std.proofs.lemmas.List.Elements.{All-nil, All-cons, All-append, All-weaker}
+use Rattle.chart.specs.declared.history.Occurrence.{Occurrence}
+use Rattle.chart.specs.declared.history.Occurrence.TheVariants.{Receive}
+use Rattle.chart.specs.Histories.{own, waiting, is_closed, Begins}
+use Rattle.chart.proofs.Histories.{begins_same, begins_onward, closed_begins, drained_begins, none_begins}
+use Rattle.chart.proofs.Scans.{range-next}
+use Rattle.board.specs.declared.answer.Arrival.{Arrival}
+use Rattle.board.specs.declared.answer.Taken.{Taken}
+use Rattle.board.specs.declared.answer.Taken.TheVariants.{Got, Nothing, Ended}
+use Rattle.board.specs.declared.error.TakeError.{TakeError}
+use Rattle.board.specs.declared.error.TakeError.TheVariants.{NoSuchInstance, ToItself, LineFull, Memory}
+use Rattle.board.specs.Views.{BoardView, PostView, Sound, Stays}
+use Rattle.board.specs.Taking.{IsGot, IsFoundEmpty, Waits, Takes}
+use Rattle.mailbox.specs.TakingAny.{others, Look, lanes_of, NoneWaits, IsFirst, IsOneOpen, IsDrained, IsEnd, AreFoundEmpty, IsFirstUntaken, TakesFirst, LooksAtAll}
+
+-- what was seen may be less
+none-from : (p : ℕ) (less seen : List Occurrence) (looks : List Look) (after : List Occurrence) → Begins less seen → NoneWaits p seen looks after → NoneWaits p less looks after
+none-from p less seen [] after begins none = begins_onward less seen after begins none
+none-from p less seen (look ∷ looks) after begins none = (begins_onward less seen look.front begins none.0, none.1, none.2)
+
+-- looks, and then more looks
+none-append : (p : ℕ) (seen : List Occurrence) (looks : List Look) (mid : List Occurrence) (more : List Look) (after : List Occurrence) → NoneWaits p seen looks mid → NoneWaits p mid more after → NoneWaits p seen (looks ++ more) after
+none-append p seen [] mid more after none later = none-from p seen mid more after none later
+none-append p seen (look ∷ looks) mid more after none later = (none.0, none.1, none-append p look.front looks mid more after none.2 later)
+
+lanes-append : (looks more : List Look) → lanes_of (looks ++ more) ≡ lanes_of looks ++ lanes_of more
+lanes-append looks more = map-append (λ (look : Look). look.from) looks more
+
+-- one of more looks found an open lane
+open-left : (p : ℕ) (looks more : List Look) → IsOneOpen p looks → IsOneOpen p (looks ++ more)
+open-left p [] more none = absurd none
+open-left p (look ∷ looks) more (inl opened) = inl opened
+open-left p (look ∷ looks) more (inr later) = inr (open-left p looks more later)
+
+open-right : (p : ℕ) (looks more : List Look) → IsOneOpen p more → IsOneOpen p (looks ++ more)
+open-right p [] more opened = opened
+open-right p (look ∷ looks) more opened = inr (open-right p looks more opened)
+
+and_true : (b : Bool) → b && true ≡ b
+and_true true = refl
+and_true false = refl
+
+-- a drained lane stays drained
+drained-later : (mid new : PostView) → Sound mid new → (q : ℕ) → IsDrained mid q → IsDrained new q
+drained-later mid new later q drained =
+    let is = later.same.number in
+    rw is (closed_begins mid.seen new.seen later.later q mid.number drained.0, drained_begins new.board.size new.board.capacity mid.seen new.seen later.later later.legal q mid.number drained.0 drained.1)
+
+-- A post after looks that found no message: it made nothing, and has looked so often at least.
+pub record HasLooked (old : PostView) (order rest : List ℕ) (its_end : Bool) (now : PostView) : Type 0 where
+  pub sound : Sound old now
+  pub stays : Stays old now
+  pub done : (done : List ℕ) × (done ++ rest ≡ order) × AreFoundEmpty old done its_end now × (old.looks + length done ≤ now.looks)
+
+-- before the first look
+pub looked-none : (old : PostView) (order : List ℕ) → Sound old old → HasLooked old order order true old
+looked-none old order sound = record {
+  sound = sound;
+  stays = record { made = refl; region = refl; room = refl };
+  done = ([], refl, record { found = ([], refl, begins_same old.seen, All-nil (IsDrained old)); before = All-nil (λ q. waiting old.seen q old.number ≡ []) }, omega arith);
+}
+
+-- all lanes
+pub looked-all : (old : PostView) (order : List ℕ) (its_end : Bool) (now : PostView) → HasLooked old order [] its_end now → Stays old now × AreFoundEmpty old order its_end now × (old.looks + length order ≤ now.looks)
+looked-all old order its_end now looked =
+    let w = looked.done in
+    let all : w.0 ≡ order = sym (append-nil w.0) ∙ w.1 in
+    subst (λ x. Stays old now × AreFoundEmpty old x its_end now × (old.looks + length x ≤ now.looks)) all (looked.stays, w.2, w.3)
+
+-- what holds from one call to the next holds over both
+pub sound-onward : (old mid new : PostView) → Sound old mid → Sound mid new → Sound old new
+sound-onward old mid new earlier later = record {
+  same = record { board = later.same.board ∙ earlier.same.board; number = later.same.number ∙ earlier.same.number };
+  later = begins_onward old.seen mid.seen new.seen earlier.later later.later;
+  legal = later.legal;
+  own = later.own;
+  looks = omega (arith, earlier.looks, later.looks);
+}
+
+stays-onward : (old mid new : PostView) → Stays old mid → Stays mid new → Stays old new
+stays-onward old mid new earlier later = record { made = later.made ∙ earlier.made; region = later.region ∙ earlier.region; room = later.room ∙ earlier.room }
+
+-- the order so far, and on
+order-on : (order done some rest lanes more after : List ℕ) (from : ℕ) → done ++ (some ++ rest) ≡ order → done ≡ lanes → some ≡ more ++ from ∷ after → order ≡ (lanes ++ more) ++ from ∷ (after ++ rest)
+order-on order done some rest lanes more after from e d s =
+    sym e ∙ ap₂ (λ x y. x ++ (y ++ rest)) d s ∙ ap (λ z. lanes ++ z) (append_assoc more (from ∷ after) rest) ∙ sym (append_assoc lanes more (from ∷ (after ++ rest)))
+
+-- what a receive from the next of these lanes makes of looks that found no message: it decides, or they go on
+abbrev pub GoesOn : PostView → List ℕ → List ℕ → Bool → Result Taken TakeError → PostView → Type 0
+GoesOn old order rest its_end (Ok (Got arrival)) new = TakesFirst old order (Ok (Got arrival)) new
+GoesOn old order rest its_end (Ok Nothing) new = HasLooked old order rest false new
+GoesOn old order rest its_end (Ok Ended) new = HasLooked old order rest its_end new
+GoesOn old order rest its_end (Err error) new = TakesFirst old order (Err error) new
+
+module _ (old mid new : PostView) (first : Sound old old) (order some rest : List ℕ) (its_end : Bool) (looked : HasLooked old order (some ++ rest) its_end mid) (later : Sound mid new) where
+  so_far : (done : List ℕ) × (done ++ (some ++ rest) ≡ order) × AreFoundEmpty old done its_end mid × (old.looks + length done ≤ mid.looks)
+  so_far = looked.done
+
+  -- it received nothing since
+  unmade : own mid.seen old.number ≡ own old.seen old.number
+  unmade = ap (own mid.seen) (sym looked.sound.same.number) ∙ looked.sound.own ∙ looked.stays.made ∙ sym first.own
+
+  -- whether it is the end
+  ends : (e f : Bool) (looks more : List Look) → IsEnd e old.number looks mid → IsEnd f old.number more new → IsEnd (e && f) old.number (looks ++ more) new
+  ends true true looks more drained then_ =
+      subst (All (IsDrained new)) (sym (lanes-append looks more)) (All-append (IsDrained new) (lanes_of looks) (lanes_of more) (All-weaker (IsDrained mid) (IsDrained new) (drained-later mid new later) (lanes_of looks) drained) then_)
+  ends true false looks more drained then_ = open-right old.number looks more then_
+  ends false f looks more opened then_ = open-left old.number looks more opened
+
+  -- no message at these lanes either
+  looked-on : (more_end : Bool) → Stays mid new → AreFoundEmpty mid some more_end new → mid.looks + length some ≤ new.looks → HasLooked old order rest (its_end && more_end) new
+  looked-on more_end stays empty looks =
+      let were = so_far.2.found in
+      let are = rw looked.sound.same.number at empty.found in
+      record {
+        sound = sound-onward old mid new looked.sound later;
+        stays = stays-onward old mid new looked.stays stays;
+        done = (
+          so_far.0 ++ some,
+          append_assoc so_far.0 some rest ∙ so_far.1,
+          record {
+            found = (were.0 ++ are.0, ap₂ (λ x y. x ++ y) were.1 are.1 ∙ sym (lanes-append were.0 are.0), none-append old.number old.seen were.0 mid.seen are.0 new.seen were.2 are.2, ends its_end more_end were.0 are.0 were.3 are.3);
+            before = All-append (λ q. waiting old.seen q old.number ≡ []) so_far.0 some so_far.2.before
+                (All-weaker (λ q. waiting mid.seen q old.number ≡ []) (λ q. waiting old.seen q old.number ≡ []) (λ q none. none_begins old.seen mid.seen looked.sound.later q old.number unmade none) some (rw looked.sound.same.number at empty.before));
+          },
+          omega (arith, looks, so_far.3, length-append so_far.0 some),
+        );
+      }
+
+  -- a message at one of them
+  first-on : (from : ℕ) (found : List Occurrence) → IsFirst mid some from found → IsFirst old order from found
+  first-on from found is =
+      let were = so_far.2.found in
+      let are = rw looked.sound.same.number at is in
+      (were.0 ++ are.0, are.1 ++ rest, order-on order so_far.0 some rest (lanes_of were.0) (lanes_of are.0) are.1 from so_far.1 were.1 are.2 ∙ ap (λ x. x ++ from ∷ (are.1 ++ rest)) (sym (lanes-append were.0 are.0)), none-append old.number old.seen were.0 mid.seen are.0 found were.2 are.3)
+
+  got-on : (from : ℕ) (arrival : Arrival) → IsGot mid from arrival new → IsGot old from arrival new
+  got-on from arrival got =
+      let made = rw looked.stays.region at got.makes in
+      record {
+        two = rw (looked.sound.same.board, looked.sound.same.number) at got.two;
+        makes = (
+          made.0,
+          made.1,
+          record {
+            later = begins_onward old.seen mid.seen made.0 looked.sound.later made.2.later;
+            seen = made.2.seen;
+            made = made.2.made ∙ ap (λ x. Receive new.number from old.region ∷ x) looked.stays.made;
+            region = made.2.region;
+          },
+          made.3,
+        );
+        sender = got.sender;
+        receive = got.receive;
+        report = got.report;
+        room = got.room ∙ ap (λ x. x - 1) looked.stays.room;
+      }
+
+  waits-on : (from : ℕ) → Waits mid from new → Waits old from new
+  waits-on from w = record { two = rw (looked.sound.same.board, looked.sound.same.number) at w.two; waits = w.waits }
+
+  untaken-on : (error : TakeError) → IsFirstUntaken mid some error new → IsFirstUntaken old order error new
+  untaken-on NoSuchInstance never = never
+  untaken-on ToItself never = never
+  untaken-on LineFull is = (is.0, first-on is.0 new.seen is.1, (waits-on is.0 is.2.0, is.2.1))
+  untaken-on Memory is = (is.0, first-on is.0 new.seen is.1, (waits-on is.0 is.2.0, is.2.1))
+
+  pub goes-on : (result : Result Taken TakeError) → TakesFirst mid some result new → LooksAtAll (length some) mid result new → GoesOn old order rest its_end result new
+  goes-on (Ok (Got arrival)) takes looks = (got-on arrival.from arrival takes.0, first-on arrival.from (drop 1 new.seen) takes.1)
+  goes-on (Ok Nothing) takes looks = subst (λ e. HasLooked old order rest e new) (and_right its_end false refl) (looked-on false takes.0 takes.1 looks)
+  goes-on (Ok Ended) takes looks = subst (λ e. HasLooked old order rest e new) (and_true its_end) (looked-on true takes.0 takes.1 looks)
+  goes-on (Err error) takes looks = (stays-onward old mid new looked.stays takes.0, untaken-on error takes.1)
+
+-- one look found no message
+one-empty : (old new : PostView) (q : ℕ) (its_end : Bool) → Sound old new → IsFoundEmpty old q its_end new → AreFoundEmpty old (q ∷ []) its_end new
+one-empty old new q its_end sound empty = record {
+  found = (record { from = q; front = new.seen } ∷ [], refl, (sound.later, rw sound.same.number at empty.waits, begins_same new.seen), is its_end empty.closed);
+  before = All-cons (λ q. waiting old.seen q old.number ≡ []) q [] empty.before (All-nil (λ q. waiting old.seen q old.number ≡ []));
+}
+  where
+    is : (e : Bool) → is_closed new.seen q new.number ≡ e → IsEnd e old.number (record { from = q; front = new.seen } ∷ []) new
+    is true closed = All-cons (IsDrained new) q [] (closed, empty.waits) (All-nil (IsDrained new))
+    is false opened = inl (rw sound.same.number at opened)
+
+-- a receive from one of the lanes
+pub takes-one : (old new : PostView) (q : ℕ) (result : Result Taken TakeError) → Sound old new → q ≤ old.board.size → q ≢ old.number → Takes old q result new → TakesFirst old (q ∷ []) result new × LooksAtAll 1 old result new
+takes-one old new q (Ok (Got arrival)) sound among other got =
+    let made = got.makes in
+    let before : drop 1 new.seen ≡ made.0 = ap (drop 1) made.2.seen in
+    ((subst (λ x. IsGot old x arrival new) (sym got.sender) got, ([], [], ap (λ x. x ∷ []) (sym got.sender), subst (Begins old.seen) (sym before) made.2.later)), tt)
+takes-one old new q (Ok Nothing) sound among other takes = ((takes.0, one-empty old new q false sound takes.1), omega (arith, takes.1.looked))
+takes-one old new q (Ok Ended) sound among other takes = ((takes.0, one-empty old new q true sound takes.1), omega (arith, takes.1.looked))
+takes-one old new q (Err NoSuchInstance) sound among other takes = absurd (omega (arith, among, takes.1))
+takes-one old new q (Err ToItself) sound among other takes = absurd (other takes.1)
+takes-one old new q (Err LineFull) sound among other takes = ((takes.0, (q, ([], [], refl, sound.later), takes.1)), tt)
+takes-one old new q (Err Memory) sound among other takes = ((takes.0, (q, ([], [], refl, sound.later), takes.1)), tt)
+
+-- the lanes from the numbers above a and up to b but p: that after a comes first, unless it is p
+next-other : (p a b : ℕ) → a < b → a + 1 ≢ p → others p a b ≡ (a + 1) ∷ others p (a + 1) b
+next-other p a b less other = let ne = ne_eqb (a + 1) p other in rw (range-next a b less, ne)
+
+next-own : (p a b : ℕ) → a < b → a + 1 ≡ p → others p a b ≡ others p (a + 1) b
+next-own p a b less own = let same = eq-eqb (a + 1) p own in rw (range-next a b less, same)
+
+module _ (old mid : PostView) (order : List ℕ) (a b : ℕ) (its_end : Bool) (less : a < b) (looked : HasLooked old order (others old.number a b) its_end mid) where
+  -- a number that isn't another's is passed over
+  pub passed-over : (q : ℕ) → q ≡ suc a → q ≡ old.number → HasLooked old order (others old.number (a + 1) b) its_end mid
+  passed-over q is own = subst (λ x. HasLooked old order x its_end mid) (next-own old.number a b less (omega (arith, is, own))) looked
+
+  -- a receive from the next of them
+  pub received-next : (new : PostView) (q : ℕ) (result : Result Taken TakeError) → Sound old old → q ≡ suc a → q ≢ old.number → b ≤ old.board.size → Sound mid new → Takes mid q result new
+      → GoesOn old order (others old.number (a + 1) b) its_end result new
+  received-next new q result first is other within later takes =
+      let number : q ≡ a + 1 = omega (arith, is) in
+      let here = subst (λ x. HasLooked old order x its_end mid) (next-other old.number a b less (λ same. other (number ∙ same))) looked in
+      let size : mid.board.size ≡ old.board.size = ap (λ (board : BoardView). board.size) looked.sound.same.board in
+      let one = takes-one mid new (a + 1) result later (omega (arith, less, within, size)) (λ same. other (number ∙ same ∙ looked.sound.same.number)) (subst (λ x. Takes mid x result new) number takes) in
+      goes-on old mid new first order ((a + 1) ∷ []) (others old.number (a + 1) b) its_end here later result one.0 one.1
+
+-- a refusal that is handed on
+pub refused : (old : PostView) (order : List ℕ) (new : PostView) (result : Result Taken TakeError) (error : TakeError) → IsErrAnd result (λ e. e ≡ error) → TakesFirst old order (Err error) new → TakesFirst old order result new
+refused old order new (Ok taken) error never takes = absurd never
+refused old order new (Err e) error same takes = subst (λ x. TakesFirst old order (Err x) new) (sym same) takes
