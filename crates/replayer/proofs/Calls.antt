@@ -1,6 +1,7 @@
 -- What each call does is what its command means.
-use Rattle.std.proofs.Common.{◌≡◌, ◌≢◌, ℕ, zero, suc, ◌+◌, ◌<◌, ◌≤◌, ◌==◌, Bool, true, false, cond, List, [], ◌∷◌, length, Option, Some, None, Result, Ok, Err, refl, sym, ap, ◌∙◌, subst, arith}
-use Rattle.std.specs.Prelude.{unwrap_or, nat_lt, nat_le}
+use Rattle.std.proofs.Common.{◌≡◌, ◌≢◌, ℕ, zero, suc, ◌+◌, ◌<◌, ◌≤◌, ◌==◌, Bool, true, false, cond, List, [], ◌∷◌, length, drop, Option, Some, None, Result, Ok, Err, refl, sym, ap, ◌∙◌, subst, arith, append-nil}
+use Rattle.std.specs.Prelude.{unwrap_or, nat_lt, nat_le, find}
+use Rattle.std.specs.List.{list_all}
 use Rattle.std.proofs.lemmas.Bool.{lt-ltb, le-ltb, le-leb, lt-leb, eq-eqb, ne_eqb}
 use Rattle.chart.specs.declared.history.Occurrence.{Occurrence}
 use Rattle.chart.specs.declared.history.Occurrence.TheVariants as events
@@ -18,10 +19,13 @@ use Rattle.board.specs.Views.{BoardView, PostView, line_of, Makes, Stays}
 use Rattle.board.specs.Sending.{MaySend, IsSent, IsUnsent}
 use Rattle.board.specs.Taking.{IsGot, IsFoundEmpty, IsUntaken}
 use Rattle.board.specs.Closing.{IsClosed, IsUnclosed}
+use Rattle.chart.specs.Scans.{scan}
+use Rattle.mailbox.specs.TakingAny.{lanes_of, NoneWaits, IsFirst, AreFoundEmpty}
 use Rattle.schedule.specs.declared.command.Word.{Word}
 use Rattle.schedule.specs.declared.command.Word.TheVariants as words
-use Rattle.schedule.specs.Meaning.{Run, changed, happens, has_waiting, takes, sends, receives, closes, opens, shuts}
+use Rattle.schedule.specs.Meaning.{Run, changed, happens, has_waiting, takes, sends, receives, receives_any, first_waiting, are_closed, closes, opens, shuts}
 use Rattle.replayer.specs.Agreement.{GoesOn, IsAsFar, IsMet, HasGone, HasDone, Does}
+use Rattle.replayer.proofs.Scanning.{scan_any, find_past, all_closed}
 use Rattle.replayer.proofs.Answers.{met_none, seen_none, before_one, met_one}
 
 -- a message of this name with an empty body
@@ -222,3 +226,52 @@ module _ (r : Run) (from : Option ℕ) (old new : PostView) (far : IsAsFar r fro
 
   pub shut_refused : old.region ≡ 0 → new ≡ old → HasDone r old.number met from new (Ok (Some words.NotOpen)) (shuts r old.number)
   shut_refused none same = refused (stays_same same) words.NotOpen (shuts r old.number) (rw (outside none) refl)
+
+  -- A receive from whichever instance has a message.
+  first_is : (last q : ℕ) (found : List Occurrence) → last ≡ r.last old.number → found ≡ r.history → IsFirst old (scan old.board.size old.number last) q found → has_waiting r.history q old.number ≡ true → first_waiting old.board.size r old.number ≡ Some q
+  first_is last q found same front it waits =
+      let none = subst (λ g. NoneWaits old.number r.history it.0 g) front (subst (λ g. NoneWaits old.number g it.0 found) far.seen it.3) in
+      ap (λ l. find (λ x. has_waiting r.history x old.number) (scan old.board.size old.number l)) (sym same)
+      ∙ ap (find (λ x. has_waiting r.history x old.number)) it.2
+      ∙ find_past old.number r.history it.0 (q ∷ it.1) none
+      ∙ ap (λ b. cond b (Some q) (find (λ x. has_waiting r.history x old.number) it.1)) waits
+
+  pub any_got : (arrival : Arrival) → IsGot old arrival.from arrival new → IsFirst old (scan old.board.size old.number (unwrap_or from 0)) arrival.from (drop 1 new.seen)
+      → HasDone r old.number met (Some arrival.from) new (Ok None) (receives_any old.board.size r old.number (first_waiting old.board.size r old.number))
+  any_got arrival it first =
+      let got = takes_got arrival.from arrival it in
+      let before : drop 1 new.seen ≡ r.history = ap (drop 1) it.makes.2.seen ∙ before_one r from old new far on met its it.makes.0 (events.Receive new.number arrival.from old.region) refl it.makes.2 in
+      let found = first_is (unwrap_or from 0) arrival.from (drop 1 new.seen) far.last before first got.0 in
+      let acted = ap (receives_any old.board.size r old.number) found ∙ got.1 in
+      subst (λ a. HasDone r old.number met (Some arrival.from) new (Ok None) a) (sym acted) got.2
+
+  pub any_line_full : (q : ℕ) → Stays old new → IsUntaken old q untaken.LineFull new → IsFirst old (scan old.board.size old.number (unwrap_or from 0)) q new.seen
+      → HasDone r old.number met from new (Ok (Some words.LineFull)) (receives_any old.board.size r old.number (first_waiting old.board.size r old.number))
+  any_line_full q stays it first =
+      let full = takes_line_full q stays it in
+      let found = first_is (unwrap_or from 0) q new.seen far.last (seen_none r from old new far on met its stays.made) first full.0 in
+      refused stays words.LineFull _ (ap (receives_any old.board.size r old.number) found ∙ full.1)
+
+  any_none : (its_end : Bool) → Stays old new → AreFoundEmpty old (scan old.board.size old.number (unwrap_or from 0)) its_end new
+      → receives_any old.board.size r old.number (first_waiting old.board.size r old.number) ≡ cond its_end (Err words.Ended) (Err words.Nothing)
+  any_none its_end stays it =
+      let seen = seen_none r from old new far on met its stays.made in
+      let looks = it.found.0 in
+      let none = subst (λ g. NoneWaits old.number r.history looks g) seen (subst (λ g. NoneWaits old.number g looks new.seen) far.seen it.found.2) in
+      let nobody : first_waiting old.board.size r old.number ≡ None =
+          ap (λ l. find (λ x. has_waiting r.history x old.number) (scan old.board.size old.number l)) (sym far.last)
+          ∙ ap (find (λ x. has_waiting r.history x old.number)) (it.found.1 ∙ sym (append-nil (lanes_of looks)))
+          ∙ find_past old.number r.history looks [] none in
+      let closed : are_closed old.board.size r old.number ≡ its_end =
+          scan_any (λ q. is_closed r.history q old.number) old.board.size old.number 0 (unwrap_or from 0) (omega arith) far.known
+          ∙ ap (list_all (λ q. is_closed r.history q old.number)) it.found.1
+          ∙ all_closed old.number r.history its_end looks new seen on.same.number none it.found.3 in
+      ap (receives_any old.board.size r old.number) nobody ∙ ap (λ b. cond b (Err words.Ended) (Err words.Nothing)) closed
+
+  pub any_nothing : Stays old new → AreFoundEmpty old (scan old.board.size old.number (unwrap_or from 0)) false new
+      → HasDone r old.number met from new (Ok (Some words.Nothing)) (receives_any old.board.size r old.number (first_waiting old.board.size r old.number))
+  any_nothing stays it = refused stays words.Nothing _ (any_none false stays it)
+
+  pub any_ended : Stays old new → AreFoundEmpty old (scan old.board.size old.number (unwrap_or from 0)) true new
+      → HasDone r old.number met from new (Ok (Some words.Ended)) (receives_any old.board.size r old.number (first_waiting old.board.size r old.number))
+  any_ended stays it = refused stays words.Ended _ (any_none true stays it)

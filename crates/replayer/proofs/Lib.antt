@@ -3,3 +3,4 @@ pub mod Answers
 pub mod Calls
 pub mod Performed
 pub mod Posts
+pub mod Scanning

@@ -6,6 +6,7 @@ ghost use Rattle.replayer.specs.Agreement.{GoesOn, Does};
 
 use board::{CloseError, Post, RegionError, SendError, TakeError, Taken};
 use chart::{InstanceNo, Message, Name};
+use mailbox::any_from;
 use outcomes::ReplayError;
 use schedule::{Action, Word};
 use std::alloc::Global;
@@ -110,7 +111,17 @@ fn receive_any(
     ensures goes_on { GoesOn post.old post.new }
     ensures does { Does post.old last.old result post.new last.new (λ r. receives_any post.old.board.size r post.old.number (first_waiting post.old.board.size r post.old.number)) }
 {
-    Err(ReplayError::Memory)
+    match any_from(post, *last) {
+        Ok(Taken::Got(arrival)) => {
+            *last = Some(arrival.from);
+            Ok(None)
+        }
+        Ok(Taken::Nothing) => Ok(Some(Word::Nothing)),
+        Ok(Taken::Ended) => Ok(Some(Word::Ended)),
+        Err(TakeError::LineFull) => Ok(Some(Word::LineFull)),
+        Err(TakeError::Memory) => Err(ReplayError::Memory),
+        Err(TakeError::NoSuchInstance | TakeError::ToItself) => unreachable!(),
+    }
 }
 
 /// Does what a command of its instance says: `None`, or the word of its note.
