@@ -1,6 +1,7 @@
 pub mod Claiming
 pub mod Closes
 pub mod DidLemmas
+pub mod Drawing
 pub mod EndLemmas
 pub mod Finding
 pub mod Meetings

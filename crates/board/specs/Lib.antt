@@ -2,8 +2,10 @@ pub mod Asking
 pub mod Boards
 pub mod Closing
 pub mod Found
+pub mod Gathering
 pub mod Known
 pub mod Meeting
+pub mod Parting
 pub mod Parts
 pub mod Receipts
 pub mod Sending

@@ -17,8 +17,10 @@ mod board;
 mod close;
 mod ends;
 mod error;
+mod gathering;
 mod meeting;
 mod opening;
+mod parting;
 mod post;
 mod receive;
 mod receive_up_to;
@@ -33,8 +35,10 @@ mod sending_several;
 pub use answer::{Arrival, Sent, Stop, Taken, TakenMany};
 pub use board::Board;
 pub use error::{
-    BoardError, CloseError, MeetError, Memory, PostsError, RegionError, SendError, TakeError,
+    BoardError, CloseError, GatherCause, MeetError, Memory, PostsError, RegionError, SendError,
+    TakeError,
 };
+pub use gathering::{GatherError, Gathered, Left};
 pub use meeting::{meet, meet_all};
 pub use post::Post;
 
