@@ -1,15 +1,21 @@
 -- All posts of a board, which meet after one of them made a call.
-use Rattle.std.proofs.Common.{◌≡◌, ◌≢◌, ℕ, zero, suc, ◌+◌, ◌<◌, ◌≤◌, ◌⊎◌, inl, inr, ⊎_elim, List, [], ◌∷◌, length, set, get_or, Option, Some, None, Result, Ok, Err, refl, sym, ap, ◌∙◌, subst, arith}
+use Rattle.std.proofs.Common.{◌≡◌, ◌≢◌, ℕ, zero, suc, ◌+◌, ◌<◌, ◌≤◌, ◌⊎◌, inl, inr, ⊎_elim, List, [], ◌∷◌, length, replicate, set, get_or, Option, Some, None, Result, Ok, Err, refl, sym, ap, ◌∙◌, subst, arith}
 use Rattle.std.specs.Prelude.{slice_get, map, unwrap_or}
-use Rattle.std.proofs.lemmas.List.{length-set, length-map}
-use Rattle.std.proofs.lemmas.Option.{slice_get-get_or, slice_get_within, same_Some}
+use Rattle.std.proofs.lemmas.List.{length-set, length-map, length-replicate, get_or-replicate}
+use Rattle.std.proofs.lemmas.Option.{slice_get-get_or, slice_get_within, same_Some, get_or_from_slice_get}
 use Rattle.chart.specs.declared.history.Occurrence.{Occurrence}
 use Rattle.chart.specs.Histories.{own, IsLegal, Begins}
 use Rattle.board.specs.Views.{BoardView, PostView, IsSamePost}
-use Rattle.board.specs.Meeting.{AreOfOneBoard, HaveMet, AreNotAll}
+use Rattle.board.specs.declared.gathering.Gathered.{Gathered}
+use Rattle.board.specs.Boards.{AreNewPosts}
+use Rattle.board.specs.Gathering.{IsWhole, size_of}
+use Rattle.board.specs.Known.{IsSized}
+use Rattle.board.specs.Meeting.{AreOfOneBoard, IsJoint, HaveMet, AreNotAll}
+use Rattle.chart.specs.HistoryLines.{history_lines}
+use Rattle.chart.specs.Reports.{AreReports}
 use Rattle.board.proofs.PostLemmas.{at_set}
 use Rattle.schedule.specs.declared.command.Word.{Word}
-use Rattle.schedule.specs.Meaning.{Run}
+use Rattle.schedule.specs.Meaning.{Run, start}
 use Rattle.outcomes.specs.declared.error.ReplayError.{ReplayError}
 use Rattle.replayer.proofs.Alone.{nothing_more}
 use Rattle.replayer.specs.Agreement.{GoesOn, IsAsFar, IsMet, HasGone, HasDone, Does, ArePosts, Agrees, HasActed}
@@ -140,29 +146,59 @@ module _ (board : BoardView) (r : Run) (posts : List PostView) (last : List (Opt
       go (Ok (Some noted)) (Err word) done = (done.0, with_run r done.1)
       go (Err e) acted done = tt
 
--- posts that have made no call since meet again: they are as far as they were
-pub agrees_met : (board : BoardView) (r : Run) (posts : List PostView) (last : List (Option ℕ)) (them : List PostView) → Agrees board r posts last → HaveMet posts them → Agrees board r them last
-agrees_met board r [] last them agrees met = absurd (omega (arith, agrees.posts.many, agrees.posts.sized.several))
-agrees_met board r (first ∷ rest) last them agrees met = record {
-  posts = met_posts board (first ∷ rest) them agrees.posts met;
-  as_many = agrees.as_many;
-  far = λ j y l at_y at_l.
-      let its = mapped (λ (post : PostView). record post { seen = met.history }) (first ∷ rest) j y (ap (λ (xs : List PostView). slice_get xs j) (sym met.seen) ∙ at_y) in
-      let was = agrees.far j its.0 l its.1 at_l in
-      subst (IsAsFar r l) (sym its.2) (record { seen = same; made = was.made; region = was.region; last = was.last; known = was.known });
-}
+-- a history that begins with what each post has seen, and has of each one's events just those that its calls made, is the run's
+pub joint_is : (board : BoardView) (r : Run) (posts : List PostView) (last : List (Option ℕ)) → Agrees board r posts last → (h : List Occurrence) → ((i : ℕ) (post : PostView) → slice_get posts i ≡ Some post → IsJoint h post) → h ≡ r.history
+joint_is board r [] last agrees h joint = absurd (omega (arith, agrees.posts.many, agrees.posts.sized.several))
+joint_is board r (first ∷ rest) last agrees h joint =
+    let its = joint 0 first refl in
+    nothing_more board.size board.capacity r.history h (subst (λ (b : BoardView). IsLegal b.size b.capacity h) (agrees.posts.each 0 first refl).0 its.legal) (subst (λ g. Begins g h) (far_of 0 first refl).seen its.later) each
   where
     far_of : (j : ℕ) (x : PostView) → slice_get (first ∷ rest) j ≡ Some x → IsAsFar r (get_or last j None) x
     far_of j x at = agrees.far j x (get_or last j None) at (slice_get-get_or last j None (let within = slice_get_within (first ∷ rest) j x at in omega (arith, within, agrees.posts.many, agrees.as_many)))
 
-    each : (q : ℕ) → 1 ≤ q → q ≤ board.size → own met.history q ≡ own r.history q
+    each : (q : ℕ) → 1 ≤ q → q ≤ board.size → own h q ≡ own r.history q
     each zero low high = absurd (omega (arith, low))
     each (suc j) low high =
         let at = slice_get-get_or (first ∷ rest) j first (omega (arith, high, agrees.posts.many)) in
-        let its = agrees.posts.each j (get_or (first ∷ rest) j first) at in
-        subst (λ q. own met.history q ≡ own r.history q) its.1 ((met.joint j (get_or (first ∷ rest) j first) at).own ∙ (far_of j (get_or (first ∷ rest) j first) at).made)
+        subst (λ q. own h q ≡ own r.history q) (agrees.posts.each j (get_or (first ∷ rest) j first) at).1 ((joint j (get_or (first ∷ rest) j first) at).own ∙ (far_of j (get_or (first ∷ rest) j first) at).made)
 
-    same : met.history ≡ r.history
-    same =
-        let joint = met.joint 0 first refl in
-        nothing_more board.size board.capacity r.history met.history (subst (λ (b : BoardView). IsLegal b.size b.capacity met.history) (agrees.posts.each 0 first refl).0 joint.legal) (subst (λ h. Begins h met.history) (far_of 0 first refl).seen joint.later) each
+-- posts that have made no call since meet again: they are as far as they were
+pub agrees_met : (board : BoardView) (r : Run) (posts : List PostView) (last : List (Option ℕ)) (them : List PostView) → Agrees board r posts last → HaveMet posts them → Agrees board r them last
+agrees_met board r posts last them agrees met = record {
+  posts = met_posts board posts them agrees.posts met;
+  as_many = agrees.as_many;
+  far = λ j y l at_y at_l.
+      let its = mapped (λ (post : PostView). record post { seen = met.history }) posts j y (ap (λ (xs : List PostView). slice_get xs j) (sym met.seen) ∙ at_y) in
+      let was = agrees.far j its.0 l its.1 at_l in
+      subst (IsAsFar r l) (sym its.2) (record { seen = joint_is board r posts last agrees met.history met.joint; made = was.made; region = was.region; last = was.last; known = was.known });
+}
+
+-- new posts are as far as the start
+pub agrees_new : (board : BoardView) (posts : List PostView) (last : List (Option ℕ)) → IsSized board.size board.capacity → AreNewPosts board posts → last ≡ replicate board.size None → Agrees board start.run posts last
+agrees_new board posts last sized new none = record {
+  posts = record {
+    sized = sized;
+    many = new.as_many;
+    each = λ i post at. let its = new.each i post at in (ap (λ (x : PostView). x.board) its, ap (λ (x : PostView). x.number) its);
+  };
+  as_many = ap length none ∙ length-replicate {A = Option ℕ} board.size None;
+  far = λ i post from at at_last.
+      let its = new.each i post at in
+      let nobody : from ≡ None = every_none board.size i from (ap (λ (xs : List (Option ℕ)). slice_get xs i) (sym none) ∙ at_last) in
+      subst (λ o. IsAsFar start.run o post) (sym nobody) (subst (IsAsFar start.run None) (sym its) (record { seen = refl; made = refl; region = refl; last = refl; known = omega arith }));
+}
+  where
+    every_none : (n i : ℕ) (from : Option ℕ) → slice_get (replicate n None) i ≡ Some from → from ≡ None
+    every_none n i from at = sym (get_or_from_slice_get (replicate n None) i from None at) ∙ get_or-replicate n i None None (let within = slice_get_within (replicate n None) i from at in omega (arith, within, length-replicate {A = Option ℕ} n None))
+
+-- what they come to when they are gathered
+pub gathered_is : (board : BoardView) (r : Run) (posts : List PostView) (last : List (Option ℕ)) (it : Gathered) → Agrees board r posts last → IsWhole posts it → (it.chart ≡ history_lines board.size r.history) × AreReports it.chart it.reports.items
+gathered_is board r posts last it agrees whole =
+    let history = joint_is board r posts last agrees whole.history whole.joint in
+    let size = size_is posts board agrees.posts in
+    let chart = whole.gathered.chart ∙ ap (λ n. history_lines n whole.history) size ∙ ap (history_lines board.size) history in
+    (chart, subst (λ lines. AreReports lines it.reports.items) (sym whole.gathered.chart) whole.gathered.reports)
+  where
+    size_is : (posts : List PostView) (board : BoardView) → ArePosts board posts → size_of posts ≡ board.size
+    size_is [] board are = are.many
+    size_is (post ∷ posts) board are = ap (λ (b : BoardView). b.size) (are.each 0 post refl).0

@@ -3,3 +3,5 @@
 
 mod run;
 mod steps;
+
+pub use run::replay;
