@@ -1,2 +1,3 @@
 pub mod ByLine
 pub mod Outcomes
+pub mod Performed

@@ -4,3 +4,4 @@ pub use Rattle.schedule.specs.Meaning
 pub use Rattle.schedule.specs.Plans
 pub mod OutcomeText
 pub mod Outcomes
+pub mod Performed

@@ -7,7 +7,7 @@ use Rattle.board.specs.Views.{PostView, Makes}
 use Rattle.chart.proofs.Histories.{begins_onward}
 use Rattle.schedule.specs.Meaning.{Run}
 use Rattle.replayer.specs.Agreement.{GoesOn, IsAsFar, IsMet}
-use Rattle.replayer.proofs.Alone.{no_longer, begins_longer, nothing_more, came_after, all_after}
+use Rattle.chart.proofs.Alone.{no_longer, begins_longer, nothing_more, came_after, all_after}
 
 module _ (r : Run) (from : Option ℕ) (old new : PostView) (far : IsAsFar r from old) (on : GoesOn old new)
     (met : List Occurrence) (its : IsMet r.history new met) where

@@ -24,7 +24,7 @@ use Rattle.mailbox.specs.TakingAny.{lanes_of, NoneWaits, IsFirst, AreFoundEmpty}
 use Rattle.schedule.specs.declared.command.Word.{Word}
 use Rattle.schedule.specs.declared.command.Word.TheVariants as words
 use Rattle.schedule.specs.Meaning.{Run, changed, happens, has_waiting, takes, sends, receives, receives_any, first_waiting, are_closed, closes, opens, shuts}
-use Rattle.replayer.specs.Agreement.{GoesOn, IsAsFar, IsMet, HasGone, HasDone, Does}
+use Rattle.replayer.specs.Agreement.{GoesOn, IsAsFar, IsMet, HasGone, HasCalled, Does}
 use Rattle.replayer.proofs.Scanning.{scan_any, find_past, all_closed}
 use Rattle.replayer.proofs.Answers.{met_none, seen_none, before_one, met_one}
 
@@ -70,8 +70,8 @@ module _ (r : Run) (from : Option ℕ) (old new : PostView) (far : IsAsFar r fro
   }
 
   -- a call that made no event leaves the word of its note
-  pub refused : Stays old new → (word : Word) (acted : Result Run Word) → acted ≡ Err word → HasDone r old.number met from new (Ok (Some word)) acted
-  refused stays word acted same = subst (λ a. HasDone r old.number met from new (Ok (Some word)) a) (sym same) (refl, gone stays.region r.history (sym (met_none r from old new far on met its stays.made)))
+  pub refused : Stays old new → (word : Word) (acted : Result Run Word) → acted ≡ Err word → HasCalled r old.number met from new (Ok (Some word)) acted
+  refused stays word acted same = subst (λ a. HasCalled r old.number met from new (Ok (Some word)) a) (sym same) (refl, gone stays.region r.history (sym (met_none r from old new far on met its stays.made)))
 
   -- the event may follow the run
   pub may_follow : (e : Occurrence) → met ≡ e ∷ r.history → MayFollow old.board.size old.board.capacity r.history e
@@ -109,27 +109,27 @@ module _ (r : Run) (from : Option ℕ) (old new : PostView) (far : IsAsFar r fro
   inside : 0 < old.region → nat_lt 0 (r.region old.number) ≡ true
   inside some = lt-ltb 0 (r.region old.number) (omega (arith, some, far.region))
 
-  pub send_sent : (q : ℕ) (name : List ℕ) (m : Content) (sent : Sent) → m ≡ message name → IsSent old q m sent new → HasDone r old.number met from new (Ok None) (sends old.board.capacity r old.number q name)
+  pub send_sent : (q : ℕ) (name : List ℕ) (m : Content) (sent : Sent) → m ≡ message name → IsSent old q m sent new → HasCalled r old.number met from new (Ok None) (sends old.board.capacity r old.number q name)
   send_sent q name m sent same it =
       let e = events.Send new.number q m in
       let is : e ≡ events.Send old.number q (message name) = ap (λ x. events.Send x q m) on.same.number ∙ ap (events.Send old.number q) same in
       let one = met_one r from old new far on met its it.makes.0 e refl it.makes.1 ∙ ap (λ x. x ∷ r.history) is in
       let may = may_follow (events.Send old.number q (message name)) one in
       let acted = sends_by q name false false false false (outside it.may.outside) may.1 (lt-leb MAX_EVENTS (length (chart_of r.history old.number)) may.3) (lt-leb old.board.capacity (length (waiting r.history old.number q)) may.2) in
-      subst (λ a. HasDone r old.number met from new (Ok None) a) (sym acted) (gone it.makes.1.region (events.Send old.number q (message name) ∷ r.history) (sym one))
+      subst (λ a. HasCalled r old.number met from new (Ok None) a) (sym acted) (gone it.makes.1.region (events.Send old.number q (message name) ∷ r.history) (sym one))
 
-  pub send_in_coregion : (q : ℕ) (name : List ℕ) → Stays old new → IsUnsent old q 1 unsent.InCoregion new → HasDone r old.number met from new (Ok (Some words.InCoregion)) (sends old.board.capacity r old.number q name)
+  pub send_in_coregion : (q : ℕ) (name : List ℕ) → Stays old new → IsUnsent old q 1 unsent.InCoregion new → HasCalled r old.number met from new (Ok (Some words.InCoregion)) (sends old.board.capacity r old.number q name)
   send_in_coregion q name stays it = refused stays words.InCoregion (sends old.board.capacity r old.number q name) (rw (inside it.1) refl)
 
-  pub send_closed : (q : ℕ) (name : List ℕ) → Stays old new → IsUnsent old q 1 unsent.Closed new → HasDone r old.number met from new (Ok (Some words.Closed)) (sends old.board.capacity r old.number q name)
+  pub send_closed : (q : ℕ) (name : List ℕ) → Stays old new → IsUnsent old q 1 unsent.Closed new → HasCalled r old.number met from new (Ok (Some words.Closed)) (sends old.board.capacity r old.number q name)
   send_closed q name stays it = refused stays words.Closed (sends old.board.capacity r old.number q name) (rw (outside it.1, closed_in q true it.2) refl)
 
-  pub send_line_full : (q : ℕ) (name : List ℕ) → Stays old new → IsUnsent old q 1 unsent.LineFull new → HasDone r old.number met from new (Ok (Some words.LineFull)) (sends old.board.capacity r old.number q name)
+  pub send_line_full : (q : ℕ) (name : List ℕ) → Stays old new → IsUnsent old q 1 unsent.LineFull new → HasCalled r old.number met from new (Ok (Some words.LineFull)) (sends old.board.capacity r old.number q name)
   send_line_full q name stays it =
       let full = le-leb MAX_EVENTS (length (chart_of r.history old.number)) (omega (arith, it.2, ap length (line_in stays))) in
       refused stays words.LineFull (sends old.board.capacity r old.number q name) (rw (outside it.0.outside, closed_in q false it.0.opened, full) refl)
 
-  pub send_full : (q : ℕ) (name : List ℕ) → Stays old new → IsUnsent old q 1 unsent.Full new → HasDone r old.number met from new (Ok (Some words.Full)) (sends old.board.capacity r old.number q name)
+  pub send_full : (q : ℕ) (name : List ℕ) → Stays old new → IsUnsent old q 1 unsent.Full new → HasCalled r old.number met from new (Ok (Some words.Full)) (sends old.board.capacity r old.number q name)
   send_full q name stays it =
       let room = lt-leb MAX_EVENTS (length (chart_of r.history old.number)) (omega (arith, it.2, ap length (line_in stays))) in
       let size = ap (λ (b : BoardView). b.capacity) on.same.board in
@@ -156,10 +156,10 @@ module _ (r : Run) (from : Option ℕ) (old new : PostView) (far : IsAsFar r fro
         }
       )
 
-  pub receive_got : (q : ℕ) (arrival : Arrival) → IsGot old q arrival new → HasDone r old.number met (Some arrival.from) new (Ok None) (receives r old.number q)
+  pub receive_got : (q : ℕ) (arrival : Arrival) → IsGot old q arrival new → HasCalled r old.number met (Some arrival.from) new (Ok None) (receives r old.number q)
   receive_got q arrival it =
       let its = takes_got q arrival it in
-      subst (λ a. HasDone r old.number met (Some arrival.from) new (Ok None) a) (sym (ap (λ b. cond b (takes r old.number q) (cond (is_closed r.history q old.number) (Err words.Ended) (Err words.Nothing))) its.0 ∙ its.1)) its.2
+      subst (λ a. HasCalled r old.number met (Some arrival.from) new (Ok None) a) (sym (ap (λ b. cond b (takes r old.number q) (cond (is_closed r.history q old.number) (Err words.Ended) (Err words.Nothing))) its.0 ∙ its.1)) its.2
 
   -- on an empty lane
   pub receive_none : (q : ℕ) (its_end : Bool) → Stays old new → IsFoundEmpty old q its_end new → receives r old.number q ≡ cond its_end (Err words.Ended) (Err words.Nothing)
@@ -168,10 +168,10 @@ module _ (r : Run) (from : Option ℕ) (old new : PostView) (far : IsAsFar r fro
       let closed : is_closed r.history q old.number ≡ its_end = sym (closed_seen stays q) ∙ it.closed in
       rw (none, closed) refl
 
-  pub receive_nothing : (q : ℕ) → Stays old new → IsFoundEmpty old q false new → HasDone r old.number met from new (Ok (Some words.Nothing)) (receives r old.number q)
+  pub receive_nothing : (q : ℕ) → Stays old new → IsFoundEmpty old q false new → HasCalled r old.number met from new (Ok (Some words.Nothing)) (receives r old.number q)
   receive_nothing q stays it = refused stays words.Nothing (receives r old.number q) (receive_none q false stays it)
 
-  pub receive_ended : (q : ℕ) → Stays old new → IsFoundEmpty old q true new → HasDone r old.number met from new (Ok (Some words.Ended)) (receives r old.number q)
+  pub receive_ended : (q : ℕ) → Stays old new → IsFoundEmpty old q true new → HasCalled r old.number met from new (Ok (Some words.Ended)) (receives r old.number q)
   receive_ended q stays it = refused stays words.Ended (receives r old.number q) (receive_none q true stays it)
 
   -- a message waits, and the line is full
@@ -181,20 +181,20 @@ module _ (r : Run) (from : Option ℕ) (old new : PostView) (far : IsAsFar r fro
     rw (le-leb MAX_EVENTS (length (chart_of r.history old.number)) (omega (arith, it.1, ap length (line_in stays)))) refl
   )
 
-  pub receive_line_full : (q : ℕ) → Stays old new → IsUntaken old q untaken.LineFull new → HasDone r old.number met from new (Ok (Some words.LineFull)) (receives r old.number q)
+  pub receive_line_full : (q : ℕ) → Stays old new → IsUntaken old q untaken.LineFull new → HasCalled r old.number met from new (Ok (Some words.LineFull)) (receives r old.number q)
   receive_line_full q stays it =
       let its = takes_line_full q stays it in
       refused stays words.LineFull (receives r old.number q) (rw its.0 its.1)
 
   -- A close.
-  pub close_done : (q : ℕ) → IsClosed old q new → HasDone r old.number met from new (Ok None) (closes r old.number q)
+  pub close_done : (q : ℕ) → IsClosed old q new → HasCalled r old.number met from new (Ok None) (closes r old.number q)
   close_done q it =
       let e = events.Close new.number q in
       let one = met_one r from old new far on met its it.makes.0 e refl it.makes.1 ∙ ap (λ x. events.Close x q ∷ r.history) on.same.number in
       let acted : closes r old.number q ≡ Ok (happens r (events.Close old.number q)) = rw (closed_in q false it.opened) refl in
-      subst (λ a. HasDone r old.number met from new (Ok None) a) (sym acted) (gone it.makes.1.region (events.Close old.number q ∷ r.history) (sym one))
+      subst (λ a. HasCalled r old.number met from new (Ok None) a) (sym acted) (gone it.makes.1.region (events.Close old.number q ∷ r.history) (sym one))
 
-  pub close_closed : (q : ℕ) → new ≡ old → IsUnclosed old q unclosed.Closed → HasDone r old.number met from new (Ok (Some words.Closed)) (closes r old.number q)
+  pub close_closed : (q : ℕ) → new ≡ old → IsUnclosed old q unclosed.Closed → HasCalled r old.number met from new (Ok (Some words.Closed)) (closes r old.number q)
   close_closed q same it = refused (stays_same same) words.Closed (closes r old.number q) (rw (closed_in q true it.1) refl)
 
   -- A coregion that opens, and one that is closed.
@@ -208,23 +208,23 @@ module _ (r : Run) (from : Option ℕ) (old new : PostView) (far : IsAsFar r fro
     other_lasts = λ x ne. refl;
   }
 
-  pub open_done : (0 < old.region → ⊥) → new ≡ record old { region = greatest_region (line_of old) + 1 } → HasDone r old.number met from new (Ok None) (opens r old.number)
+  pub open_done : (0 < old.region → ⊥) → new ≡ record old { region = greatest_region (line_of old) + 1 } → HasCalled r old.number met from new (Ok None) (opens r old.number)
   open_done none same =
       let line : line_of old ≡ chart_of r.history old.number = ap (λ g. chart_of g old.number) far.seen in
       let is = same ∙ ap (λ l. record old { region = greatest_region l + 1 }) line in
       let zero_region : old.region ≡ 0 = not_some old.region none in
       let acted : opens r old.number ≡ Ok (record { history = r.history; last = r.last; region = changed r.region old.number (greatest_region (chart_of r.history old.number) + 1) }) = rw (outside zero_region) refl in
-      subst (λ a. HasDone r old.number met from new (Ok None) a) (sym acted) (region_changed (greatest_region (chart_of r.history old.number) + 1) is)
+      subst (λ a. HasCalled r old.number met from new (Ok None) a) (sym acted) (region_changed (greatest_region (chart_of r.history old.number) + 1) is)
 
-  pub open_refused : 0 < old.region → new ≡ old → HasDone r old.number met from new (Ok (Some words.Open)) (opens r old.number)
+  pub open_refused : 0 < old.region → new ≡ old → HasCalled r old.number met from new (Ok (Some words.Open)) (opens r old.number)
   open_refused some same = refused (stays_same same) words.Open (opens r old.number) (rw (inside some) refl)
 
-  pub shut_done : (old.region ≡ 0 → ⊥) → new ≡ record old { region = 0 } → HasDone r old.number met from new (Ok None) (shuts r old.number)
+  pub shut_done : (old.region ≡ 0 → ⊥) → new ≡ record old { region = 0 } → HasCalled r old.number met from new (Ok None) (shuts r old.number)
   shut_done some same =
       let acted : shuts r old.number ≡ Ok (record { history = r.history; last = r.last; region = changed r.region old.number 0 }) = rw (inside (not_none old.region some)) refl in
-      subst (λ a. HasDone r old.number met from new (Ok None) a) (sym acted) (region_changed 0 same)
+      subst (λ a. HasCalled r old.number met from new (Ok None) a) (sym acted) (region_changed 0 same)
 
-  pub shut_refused : old.region ≡ 0 → new ≡ old → HasDone r old.number met from new (Ok (Some words.NotOpen)) (shuts r old.number)
+  pub shut_refused : old.region ≡ 0 → new ≡ old → HasCalled r old.number met from new (Ok (Some words.NotOpen)) (shuts r old.number)
   shut_refused none same = refused (stays_same same) words.NotOpen (shuts r old.number) (rw (outside none) refl)
 
   -- A receive from whichever instance has a message.
@@ -237,16 +237,16 @@ module _ (r : Run) (from : Option ℕ) (old new : PostView) (far : IsAsFar r fro
       ∙ ap (λ b. cond b (Some q) (find (λ x. has_waiting r.history x old.number) it.1)) waits
 
   pub any_got : (arrival : Arrival) → IsGot old arrival.from arrival new → IsFirst old (scan old.board.size old.number (unwrap_or from 0)) arrival.from (drop 1 new.seen)
-      → HasDone r old.number met (Some arrival.from) new (Ok None) (receives_any old.board.size r old.number (first_waiting old.board.size r old.number))
+      → HasCalled r old.number met (Some arrival.from) new (Ok None) (receives_any old.board.size r old.number (first_waiting old.board.size r old.number))
   any_got arrival it first =
       let got = takes_got arrival.from arrival it in
       let before : drop 1 new.seen ≡ r.history = ap (drop 1) it.makes.2.seen ∙ before_one r from old new far on met its it.makes.0 (events.Receive new.number arrival.from old.region) refl it.makes.2 in
       let found = first_is (unwrap_or from 0) arrival.from (drop 1 new.seen) far.last before first got.0 in
       let acted = ap (receives_any old.board.size r old.number) found ∙ got.1 in
-      subst (λ a. HasDone r old.number met (Some arrival.from) new (Ok None) a) (sym acted) got.2
+      subst (λ a. HasCalled r old.number met (Some arrival.from) new (Ok None) a) (sym acted) got.2
 
   pub any_line_full : (q : ℕ) → Stays old new → IsUntaken old q untaken.LineFull new → IsFirst old (scan old.board.size old.number (unwrap_or from 0)) q new.seen
-      → HasDone r old.number met from new (Ok (Some words.LineFull)) (receives_any old.board.size r old.number (first_waiting old.board.size r old.number))
+      → HasCalled r old.number met from new (Ok (Some words.LineFull)) (receives_any old.board.size r old.number (first_waiting old.board.size r old.number))
   any_line_full q stays it first =
       let full = takes_line_full q stays it in
       let found = first_is (unwrap_or from 0) q new.seen far.last (seen_none r from old new far on met its stays.made) first full.0 in
@@ -269,9 +269,9 @@ module _ (r : Run) (from : Option ℕ) (old new : PostView) (far : IsAsFar r fro
       ap (receives_any old.board.size r old.number) nobody ∙ ap (λ b. cond b (Err words.Ended) (Err words.Nothing)) closed
 
   pub any_nothing : Stays old new → AreFoundEmpty old (scan old.board.size old.number (unwrap_or from 0)) false new
-      → HasDone r old.number met from new (Ok (Some words.Nothing)) (receives_any old.board.size r old.number (first_waiting old.board.size r old.number))
+      → HasCalled r old.number met from new (Ok (Some words.Nothing)) (receives_any old.board.size r old.number (first_waiting old.board.size r old.number))
   any_nothing stays it = refused stays words.Nothing _ (any_none false stays it)
 
   pub any_ended : Stays old new → AreFoundEmpty old (scan old.board.size old.number (unwrap_or from 0)) true new
-      → HasDone r old.number met from new (Ok (Some words.Ended)) (receives_any old.board.size r old.number (first_waiting old.board.size r old.number))
+      → HasCalled r old.number met from new (Ok (Some words.Ended)) (receives_any old.board.size r old.number (first_waiting old.board.size r old.number))
   any_ended stays it = refused stays words.Ended _ (any_none true stays it)

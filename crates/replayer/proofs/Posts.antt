@@ -17,8 +17,9 @@ use Rattle.board.proofs.PostLemmas.{at_set}
 use Rattle.schedule.specs.declared.command.Word.{Word}
 use Rattle.schedule.specs.Meaning.{Run, start}
 use Rattle.outcomes.specs.declared.error.ReplayError.{ReplayError}
-use Rattle.replayer.proofs.Alone.{nothing_more}
-use Rattle.replayer.specs.Agreement.{GoesOn, IsAsFar, IsMet, HasGone, HasDone, Does, ArePosts, Agrees, HasActed}
+use Rattle.chart.proofs.Places.{slice_get-set_same, slice_get-set_other}
+use Rattle.chart.proofs.Alone.{nothing_more}
+use Rattle.replayer.specs.Agreement.{GoesOn, IsAsFar, IsMet, HasGone, HasCalled, Does, ArePosts, Agrees, HasActed}
 
 -- they are of one board
 pub one_board : (board : BoardView) (posts : List PostView) → ArePosts board posts → AreOfOneBoard posts
@@ -63,20 +64,6 @@ met_posts board old new are met = record {
       (ap (λ (post : PostView). post.board) its.2 ∙ was.0, ap (λ (post : PostView). post.number) its.2 ∙ was.1);
 }
 
--- the element that was put is there
-pub at_put : {X : Type 0} (xs : List X) (i : ℕ) (x : X) → i < length xs → slice_get (set xs i x) i ≡ Some x
-at_put [] i x within = absurd (omega (arith, within))
-at_put (y ∷ xs) zero x within = refl
-at_put (y ∷ xs) (suc i) x within = at_put xs i x (omega (arith, within))
-
--- and each other one as before
-pub at_other : {X : Type 0} (xs : List X) (i j : ℕ) (x : X) → j ≢ i → slice_get (set xs i x) j ≡ slice_get xs j
-at_other [] i j x ne = refl
-at_other (y ∷ xs) zero zero x ne = absurd (ne refl)
-at_other (y ∷ xs) zero (suc j) x ne = refl
-at_other (y ∷ xs) (suc i) zero x ne = refl
-at_other (y ∷ xs) (suc i) (suc j) x ne = at_other xs i j x (λ same. ne (ap suc same))
-
 module _ (board : BoardView) (r : Run) (posts : List PostView) (last : List (Option ℕ)) (agrees : Agrees board r posts last)
     (i : ℕ) (old new : PostView) (was from : Option ℕ) (at : slice_get posts i ≡ Some old) (at_last : slice_get last i ≡ Some was) (on : GoesOn old new)
     (them : List PostView) (met : HaveMet (set posts i new) them) where
@@ -91,7 +78,7 @@ module _ (board : BoardView) (r : Run) (posts : List PostView) (last : List (Opt
   other_own j x at_x ne =
       let within = slice_get_within posts j x at_x in
       let at_l = slice_get-get_or last j was (omega (arith, within, agrees.posts.many, agrees.as_many)) in
-      (met.joint j x (at_other posts i j new ne ∙ at_x)).own ∙ (agrees.far j x (get_or last j was) at_x at_l).made
+      (met.joint j x (slice_get-set_other posts i j new ne ∙ at_x)).own ∙ (agrees.far j x (get_or last j was) at_x at_l).made
 
   others : (q : ℕ) → 1 ≤ q → q ≤ new.board.size → q ≢ new.number → own met.history q ≡ own r.history q
   others zero low high ne = absurd (omega (arith, low))
@@ -102,7 +89,7 @@ module _ (board : BoardView) (r : Run) (posts : List PostView) (last : List (Opt
       subst (λ q. own met.history q ≡ own r.history q) its.1 (other_own j (get_or posts j old) at_x (λ same. ne (ap suc same ∙ sym number)))
 
   is_met : IsMet r.history new met.history
-  is_met = record { joint = met.joint i new (at_put posts i new (slice_get_within posts i old at)); others = others }
+  is_met = record { joint = met.joint i new (slice_get-set_same posts i new (slice_get_within posts i old at)); others = others }
 
   -- they are as far as a run that is as far as what they met
   with_run : (s : Run) → HasGone r s old.number met.history from new → Agrees board s them (set last i from)
@@ -139,7 +126,7 @@ module _ (board : BoardView) (r : Run) (posts : List PostView) (last : List (Opt
   pub has_acted : (answer : Result (Option Word) ReplayError) (acts : Run → Result Run Word) → Does old was answer new from acts → HasActed board r answer them (set last i from) (acts r)
   has_acted answer acts does = go answer (acts r) (does r (agrees.far i old was at at_last) met.history is_met)
     where
-      go : (answer : Result (Option Word) ReplayError) (acted : Result Run Word) → HasDone r old.number met.history from new answer acted → HasActed board r answer them (set last i from) acted
+      go : (answer : Result (Option Word) ReplayError) (acted : Result Run Word) → HasCalled r old.number met.history from new answer acted → HasActed board r answer them (set last i from) acted
       go (Ok None) (Ok s) done = with_run s done
       go (Ok None) (Err word) done = done
       go (Ok (Some noted)) (Ok s) done = done

@@ -14,7 +14,7 @@ use Rattle.chart.proofs.Scans.{IsOther, scan-others}
 use Rattle.board.specs.Views.{PostView}
 use Rattle.mailbox.specs.TakingAny.{Look, lanes_of, NoneWaits, IsOneOpen, IsDrained, IsEnd}
 use Rattle.schedule.specs.Meaning.{has_waiting}
-use Rattle.replayer.proofs.Alone.{no_longer, begins_longer}
+use Rattle.chart.proofs.Alone.{no_longer, begins_longer}
 
 -- a range without p has each other number of its bounds
 range_has : (t : ℕ → Bool) (p s l : ℕ) → list_all t (filter (λ q. not (q == p)) (range_with_len s l)) ≡ true → (q : ℕ) → s ≤ q → q < s + l → q ≢ p → t q ≡ true

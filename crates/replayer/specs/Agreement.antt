@@ -1,5 +1,5 @@
 -- How far the posts of a replay are (this project's profile).
-use Rattle.std.specs.Prelude.{◌≡◌, ◌≢◌, ℕ, suc, ◌≤◌, List, length, slice_get, Option, None, Some, unwrap_or, Result, Ok, Err}
+use Rattle.std.specs.Prelude.{◌≡◌, ◌≢◌, ℕ, suc, ◌≤◌, List, length, slice_get, Option, Some, unwrap_or, Result}
 use Rattle.chart.specs.declared.history.Occurrence.{Occurrence}
 use Rattle.chart.specs.Histories.{own, Begins}
 use Rattle.board.specs.Views.{BoardView, PostView, IsSamePost}
@@ -8,6 +8,7 @@ use Rattle.board.specs.Known.{IsSized}
 use Rattle.schedule.specs.declared.command.Word.{Word}
 use Rattle.schedule.specs.Meaning.{Run}
 use Rattle.outcomes.specs.declared.error.ReplayError.{ReplayError}
+use Rattle.outcomes.specs.Performed.{HasDone}
 
 -- a call leaves the same post, which has seen what it had seen
 pub record GoesOn (old new : PostView) : Type 0 where
@@ -37,18 +38,14 @@ pub record HasGone (s t : Run) (p : ℕ) (met : List Occurrence) (from : Option 
   pub other_regions : (q : ℕ) → q ≢ p → t.region q ≡ s.region q
   pub other_lasts : (q : ℕ) → q ≢ p → t.last q ≡ s.last q
 
--- what a call for a command left, memory aside: the command's run, or the old one with the word of its note
-abbrev pub HasDone : Run → ℕ → List Occurrence → Option ℕ → PostView → Result (Option Word) ReplayError → Result Run Word → Type 0
-HasDone r p met from new (Ok None) (Ok s) = HasGone r s p met from new
-HasDone r p met from new (Ok None) (Err word) = ⊥
-HasDone r p met from new (Ok (Some noted)) (Ok s) = ⊥
-HasDone r p met from new (Ok (Some noted)) (Err word) = (noted ≡ word) × HasGone r r p met from new
-HasDone r p met from new (Err e) acted = Unit {0}
+-- what a call for a command left
+abbrev pub HasCalled : Run → ℕ → List Occurrence → Option ℕ → PostView → Result (Option Word) ReplayError → Result Run Word → Type 0
+HasCalled r p met from new answer acted = HasDone (λ s. HasGone r s p met from new) r answer acted
 
 -- a call does what the command means, as the next meeting shows
 abbrev pub Does : PostView → Option ℕ → Result (Option Word) ReplayError → PostView → Option ℕ → (Run → Result Run Word) → Type 0
 Does old was answer new from acts =
-    (r : Run) → IsAsFar r was old → (met : List Occurrence) → IsMet r.history new met → HasDone r old.number met from new answer (acts r)
+    (r : Run) → IsAsFar r was old → (met : List Occurrence) → IsMet r.history new met → HasCalled r old.number met from new answer (acts r)
 
 -- these are all posts of the board, in order of their numbers
 pub record ArePosts (board : BoardView) (posts : List PostView) : Type 0 where
@@ -66,10 +63,6 @@ pub record Agrees (board : BoardView) (r : Run) (them : List PostView) (last : L
 abbrev pub IsReached : List PostView → List (Option ℕ) → Type 0
 IsReached posts last = (board : BoardView) × (r : Run) × Agrees board r posts last
 
--- what a command left, memory aside: the posts are as far as the command's run, or as the old one, with the word of its note
+-- what a command left
 abbrev pub HasActed : BoardView → Run → Result (Option Word) ReplayError → List PostView → List (Option ℕ) → Result Run Word → Type 0
-HasActed board r (Ok None) posts last (Ok s) = Agrees board s posts last
-HasActed board r (Ok None) posts last (Err word) = ⊥
-HasActed board r (Ok (Some noted)) posts last (Ok s) = ⊥
-HasActed board r (Ok (Some noted)) posts last (Err word) = (noted ≡ word) × Agrees board r posts last
-HasActed board r (Err e) posts last acted = Unit {0}
+HasActed board r answer posts last acted = HasDone (λ s. Agrees board s posts last) r answer acted

@@ -1,4 +1,5 @@
 pub mod Adding
+pub mod Along
 pub mod CapacityLine
 pub mod CommandLines
 pub mod Commands

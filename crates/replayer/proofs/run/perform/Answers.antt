@@ -3,8 +3,9 @@ use Rattle.std.proofs.lemmas.List.{take_all}
 use Rattle.board.specs.Views.{BoardView}
 use Rattle.schedule.specs.declared.command.Command.{Command}
 use Rattle.schedule.specs.Meaning.{acts, after}
+use Rattle.schedule.proofs.Along.{after_more}
+use Rattle.outcomes.proofs.Performed.{noted_next, silent_next}
 use Rattle.replayer.specs.Agreement.{Agrees}
-use Rattle.replayer.proofs.Performed.{noted_next, silent_next, after_more}
 use Rattle.replayer.proofs.Posts.{agrees_met}
 use Rattle.replayer.proofs.run.perform.Goals as goal
 use Rattle.replayer.proofs.run.perform.Goals.{in-Some+in_ok-push, in_default}
@@ -22,12 +23,12 @@ loop-command-preserved c board fresh =
     let acted = c.in_ok-word.ensures board s.run inv.0 in
     elim c.match-branch-2.branch [
       | in-Some+in_ok-push w ↦
-          let next = noted_next board s c.perform_one.new.posts c.perform_one.new.last command.line w.in-Some.word c.in_ok-word.field-0 (acts board.size board.capacity s.run command.actor command.action) c.loop-command.notes.items acted w.in-Some.is inv.1 in
+          let next = noted_next (λ x. Agrees board x c.perform_one.new.posts c.perform_one.new.last) s command.line w.in-Some.word c.in_ok-word.field-0 (acts board.size board.capacity s.run command.actor command.action) c.loop-command.notes.items acted w.in-Some.is inv.1 in
           let pushed = w.in_ok-push.ensures.items in
-          (rw more next.agrees, rw (more, w.notes-is, pushed) next.notes)
+          (rw more next.far, rw (more, w.notes-is, pushed) next.same)
       | in_default w ↦
-          let next = silent_next board s c.perform_one.new.posts c.perform_one.new.last command.line c.in_ok-word.field-0 (acts board.size board.capacity s.run command.actor command.action) c.loop-command.notes.items acted w.in_default.is inv.1 in
-          (rw more next.agrees, rw (more, w.notes-is) next.notes)
+          let next = silent_next (λ x. Agrees board x c.perform_one.new.posts c.perform_one.new.last) s command.line c.in_ok-word.field-0 (acts board.size board.capacity s.run command.actor command.action) c.loop-command.notes.items acted w.in_default.is inv.1 in
+          (rw more next.far, rw (more, w.notes-is) next.same)
     ]
 
 pub returns : goal.returns
