@@ -137,7 +137,7 @@ module _ (r : Run) (from : Option ℕ) (old new : PostView) (far : IsAsFar r fro
       refused stays words.Full (sends old.board.capacity r old.number q name) (rw (outside it.0.outside, closed_in q false it.0.opened, room, full) refl)
 
   -- A receive.
-  pub takes_got : (q : ℕ) (arrival : Arrival) → IsGot old q arrival new → (has_waiting r.history q old.number ≡ true) × (takes r old.number q ≡ Ok (taken_run r old.number q)) × HasGone r (taken_run r old.number q) old.number met (Some arrival.from) new
+  pub takes_got : (q : ℕ) (arrival : Arrival) → IsGot old q arrival new → (has_waiting r.history q old.number ≡ true) × (takes r old.number q ≡ Ok (taken_run r old.number q)) × HasGone r (taken_run r old.number q) old.number met (Some q) new
   takes_got q arrival it =
       let e = events.Receive new.number q old.region in
       let is : e ≡ events.Receive old.number q (r.region old.number) = ap (λ x. events.Receive x q old.region) on.same.number ∙ ap (events.Receive old.number q) far.region in
@@ -149,17 +149,17 @@ module _ (r : Run) (from : Option ℕ) (old new : PostView) (far : IsAsFar r fro
         record {
           history = sym one;
           region = it.makes.2.region ∙ far.region;
-          last = it.sender ∙ ap (λ b. cond b q (r.last old.number)) (sym (eq-eqb old.number old.number refl));
-          known = omega (arith, it.sender, it.two.3, ap (λ (b : BoardView). b.size) on.same.board);
+          last = ap (λ b. cond b q (r.last old.number)) (sym (eq-eqb old.number old.number refl));
+          known = omega (arith, it.two.3, ap (λ (b : BoardView). b.size) on.same.board);
           other_regions = λ x ne. refl;
           other_lasts = λ x ne. ap (λ b. cond b q (r.last x)) (ne_eqb x old.number ne);
         }
       )
 
-  pub receive_got : (q : ℕ) (arrival : Arrival) → IsGot old q arrival new → HasCalled r old.number met (Some arrival.from) new (Ok None) (receives r old.number q)
+  pub receive_got : (q : ℕ) (arrival : Arrival) → IsGot old q arrival new → HasCalled r old.number met (Some q) new (Ok None) (receives r old.number q)
   receive_got q arrival it =
       let its = takes_got q arrival it in
-      subst (λ a. HasCalled r old.number met (Some arrival.from) new (Ok None) a) (sym (ap (λ b. cond b (takes r old.number q) (cond (is_closed r.history q old.number) (Err words.Ended) (Err words.Nothing))) its.0 ∙ its.1)) its.2
+      subst (λ a. HasCalled r old.number met (Some q) new (Ok None) a) (sym (ap (λ b. cond b (takes r old.number q) (cond (is_closed r.history q old.number) (Err words.Ended) (Err words.Nothing))) its.0 ∙ its.1)) its.2
 
   -- on an empty lane
   pub receive_none : (q : ℕ) (its_end : Bool) → Stays old new → IsFoundEmpty old q its_end new → receives r old.number q ≡ cond its_end (Err words.Ended) (Err words.Nothing)

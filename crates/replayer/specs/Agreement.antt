@@ -59,6 +59,10 @@ pub record Agrees (board : BoardView) (r : Run) (them : List PostView) (last : L
   pub as_many : length last ≡ board.size
   pub far : (i : ℕ) (post : PostView) (from : Option ℕ) → slice_get them i ≡ Some post → slice_get last i ≡ Some from → IsAsFar r from post
 
+-- the posts are, from whomever they received last
+abbrev pub AreAsFar : BoardView → Run → List PostView → Type 0
+AreAsFar board r posts = (last : List (Option ℕ)) × Agrees board r posts last
+
 -- they are as far as some run
 abbrev pub IsReached : List PostView → List (Option ℕ) → Type 0
 IsReached posts last = (board : BoardView) × (r : Run) × Agrees board r posts last

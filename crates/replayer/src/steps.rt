@@ -52,8 +52,8 @@ fn receive(
     ensures does { Does post.old last.old result post.new last.new (λ r. receives r post.old.number from) }
 {
     match post.receive(from) {
-        Ok(Taken::Got(arrival)) => {
-            *last = Some(arrival.from);
+        Ok(Taken::Got(_)) => {
+            *last = Some(from);
             Ok(None)
         }
         Ok(Taken::Nothing) => Ok(Some(Word::Nothing)),

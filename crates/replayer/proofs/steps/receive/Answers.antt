@@ -5,7 +5,7 @@ pub returns-in-Ok-Got-clause-does : goal.returns-in-Ok-Got-clause-does
 returns-in-Ok-Got-clause-does c r far met its =
     let sound = c.in-Ok-Got.ensures.sound in
     let answer = rw c.in-Ok-Got.field-0-is at c.in-Ok-Got.ensures.answer in
-    receive_got r c.args.last.now c.args.post.now c.receive.new.self far (record { same = sound.same; later = sound.later }) met its c.args.from c.in-Ok-Got.arrival answer
+    receive_got r c.args.last.now c.args.post.now c.receive.new.self far (record { same = sound.same; later = sound.later }) met its c.args.from c.in-Ok-Got.field-0-0 answer
 
 pub returns-in-Ok-Nothing-clause-does : goal.returns-in-Ok-Nothing-clause-does
 returns-in-Ok-Nothing-clause-does c r far met its =

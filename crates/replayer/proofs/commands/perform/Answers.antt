@@ -6,12 +6,8 @@ use Rattle.schedule.specs.Meaning.{acts, after}
 use Rattle.schedule.proofs.Along.{after_more}
 use Rattle.outcomes.proofs.Performed.{noted_next, silent_next}
 use Rattle.replayer.specs.Agreement.{Agrees}
-use Rattle.replayer.proofs.Posts.{agrees_met}
-use Rattle.replayer.proofs.run.perform.Goals as goal
-use Rattle.replayer.proofs.run.perform.Goals.{in-Some+in_ok-push, in_default}
-
-pub loop-command-init : goal.loop-command-init
-loop-command-init c board agrees = (agrees_met board _ c.args.posts.now c.args.last.now c.meet_them.new.posts agrees c.meet_them.ensures.met, c.new-notes.ensures.items)
+use Rattle.replayer.proofs.commands.perform.Goals as goal
+use Rattle.replayer.proofs.commands.perform.Goals.{in-Some+in_ok-push, in_default}
 
 pub loop-command-preserved : goal.loop-command-preserved
 loop-command-preserved c board fresh =

@@ -4,7 +4,7 @@ use Rattle.board.specs.Views.{BoardView, PostView}
 use Rattle.schedule.specs.Meaning.{acts}
 use Rattle.replayer.specs.Agreement.{Does, HasActed}
 use Rattle.replayer.proofs.Posts.{put_posts, has_acted}
-use Rattle.replayer.proofs.run.perform_one.Goals as goal
+use Rattle.replayer.proofs.commands.perform_one.Goals as goal
 
 pub act-requires-clause-known : goal.act-requires-clause-known
 act-requires-clause-known c =
