@@ -1,5 +1,5 @@
 -- All posts of a board, which meet after one of them made a call.
-use Rattle.std.proofs.Common.{◌≡◌, ◌≢◌, ℕ, zero, suc, ◌+◌, ◌<◌, ◌≤◌, ◌⊎◌, inl, inr, ⊎_elim, List, [], ◌∷◌, length, replicate, set, get_or, Option, Some, None, Result, Ok, Err, refl, sym, ap, ◌∙◌, subst, arith}
+use Rattle.std.proofs.Common.{◌≡◌, ◌≢◌, ℕ, zero, suc, ◌+◌, ◌<◌, ◌≤◌, ◌⊎◌, inl, inr, ⊎_elim, List, [], ◌∷◌, length, replicate, set, get_or, Option, Some, None, Result, Ok, Err, refl, sym, ap, ◌∙◌, subst, subst₂, arith}
 use Rattle.std.specs.Prelude.{slice_get, map, unwrap_or}
 use Rattle.std.proofs.lemmas.List.{length-set, length-map, length-replicate, get_or-replicate}
 use Rattle.std.proofs.lemmas.Option.{slice_get-get_or, slice_get_within, same_Some, get_or_from_slice_get}
@@ -7,19 +7,19 @@ use Rattle.chart.specs.declared.history.Occurrence.{Occurrence}
 use Rattle.chart.specs.Histories.{own, IsLegal, Begins}
 use Rattle.board.specs.Views.{BoardView, PostView, IsSamePost}
 use Rattle.board.specs.declared.gathering.Gathered.{Gathered}
-use Rattle.board.specs.Boards.{AreNewPosts}
 use Rattle.board.specs.Gathering.{IsWhole, size_of}
-use Rattle.board.specs.Known.{IsSized}
 use Rattle.board.specs.Meeting.{AreOfOneBoard, IsJoint, HaveMet, AreNotAll}
 use Rattle.chart.specs.HistoryLines.{history_lines}
 use Rattle.chart.specs.Reports.{AreReports}
 use Rattle.board.proofs.PostLemmas.{at_set}
+use Rattle.schedule.specs.declared.command.Command.{Command}
 use Rattle.schedule.specs.declared.command.Word.{Word}
-use Rattle.schedule.specs.Meaning.{Run, start}
+use Rattle.schedule.specs.Meaning.{Run, start, acts}
 use Rattle.outcomes.specs.declared.error.ReplayError.{ReplayError}
+use Rattle.outcomes.specs.Performed.{HasDone}
 use Rattle.chart.proofs.Places.{slice_get-set_same, slice_get-set_other}
 use Rattle.chart.proofs.Alone.{nothing_more}
-use Rattle.replayer.specs.Agreement.{GoesOn, IsAsFar, IsMet, HasGone, HasCalled, Does, ArePosts, Agrees, HasActed}
+use Rattle.replayer.specs.Agreement.{GoesOn, IsAsFar, IsMet, HasGone, HasCalled, Does, ArePosts, AreFresh, Agrees, HasActed}
 
 -- they are of one board
 pub one_board : (board : BoardView) (posts : List PostView) → ArePosts board posts → AreOfOneBoard posts
@@ -123,10 +123,13 @@ module _ (board : BoardView) (r : Run) (posts : List PostView) (last : List (Opt
           }
 
   -- what the command left, now that they have met
-  pub has_acted : (answer : Result (Option Word) ReplayError) (acts : Run → Result Run Word) → Does old was answer new from acts → HasActed board r answer them (set last i from) (acts r)
-  has_acted answer acts does = go answer (acts r) (does r (agrees.far i old was at at_last) met.history is_met)
+  pub has_acted : (command : Command) (answer : Result (Option Word) ReplayError) → command.actor ≡ suc i → Does old was command.action answer new from → HasActed board r command answer them (set last i from)
+  has_acted command answer its does = go answer (acts board.size board.capacity r command.actor command.action) as_acts
     where
-      go : (answer : Result (Option Word) ReplayError) (acted : Result Run Word) → HasCalled r old.number met.history from new answer acted → HasActed board r answer them (set last i from) acted
+      as_acts : HasCalled r old.number met.history from new answer (acts board.size board.capacity r command.actor command.action)
+      as_acts = subst₂ (λ (b : BoardView) (p : ℕ). HasCalled r old.number met.history from new answer (acts b.size b.capacity r p command.action)) mine.0 (mine.1 ∙ sym its) (does r (agrees.far i old was at at_last) met.history is_met)
+
+      go : (answer : Result (Option Word) ReplayError) (acted : Result Run Word) → HasCalled r old.number met.history from new answer acted → HasDone (λ s. Agrees board s them (set last i from)) r answer acted
       go (Ok None) (Ok s) done = with_run s done
       go (Ok None) (Err word) done = done
       go (Ok (Some noted)) (Ok s) done = done
@@ -161,17 +164,17 @@ agrees_met board r posts last them agrees met = record {
 }
 
 -- new posts are as far as the start
-pub agrees_new : (board : BoardView) (posts : List PostView) (last : List (Option ℕ)) → IsSized board.size board.capacity → AreNewPosts board posts → last ≡ replicate board.size None → Agrees board start.run posts last
-agrees_new board posts last sized new none = record {
+pub agrees_new : (board : BoardView) (posts : List PostView) (last : List (Option ℕ)) → AreFresh board posts → last ≡ replicate (length posts) None → Agrees board start.run posts last
+agrees_new board posts last fresh none = record {
   posts = record {
-    sized = sized;
-    many = new.as_many;
-    each = λ i post at. let its = new.each i post at in (ap (λ (x : PostView). x.board) its, ap (λ (x : PostView). x.number) its);
+    sized = fresh.sized;
+    many = fresh.new.as_many;
+    each = λ i post at. let its = fresh.new.each i post at in (ap (λ (x : PostView). x.board) its, ap (λ (x : PostView). x.number) its);
   };
-  as_many = ap length none ∙ length-replicate {A = Option ℕ} board.size None;
+  as_many = ap length none ∙ length-replicate {A = Option ℕ} (length posts) None ∙ fresh.new.as_many;
   far = λ i post from at at_last.
-      let its = new.each i post at in
-      let nobody : from ≡ None = every_none board.size i from (ap (λ (xs : List (Option ℕ)). slice_get xs i) (sym none) ∙ at_last) in
+      let its = fresh.new.each i post at in
+      let nobody : from ≡ None = every_none (length posts) i from (ap (λ (xs : List (Option ℕ)). slice_get xs i) (sym none) ∙ at_last) in
       subst (λ o. IsAsFar start.run o post) (sym nobody) (subst (IsAsFar start.run None) (sym its) (record { seen = refl; made = refl; region = refl; last = refl; known = omega arith }));
 }
   where

@@ -2,12 +2,20 @@
 use Rattle.std.specs.Prelude.{◌≡◌, ◌≢◌, ℕ, suc, ◌≤◌, List, length, slice_get, Option, Some, unwrap_or, Result}
 use Rattle.chart.specs.declared.history.Occurrence.{Occurrence}
 use Rattle.chart.specs.Histories.{own, Begins}
+use Rattle.chart.specs.HistoryLines.{history_lines}
+use Rattle.chart.specs.Reports.{AreReports}
+use Rattle.board.specs.declared.gathering.Gathered.{Gathered}
+use Rattle.board.specs.Boards.{AreNewPosts}
 use Rattle.board.specs.Views.{BoardView, PostView, IsSamePost}
 use Rattle.board.specs.Meeting.{IsJoint}
 use Rattle.board.specs.Known.{IsSized}
 use Rattle.schedule.specs.declared.command.Word.{Word}
-use Rattle.schedule.specs.Meaning.{Run}
+use Rattle.schedule.specs.declared.command.Action.{Action}
+use Rattle.schedule.specs.declared.command.Command.{Command}
+use Rattle.schedule.specs.declared.command.Note.{Note}
+use Rattle.schedule.specs.Meaning.{Run, acts, after}
 use Rattle.outcomes.specs.declared.error.ReplayError.{ReplayError}
+use Rattle.outcomes.specs.Outcomes.{AreByLine}
 use Rattle.outcomes.specs.Performed.{HasDone}
 
 -- a call leaves the same post, which has seen what it had seen
@@ -42,10 +50,11 @@ pub record HasGone (s t : Run) (p : ℕ) (met : List Occurrence) (from : Option 
 abbrev pub HasCalled : Run → ℕ → List Occurrence → Option ℕ → PostView → Result (Option Word) ReplayError → Result Run Word → Type 0
 HasCalled r p met from new answer acted = HasDone (λ s. HasGone r s p met from new) r answer acted
 
--- a call does what the command means, as the next meeting shows
-abbrev pub Does : PostView → Option ℕ → Result (Option Word) ReplayError → PostView → Option ℕ → (Run → Result Run Word) → Type 0
-Does old was answer new from acts =
-    (r : Run) → IsAsFar r was old → (met : List Occurrence) → IsMet r.history new met → HasCalled r old.number met from new answer (acts r)
+-- a call does what the action means, as the next meeting shows
+abbrev pub Does : PostView → Option ℕ → Action → Result (Option Word) ReplayError → PostView → Option ℕ → Type 0
+Does old was action answer new from =
+    (r : Run) → IsAsFar r was old → (met : List Occurrence) → IsMet r.history new met
+    → HasCalled r old.number met from new answer (acts old.board.size old.board.capacity r old.number action)
 
 -- these are all posts of the board, in order of their numbers
 pub record ArePosts (board : BoardView) (posts : List PostView) : Type 0 where
@@ -59,14 +68,27 @@ pub record Agrees (board : BoardView) (r : Run) (them : List PostView) (last : L
   pub as_many : length last ≡ board.size
   pub far : (i : ℕ) (post : PostView) (from : Option ℕ) → slice_get them i ≡ Some post → slice_get last i ≡ Some from → IsAsFar r from post
 
--- the posts are, from whomever they received last
-abbrev pub AreAsFar : BoardView → Run → List PostView → Type 0
-AreAsFar board r posts = (last : List (Option ℕ)) × Agrees board r posts last
-
 -- they are as far as some run
 abbrev pub IsReached : List PostView → List (Option ℕ) → Type 0
 IsReached posts last = (board : BoardView) × (r : Run) × Agrees board r posts last
 
 -- what a command left
-abbrev pub HasActed : BoardView → Run → Result (Option Word) ReplayError → List PostView → List (Option ℕ) → Result Run Word → Type 0
-HasActed board r answer posts last acted = HasDone (λ s. Agrees board s posts last) r answer acted
+abbrev pub HasActed : BoardView → Run → Command → Result (Option Word) ReplayError → List PostView → List (Option ℕ) → Type 0
+HasActed board r command answer posts last =
+    HasDone (λ s. Agrees board s posts last) r answer (acts board.size board.capacity r command.actor command.action)
+
+-- what these commands left: the posts are as far as they lead, and these are their notes as they came
+pub record HavePerformed (board : BoardView) (commands : List Command) (posts : List PostView) (last : List (Option ℕ)) (notes : List Note) : Type 0 where
+  pub agrees : Agrees board (after board.size board.capacity commands).run posts last
+  pub noted : notes ≡ (after board.size board.capacity commands).notes
+
+-- these are all posts of a new board
+pub record AreFresh (board : BoardView) (posts : List PostView) : Type 0 where
+  pub sized : IsSized board.size board.capacity
+  pub new : AreNewPosts board posts
+
+-- what the board comes to by these commands: the chart of the history that they make, with its reports, and the notes by line
+pub record HasCome (board : BoardView) (commands : List Command) (gathered : Gathered) (listed : List Note) : Type 0 where
+  pub chart : gathered.chart ≡ history_lines board.size (after board.size board.capacity commands).run.history
+  pub reports : AreReports gathered.chart gathered.reports.items
+  pub notes : AreByLine (after board.size board.capacity commands).notes listed

@@ -1,12 +1,10 @@
 //! A schedule's commands, by the posts of a board.
-ghost use Rattle.std.specs.Prelude.{◌≡◌, ℕ, List, length, replicate, All, IfOk};
+ghost use Rattle.std.specs.Prelude.{◌≡◌, ℕ, List, Option, length, replicate, All, IfOk};
 ghost use Rattle.board.specs.Views.{BoardView};
-ghost use Rattle.board.specs.Boards.{AreNewPosts};
-ghost use Rattle.board.specs.Known.{IsSized};
 ghost use Rattle.board.specs.Meeting.{HaveMet};
 ghost use Rattle.schedule.specs.Plans.{IsAmong};
-ghost use Rattle.schedule.specs.Meaning.{Run, start, acts, after};
-ghost use Rattle.replayer.specs.Agreement.{ArePosts, Agrees, IsReached, AreAsFar, HasActed};
+ghost use Rattle.schedule.specs.Meaning.{Run, start};
+ghost use Rattle.replayer.specs.Agreement.{ArePosts, Agrees, IsReached, HasActed, HavePerformed, AreFresh};
 
 use crate::steps::act;
 use board::{MeetError, Post, meet_all};
@@ -36,7 +34,7 @@ fn perform_one(
     requires among { IsAmong (length posts.old) command.now }
     requires reached { IsReached posts.old last.old }
     ensures { (board : BoardView) (r : Run) → Agrees board r posts.old last.old
-        → HasActed board r result posts.new last.new (acts board.size board.capacity r command.now.actor command.now.action) }
+        → HasActed board r command.now result posts.new last.new }
 {
     let place = command.actor.place();
     let word = act(alloc, &mut posts[place], &mut last[place], command.action)?;
@@ -55,8 +53,7 @@ fn perform(
     requires among { All (IsAmong (length posts.old)) commands.now }
     requires fresh { (board : BoardView) × Agrees board start.run posts.old last.old }
     ensures { IfOk result (λ notes. (board : BoardView) → Agrees board start.run posts.old last.old
-        → Agrees board (after board.size board.capacity commands.now).run posts.new last.new
-        × (notes.items ≡ (after board.size board.capacity commands.now).notes)) }
+        → HavePerformed board commands.now posts.new last.new notes.items) }
 {
     let mut notes = Vec::new(alloc);
     for command in commands {
@@ -88,11 +85,10 @@ pub fn perform_all(
     posts: &mut [Post<'_>],
     commands: &[Command],
 ) -> Result<Vec<Note>, ReplayError>
-    requires sized { (board : BoardView) × IsSized board.size board.capacity × AreNewPosts board posts.old }
+    requires new { (board : BoardView) × AreFresh board posts.old }
     requires among { All (IsAmong (length posts.old)) commands.now }
-    ensures { IfOk result (λ notes. (board : BoardView) → IsSized board.size board.capacity → AreNewPosts board posts.old
-        → AreAsFar board (after board.size board.capacity commands.now).run posts.new
-        × (notes.items ≡ (after board.size board.capacity commands.now).notes)) }
+    ensures { IfOk result (λ notes. (board : BoardView) → AreFresh board posts.old
+        → (last : List (Option ℕ)) × HavePerformed board commands.now posts.new last notes.items) }
 {
     let mut last = nobody(alloc, posts.len())?;
     meet_them(posts);

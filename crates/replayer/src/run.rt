@@ -1,16 +1,12 @@
 //! The whole replay.
-ghost use Rattle.std.specs.Prelude.{◌≡◌, List, length, All, IfOk};
+ghost use Rattle.std.specs.Prelude.{length, All, IfOk};
 ghost use Rattle.board.specs.Views.{BoardView};
-ghost use Rattle.board.specs.Boards.{IsNewBoard, AreNewPosts};
+ghost use Rattle.board.specs.Boards.{IsNewBoard};
 ghost use Rattle.board.specs.Gathering.{IsWhole, Gathers};
-ghost use Rattle.board.specs.Known.{IsSized};
 ghost use Rattle.board.specs.Meeting.{AreOfOneBoard};
-ghost use Rattle.chart.specs.HistoryLines.{history_lines};
-ghost use Rattle.chart.specs.Reports.{AreReports};
-ghost use Rattle.outcomes.specs.Outcomes.{AreByLine, IsOutcome};
+ghost use Rattle.outcomes.specs.Outcomes.{IsOutcome};
 ghost use Rattle.schedule.specs.Plans.{IsAmong};
-ghost use Rattle.schedule.specs.Meaning.{after};
-ghost use Rattle.replayer.specs.Agreement.{ArePosts};
+ghost use Rattle.replayer.specs.Agreement.{ArePosts, AreFresh, HasCome};
 
 use crate::commands::perform_all;
 use board::{Board, BoardError, GatherCause, GatherError, Gathered, Post, PostsError};
@@ -50,12 +46,10 @@ fn play(
     posts: Vec<Post<'_>>,
     commands: &[Command],
 ) -> Result<(Gathered, Vec<Note>), ReplayError>
-    requires sized { (board : BoardView) × IsSized board.size board.capacity × AreNewPosts board posts.items }
+    requires new { (board : BoardView) × AreFresh board posts.items }
     requires among { All (IsAmong (length posts.items)) commands.now }
-    ensures { IfOk result (λ played. (board : BoardView) → IsSized board.size board.capacity → AreNewPosts board posts.entry.items
-        → (played.0.chart ≡ history_lines board.size (after board.size board.capacity commands.now).run.history)
-        × AreReports played.0.chart played.0.reports.items
-        × AreByLine (after board.size board.capacity commands.now).notes played.1.items) }
+    ensures { IfOk result (λ played. (board : BoardView) → AreFresh board posts.entry.items
+        → HasCome board commands.now played.0 played.1.items) }
 {
     let mut posts = posts;
     let mut notes = perform_all(alloc, &mut posts, commands)?;

@@ -1,6 +1,5 @@
 //! What each command does by the post of its instance.
 ghost use Rattle.std.specs.Prelude.{◌≡◌, ◌≢◌, ◌≤◌, ℕ, Option, unwrap_or, Ok};
-ghost use Rattle.schedule.specs.Meaning.{sends, receives, receives_any, first_waiting, closes, opens, shuts, acts};
 ghost use Rattle.schedule.specs.Plans.{HasPartner};
 ghost use Rattle.replayer.specs.Agreement.{GoesOn, Does};
 
@@ -22,7 +21,7 @@ fn send(
     requires two { post.old.number ≢ to }
     requires places { 1 ≤ post.old.board.capacity }
     ensures goes_on { GoesOn post.old post.new }
-    ensures does { (from : Option ℕ) → Does post.old from result post.new from (λ r. sends post.old.board.capacity r post.old.number to name) }
+    ensures does { (from : Option ℕ) → Does post.old from (Action.Send to name) result post.new from }
 {
     let Ok(message) = Message::new(name, Vec::new(alloc)) else {
         unreachable!()
@@ -49,7 +48,7 @@ fn receive(
     requires known { from ≤ post.old.board.size }
     requires two { post.old.number ≢ from }
     ensures goes_on { GoesOn post.old post.new }
-    ensures does { Does post.old last.old result post.new last.new (λ r. receives r post.old.number from) }
+    ensures does { Does post.old last.old (Action.Receive from) result post.new last.new }
 {
     match post.receive(from) {
         Ok(Taken::Got(_)) => {
@@ -69,7 +68,7 @@ fn close(post: &mut Post<'_>, to: InstanceNo) -> Option<Word>
     requires known { to ≤ post.old.board.size }
     requires two { post.old.number ≢ to }
     ensures goes_on { GoesOn post.old post.new }
-    ensures does { (from : Option ℕ) → Does post.old from (Ok result) post.new from (λ r. closes r post.old.number to) }
+    ensures does { (from : Option ℕ) → Does post.old from (Action.Close to) (Ok result) post.new from }
 {
     match post.close(to) {
         Ok(()) => None,
@@ -81,7 +80,7 @@ fn close(post: &mut Post<'_>, to: InstanceNo) -> Option<Word>
 /// Opens a coregion.
 fn open(post: &mut Post<'_>) -> Option<Word>
     ensures goes_on { GoesOn post.old post.new }
-    ensures does { (from : Option ℕ) → Does post.old from (Ok result) post.new from (λ r. opens r post.old.number) }
+    ensures does { (from : Option ℕ) → Does post.old from Action.Open (Ok result) post.new from }
 {
     match post.open_coregion() {
         Ok(()) => None,
@@ -93,7 +92,7 @@ fn open(post: &mut Post<'_>) -> Option<Word>
 /// Closes the coregion that is open.
 fn shut(post: &mut Post<'_>) -> Option<Word>
     ensures goes_on { GoesOn post.old post.new }
-    ensures does { (from : Option ℕ) → Does post.old from (Ok result) post.new from (λ r. shuts r post.old.number) }
+    ensures does { (from : Option ℕ) → Does post.old from Action.Shut (Ok result) post.new from }
 {
     match post.close_coregion() {
         Ok(()) => None,
@@ -109,7 +108,7 @@ fn receive_any(
 ) -> Result<Option<Word>, ReplayError>
     requires known { unwrap_or last.old 0 ≤ post.old.board.size }
     ensures goes_on { GoesOn post.old post.new }
-    ensures does { Does post.old last.old result post.new last.new (λ r. receives_any post.old.board.size r post.old.number (first_waiting post.old.board.size r post.old.number)) }
+    ensures does { Does post.old last.old Action.Any result post.new last.new }
 {
     match any_from(post, *last) {
         Ok(Taken::Got(arrival)) => {
@@ -135,7 +134,7 @@ pub fn act(
     requires partner { HasPartner post.old.board.size post.old.number action }
     requires known { unwrap_or last.old 0 ≤ post.old.board.size }
     ensures goes_on { GoesOn post.old post.new }
-    ensures does { Does post.old last.old result post.new last.new (λ r. acts post.old.board.size post.old.board.capacity r post.old.number action) }
+    ensures does { Does post.old last.old action result post.new last.new }
 {
     match action {
         Action::Send { to, name } => send(alloc, post, to, name),

@@ -31,10 +31,5 @@ returns c board r agrees =
     let at = slice_get_read c.args.posts.now (length c.args.posts.now) place old refl (omega (arith, c.place-place.ensures.value, c.requires.among.0)) c.index-posts-place.is in
     let at_last = slice_get_read c.args.last.now (length c.args.last.now) place was refl (omega (arith, c.place-place.ensures.value, c.requires.among.0, agrees.as_many, agrees.posts.many)) c.index-last-place.is in
     let on = rw (← c.index-posts-place.is) at c.in_ok-word.ensures.goes_on in
-    let does = subst₂ (λ (x : PostView) (o : Option ℕ). Does x o (Ok c.in_ok-word.word) c.act.new.post c.act.new.last (λ s. acts x.board.size x.board.capacity s x.number command.action)) (sym c.index-posts-place.is) (sym c.index-last-place.is) c.in_ok-word.ensures.does in
-    let acted = has_acted board r c.args.posts.now c.args.last.now agrees place old c.act.new.post was c.act.new.last at at_last on c.meet_them.new.posts c.meet_them.ensures.met (Ok c.in_ok-word.word) (λ s. acts old.board.size old.board.capacity s old.number command.action) does in
-    let its = agrees.posts.each place old at in
-    let last = set c.args.last.now place c.act.new.last in
-    let number : old.number ≡ command.actor = its.1 ∙ sym c.place-place.ensures.value in
-    subst (λ p. HasActed board r (Ok c.in_ok-word.word) c.meet_them.new.posts last (acts board.size board.capacity r p command.action)) number
-    (subst (λ (b : BoardView). HasActed board r (Ok c.in_ok-word.word) c.meet_them.new.posts last (acts b.size b.capacity r old.number command.action)) its.0 acted)
+    let does = subst₂ (λ (x : PostView) (o : Option ℕ). Does x o command.action (Ok c.in_ok-word.word) c.act.new.post c.act.new.last) (sym c.index-posts-place.is) (sym c.index-last-place.is) c.in_ok-word.ensures.does in
+    has_acted board r c.args.posts.now c.args.last.now agrees place old c.act.new.post was c.act.new.last at at_last on c.meet_them.new.posts c.meet_them.ensures.met command (Ok c.in_ok-word.word) c.place-place.ensures.value does
