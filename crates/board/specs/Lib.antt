@@ -7,6 +7,7 @@ pub mod Known
 pub mod Meeting
 pub mod Parting
 pub mod Parts
+pub mod Provisions
 pub mod Receipts
 pub mod Sending
 pub mod SendingMany

@@ -26,6 +26,7 @@ mod receive;
 mod receive_up_to;
 mod receiving;
 mod receiving_several;
+mod reserving;
 mod room;
 mod send;
 mod send_all;
@@ -38,7 +39,7 @@ pub use error::{
     BoardError, CloseError, GatherCause, MeetError, Memory, PostsError, RegionError, SendError,
     TakeError,
 };
-pub use gathering::{GatherError, Gathered, Left};
+pub use gathering::{GatherError, Gathered, Left, gather};
 pub use meeting::{meet, meet_all};
 pub use post::Post;
 

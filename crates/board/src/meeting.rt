@@ -1,5 +1,6 @@
 //! How posts meet.
 ghost use Rattle.std.specs.Prelude.{◌≡◌, ◌<◌, ◌≤◌, ℕ, length, slice_get, Some, true, false, IfSome, IfNone};
+ghost use Rattle.chart.specs.declared.instance.TheConstants.{MAX_INSTANCES};
 ghost use Rattle.board_table.specs.Knowing.{held};
 ghost use Rattle.board.specs.Views.{PostView};
 ghost use Rattle.board.specs.Meeting.{AreOfOneBoard, HaveMet, HaveHeard, HasNoPost, AreAll, AreNotAll, IsAt, Hears, IsNoteOf, MeetsAll};

@@ -1,12 +1,18 @@
 //! How posts leave their board, and what they leave.
-ghost use Rattle.std.specs.Prelude.{◌≡◌, ◌+◌, ◌≤◌, ◌<◌, ◌^◌, ℕ, List, [], ◌++◌, length, map, vec_capacity, Option, All};
+ghost use Rattle.std.specs.Prelude.{◌≡◌, ◌≢◌, ◌+◌, ◌≤◌, ◌<◌, ◌^◌, ℕ, List, [], ◌++◌, length, map, slice_get, vec_capacity, Option, Some, All};
+ghost use Rattle.atomic_table.specs.Seated.{TableId};
+ghost use Rattle.chart.specs.declared.history.Occurrence.{Occurrence};
 ghost use Rattle.chart.specs.Histories.{chart_of};
 ghost use Rattle.chart.specs.Reports.{IsReportIn, receives_of};
 ghost use Rattle.board_table.specs.declared.packet.Packet.{Packet};
 ghost use Rattle.board_table.specs.Leaving.{ComeFirst, HaveLeft};
-ghost use Rattle.board.specs.Views.{line_of};
+ghost use Rattle.board.specs.Views.{PostView, line_of};
+ghost use Rattle.board.specs.Meeting.{HasPost};
+ghost use Rattle.board.specs.Gathering.{left_view, left_on};
+ghost use Rattle.board.specs.Parting.{IsAmong, room_lane, IsLaneRoom, receives_until, HaveSeen, HaveParted, AreReady};
 
 use crate::gathering::Left;
+use crate::meeting::place_of;
 use crate::post::Post;
 use board_table::{Lane, Seat, Words, draw, leave};
 use chart::{InstanceNo, Line, Message, Report};
@@ -25,24 +31,32 @@ pub(crate) struct Room {
     pub messages: Vec<Message>,
 }
 
+/// A post that has left its board, and the messages that waited for it.
+#[derive(Drop)]
+pub(crate) struct Leaver {
+    pub number: InstanceNo,
+    pub seat: Seat,
+}
+
 impl<'a> Post<'a> {
     /// Leaves its board, with the messages that wait for it. It takes no memory.
-    pub(crate) fn part(self) -> (Line, Vec<Report>, &'a Words, Seat)
+    pub(crate) fn part(self) -> (Line, Vec<Report>, Leaver)
         ensures line { result.0 ≡ record { instance = self.entry.number; events = line_of self.entry } }
         ensures receives { map (λ report. report.receive) result.1.items ≡ receives_of (record { instance = self.entry.number; events = line_of self.entry }) }
         ensures reports { All (IsReportIn (chart_of self.entry.seen)) result.1.items }
-        ensures table { result.3.table_id ≡ result.2.now.table_id }
-        ensures left { HaveLeft self.entry.board.size self.entry.board.capacity self.entry.number self.entry.seen 1 self.entry.board.size result.3.me.1 }
+        ensures table { result.2.seat.table_id ≡ self.entry.board.table }
+        ensures left { HaveLeft self.entry.board.size self.entry.board.capacity self.entry.number self.entry.seen 1 self.entry.board.size result.2.seat.me.1 }
     {
         let Post {
             words,
             mut seat,
+            number,
             recorder,
             ..
         } = self;
         leave(words, &mut seat);
         let (line, reports) = recorder.into_parts();
-        (line, reports, words, seat)
+        (line, reports, Leaver { number, seat })
     }
 }
 
@@ -75,5 +89,63 @@ pub(crate) fn draw_all(words: &Words, seat: &mut Seat, room: Room) -> Left
         sender,
         receiver,
         messages,
+    }
+}
+
+/// Takes the post of this number out of these.
+fn take_post<'a>(posts: &mut Vec<Post<'a>>, number: usize) -> Post<'a>
+    requires number { 1 ≤ number }
+    requires has { HasPost posts.old.items number }
+    ensures number { result.number ≡ number }
+    ensures among { IsAmong posts.old.items result }
+    ensures kept { (i : ℕ) (post : PostView) → slice_get posts.new.items i ≡ Some post → IsAmong posts.old.items post }
+    ensures others { (p : ℕ) → p ≢ number → HasPost posts.old.items p → HasPost posts.new.items p }
+{
+    let Some(place) = place_of(posts.as_slice(), number) else {
+        unreachable!()
+    };
+    posts.remove(place)
+}
+
+/// All posts of a board, which have met, leave it, by their numbers. There is room for their lines and their reports, and for
+/// themselves.
+pub(crate) fn part_all(
+    posts: Vec<Post>,
+    instances: usize,
+    lines: &mut Vec<Line>,
+    reports: &mut Vec<Report>,
+    leavers: &mut Vec<Leaver>,
+)
+    requires seen { (k : ℕ) × (table : TableId) × (h : List Occurrence) × HaveSeen instances k table h 0 posts.items × (length (receives_until h instances) ≤ vec_capacity reports.old) }
+    requires empty { (lines.old.items ≡ []) × (reports.old.items ≡ []) × (leavers.old.items ≡ []) }
+    requires enough { (instances ≤ vec_capacity lines.old) × (instances ≤ vec_capacity leavers.old) }
+    ensures { (k : ℕ) (table : TableId) (h : List Occurrence) → HaveSeen instances k table h 0 posts.entry.items → HaveParted instances k table h instances lines.new.items reports.new.items leavers.new.items }
+{
+    let mut posts = posts;
+    for place in 0..instances {
+        let (line, mut own, leaver) = take_post(&mut posts, place + 1).part();
+        lines.push_reserved(line);
+        let Ok(()) = reports.append(&mut own) else {
+            unreachable!()
+        };
+        leavers.push_reserved(leaver);
+    }
+}
+
+/// Draws the messages of each lane that has room, in this order. There is room for as many lanes.
+pub(crate) fn draw_lanes(
+    words: &Words,
+    leavers: &mut [Leaver],
+    rooms: Vec<Room>,
+    left: &mut Vec<Left>,
+)
+    requires ready { (n k : ℕ) × (h : List Occurrence) × AreReady n k words.now.table_id h (map room_lane rooms.items) leavers.old × All (IsLaneRoom h n k) rooms.items }
+    requires empty { left.old.items ≡ [] }
+    requires enough { length rooms.items ≤ vec_capacity left.old }
+    ensures { (n k : ℕ) (h : List Occurrence) → AreReady n k words.now.table_id h (map room_lane rooms.items) leavers.old → All (IsLaneRoom h n k) rooms.items → map left_view left.new.items ≡ map (left_on h) (map room_lane rooms.items) }
+{
+    for room in rooms {
+        let leaver = &mut leavers[room.receiver.place()];
+        left.push_reserved(draw_all(words, &mut leaver.seat, room));
     }
 }

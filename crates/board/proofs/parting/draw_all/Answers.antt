@@ -1,4 +1,4 @@
-use Rattle.std.proofs.Common.{◌≡◌, ◌+◌, ◌++◌, ◌∷◌, [], List, length, length-append, sym, ap, ◌∙◌, subst, arith}
+use Rattle.std.proofs.Common.{◌+◌, ◌++◌, ◌∷◌, [], List, length, length-append, sym, ap, ◌∙◌, subst, arith}
 use Rattle.chart.specs.Messages.{Content}
 use Rattle.board.specs.Parting.{HasDrawn}
 use Rattle.board.proofs.Drawing.{drawn_first, drawn_next}

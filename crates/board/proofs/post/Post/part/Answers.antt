@@ -1,4 +1,4 @@
-use Rattle.std.proofs.Common.{sym, subst, ap}
+use Rattle.std.proofs.Common.{sym, subst}
 use Rattle.std.specs.Prelude.{All}
 use Rattle.chart.specs.Histories.{chart_of}
 use Rattle.chart.specs.Reports.{IsReportIn}
