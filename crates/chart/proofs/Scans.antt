@@ -1,9 +1,9 @@
 -- The scan order: which instances it has, and how many.
-use Rattle.std.proofs.Common.{◌≡◌, ◌≢◌, ℕ, zero, suc, ◌+◌, ◌-◌, ◌<◌, ◌≤◌, ◌==◌, ◌⊎◌, inl, inr, not, Bool, true, false, cond, List, [], ◌∷◌, ◌++◌, length, get_or, refl, ap, ◌∙◌, arith, length-append}
-use Rattle.std.specs.Prelude.{filter, All}
+use Rattle.std.proofs.Common.{◌≡◌, ◌≢◌, ℕ, zero, suc, ◌+◌, ◌-◌, ◌<◌, ◌≤◌, ◌==◌, ◌⊎◌, inl, inr, not, Bool, true, false, cond, ◌∷◌, ◌++◌, length, get_or, refl, sym, ap, ◌∙◌, subst, arith, length-append}
+use Rattle.std.specs.Prelude.{filter, All, Contains}
 use Rattle.std.specs.List.{range_with_len}
 use Rattle.std.proofs.lemmas.Bool.{eqb-true, eqb-false, ne_eqb, not-true, cases_lt}
-use Rattle.std.proofs.lemmas.List.Elements.{All-append, All-filter, All-weaker, filter_passes, filter-append}
+use Rattle.std.proofs.lemmas.List.Elements.{All-append, All-filter, All-weaker, filter_passes, filter-append, Contains-append_left, Contains-append_right}
 use Rattle.std.proofs.lemmas.List.FromFn.{length-range_with_len, get_or-range_with_len}
 use Rattle.chart.specs.Scans.{scan}
 
@@ -61,3 +61,27 @@ length-scan n p l least most le =
       | inl after ↦ omega (arith, both, others-but-one p (l + 1) (n - l) (omega arith) (omega arith), others-all p 1 l (inr (omega arith)))
       | inr before ↦ omega (arith, both, others-all p (l + 1) (n - l) (inl (omega arith)), others-but-one p 1 l least (omega arith))
     ]
+
+-- it has no others
+pub scan-only : (n p l q : ℕ) → l ≤ n → Contains (scan n p l) q → IsOther n p q
+scan-only n p l q le (k, within, is) = subst (IsOther n p) is (scan-others n p l le k q within)
+
+-- a range without p has each of its numbers but p
+others-have : (p s l q : ℕ) → s ≤ q → q < s + l → q ≢ p → Contains (filter (λ x. not (x == p)) (range_with_len s l)) q
+others-have p s zero q low high other = absurd (omega arith)
+others-have p s (suc l) q low high other = go (s == p) refl (λ less. others-have p (s + 1) l q less (omega arith) other)
+  where
+    go : (mine : Bool) → (s == p) ≡ mine → (s + 1 ≤ q → Contains (filter (λ x. not (x == p)) (range_with_len (s + 1) l)) q) → Contains (cond (not mine) (s ∷ filter (λ x. not (x == p)) (range_with_len (s + 1) l)) (filter (λ x. not (x == p)) (range_with_len (s + 1) l))) q
+    go true e rest = let same = eqb-true s p e in rest (omega arith)
+    go false e rest = elim (cases_lt s q) [
+      | inl less ↦ let w = rest (omega arith) in (suc w.0, omega (arith, w.1), w.2)
+      | inr past ↦ (0, omega arith, omega arith)
+    ]
+
+-- and the scan each other instance
+pub scan-has : (n p l q : ℕ) → IsOther n p q → Contains (scan n p l) q
+scan-has n p l q other =
+    subst (λ xs. Contains xs q) (sym (filter-append (λ x. not (x == p)) (range_with_len (l + 1) (n - l)) (range_with_len 1 l))) (elim (cases_lt l q) [
+      | inl after ↦ Contains-append_left (filter (λ x. not (x == p)) (range_with_len (l + 1) (n - l))) (filter (λ x. not (x == p)) (range_with_len 1 l)) q (others-have p (l + 1) (n - l) q (omega arith) (omega arith) other.2)
+      | inr before ↦ Contains-append_right (filter (λ x. not (x == p)) (range_with_len (l + 1) (n - l))) (filter (λ x. not (x == p)) (range_with_len 1 l)) q (others-have p 1 l q other.0 (omega arith) other.2)
+    ])
