@@ -2,14 +2,13 @@
 ghost use Rattle.std.specs.Prelude.{length, All, IfOk};
 ghost use Rattle.board.specs.Views.{BoardView};
 ghost use Rattle.board.specs.Boards.{IsNewBoard};
-ghost use Rattle.board.specs.Gathering.{IsWhole, Gathers};
-ghost use Rattle.board.specs.Meeting.{AreOfOneBoard};
+ghost use Rattle.board.specs.Gathering.{IsWhole};
 ghost use Rattle.outcomes.specs.Outcomes.{IsOutcome};
 ghost use Rattle.schedule.specs.Plans.{IsAmong};
 ghost use Rattle.replayer.specs.Agreement.{ArePosts, AreFresh, HasCome};
 
 use crate::commands::perform_all;
-use board::{Board, BoardError, GatherCause, GatherError, Gathered, Post, PostsError};
+use board::{Board, BoardError, GatherCause, Gathered, Post, PostsError, gather};
 use outcomes::{Outcome, ReplayError, put_by_line};
 use schedule::{Command, Note, Schedule};
 use std::alloc::Global;
@@ -27,11 +26,11 @@ fn board_for(alloc: Global, schedule: &Schedule) -> Result<Board, ReplayError>
 }
 
 /// What a whole board came to, of which these are all posts.
-fn gather_all(posts: Vec<Post<'_>>) -> Result<Gathered, ReplayError>
+fn gather_all(alloc: Global, posts: Vec<Post<'_>>) -> Result<Gathered, ReplayError>
     requires all { (board : BoardView) × ArePosts board posts.items }
     ensures { IfOk result (IsWhole posts.entry.items) }
 {
-    match gather(posts) {
+    match gather(alloc, posts) {
         Ok(gathered) => Ok(gathered),
         Err(error) => match error.cause {
             GatherCause::Memory => Err(ReplayError::Memory),
@@ -54,7 +53,7 @@ fn play(
     let mut posts = posts;
     let mut notes = perform_all(alloc, &mut posts, commands)?;
     put_by_line(&mut notes)?;
-    Ok((gather_all(posts)?, notes))
+    Ok((gather_all(alloc, posts)?, notes))
 }
 
 /// Replays a schedule's commands one after the other, with all posts met before each one: what they come to. F6: a growth was
@@ -71,11 +70,4 @@ pub fn replay<'a>(alloc: Global, schedule: &'a Schedule) -> Result<Outcome<'a>, 
     let (gathered, notes) = play(alloc, posts, schedule.commands())?;
     let Gathered { chart, reports, .. } = gathered;
     Ok(Outcome::new(schedule.names(), chart, reports, notes))
-}
-
-fn gather(posts: Vec<Post<'_>>) -> Result<Gathered, GatherError<'_>>
-    requires board { AreOfOneBoard posts.items }
-    ensures { Gathers posts.entry.items result }
-{
-    Err(GatherError { posts, cause: GatherCause::Memory })
 }
