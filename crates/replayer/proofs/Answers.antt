@@ -1,8 +1,8 @@
 -- What the answer of a post's call says when all posts have met.
-use Rattle.std.proofs.Common.{◌≡◌, ◌≢◌, ℕ, ◌≤◌, List, [], ◌∷◌, ◌++◌, Option, refl, sym, ap, ◌∙◌, subst, inl, inr, ⊎_elim}
+use Rattle.std.proofs.Common.{◌≡◌, ℕ, ◌≤◌, List, [], ◌∷◌, Option, sym, ap, ◌∙◌, subst, ⊎_elim}
 use Rattle.std.proofs.lemmas.Bool.{cases_eq}
 use Rattle.chart.specs.declared.history.Occurrence.{Occurrence}
-use Rattle.chart.specs.Histories.{by, own, IsLegal, Begins}
+use Rattle.chart.specs.Histories.{by, own, Begins}
 use Rattle.board.specs.Views.{PostView, Makes}
 use Rattle.chart.proofs.Histories.{begins_onward}
 use Rattle.schedule.specs.Meaning.{Run}

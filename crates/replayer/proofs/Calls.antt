@@ -1,5 +1,5 @@
 -- What each call does is what its command means.
-use Rattle.std.proofs.Common.{◌≡◌, ◌≢◌, ℕ, zero, suc, ◌+◌, ◌<◌, ◌≤◌, ◌==◌, Bool, true, false, cond, List, [], ◌∷◌, length, drop, Option, Some, None, Result, Ok, Err, refl, sym, ap, ◌∙◌, subst, arith, append-nil}
+use Rattle.std.proofs.Common.{◌≡◌, ℕ, zero, suc, ◌+◌, ◌<◌, ◌≤◌, Bool, true, false, cond, List, [], ◌∷◌, length, drop, Option, Some, None, Result, Ok, Err, refl, sym, ap, ◌∙◌, subst, arith, append-nil}
 use Rattle.std.specs.Prelude.{unwrap_or, nat_lt, nat_le, find}
 use Rattle.std.specs.List.{list_all}
 use Rattle.std.proofs.lemmas.Bool.{lt-ltb, le-ltb, le-leb, lt-leb, eq-eqb, ne_eqb}
@@ -8,15 +8,15 @@ use Rattle.chart.specs.declared.history.Occurrence.TheVariants as events
 use Rattle.chart.specs.declared.line.TheConstants.{MAX_EVENTS}
 use Rattle.chart.specs.Events.{greatest_region}
 use Rattle.chart.specs.Messages.{Content}
-use Rattle.chart.specs.Histories.{own, waiting, is_closed, chart_of, MayFollow, IsLegal}
+use Rattle.chart.specs.Histories.{waiting, is_closed, chart_of, MayFollow, IsLegal}
 use Rattle.chart.proofs.Histories.{closed_own}
 use Rattle.board.specs.declared.answer.Sent.{Sent}
 use Rattle.board.specs.declared.answer.Arrival.{Arrival}
 use Rattle.board.specs.declared.error.SendError.TheVariants as unsent
 use Rattle.board.specs.declared.error.TakeError.TheVariants as untaken
 use Rattle.board.specs.declared.error.CloseError.TheVariants as unclosed
-use Rattle.board.specs.Views.{BoardView, PostView, line_of, Makes, Stays}
-use Rattle.board.specs.Sending.{MaySend, IsSent, IsUnsent}
+use Rattle.board.specs.Views.{BoardView, PostView, line_of, Stays}
+use Rattle.board.specs.Sending.{IsSent, IsUnsent}
 use Rattle.board.specs.Taking.{IsGot, IsFoundEmpty, IsUntaken}
 use Rattle.board.specs.Closing.{IsClosed, IsUnclosed}
 use Rattle.chart.specs.Scans.{scan}
@@ -24,7 +24,7 @@ use Rattle.mailbox.specs.TakingAny.{lanes_of, NoneWaits, IsFirst, AreFoundEmpty}
 use Rattle.schedule.specs.declared.command.Word.{Word}
 use Rattle.schedule.specs.declared.command.Word.TheVariants as words
 use Rattle.schedule.specs.Meaning.{Run, changed, happens, has_waiting, takes, sends, receives, receives_any, first_waiting, are_closed, closes, opens, shuts}
-use Rattle.replayer.specs.Agreement.{GoesOn, IsAsFar, IsMet, HasGone, HasCalled, Does}
+use Rattle.replayer.specs.Agreement.{GoesOn, IsAsFar, IsMet, HasGone, HasCalled}
 use Rattle.replayer.proofs.Scanning.{scan_any, find_past, all_closed}
 use Rattle.replayer.proofs.Answers.{met_none, seen_none, before_one, met_one}
 
@@ -142,8 +142,7 @@ module _ (r : Run) (from : Option ℕ) (old new : PostView) (far : IsAsFar r fro
       let e = events.Receive new.number q old.region in
       let is : e ≡ events.Receive old.number q (r.region old.number) = ap (λ x. events.Receive x q old.region) on.same.number ∙ ap (events.Receive old.number q) far.region in
       let one = met_one r from old new far on met its it.makes.0 e refl it.makes.2 ∙ ap (λ x. x ∷ r.history) is in
-      let may = may_follow (events.Receive old.number q (r.region old.number)) one in
-      (
+      let may = may_follow (events.Receive old.number q (r.region old.number)) one in (
         lt-ltb 0 (length (waiting r.history q old.number)) may.1,
         rw (lt-leb MAX_EVENTS (length (chart_of r.history old.number)) may.2) refl,
         record {
@@ -153,7 +152,7 @@ module _ (r : Run) (from : Option ℕ) (old new : PostView) (far : IsAsFar r fro
           known = omega (arith, it.two.3, ap (λ (b : BoardView). b.size) on.same.board);
           other_regions = λ x ne. refl;
           other_lasts = λ x ne. ap (λ b. cond b q (r.last x)) (ne_eqb x old.number ne);
-        }
+        },
       )
 
   pub receive_got : (q : ℕ) (arrival : Arrival) → IsGot old q arrival new → HasCalled r old.number met (Some q) new (Ok None) (receives r old.number q)
@@ -178,7 +177,7 @@ module _ (r : Run) (from : Option ℕ) (old new : PostView) (far : IsAsFar r fro
   pub takes_line_full : (q : ℕ) → Stays old new → IsUntaken old q untaken.LineFull new → (has_waiting r.history q old.number ≡ true) × (takes r old.number q ≡ Err words.LineFull)
   takes_line_full q stays it = (
     lt-ltb 0 (length (waiting r.history q old.number)) (omega (arith, it.0.waits, ap length (waiting_in stays q))),
-    rw (le-leb MAX_EVENTS (length (chart_of r.history old.number)) (omega (arith, it.1, ap length (line_in stays)))) refl
+    rw (le-leb MAX_EVENTS (length (chart_of r.history old.number)) (omega (arith, it.1, ap length (line_in stays)))) refl,
   )
 
   pub receive_line_full : (q : ℕ) → Stays old new → IsUntaken old q untaken.LineFull new → HasCalled r old.number met from new (Ok (Some words.LineFull)) (receives r old.number q)
@@ -259,13 +258,13 @@ module _ (r : Run) (from : Option ℕ) (old new : PostView) (far : IsAsFar r fro
       let looks = it.found.0 in
       let none = subst (λ g. NoneWaits old.number r.history looks g) seen (subst (λ g. NoneWaits old.number g looks new.seen) far.seen it.found.2) in
       let nobody : first_waiting old.board.size r old.number ≡ None =
-          ap (λ l. find (λ x. has_waiting r.history x old.number) (scan old.board.size old.number l)) (sym far.last)
-          ∙ ap (find (λ x. has_waiting r.history x old.number)) (it.found.1 ∙ sym (append-nil (lanes_of looks)))
-          ∙ find_past old.number r.history looks [] none in
+      ap (λ l. find (λ x. has_waiting r.history x old.number) (scan old.board.size old.number l)) (sym far.last)
+      ∙ ap (find (λ x. has_waiting r.history x old.number)) (it.found.1 ∙ sym (append-nil (lanes_of looks)))
+      ∙ find_past old.number r.history looks [] none in
       let closed : are_closed old.board.size r old.number ≡ its_end =
-          scan_any (λ q. is_closed r.history q old.number) old.board.size old.number 0 (unwrap_or from 0) (omega arith) far.known
-          ∙ ap (list_all (λ q. is_closed r.history q old.number)) it.found.1
-          ∙ all_closed old.number r.history its_end looks new seen on.same.number none it.found.3 in
+      scan_any (λ q. is_closed r.history q old.number) old.board.size old.number 0 (unwrap_or from 0) (omega arith) far.known
+      ∙ ap (list_all (λ q. is_closed r.history q old.number)) it.found.1
+      ∙ all_closed old.number r.history its_end looks new seen on.same.number none it.found.3 in
       ap (receives_any old.board.size r old.number) nobody ∙ ap (λ b. cond b (Err words.Ended) (Err words.Nothing)) closed
 
   pub any_nothing : Stays old new → AreFoundEmpty old (scan old.board.size old.number (unwrap_or from 0)) false new

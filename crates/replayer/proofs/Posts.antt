@@ -1,6 +1,6 @@
 -- All posts of a board, which meet after one of them made a call.
-use Rattle.std.proofs.Common.{◌≡◌, ◌≢◌, ℕ, zero, suc, ◌+◌, ◌<◌, ◌≤◌, ◌⊎◌, inl, inr, ⊎_elim, List, [], ◌∷◌, length, replicate, set, get_or, Option, Some, None, Result, Ok, Err, refl, sym, ap, ◌∙◌, subst, subst₂, arith}
-use Rattle.std.specs.Prelude.{slice_get, map, unwrap_or}
+use Rattle.std.proofs.Common.{◌≡◌, ◌≢◌, ℕ, zero, suc, ◌≤◌, ◌⊎◌, inl, inr, ⊎_elim, List, [], ◌∷◌, length, replicate, set, get_or, Option, Some, None, Result, Ok, Err, refl, sym, ap, ◌∙◌, subst, subst₂, arith}
+use Rattle.std.specs.Prelude.{slice_get, map}
 use Rattle.std.proofs.lemmas.List.{length-set, length-map, length-replicate, get_or-replicate}
 use Rattle.std.proofs.lemmas.Option.{slice_get-get_or, slice_get_within, same_Some, get_or_from_slice_get}
 use Rattle.chart.specs.declared.history.Occurrence.{Occurrence}
@@ -41,8 +41,8 @@ put_posts board posts i old new are at same = record {
   many = length-set posts i new ∙ are.many;
   each = λ j x at_x. ⊎_elim
       (λ its.
-          let was = are.each i old at in
-          (ap (λ (post : PostView). post.board) (sym its.1) ∙ same.board ∙ was.0, ap (λ (post : PostView). post.number) (sym its.1) ∙ same.number ∙ was.1 ∙ ap suc (sym its.0)))
+      let was = are.each i old at in
+      (ap (λ (post : PostView). post.board) (sym its.1) ∙ same.board ∙ was.0, ap (λ (post : PostView). post.number) (sym its.1) ∙ same.number ∙ was.1 ∙ ap suc (sym its.0)))
       (λ its. are.each j x its.1)
       (at_set posts i j new x at_x);
 }

@@ -1,7 +1,5 @@
-use Rattle.std.proofs.Common.{◌≡◌, length, take, subst, arith}
+use Rattle.std.proofs.Common.{◌≡◌, take, subst, arith}
 use Rattle.std.proofs.lemmas.List.{take_all}
-use Rattle.board.specs.Views.{BoardView}
-use Rattle.schedule.specs.declared.command.Command.{Command}
 use Rattle.schedule.specs.Meaning.{acts, after}
 use Rattle.schedule.proofs.Along.{after_more}
 use Rattle.outcomes.proofs.Performed.{noted_next, silent_next}

@@ -1,8 +1,7 @@
-use Rattle.std.proofs.Common.{◌≡◌, ℕ, Option, Ok, length, set, refl, sym, ◌∙◌, subst, subst₂, arith}
+use Rattle.std.proofs.Common.{ℕ, Option, Ok, length, refl, sym, subst₂, arith}
 use Rattle.std.proofs.lemmas.Option.{slice_get_read}
-use Rattle.board.specs.Views.{BoardView, PostView}
-use Rattle.schedule.specs.Meaning.{acts}
-use Rattle.replayer.specs.Agreement.{Does, HasActed}
+use Rattle.board.specs.Views.{PostView}
+use Rattle.replayer.specs.Agreement.{Does}
 use Rattle.replayer.proofs.Posts.{put_posts, has_acted}
 use Rattle.replayer.proofs.commands.perform_one.Goals as goal
 

@@ -1,6 +1,6 @@
-use Rattle.std.proofs.Common.{◌≡◌, length, sym, ap, ◌∙◌, subst}
+use Rattle.std.proofs.Common.{length, sym, ap, ◌∙◌, subst}
 use Rattle.chart.proofs.HistoryLines.{length-history_lines}
-use Rattle.outcomes.specs.Outcomes.{AreByLine, IsOutcome}
+use Rattle.outcomes.specs.Outcomes.{IsOutcome}
 use Rattle.schedule.specs.Meaning.{after}
 use Rattle.replayer.proofs.run.replay.Goals as goal
 
