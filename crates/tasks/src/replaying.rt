@@ -10,7 +10,7 @@ use crate::status::Status;
 use interleaver::{Memory, drawn};
 use msc_text::{Out, TextError};
 use outcomes::ReplayError;
-use plain_replayer::plain_replay;
+use replayer::replay;
 use schedule::Schedule;
 use std::alloc::Global;
 
@@ -43,7 +43,7 @@ fn replay_and_write<W: Out>(
 ) -> Result<Status, ProgramError>
     ensures { (said : Result Plan Fault) → said ≡ Ok schedule.now → Replays W.contents W.failures out.old out.new result said }
 {
-    let outcome = match plain_replay(alloc, schedule) {
+    let outcome = match replay(alloc, schedule) {
         Ok(outcome) => outcome,
         Err(ReplayError::Memory) => return Err(ProgramError::Memory),
     };

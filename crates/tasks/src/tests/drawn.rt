@@ -6,7 +6,7 @@ use crate::{Task, perform};
 use chart::{Event, InstanceNo, Line};
 use interleaver::drawn;
 use msc_text::MemoryOut;
-use plain_replayer::plain_replay;
+use replayer::replay;
 use schedule::Schedule;
 use std::alloc::Global;
 use std::process::Abort;
@@ -134,7 +134,7 @@ fn draws_lanes(
 ) -> Result<bool, Fail> {
     let drawn = drawn(alloc, schedule, seed)?;
     is_checked(rt, alloc, &drawn);
-    let outcome = plain_replay(alloc, &drawn)?;
+    let outcome = replay(alloc, &drawn)?;
     Ok(
         (1..=3)
             .filter_map(InstanceNo::new)

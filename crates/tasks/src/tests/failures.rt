@@ -4,7 +4,7 @@ use super::every_growth_was_refused;
 use crate::{Task, perform};
 use msc_text::{MemoryOut, StreamOut};
 use outcomes::Outcome;
-use plain_replayer::plain_replay;
+use replayer::replay;
 use schedule::Schedule;
 use std::alloc::Global;
 use std::process::Abort;
@@ -87,7 +87,7 @@ fn outcome_is_cut_at_each_byte(rt: HostRuntime) -> Result<(), Fail> {
     let written: &[u8] =
         b"msc run;\ninstance a;\nout q to b;\nin p from b;\nendinstance;\ninstance b;\nout p to a;\nin q from a;\nendinstance;\nendmsc;\nrace a 1 2\nrace b 1 2\nnote 7 nothing\n";
     let schedule = Schedule::read(rt.alloc(), text)?;
-    let outcome = plain_replay(rt.alloc(), &schedule)?;
+    let outcome = replay(rt.alloc(), &schedule)?;
     for left in 0..=written.len() {
         is_cut(&rt, &outcome, &written[..left], left == written.len());
     }
