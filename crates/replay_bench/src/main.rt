@@ -30,11 +30,7 @@ fn schedule_in(alloc: Global, text: &[u8]) -> anyhow::Result<Schedule> {
     }
 }
 
-fn outcome_of<'a>(
-    alloc: Global,
-    by: By,
-    schedule: &'a Schedule,
-) -> anyhow::Result<Outcome<'a>> {
+fn outcome_of<'a>(alloc: Global, by: By, schedule: &'a Schedule) -> anyhow::Result<Outcome<'a>> {
     match by {
         By::Posts => Ok(replay(alloc, schedule)?),
         By::Queues => Ok(plain_replay(alloc, schedule)?),
