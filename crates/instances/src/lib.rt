@@ -2,8 +2,8 @@
 //!
 //! [`drive`] hands a behaviour's acts to a mailbox and the mailbox's answers to the behaviour, turn by turn, until the
 //! behaviour stops or its turns are spent. It answers a [`Trace`] of all turns. A [`Gate`] is called before each act.
-//! `specs/Answering.antt` says what a mailbox may answer to an act, `Driving` what a run of a behaviour is, and `Traces` what a
-//! trace keeps.
+//! `specs/Answering.antt` says what a mailbox may answer to an act, `Driving` what a run of a behaviour is, and
+//! `Traces` what a trace keeps.
 #![tactic(auto)]
 
 mod acting;
