@@ -5,6 +5,7 @@ use Rattle.behaviour.specs.declared.act.Act.{Act}
 use Rattle.behaviour.specs.declared.act.Act.TheVariants.{Stop}
 use Rattle.behaviour.specs.declared.answer.Answer.{Answer}
 use Rattle.behaviour.specs.declared.answer.Answer.TheVariants.{Start}
+use Rattle.instances.specs.declared.end.End.{End}
 use Rattle.instances.specs.declared.end.End.TheVariants.{Stopped, TurnsSpent, Memory}
 use Rattle.instances.specs.declared.turn.Turn.{Turn}
 use Rattle.instances.specs.Answering.{Allows}
@@ -48,6 +49,15 @@ at-state {I = I} {D = D} at to is meaning a last =
     subst (λ (p : (y : I) × D y). (left : D p.0) → a ≡ (meaning p).act p.1 last → left ≡ (meaning p).after p.1 last
     → (a ≡ (meaning to).act to.1 last) × ◌≡◌ {A = (y : I) × D y} (p.0, left) (to.0, (meaning to).after to.1 last))
     (sym is) (λ left acts leaves. (acts, ap (λ y. (to.0, y)) leaves))
+
+-- a run of it, in the same way
+pub run-at {ℓ} : {I : Type ℓ} {D : I → Type 0} (at to : (y : I) × D y) → at ≡ to
+    → (meaning : (p : (y : I) × D y) → Meaning (D p.0)) (most : ℕ) (old : MailboxView) (trace : List Turn) (end : End)
+    (new : MailboxView)
+    → ((left : D at.0) × IsRun (meaning at) most at.1 old trace end left new)
+    → (left : D to.0) × IsRun (meaning to) most to.1 old trace end left new
+run-at {I = I} {D = D} at to is meaning most old trace end new run =
+    subst (λ (p : (y : I) × D y). (left : D p.0) × IsRun (meaning p) most p.1 old trace end left new) is run
 
 -- so many turns were made and led here
 pub record HasRun {S : Type 0} (m : Meaning S) (state : S) (old : MailboxView) (done : List Turn) (many : ℕ)

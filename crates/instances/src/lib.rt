@@ -2,6 +2,7 @@
 //!
 //! [`drive`] hands a behaviour's acts to a mailbox and the mailbox's answers to the behaviour, turn by turn, until the
 //! behaviour stops or its turns are spent. It answers a [`Trace`] of all turns. A [`Gate`] is called before each act.
+//! [`drive_all`] does so with many mailboxes, each in a thread.
 //! `specs/Answering.antt` says what a mailbox may answer to an act, `Driving` what a run of a behaviour is, and
 //! `Traces` what a trace keeps.
 #![tactic(auto)]
@@ -10,11 +11,13 @@ mod acting;
 mod driver;
 mod end;
 mod gate;
+mod jobs;
 mod trace;
 mod turn;
 
 pub use driver::drive;
 pub use end::End;
 pub use gate::{Gate, Open};
+pub use jobs::drive_all;
 pub use trace::{Stretch, Trace};
 pub use turn::Turn;
