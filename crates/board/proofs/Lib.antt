@@ -1,8 +1,11 @@
 pub mod Claiming
 pub mod Closes
 pub mod DidLemmas
+pub mod Drawing
+pub mod DrawnLanes
 pub mod EndLemmas
 pub mod Finding
+pub mod Leavers
 pub mod Meetings
 pub mod NoteLemmas
 pub mod OneBoard
@@ -13,7 +16,9 @@ pub mod Preparing
 pub mod ReceiveAnswers
 pub mod Receives
 pub mod Rooms
+pub mod RoomsMade
 pub mod SendAllAnswers
 pub mod SendAnswers
 pub mod SentAtOnce
 pub mod SeveralSends
+pub mod WholeBoards

@@ -2,9 +2,12 @@ pub mod Asking
 pub mod Boards
 pub mod Closing
 pub mod Found
+pub mod Gathering
 pub mod Known
 pub mod Meeting
+pub mod Parting
 pub mod Parts
+pub mod Provisions
 pub mod Receipts
 pub mod Sending
 pub mod SendingMany

@@ -24,6 +24,10 @@ pub record HaveMet (old new : List PostView) : Type 0 where
   pub joint : (i : ℕ) (post : PostView) → slice_get old i ≡ Some post → IsJoint history post
   pub seen : new ≡ map (λ (post : PostView). record post { seen = history }) old
 
+-- the post at this place has this number
+abbrev pub IsAt : List PostView → ℕ → ℕ → Type 0
+IsAt posts i number = (post : PostView) × (slice_get posts i ≡ Some post) × (post.number ≡ number)
+
 -- a post of this number is among them
 abbrev pub HasPost : List PostView → ℕ → Type 0
 HasPost posts number = (i : ℕ) × (post : PostView) × (slice_get posts i ≡ Some post) × (post.number ≡ number)

@@ -113,6 +113,17 @@ pub enum MeetError {
     NotAllPosts,
 }
 
+/// Why a board isn't gathered: the first of these that applies.
+#[derive(Clone, Copy, Debug, PartialEq, Eq, Error)]
+pub enum GatherCause {
+    /// F15: the posts are none, or not all of their board.
+    #[error("not all posts of the board")]
+    NotAllPosts,
+    /// F6: a growth was refused.
+    #[error("out of memory")]
+    Memory,
+}
+
 impl From<AllocError> for Memory {
     fn from(_e: AllocError) -> Memory {
         Memory

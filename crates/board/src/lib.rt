@@ -4,8 +4,9 @@
 //! legal history that begins with all that this post had seen, and has of its own just what its calls made. A receive gets
 //! the first message that waited, or the first of several, and each report is exactly that of the chart of this history.
 //! Several messages are sent by one store, all of them or none ([`Post::send_all`]), and received by one
-//! ([`Post::receive_up_to`]). Posts that [`meet`] have then seen one history. `specs/Views.antt` says what a contract sees of
-//! a post; `Sending`, `Taking`, `TakingMany`, `Closing` and `Meeting` say what each call answers.
+//! ([`Post::receive_up_to`]). Posts that [`meet`] have then seen one history. At the end [`gather`] takes all posts of a board
+//! and answers its chart, its reports, and what waits on each lane. `specs/Views.antt` says what a contract sees of a post;
+//! `Sending`, `Taking`, `TakingMany`, `Closing`, `Meeting` and `Gathering` say what each call answers.
 //!
 //! Messages carry what changed in their sender's clock since the one before on their lane (Singhal and Kshemkalyani 1992).
 //! Each end keeps the number that it loaded last, and looks again only where that leaves too few places, or too few
@@ -17,13 +18,16 @@ mod board;
 mod close;
 mod ends;
 mod error;
+mod gathering;
 mod meeting;
 mod opening;
+mod parting;
 mod post;
 mod receive;
 mod receive_up_to;
 mod receiving;
 mod receiving_several;
+mod reserving;
 mod room;
 mod send;
 mod send_all;
@@ -33,10 +37,9 @@ mod sending_several;
 pub use answer::{Arrival, Sent, Stop, Taken, TakenMany};
 pub use board::Board;
 pub use error::{
-    BoardError, CloseError, MeetError, Memory, PostsError, RegionError, SendError, TakeError,
+    BoardError, CloseError, GatherCause, MeetError, Memory, PostsError, RegionError, SendError,
+    TakeError,
 };
+pub use gathering::{GatherError, Gathered, Left, gather};
 pub use meeting::{meet, meet_all};
 pub use post::Post;
-
-#[cfg(test)]
-mod tests;

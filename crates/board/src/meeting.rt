@@ -1,8 +1,9 @@
 //! How posts meet.
-ghost use Rattle.std.specs.Prelude.{◌≡◌, ◌<◌, ℕ, length, slice_get, Some, true, false};
+ghost use Rattle.std.specs.Prelude.{◌≡◌, ◌<◌, ◌≤◌, ℕ, length, slice_get, Some, true, false, IfSome, IfNone};
+ghost use Rattle.chart.specs.declared.instance.TheConstants.{MAX_INSTANCES};
 ghost use Rattle.board_table.specs.Knowing.{held};
 ghost use Rattle.board.specs.Views.{PostView};
-ghost use Rattle.board.specs.Meeting.{AreOfOneBoard, HaveMet, HaveHeard, HasPost, HasNoPost, Hears, IsNoteOf, MeetsAll};
+ghost use Rattle.board.specs.Meeting.{AreOfOneBoard, HaveMet, HaveHeard, HasNoPost, AreAll, AreNotAll, IsAt, Hears, IsNoteOf, MeetsAll};
 
 use crate::error::MeetError;
 use crate::post::Post;
@@ -55,17 +56,37 @@ pub fn meet(posts: &mut [Post])
     hear_each(posts, note);
 }
 
-/// Whether one of them has this number.
-fn has_post(posts: &[Post], number: usize) -> bool
-    ensures yes { result ≡ true → HasPost posts.now number }
-    ensures no { result ≡ false → HasNoPost posts.now number }
+/// Where one of them with this number is: at its own place, if they come in order, and else the first that there is.
+pub(crate) fn place_of(posts: &[Post], number: usize) -> Option<usize>
+    requires { 1 ≤ number }
+    ensures some { IfSome result (λ place. IsAt posts.now place number) }
+    ensures none { IfNone result (HasNoPost posts.now number) }
 {
-    for post in posts.iter() {
-        if post.number().number() == number {
-            return true;
+    if number <= posts.len() && posts[number - 1].number().number() == number {
+        return Some(number - 1);
+    }
+    for place in 0..posts.len() {
+        if posts[place].number().number() == number {
+            return Some(place);
         }
     }
-    false
+    None
+}
+
+/// Whether they are all posts of their board. It takes a time that depends on their number alone, if they come in order.
+pub(crate) fn are_all(posts: &[Post]) -> bool
+    ensures yes { result ≡ true → AreAll posts.now }
+    ensures no { result ≡ false → AreNotAll posts.now }
+{
+    if posts.is_empty() {
+        return false;
+    }
+    for place in 0..posts[0].board_size() {
+        if place_of(posts, place + 1).is_none() {
+            return false;
+        }
+    }
+    true
 }
 
 /// All posts of a board meet: they have then all seen one history. F15: these are none, or not all, and then nothing has
@@ -74,13 +95,8 @@ pub fn meet_all(posts: &mut [Post]) -> Result<(), MeetError>
     requires board { AreOfOneBoard posts.old }
     ensures met { MeetsAll posts.old result posts.new }
 {
-    if posts.is_empty() {
+    if !are_all(posts) {
         return Err(MeetError::NotAllPosts);
-    }
-    for place in 0..posts[0].board_size() {
-        if !has_post(posts, place + 1) {
-            return Err(MeetError::NotAllPosts);
-        }
     }
     meet(posts);
     Ok(())

@@ -56,7 +56,7 @@ impl<'a> Post<'a> {
     /// How many posts its board has. What it has seen is sound, before its first call too.
     pub fn board_size(&self) -> usize
         ensures value { result ≡ self.now.board.size }
-        ensures last { result ≤ MAX_INSTANCES }
+        ensures sized { (2 ≤ result) × (result ≤ MAX_INSTANCES) }
         ensures among { (1 ≤ self.now.number) × (self.now.number ≤ self.now.board.size) }
         ensures sound { Sound self.now self.now }
     {

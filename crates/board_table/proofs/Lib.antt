@@ -3,6 +3,7 @@ pub mod Growth
 pub mod Handling
 pub mod Homes
 pub mod Keeping
+pub mod LastMessages
 pub mod OutSlots
 pub mod Places
 pub mod Receiving

@@ -1,5 +1,6 @@
 pub mod Carrying
 pub mod Knowing
 pub mod Layout
+pub mod Leaving
 pub mod Plays
 pub mod Rule

@@ -18,6 +18,7 @@
 
 mod held;
 mod lane;
+mod leaving;
 mod meeting;
 mod packet;
 mod receiver;
@@ -28,6 +29,7 @@ mod table;
 
 pub use held::{Held, Hold};
 pub use lane::{Lane, MAX_CAPACITY};
+pub use leaving::{draw, leave};
 pub use meeting::{meet_note, note};
 pub use packet::Packet;
 pub use receiver::{find_again, find_anew, free, front, give_back_full, take};

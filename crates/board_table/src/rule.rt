@@ -3,6 +3,7 @@ ghost use Rattle.std.specs.Prelude.{ℕ, [], ◌∷◌};
 ghost use Rattle.board_table.specs.Layout.{LaneView};
 ghost use Rattle.board_table.specs.Knowing.{first_of, later_of, note_of};
 ghost use Rattle.board_table.specs.Plays.{ClaimsAnew, ClaimsAgain, FindsAnew, FindsAgain, Publishes, Closes, Frees, PutsBack, MeetsBeside};
+ghost use Rattle.board_table.specs.Leaving.{Leaves};
 ghost use Rattle.board_table.specs.Rule.{Kept, new_helds};
 
 use crate::{Held, Packet, Shape};
@@ -133,4 +134,11 @@ pub(crate) struct Meet;
 
 impl Play<Option<Packet>, LinkedList<Held>> for Meet {
     ghost then = { λ step m found w. MeetsBeside m w };
+}
+
+/// A post leaves, with the messages that wait for it.
+pub(crate) struct Leave;
+
+impl Play<Option<Packet>, LinkedList<Held>> for Leave {
+    ghost then = { λ step m found w. Leaves m w };
 }

@@ -8,6 +8,8 @@ mod both_ends;
 #[cfg(test)]
 mod calls;
 #[cfg(test)]
+mod gathered;
+#[cfg(test)]
 mod growths;
 #[cfg(test)]
 mod meetings;

@@ -91,7 +91,7 @@ from_later {c = c} {e = e} {f = f} (then {d = m} x y) d l =
           ]
     ]
 
--- what stands above the events up to a send is before it
+-- what is earlier than the events up to a send is before it
 pub before_from_above : (c : Chart) (q : ℕ) (s d e : Place) → IsSendTo c q s → IsEarlier d e → IsUpTo c s e → Before c d s
 before_from_above c q s d e sends l (inl same) = direct (to_send q (subst (λ x. IsEarlier d x) same l) sends)
 before_from_above c q s d e sends l (inr before) =
@@ -100,11 +100,11 @@ before_from_above c q s d e sends l (inr before) =
       | inr w ↦ absurd (not_both c q w.1.0 s sends w.1.1)
     ]
 
--- a receive of the line, at or above f, belongs to a send that is e or after it
+-- a receive of the line, f or an earlier one, belongs to a send that is e or after it
 abbrev pub IsHeardBy : (c : Chart) (f e : Place) → Type 0
 IsHeardBy c f e = (l : ℕ) × (t : Place) × (l ≤ f.index) × BelongsTo c t (at f.instance l) × IsUpTo c t e
 
--- what was heard above was heard
+-- what was heard earlier was heard
 heard_below : (c : Chart) (d f e : Place) → IsEarlier d f → IsHeardBy c d e → IsHeardBy c f e
 heard_below c d f e l (i, t, le, b, up) = (i, t, omega (arith, l.less), subst (λ a. BelongsTo c t (at a i)) l.line b, up)
 

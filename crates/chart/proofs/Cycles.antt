@@ -41,7 +41,7 @@ event_cases h e x here =
       | inr new ↦ let w = one_event h x.instance e new.0 m.0 new.2 in inr (w.0, omega (arith, new.1, w.1))
     ]
 
--- what stands above the newest event is an old one
+-- what is earlier than the newest event is an old one
 above_newest : (h : List Occurrence) (d x : Place) → x.index ≡ length (chart_of h x.instance) + 1 → IsEarlier d x → IsEvent (chart_of h) d
 above_newest h d x last l = (l.begun, subst (λ p. d.index ≤ length (chart_of h p)) (sym l.line) (omega (arith, l.less)))
 

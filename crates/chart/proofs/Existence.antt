@@ -87,7 +87,7 @@ known_exists n k (e ∷ h) legal to s sends p =
     each_has : HasSends old
     each_has = sends_of n k h legal.1
 
--- a line has its races above an entry
+-- a line has its races later than an entry
 pub races_exist : (line : List Event) (entry q region : ℕ) → (xs : List ℕ) × IsRaces line entry q region xs
 races_exist line entry q region =
     let w = passing (λ j. nat_lt entry j && races (ith line j)) (length line) in (

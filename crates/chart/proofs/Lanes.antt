@@ -35,7 +35,7 @@ sent_count (Receive a b c ∷ h) q p = go (a == q) (waiting h b a) (sent_count h
     go false ms before = ap (count_by (is_send_to p)) (append-nil (chart_of h q)) ∙ before
 sent_count (Close a b ∷ h) q p = ap (count_by (is_send_to p)) (append-nil (chart_of h q)) ∙ sent_count h q p
 
--- a new send has as many above it as messages were sent
+-- a new send has as many earlier ones as messages were sent
 pub newest_is_send : (h : List Occurrence) (p q : ℕ) (x : Content) → IsSendAfter (chart_of (Send p q x ∷ h) p) q (length (sent h p q)) (length (chart_of h p) + 1)
 newest_is_send h p q x = go (p == p) (eq-eqb p p refl)
   where
@@ -64,7 +64,7 @@ received_count n k (Receive a b c ∷ h) legal q p = go (waiting h b a) legal.0.
     go (m ∷ ms) some false false e before = ap (count_by (is_receive_from q)) (append-nil (chart_of h p)) ∙ before
 received_count n k (Close a b ∷ h) legal q p = ap (count_by (is_receive_from q)) (append-nil (chart_of h p)) ∙ received_count n k h legal.1 q p
 
--- on the line stands a send of the message to p, with i sends to p above it
+-- on the line stands a send of the message to p, with i earlier sends to p
 abbrev pub SentAt : List Event → ℕ → Content → ℕ → Type 0
 SentAt line p x i = (y : ℕ) × (ith line y ≡ Some (send_event p x.name)) × (tally (is_send_to p) line y ≡ i + 1)
 
@@ -95,7 +95,7 @@ sent_at (Send a b m ∷ h) q p i x at_i = go (a == q) (b == p) refl at_i (sent_a
 sent_at (Receive a b c ∷ h) q p i x at_i = SentAt-append (chart_of h q) (line_gets h q (Receive a b c)) p x i (sent_at h q p i x at_i)
 sent_at (Close a b ∷ h) q p i x at_i = SentAt-append (chart_of h q) [] p x i (sent_at h q p i x at_i)
 
--- that send is one of the lane, with i above it
+-- that send is one of the lane, with i earlier ones
 pub IsSendAfter-from_sent_at : (line : List Event) (p : ℕ) (x : Content) (i : ℕ) (at_i : SentAt line p x i) → IsSendAfter line p i at_i.0
 IsSendAfter-from_sent_at line p x i (j, at_j, turn) = ((send_event p x.name, at_j, eq-eqb p p refl), turn)
 
@@ -107,6 +107,6 @@ send_of_message h q p i x found = let w = sent_at h q p i x found in (w.0, IsSen
 pub send_of_first : (h : List Occurrence) (q p : ℕ) (x : Content) (rest : List Content) → waiting h q p ≡ x ∷ rest → (j : ℕ) × IsSendAfter (chart_of h q) p (received h q p) j × (chart_event (chart_of h) (at q j) ≡ Some (send_event p x.name))
 send_of_first h q p x rest e = send_of_message h q p (received h q p) x (ith_at_drop (received h q p) (sent h q p) x rest e)
 
--- one send of a lane has i above it
+-- one send of a lane has i earlier ones
 pub same_place_on_lane : (line : List Event) (q i j l : ℕ) → IsSendAfter line q i j → IsSendAfter line q i l → j ≡ l
 same_place_on_lane line q i j l a b = same_from_tally (is_send_to q) line j l a.0 b.0 (a.1 ∙ sym b.1)

@@ -1,4 +1,5 @@
 pub mod AddedSends
+pub mod Alone
 pub mod Begun
 pub mod Belongs
 pub mod Chains

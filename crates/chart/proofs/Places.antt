@@ -1,5 +1,5 @@
--- The elements of a list, by their places, when it grows at its end.
-use Rattle.std.proofs.Common.{◌≡◌, ℕ, zero, suc, ◌<◌, ◌≤◌, List, [], ◌∷◌, ◌++◌, length, Some, sym, refl, ap, ◌∙◌, subst, arith, inl, inr}
+-- The elements of a list, by their places, when it grows at its end, and where one is replaced.
+use Rattle.std.proofs.Common.{◌≡◌, ◌≢◌, ℕ, zero, suc, ◌<◌, ◌≤◌, List, [], ◌∷◌, ◌++◌, length, set, Some, sym, refl, ap, ◌∙◌, subst, arith, inl, inr}
 use Rattle.std.specs.Prelude.{slice_get}
 use Rattle.std.proofs.lemmas.Option.{slice_get_within}
 use Rattle.std.proofs.lemmas.List.{length-append}
@@ -38,3 +38,17 @@ each-push {X} P xs x old newest i y e = elim (cases_lt i (length xs)) [
         let there : Some x ≡ Some y = sym (slice_get-append_last xs x) ∙ ap (slice_get (xs ++ x ∷ [])) place ∙ e in
         let same : x ≡ y = cc in
         subst (λ k. P k y) place (subst (P (length xs)) same newest)
+
+-- the replaced element is the new one
+pub slice_get-set_same : {X : Type 0} → (xs : List X) (i : ℕ) (y : X) → i < length xs → slice_get (set xs i y) i ≡ Some y
+slice_get-set_same [] i y h = absurd (omega (arith, h))
+slice_get-set_same (x ∷ xs) zero y h = refl
+slice_get-set_same (x ∷ xs) (suc i) y h = slice_get-set_same xs i y (omega (arith, h))
+
+-- the others stay
+pub slice_get-set_other : {X : Type 0} → (xs : List X) (i j : ℕ) (y : X) → j ≢ i → slice_get (set xs i y) j ≡ slice_get xs j
+slice_get-set_other [] i j y ne = refl
+slice_get-set_other (x ∷ xs) zero zero y ne = absurd (ne refl)
+slice_get-set_other (x ∷ xs) zero (suc j) y ne = refl
+slice_get-set_other (x ∷ xs) (suc i) zero y ne = refl
+slice_get-set_other (x ∷ xs) (suc i) (suc j) y ne = slice_get-set_other xs i j y (λ e. ne (ap suc e))

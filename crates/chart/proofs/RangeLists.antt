@@ -1,12 +1,12 @@
 -- Lists of events and the ranges that they are kept as.
-use Rattle.std.proofs.Common.{◌≡◌, ℕ, zero, suc, ◌+◌, ◌<◌, Bool, true, false, ◌&&◌, ◌==◌, List, [], ◌∷◌, ◌++◌, length, reverse, get_or, All, refl, sym, ap, ap₂, ◌∙◌, subst, arith, append_assoc}
+use Rattle.std.proofs.Common.{◌≡◌, ℕ, zero, suc, ◌+◌, ◌<◌, Bool, true, false, ◌&&◌, ◌==◌, List, [], ◌∷◌, ◌++◌, length, reverse, take, drop, get_or, All, refl, sym, ap, ap₂, ◌∙◌, subst, arith, append_assoc}
 use Rattle.std.specs.Cmp.{first_so, second_so}
 use Rattle.std.proofs.lemmas.Bool.{eq-eqb, eqb-true, false_from_ne_true}
-use Rattle.std.proofs.lemmas.List.{reverse-append}
+use Rattle.std.proofs.lemmas.List.{reverse-append, length-append, take_more, flat_map_more}
 use Rattle.std.proofs.lemmas.List.Elements.{All-nil, All-cons, All-head, All-tail}
 use Rattle.chart.specs.declared.instance.EventNo.{EventNo}
 use Rattle.chart.specs.declared.ranges.EventRange.{EventRange}
-use Rattle.chart.specs.Ranges.{events_from, events_of, events_in, IsRange, is_followed_by, both_before, range_before, ranges_of, AreRanges}
+use Rattle.chart.specs.Ranges.{events_from, events_of, events_in, IsRange, IsWithinFirst, is_followed_by, both_before, range_before, ranges_of, AreRanges}
 
 -- n events and m behind them
 pub events_from-more : (p i n m : ℕ) → events_from p i (n + m) ≡ events_from p i n ++ events_from p (i + n) m
@@ -168,3 +168,42 @@ event_read r k e within is = is ∙ sym (by r.first.instance r.first.index r.cou
     by p i zero k within = absurd (omega (arith, within))
     by p i (suc n) zero within = let here : i ≡ i + zero = omega arith in ap (λ j. record { instance = p; index = j }) here
     by p i (suc n) (suc k) within = let next : i + 1 + k ≡ i + suc k = omega arith in by p (i + 1) n k (omega (arith, within)) ∙ ap (λ j. record { instance = p; index = j }) next
+
+-- a range more
+pub events_in-more : (ranges : List EventRange) (k : ℕ) (d : EventRange) → k < length ranges → length (events_in (take (k + 1) ranges)) ≡ length (events_in (take k ranges)) + (get_or ranges k d).count
+events_in-more ranges k d within =
+    let r = get_or ranges k d in
+    ap length (ap events_in (take_more ranges k d within) ∙ sym (flat_map_more events_of [] (take k ranges) r)) ∙ length-append (events_in (take k ranges)) (events_of r)
+    ∙ ap (λ n. length (events_in (take k ranges)) + n) (events_from-length r.first.instance r.first.index r.count)
+
+-- What is left of ranges whose events come one by one.
+
+-- a range that has begun has one more event
+pub next_event : (r : EventRange) (ranges : List EventRange) (passed : ℕ) → passed < r.count
+    → drop passed (events_in (r ∷ ranges)) ≡ record { instance = r.first.instance; index = r.first.index + passed } ∷ drop (passed + 1) (events_in (r ∷ ranges))
+next_event r ranges passed within = by r.first.instance r.first.index r.count passed within
+  where
+    by : (p i n k : ℕ) → k < n → drop k (events_from p i n ++ events_in ranges) ≡ record { instance = p; index = i + k } ∷ drop (k + 1) (events_from p i n ++ events_in ranges)
+    by p i zero k within = absurd (omega (arith, within))
+    by p i (suc n) zero within = let here : i ≡ i + zero = omega arith in ap (λ j. record { instance = p; index = j } ∷ (events_from p (i + 1) n ++ events_in ranges)) here
+    by p i (suc n) (suc k) within =
+        let next : i + 1 + k ≡ i + suc k = omega arith in
+        let one : suc (k + 1) ≡ suc k + 1 = omega arith in
+        by p (i + 1) n k (omega (arith, within)) ∙ ap (λ j. record { instance = p; index = j } ∷ drop (k + 1) (events_from p (i + 1) n ++ events_in ranges)) next
+        ∙ ap (λ m. record { instance = p; index = i + suc k } ∷ drop m (record { instance = p; index = i } ∷ (events_from p (i + 1) n ++ events_in ranges))) one
+
+-- with its last one the next range begins
+pub last_event : (r : EventRange) (ranges : List EventRange) (passed : ℕ) → passed + 1 ≡ r.count
+    → drop passed (events_in (r ∷ ranges)) ≡ record { instance = r.first.instance; index = r.first.index + passed } ∷ events_in ranges
+last_event r ranges passed last =
+    next_event r ranges passed (omega (arith, last))
+    ∙ ap (λ es. record { instance = r.first.instance; index = r.first.index + passed } ∷ es) (ap (λ k. drop k (events_in (r ∷ ranges))) last ∙ all r.first.instance r.first.index r.count)
+  where
+    all : (p i n : ℕ) → drop n (events_from p i n ++ events_in ranges) ≡ events_in ranges
+    all p i zero = refl
+    all p i (suc n) = all p (i + 1) n
+
+-- ranges none of whose events came
+pub none_passed : (ranges : List EventRange) → All IsRange ranges → IsWithinFirst 0 ranges
+none_passed [] each = refl
+none_passed (r ∷ ranges) each = (All-head IsRange r ranges each).some

@@ -58,7 +58,7 @@ module _ (n k : ℕ) (h : List Occurrence) (legal : IsLegal n k h) where
     pub new_receive_hears : (r l m : ℕ) → IsGreatestHeard (chart_of h) p (length (chart_of h p)) r l → IsKnown (chart_of h) (at q j) r m → IsGreatestHeard (chart_of (Receive p q c ∷ h)) p (length (chart_of h p) + 1) r (max l m)
     new_receive_hears r l m heard knows = heard_from_send (chart_of (Receive p q c ∷ h)) (at q j) p (length (chart_of h p)) r l m (still_heard (Receive p q c) p r l heard) belongs (known r m knows)
 
-    -- its report is the races of the line above what that send knows of it
+    -- its report is the races of the line later than what that send knows of it
     pub new_receive_reports : (m : ℕ) (races : List ℕ) → IsKnown (chart_of h) (at q j) p m → IsRaces (chart_of h p) m q c races → IsReport (chart_of (Receive p q c ∷ h)) (at p (length (chart_of h p) + 1)) races
     new_receive_reports m races knows above =
         let line_event = receive_event q x.name c in

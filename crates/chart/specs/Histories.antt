@@ -71,7 +71,7 @@ chart_of (e ∷ h) p = chart_of h p ++ line_gets h p e
 abbrev pub AreTwo : ℕ → ℕ → ℕ → Type 0
 AreTwo n p q = (1 ≤ p) × (p ≤ n) × (1 ≤ q) × (q ≤ n) × (p ≢ q)
 
--- the event is allowed after the history, among n instances whose lanes have k places each
+-- the event is allowed after the history, among n instances whose lanes have k slots each
 abbrev pub MayFollow : ℕ → ℕ → List Occurrence → Occurrence → Type 0
 MayFollow n k h (Send p q m) = AreTwo n p q × (is_closed h p q ≡ false) × (length (waiting h p q) < k) × (length (chart_of h p) < MAX_EVENTS)
 MayFollow n k h (Receive p q c) = AreTwo n p q × (0 < length (waiting h q p)) × (length (chart_of h p) < MAX_EVENTS) × MayHaveRegion (chart_of h p) c

@@ -1,6 +1,6 @@
 -- The laws of charts: statements that the functions of `laws` prove. Those of knowledge and of what is heard are vector
 -- time's (Fidge 1988, Mattern 1989); the others are this project's profile, over the definitions that they cite.
-use Rattle.std.specs.Prelude.{◌≡◌, ℕ, ◌+◌, ◌<◌, ◌≤◌, ◌↔◌, ◌⊎◌, max, List, [], ◌∷◌, ◌++◌, take, length, slice_get, Some}
+use Rattle.std.specs.Prelude.{◌≡◌, ℕ, ◌+◌, ◌<◌, ◌≤◌, ◌↔◌, ◌⊎◌, max, List, [], ◌∷◌, ◌++◌, take, length, slice_get, Some, Err}
 use Rattle.chart.specs.declared.history.Occurrence.{Occurrence}
 use Rattle.chart.specs.declared.history.Occurrence.TheVariants.{Send, Receive, Close}
 use Rattle.chart.specs.declared.event.Event.{Event}
@@ -11,6 +11,16 @@ use Rattle.chart.specs.Charts.{Chart, Place, at, chart_event, IsSendTo, IsReceiv
 use Rattle.chart.specs.Places.{IsEvent, IsSendAfter}
 use Rattle.chart.specs.Order.{Before, IsCyclic, IsReport, IsRaces, region_of_event}
 use Rattle.chart.specs.Knowing.{IsKnown, IsGreatestHeard}
+use Rattle.chart.specs.Keywords.{spelled}
+use Rattle.chart.specs.Names.{name_of}
+use Rattle.chart.specs.declared.keyword.Keyword.{Keyword}
+use Rattle.chart.specs.declared.name.NameError.TheVariants.{Reserved}
+
+-- Of names.
+
+-- no word that the chart text keeps for itself is a name
+abbrev pub KeywordLaw : Type 0
+KeywordLaw = (keyword : Keyword) → name_of (spelled keyword) ≡ Err Reserved
 
 -- Of any chart.
 
@@ -19,7 +29,7 @@ use Rattle.chart.specs.Knowing.{IsKnown, IsGreatestHeard}
 abbrev pub ReportLaw : Type 0
 ReportLaw = (c : Chart) (s : Place) (p i j k : ℕ) → BelongsTo c s (at p i) → IsKnown c s p k → 1 ≤ j → j < i → Before c (at p j) (at p i) ↔ (IsReceiveFrom c s.instance (at p j) ⊎ (j ≤ k))
 
--- the races of the line as it was before the receive, above what the send knows, are the receive's report
+-- the races of the line as it was before the receive, later than what the send knows, are the receive's report
 abbrev pub RacesLaw : Type 0
 RacesLaw = (c : Chart) (s : Place) (p i k region : ℕ) (races : List ℕ) → BelongsTo c s (at p (i + 1)) → region_of_event (chart_event c (at p (i + 1))) ≡ region → IsKnown c s p k → IsRaces (take i (c p)) k s.instance region races → IsReport c (at p (i + 1)) races
 
@@ -27,7 +37,7 @@ RacesLaw = (c : Chart) (s : Place) (p i k region : ℕ) (races : List ℕ) → B
 abbrev pub OwnKnowledgeLaw : Type 0
 OwnKnowledgeLaw = (c : Chart) (to p i : ℕ) → IsSendTo c to (at p i) → (length (c p) ≡ i) ⊎ (IsCyclic c → ⊥) → IsKnown c (at p i) p i
 
--- a send knows of another line the greatest heard of the events above it
+-- a send knows of another line the greatest heard of the events earlier on its own
 abbrev pub KnowledgeLaw : Type 0
 KnowledgeLaw = (c : Chart) (to p i q k : ℕ) → IsSendTo c to (at p (i + 1)) → (q ≡ p → ⊥) → IsGreatestHeard c p i q k → IsKnown c (at p (i + 1)) q k
 
@@ -79,7 +89,7 @@ SendLineLaw = (h : List Occurrence) (p q : ℕ) (m : Content) → chart_of (Send
 abbrev pub ReceiveLineLaw : Type 0
 ReceiveLineLaw = (h : List Occurrence) (p q c : ℕ) (m : Content) (rest : List Content) → waiting h q p ≡ m ∷ rest → chart_of (Receive p q c ∷ h) p ≡ chart_of h p ++ receive_event q m.name c ∷ []
 
--- a new send has as many sends of its lane above it as messages were sent
+-- a new send has as many earlier sends of its lane as messages were sent
 abbrev pub NewSendLaw : Type 0
 NewSendLaw = (h : List Occurrence) (p q : ℕ) (m : Content) → IsSendAfter (chart_of (Send p q m ∷ h) p) q (length (sent h p q)) (length (chart_of h p) + 1)
 
@@ -111,7 +121,7 @@ NewReceiveLaw = (n k : ℕ) (h : List Occurrence) → IsLegal n k h → (p q c :
 abbrev pub NewReceiveHearingLaw : Type 0
 NewReceiveHearingLaw = (n k : ℕ) (h : List Occurrence) → IsLegal n k h → (p q c : ℕ) (m : Content) (rest : List Content) → waiting h q p ≡ m ∷ rest → (j : ℕ) → IsSendAfter (chart_of h q) p (received h q p) j → (r heard known : ℕ) → IsGreatestHeard (chart_of h) p (length (chart_of h p)) r heard → IsKnown (chart_of h) (at q j) r known → IsGreatestHeard (chart_of (Receive p q c ∷ h)) p (length (chart_of h p) + 1) r (max heard known)
 
--- its report is the races of the line above what that send knows of it
+-- its report is the races of the line later than what that send knows of it
 abbrev pub NewReportLaw : Type 0
 NewReportLaw = (n k : ℕ) (h : List Occurrence) → IsLegal n k h → (p q c : ℕ) (m : Content) (rest : List Content) → waiting h q p ≡ m ∷ rest → (j : ℕ) → IsSendAfter (chart_of h q) p (received h q p) j → (known : ℕ) (races : List ℕ) → IsKnown (chart_of h) (at q j) p known → IsRaces (chart_of h p) known q c races → IsReport (chart_of (Receive p q c ∷ h)) (at p (length (chart_of h p) + 1)) races
 

@@ -1,6 +1,7 @@
 pub mod Charts
 pub mod Histories
 pub mod HistoryLines
+pub mod Keywords
 pub mod Knowing
 pub mod Laws
 pub mod LineLayout

@@ -1,6 +1,7 @@
 -- What a name is, and the first fault of bytes that are none: this project's profile of the names of ITU-T Z.120, whose
 -- words are reserved.
-use Rattle.std.specs.Prelude.{◌≡◌, ℕ, suc, ◌+◌, Bool, not, ◌||◌, ◌&&◌, List, [], ◌∷◌, length, Option, None, Some, Result, Ok, Err, position, option_map, codes, bytes_eq, nat_lt, nat_le, ◌==◌, if◌then◌else◌}
+use Rattle.std.specs.Prelude.{◌≡◌, ℕ, suc, ◌+◌, Bool, not, ◌||◌, ◌&&◌, List, [], ◌∷◌, length, Option, None, Some, Result, Ok, Err, position, option_map, bytes_eq, nat_lt, nat_le, ◌==◌, if◌then◌else◌}
+use Rattle.chart.specs.Keywords.{is_reserved}
 use Rattle.chart.specs.declared.name.NameError.{NameError}
 use Rattle.chart.specs.declared.name.NameError.TheVariants.{Empty, TooLong, BadByte, Reserved}
 use Rattle.chart.specs.declared.name.TheConstants.{MAX_NAME}
@@ -13,17 +14,10 @@ is_letter b = (nat_le 65 b && nat_le b 90) || (nat_le 97 b && nat_le b 122)
 abbrev pub is_name_byte : ℕ → Bool
 is_name_byte b = is_letter b || (nat_le 48 b && nat_le b 57) || b == 95
 
--- the first place, from 1, of a byte that doesn't belong: a name is a letter, and then letters, digits and _
+-- the number, from 1, of the first byte that doesn't belong: a name is a letter, and then letters, digits and _
 abbrev pub bad_place : List ℕ → Option ℕ
 bad_place [] = None
 bad_place (b ∷ bs) = if is_letter b then option_map (λ i. i + 2) (position (λ c. not (is_name_byte c)) bs) else Some 1
-
--- the words that the chart text keeps for itself
-unfoldable pub is_reserved : List ℕ → Bool
-is_reserved w =
-    bytes_eq w (codes "msc") || bytes_eq w (codes "endmsc") || bytes_eq w (codes "instance") || bytes_eq w (codes "endinstance")
-    || bytes_eq w (codes "out") || bytes_eq w (codes "to") || bytes_eq w (codes "in") || bytes_eq w (codes "from")
-    || bytes_eq w (codes "concurrent") || bytes_eq w (codes "endconcurrent")
 
 -- the bytes as a name, or their first fault
 unfoldable pub name_of : List ℕ → Result (List ℕ) NameError
@@ -38,6 +32,6 @@ name_of w =
 abbrev pub IsName : List ℕ → Type 0
 IsName w = name_of w ≡ Ok w
 
--- the instance that has the name: its place in the list of names, from 1
+-- the instance that has the name: its number in the list of names, from 1
 abbrev pub instance_of : List (List ℕ) → List ℕ → Option ℕ
 instance_of names w = option_map suc (position (bytes_eq w) names)

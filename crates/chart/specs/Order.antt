@@ -5,7 +5,7 @@ use Rattle.chart.specs.declared.event.Event.{Event}
 use Rattle.chart.specs.Events.{is_receive_from, is_in, region_of, ith}
 use Rattle.chart.specs.Charts.{Chart, Place, at, chart_event, IsSendTo, IsReceiveFrom, BelongsTo}
 
--- e stands above f on one line
+-- e is earlier than f on one line
 pub record IsEarlier (e f : Place) : Type 0 where
   pub line : e.instance ≡ f.instance
   pub begun : 1 ≤ e.index
@@ -37,7 +37,7 @@ pub record IsReport (c : Chart) (r : Place) (report : List ℕ) : Type 0 where
   pub rising : AllPairs (λ i j. i < j) report
   pub exact : (j : ℕ) → Contains report j ↔ ((j < r.index) × ((m : Event) × (chart_event c (at r.instance j) ≡ Some m) × (is_in (region_of_event (chart_event c r)) m ≡ false)) × (Before c (at r.instance j) r → ⊥))
 
--- the events of a line above an entry that are neither receives from q nor in the region, rising
+-- the events of a line later than an entry that are neither receives from q nor in the region, rising
 pub record IsRaces (line : List Event) (entry q region : ℕ) (races : List ℕ) : Type 0 where
   pub rising : AllPairs (λ i j. i < j) races
   pub exact : (j : ℕ) → Contains races j ↔ ((entry < j) × ((m : Event) × (ith line j ≡ Some m) × (is_receive_from q m ≡ false) × (is_in region m ≡ false)))

@@ -22,6 +22,11 @@ pub record IsRange (r : EventRange) : Type 0 where
   pub some : 0 < r.count
   pub within : r.first.index + r.count ≤ 2 ^ 32
 
+-- there are more events in the first range than this number, unless there is no range
+abbrev pub IsWithinFirst : ℕ → List EventRange → Type 0
+IsWithinFirst passed [] = passed ≡ 0
+IsWithinFirst passed (r ∷ ranges) = passed < r.count
+
 -- s goes on where r ends
 abbrev pub is_followed_by : EventRange → EventRange → Bool
 is_followed_by r s = (r.first.instance == s.first.instance) && (r.first.index + r.count == s.first.index)

@@ -1,8 +1,14 @@
-//! The laws of charts, each the contract of a function that does nothing. Of any chart: what is before a receive on its own
+//! The laws of charts, each the contract of a function that does nothing. Of names: that no word of the chart text's own is
+//! one. Of any chart: what is before a receive on its own
 //! line, what a send knows of each line, and what a receive hears. Of the charts of legal histories: that each receive has
 //! its send and no event is before itself, what one more event adds, what later events leave as it is, and what is there
 //! once.
-ghost use Rattle.chart.specs.Laws.{ReportLaw, RacesLaw, OwnKnowledgeLaw, KnowledgeLaw, FirstHearingLaw, ReceiveHearingLaw, SendHearingLaw, NoSendLaw, OtherNameLaw, SendLaw, NoCycleLaw, OtherLineLaw, CloseLineLaw, SendLineLaw, ReceiveLineLaw, NewSendLaw, NewSendOwnLaw, NewSendKnowledgeLaw, NewSendHearingLaw, MessageSendLaw, OneSendLaw, NewReceiveLaw, NewReceiveHearingLaw, NewReportLaw, LegalGrowthLaw, PlaceGrowthLaw, SendGrowthLaw, BelongingGrowthLaw, OrderGrowthLaw, KnowledgeGrowthLaw, ReportGrowthLaw, HearingGrowthLaw, OneKnowledgeLaw, OneHearingLaw, OneReportLaw};
+ghost use Rattle.chart.specs.Laws.{KeywordLaw, ReportLaw, RacesLaw, OwnKnowledgeLaw, KnowledgeLaw, FirstHearingLaw, ReceiveHearingLaw, SendHearingLaw, NoSendLaw, OtherNameLaw, SendLaw, NoCycleLaw, OtherLineLaw, CloseLineLaw, SendLineLaw, ReceiveLineLaw, NewSendLaw, NewSendOwnLaw, NewSendKnowledgeLaw, NewSendHearingLaw, MessageSendLaw, OneSendLaw, NewReceiveLaw, NewReceiveHearingLaw, NewReportLaw, LegalGrowthLaw, PlaceGrowthLaw, SendGrowthLaw, BelongingGrowthLaw, OrderGrowthLaw, KnowledgeGrowthLaw, ReportGrowthLaw, HearingGrowthLaw, OneKnowledgeLaw, OneHearingLaw, OneReportLaw};
+
+/// A word that the chart text keeps for itself is refused as a name, by F4 and not by another fault.
+pub fn keyword_law()
+    ensures { KeywordLaw }
+{}
 
 /// What is enforced before a receive on its own line, by what its send knows, and so what its report is.
 pub fn report_law()
@@ -14,7 +20,7 @@ pub fn report_law()
 /// another line the most that was heard of it before.
 pub fn knowledge_law()
     ensures own { OwnKnowledgeLaw }
-    ensures other { KnowledgeLaw }
+    ensures other_lines { KnowledgeLaw }
 {}
 
 /// What is heard along a line: nothing at first, by a receive what its send knows, and nothing by a send.
@@ -34,7 +40,7 @@ pub fn legal_law()
 
 /// What one more event adds to the lines.
 pub fn line_law()
-    ensures other { OtherLineLaw }
+    ensures other_lines { OtherLineLaw }
     ensures close { CloseLineLaw }
     ensures send { SendLineLaw }
     ensures receive { ReceiveLineLaw }
@@ -44,7 +50,7 @@ pub fn line_law()
 pub fn new_send_law()
     ensures send { NewSendLaw }
     ensures own { NewSendOwnLaw }
-    ensures other { NewSendKnowledgeLaw }
+    ensures other_lines { NewSendKnowledgeLaw }
     ensures hearing { NewSendHearingLaw }
 {}
 

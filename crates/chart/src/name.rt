@@ -1,12 +1,13 @@
 //! The names of instances and messages.
-ghost use Rattle.std.specs.Prelude.{◌≡◌, ◌≤◌, ◌<◌, length, nat_eq, bytes_eq, [], ◌∷◌, position, not, replicate, IfSome};
+ghost use Rattle.std.specs.Prelude.{◌≡◌, ◌≤◌, ◌<◌, length, nat_eq, [], ◌∷◌, position, not, replicate, IfSome};
 ghost use Rattle.std.specs.Cmp.{on_equiv, on_per, partial_equiv_from_equiv};
 ghost use Rattle.std.specs.Cmp.Lexicographic.{pointwise, nat_list_eq_equiv};
 ghost use Rattle.std.specs.Cmp.Rules.{hashing};
 ghost use Rattle.std.proofs.Common.{rules};
-ghost use Rattle.chart.specs.Names.{IsName, name_of, bad_place, is_letter, is_name_byte, is_reserved};
+ghost use Rattle.chart.specs.Names.{IsName, name_of, bad_place, is_letter, is_name_byte};
 ghost use Rattle.chart.specs.declared.name.TheConstants.{MAX_NAME};
 
+use crate::keyword::is_reserved;
 use std::hash::{Hash, Hasher};
 use std::marker::Model;
 use thiserror::Error;
@@ -23,7 +24,7 @@ pub enum NameError {
     /// F2: there are more than [`MAX_NAME`] bytes.
     #[error("the name is longer than 32 bytes")]
     TooLong,
-    /// F3: the byte at this place, from 1, is the first that doesn't belong. A name is a letter `A` to `Z` or
+    /// F3: the byte of this number, from 1, is the first that doesn't belong. A name is a letter `A` to `Z` or
     /// `a` to `z`, and then letters, digits and `_`.
     #[error("byte {0} doesn't belong in a name")]
     BadByte(usize),
@@ -35,7 +36,7 @@ pub enum NameError {
 /// The name of an instance or of a message: 1 to [`MAX_NAME`] bytes, held in place. A contract sees the bytes.
 #[derive(Clone, Copy, Debug)]
 pub struct Name {
-    bytes: [u8; 32],
+    bytes: [u8; MAX_NAME],
     len: u64,
 }
 
@@ -76,7 +77,7 @@ fn first_other(bytes: &[u8]) -> Option<usize>
     bytes.iter().position(|b| !is_name_byte(*b))
 }
 
-/// The first place, from 1, of a byte that doesn't belong in a name.
+/// The number, from 1, of the first byte that doesn't belong in a name.
 fn bad_place(bytes: &[u8]) -> Option<usize>
     requires { length bytes.now ≤ MAX_NAME }
     ensures { result ≡ bad_place bytes.now }
@@ -93,28 +94,6 @@ fn bad_place(bytes: &[u8]) -> Option<usize>
             }
         }
     }
-}
-
-fn is(word: &[u8], other: &[u8]) -> bool
-    ensures { result ≡ bytes_eq word.now other.now }
-{
-    word == other
-}
-
-#[tactic(auto, unfolding(crate::specs::Names::is_reserved))]
-fn is_reserved(word: &[u8]) -> bool
-    ensures { result ≡ is_reserved word.now }
-{
-    is(word, b"msc")
-        || is(word, b"endmsc")
-        || is(word, b"instance")
-        || is(word, b"endinstance")
-        || is(word, b"out")
-        || is(word, b"to")
-        || is(word, b"in")
-        || is(word, b"from")
-        || is(word, b"concurrent")
-        || is(word, b"endconcurrent")
 }
 
 fn zeros() -> [u8; MAX_NAME]

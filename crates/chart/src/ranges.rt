@@ -1,5 +1,6 @@
 //! Lists of events, kept as ranges of neighbours.
-ghost use Rattle.std.specs.Prelude.{◌≡◌, ◌++◌, ◌+◌, ◌==◌, [], length, ◌<◌, All, IfOk, IsOk, OnErr, OnOk, IsTrue, ◌↔◌};
+ghost use Rattle.std.specs.Prelude.{◌≡◌, ◌++◌, ◌+◌, ◌==◌, [], length, min, ◌^◌, ◌-◌, ◌<◌, All, IfOk, IsOk, OnErr, OnOk, IsTrue, ◌↔◌};
+ghost use Rattle.std.specs.Iterator.{YieldsFirst, item_count};
 ghost use Rattle.chart.specs.Ranges.{IsRange, events_of, events_in, is_followed_by};
 
 use crate::instance::EventNo;
@@ -68,9 +69,10 @@ impl Model for EventRanges {
 impl EventRanges {
     /// These events.
     ///
-    /// F6: it fails only where there is no memory.
+    /// F6: it fails only where there is no memory, and for no events it takes none.
     pub fn of(alloc: Global, events: &[EventNo]) -> Result<EventRanges, AllocError>
-        ensures { IfOk result (λ ranges. ranges ≡ events.now) }
+        ensures events { IfOk result (λ ranges. ranges ≡ events.now) }
+        ensures none { events.now ≡ [] → IsOk result }
     {
         let mut builder = RangesBuilder::new(alloc);
         for passed in 0..events.len() {
@@ -92,6 +94,28 @@ impl EventRanges {
         ensures { result ≡ (length self.now == 0) }
     {
         self.ranges.is_empty()
+    }
+
+    /// How many events they are, or [`usize::MAX`] where they are more.
+    pub fn len(&self) -> usize
+        ensures { result ≡ min (length self.now) (2 ^ 64 - 1) }
+    {
+        let mut events = 0usize;
+        let ranges = self.as_slice();
+        for range in ranges {
+            events = events.saturating_add(range.count);
+        }
+        events
+    }
+
+    /// The events one by one, the first one first. It takes no memory.
+    pub fn iter(&self) -> Events<'_>
+        ensures { result ≡ self.now }
+    {
+        Events {
+            ranges: self.as_slice(),
+            passed: 0,
+        }
     }
 
     /// Whether both are the same events.
@@ -129,6 +153,47 @@ impl EventRanges {
         Ok(EventRanges {
             ranges: Vec::from_slice(alloc, self.ranges.as_slice())?,
         })
+    }
+}
+
+/// The events of ranges, one by one. A contract sees those that are still to come.
+#[derive(Drop)]
+pub struct Events<'a> {
+    /// The first one is that of the next event.
+    ranges: &'a [EventRange],
+    /// So many events of the first one have come.
+    passed: usize,
+}
+
+impl<'a> Model for Events<'a> {
+    ghost use Rattle.std.specs.Prelude.{List, All, drop};
+    ghost use Rattle.chart.specs.declared.instance.EventNo.{EventNo};
+    ghost use Rattle.chart.specs.Ranges.{IsRange, IsWithinFirst, events_in};
+
+    ghost Value = { List EventNo };
+
+    ghost view = { λ e. drop e.passed (events_in e.ranges.now) };
+
+    ghost invariant = { λ e. All IsRange e.ranges.now × IsWithinFirst e.passed e.ranges.now };
+}
+
+impl<'a> Iterator for Events<'a> {
+    type Item = EventNo;
+
+    ghost next_gives = { YieldsFirst (λ events. events) };
+
+    ghost remaining = { item_count (λ events. events) };
+
+    fn next(&mut self) -> Option<EventNo> {
+        let (range, others) = self.ranges.split_first()?;
+        let event = range.event(self.passed);
+        if self.passed + 1 < range.count {
+            self.passed += 1;
+        } else {
+            self.ranges = others;
+            self.passed = 0;
+        }
+        Some(event)
     }
 }
 

@@ -1,16 +1,18 @@
 //! Reports of races.
-ghost use Rattle.std.specs.Prelude.{◌≡◌};
+ghost use Rattle.std.specs.Prelude.{◌≡◌, ◌↔◌, [], length, nat_lt, IfOk, IsOk, IsTrue};
 ghost use Rattle.chart.specs.Reports.{has_races};
 
 use crate::instance::EventNo;
+use crate::ranges::EventRanges;
+use std::alloc::{AllocError, Global};
 use std::marker::Model;
 
-/// The races of a receive: the earlier events of its line that come before it by luck alone. A contract sees it as
-/// a record of both.
+/// The races of a receive: the earlier events of its line that come before it by luck alone. They are kept as ranges of
+/// neighbours, so a report costs its ranges. A contract sees it as a record of the receive and of the events one by one.
 #[derive(Debug, Drop)]
 pub struct Report {
     receive: EventNo,
-    earlier: Vec<EventNo>,
+    earlier: EventRanges,
 }
 
 impl Model for Report {
@@ -18,14 +20,26 @@ impl Model for Report {
 
     ghost Value = { ReportView };
 
-    ghost view = { λ r. record { receive = r.receive; earlier = r.earlier.items } };
+    ghost view = { λ r. record { receive = r.receive; earlier = r.earlier } };
 }
 
 impl Report {
-    pub fn new(receive: EventNo, earlier: Vec<EventNo>) -> Report
-        ensures { result ≡ record { receive = receive; earlier = earlier.items } }
+    /// The report with the earlier events of these ranges. It takes no memory.
+    pub fn new(receive: EventNo, earlier: EventRanges) -> Report
+        ensures { result ≡ record { receive = receive; earlier = earlier } }
     {
         Report { receive, earlier }
+    }
+
+    /// The report with these earlier events, whichever they are.
+    ///
+    /// F6: it fails only where there is no memory, and for no events it takes none.
+    pub fn of(alloc: Global, receive: EventNo, earlier: &[EventNo]) -> Result<Report, AllocError>
+        ensures value { IfOk result (λ report. report ≡ record { receive = receive; earlier = earlier.now }) }
+        ensures none { earlier.now ≡ [] → IsOk result }
+    {
+        let earlier = EventRanges::of(alloc, earlier)?;
+        Ok(Report { receive, earlier })
     }
 
     pub fn receive(&self) -> EventNo
@@ -35,10 +49,31 @@ impl Report {
     }
 
     /// The earlier events, the first of the line first.
-    pub fn earlier(&self) -> &[EventNo]
+    pub fn earlier(&self) -> &EventRanges
         ensures { result.now ≡ self.now.earlier }
     {
-        self.earlier.as_slice()
+        &self.earlier
+    }
+
+    /// Whether both have one receive and the same earlier events.
+    pub fn is(&self, other: &Report) -> bool
+        ensures { IsTrue result ↔ (self.now ≡ other.now) }
+    {
+        self.receive == other.receive && self.earlier.is(&other.earlier)
+    }
+
+    /// A copy.
+    ///
+    /// F6: it fails only where there is no memory, and without races it takes none.
+    pub fn copied(&self, alloc: Global) -> Result<Report, AllocError>
+        ensures value { IfOk result (λ copy. copy ≡ self.now) }
+        ensures none { self.now.earlier ≡ [] → IsOk result }
+    {
+        let earlier = self.earlier.copied(alloc)?;
+        Ok(Report {
+            receive: self.receive,
+            earlier,
+        })
     }
 }
 

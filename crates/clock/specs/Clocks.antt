@@ -1,4 +1,4 @@
--- Vector time: one entry for each instance (Fidge 1988, Mattern 1989); that of instance p stands at place p - 1 (this
+-- Vector time: one entry for each instance (Fidge 1988, Mattern 1989); that of instance p stands at index p - 1 (this
 -- project's profile).
 use Rattle.std.specs.Prelude.{ℕ, zero, suc, max, List, map, slice_index, slice_set}
 use Rattle.std.specs.List.{zip}

@@ -17,7 +17,7 @@ pub const INLINE_ENTRIES: usize = 8;
 
 /// A vector time: one entry for each of 2 to [`MAX_INSTANCES`] instances (Fidge 1988, Mattern 1989).
 ///
-/// A contract sees the list of the entries, that of instance `p` at place `p - 1`.
+/// A contract sees the list of the entries, that of instance `p` at index `p - 1`.
 #[derive(Debug, Drop)]
 pub struct Clock {
     entries: SmallVec<u32, INLINE_ENTRIES>,

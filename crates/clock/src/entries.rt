@@ -26,7 +26,7 @@ pub(crate) fn changes(
     base: &[u32],
 ) -> Result<SmallVec<Change, INLINE_ENTRIES>, AllocError>
     requires same_length { length entries.now ≡ length base.now }
-    requires few { length entries.now ≤ MAX_INSTANCES }
+    requires limit { length entries.now ≤ MAX_INSTANCES }
     ensures exact { IfOk result (λ changes. IsDiff base.now entries.now changes.items) }
     ensures restores { IfOk result (λ changes. apply_diff base.now changes.items ≡ entries.now) }
     ensures within { IfOk result (λ changes. All (λ change. change.instance ≤ length entries.now) changes.items) }

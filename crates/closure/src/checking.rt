@@ -1,5 +1,5 @@
 //! Audits of reports.
-ghost use Rattle.std.specs.Prelude.{◌≡◌, ◌↔◌, ◌⊎◌, length, IsTrue, MatchOption, OnOk, IfErr};
+ghost use Rattle.std.specs.Prelude.{◌≡◌, ◌⊎◌, length, MatchOption, OnOk, IfErr};
 ghost use Rattle.chart.specs.Charts.{chart_lines, IsPossible};
 ghost use Rattle.chart.specs.Reports.{AreReports};
 ghost use Rattle.closure.specs.Audits.{IsFirstWrong, RefusesReports};
@@ -9,24 +9,6 @@ use crate::error::{AuditError, ChartError};
 use chart::{Chart, EventNo, Report};
 use std::alloc::Global;
 
-fn are_one(event: EventNo, other: EventNo) -> bool
-    ensures { IsTrue result ↔ (event ≡ other) }
-{
-    event.instance == other.instance && event.index == other.index
-}
-
-fn are_same(events: &[EventNo], others: &[EventNo]) -> bool
-    ensures { IsTrue result ↔ (events.now ≡ others.now) }
-{
-    events == others
-}
-
-fn is_same(report: &Report, other: &Report) -> bool
-    ensures { IsTrue result ↔ (report.now ≡ other.now) }
-{
-    are_one(report.receive(), other.receive()) && are_same(report.earlier(), other.earlier())
-}
-
 /// The receive that names the first place where the reports given aren't the right ones.
 fn first_wrong(right: &[Report], given: &[Report]) -> Option<EventNo>
     ensures { MatchOption result (given.now ≡ right.now) (IsFirstWrong right.now given.now) }
@@ -35,7 +17,7 @@ fn first_wrong(right: &[Report], given: &[Report]) -> Option<EventNo>
         if place >= given.len() {
             return Some(right[place].receive());
         }
-        if !is_same(&given[place], &right[place]) {
+        if !given[place].is(&right[place]) {
             return Some(right[place].receive());
         }
     }

@@ -84,8 +84,8 @@ impl<'a> Closure<'a> {
 
     /// The report of each receive, by instance and index.
     ///
-    /// One search a line serves all its sends, and a report costs its length. F6: it fails only where there is no
-    /// memory.
+    /// One search a line serves all its sends, and a report costs the runs of events that it passes and finds, or in a
+    /// coregion the events. F6: it fails only where there is no memory.
     pub fn races(&self) -> Result<Vec<Report>, AllocError>
         ensures { IfOk result (λ reports. AreReports self.now reports.items) }
     {

@@ -41,7 +41,7 @@ fn report_at(
     let sender = sender as usize;
     let region = event_at(lines, line, place).region();
     let entry = value_at(known, sender, index as usize - 1);
-    let found = race_ranges(
+    let earlier = race_ranges(
         alloc,
         line_of(lines, line).as_growing(),
         place,
@@ -49,7 +49,6 @@ fn report_at(
         InstanceNo::at_place(sender),
         region,
     )?;
-    let earlier = found.listed(alloc)?;
     let receive = EventNo {
         instance: InstanceNo::at_place(line),
         index: place as u32 + 1,

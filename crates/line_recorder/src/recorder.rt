@@ -239,7 +239,7 @@ impl Recorder {
         };
         let earlier = next_races(self.alloc, &self.line, clock.entry(own), from, region)?;
         let report = Report::new(receive, earlier);
-        let copy = copy_of(self.alloc, &report)?;
+        let copy = report.copied(self.alloc)?;
         self.reports.reserve(1)?;
         self.line.push(Event::Receive { from, name, region })?;
         self.room = self.room.saturating_sub(1);
@@ -247,12 +247,4 @@ impl Recorder {
         self.reports.push_reserved(report);
         Ok(copy)
     }
-}
-
-/// A copy of a report. It fails only where there is no memory, and for a report of no races it takes none.
-fn copy_of(alloc: Global, report: &Report) -> Result<Report, AllocError>
-    ensures { IfOk result (λ copy. copy ≡ report.now) }
-{
-    let earlier = Vec::from_slice(alloc, report.earlier())?;
-    Ok(Report::new(report.receive(), earlier))
 }

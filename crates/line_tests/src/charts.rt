@@ -4,8 +4,10 @@ ghost use Rattle.chart.specs.Events.{region_of};
 
 use chart::{
     Event, EventNo, EventRanges, GrowingLine, InstanceNo, Line, LineError, MAX_BODY, MAX_EVENTS,
-    MAX_NAME, Message, Name, NameError, Names, NamesError,
+    MAX_NAME, Message, Name, NameError, Names, NamesError, Report, has_races,
 };
+use std::alloc::Global;
+use std::process::Abort;
 use std::test::Fail;
 
 fn name(bytes: &[u8]) -> Result<Name, Fail> {
@@ -125,29 +127,43 @@ fn runs(rt: HostRuntime) -> Result<(), Fail> {
     Ok(())
 }
 
+/// The names nAa, nBa and so on, as many as there may be.
+fn as_many_as_may_be(alloc: Global) -> Result<Names, Fail> {
+    let mut names = Names::new(alloc);
+    for number in 0..32u8 {
+        names.add(name(&[b'n', b'A' + number % 26, b'a' + number / 26])?)?;
+    }
+    Ok(names)
+}
+
 #[test]
 fn instance_names(rt: HostRuntime) -> Result<(), Fail> {
-    let mut names = Names::new(rt.alloc());
-    for number in 0..32u8 {
-        assert_eq!(rt;
-            names
-                .add(name(&[b'n', b'A' + number % 26, b'a' + number / 26])?)?
-                .place(),
-            usize::from(number)
-        );
-    }
-    assert_eq!(rt; names.add(name(b"nAa")?), Err(NamesError::Duplicate));
-    assert_eq!(rt; names.add(name(b"other")?), Err(NamesError::Instances));
+    let names = as_many_as_may_be(rt.alloc())?;
     assert_eq!(rt; names.len(), 32);
-    assert_eq!(rt; names.instance(name(b"nBb")?), InstanceNo::new(28));
+    for (word, number) in [(b"nAa", 1), (b"nBb", 28), (b"nFb", 32)] {
+        assert_eq!(rt; names.instance(name(word)?), InstanceNo::new(number));
+        assert_eq!(rt; names.name(instance(number)?), Some(name(word)?));
+    }
     assert_eq!(rt; names.instance(name(b"nBB")?), None);
-    assert_eq!(rt; names.name(instance(28)?), Some(name(b"nBb")?));
     Ok(())
 }
 
 #[test]
-fn refused_growths(rt: HostRuntime) -> Result<(), Fail> {
-    let mut line = Line::new(rt.alloc(), instance(1)?);
+fn names_that_are_refused(rt: HostRuntime) -> Result<(), Fail> {
+    let mut names = as_many_as_may_be(rt.alloc())?;
+    for (word, fault) in [
+        (b"nAa".as_slice(), NamesError::Duplicate),
+        (b"other".as_slice(), NamesError::Instances),
+    ] {
+        assert_eq!(rt; names.add(name(word)?), Err(fault));
+    }
+    assert_eq!(rt; names.len(), 32);
+    Ok(())
+}
+
+/// A line takes its first event, at the second try where a growth was refused.
+fn takes_an_event(rt: &impl Abort, alloc: Global) -> Result<(), Fail> {
+    let mut line = Line::new(alloc, instance(1)?);
     let ping = send_to(2)?;
     if let Err(error) = line.push(ping) {
         assert_eq!(rt; error, LineError::Memory);
@@ -155,13 +171,26 @@ fn refused_growths(rt: HostRuntime) -> Result<(), Fail> {
         line.push(ping)?;
     }
     assert_eq!(rt; line.events(), [ping].as_slice());
-    let mut names = Names::new(rt.alloc());
-    if let Err(error) = names.add(name(b"a")?) {
+    Ok(())
+}
+
+/// Names take their first one alike.
+fn takes_a_name(rt: &impl Abort, alloc: Global) -> Result<(), Fail> {
+    let mut names = Names::new(alloc);
+    let first = name(b"a")?;
+    if let Err(error) = names.add(first) {
         assert_eq!(rt; error, NamesError::Memory);
         assert_eq!(rt; names.len(), 0);
-        names.add(name(b"a")?)?;
+        names.add(first)?;
     }
-    assert_eq!(rt; names.instance(name(b"a")?), InstanceNo::new(1));
+    assert_eq!(rt; names.instance(first), InstanceNo::new(1));
+    Ok(())
+}
+
+#[test]
+fn refused_growths(rt: HostRuntime) -> Result<(), Fail> {
+    takes_an_event(&rt, rt.alloc())?;
+    takes_a_name(&rt, rt.alloc())?;
     // A last growth, whose refusal tells that each one before it was refused in an earlier run of the test.
     Vec::<u8>::with_capacity(rt.alloc(), 1).map_err(|_| "every growth was refused")?;
     Ok(())
@@ -187,5 +216,35 @@ fn event_ranges(rt: HostRuntime) -> Result<(), Fail> {
     let none = EventRanges::of(rt.alloc(), &[])?;
     assert!(rt; none.is_empty());
     assert!(rt; !ranges.is(&none));
+    Ok(())
+}
+
+/// The report of event 8, with the earlier events of these numbers.
+fn report(alloc: Global, earlier: &[u32]) -> Result<Report, Fail> {
+    let mut events = Vec::new(alloc);
+    for index in earlier {
+        events.push(event(*index)?)?;
+    }
+    Ok(Report::of(alloc, event(8)?, events.as_slice())?)
+}
+
+#[test]
+fn reports_by_ranges(rt: HostRuntime) -> Result<(), Fail> {
+    let report = report(rt.alloc(), &[2, 3, 4, 7])?;
+    assert_eq!(rt; report.earlier().as_slice().len(), 2, "2 to 4, and 7");
+    assert_eq!(rt; report.earlier().len(), 4);
+    let indices = report.earlier().iter().map(|race| race.index);
+    let indices: Vec<u32> = indices.collect(rt.alloc())?;
+    assert_eq!(rt; indices.as_slice(), [2, 3, 4, 7].as_slice());
+    Ok(())
+}
+
+#[test]
+fn same_reports(rt: HostRuntime) -> Result<(), Fail> {
+    let some = report(rt.alloc(), &[2, 3])?;
+    let none = report(rt.alloc(), &[])?;
+    assert!(rt; some.is(&some.copied(rt.alloc())?));
+    assert!(rt; !some.is(&none));
+    assert!(rt; has_races([none, some].as_slice()));
     Ok(())
 }

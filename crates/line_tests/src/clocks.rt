@@ -63,10 +63,24 @@ fn stamps(
         .or_else(|_| before.stamped(alloc, p, 77))?;
     holds(rt, &after, stamped);
     holds(rt, &before, entries);
-    let copied = before.copied(alloc).or_else(|_| before.copied(alloc))?;
-    assert_eq!(rt; copied, before);
-    assert_ne!(rt; copied, after);
+    copies(rt, alloc, &before, &after)
+}
+
+/// A copy is equal to the clock, and not to another one.
+fn copies(rt: &impl Abort, alloc: Global, clock: &Clock, other: &Clock) -> Result<(), AllocError> {
+    let copied = clock.copied(alloc).or_else(|_| clock.copied(alloc))?;
+    assert!(rt; copied == *clock && copied != *other);
     Ok(())
+}
+
+/// The difference lists these instances with these entries.
+fn lists(rt: &impl Abort, diff: &Diff, changes: &[(usize, u32)]) {
+    assert_eq!(rt; diff.len(), changes.len());
+    assert_eq!(rt; diff.is_empty(), changes.is_empty());
+    for (change, (number, entry)) in diff.changes().iter().zip(changes) {
+        assert_eq!(rt; change.instance.number(), *number);
+        assert_eq!(rt; change.entry, *entry);
+    }
 }
 
 /// The difference lists these instances with these entries, and makes the base the clock.
@@ -84,12 +98,7 @@ fn differs(
     let diff = after
         .diff_from(alloc, &before)
         .or_else(|_| after.diff_from(alloc, &before))?;
-    assert_eq!(rt; diff.len(), changes.len());
-    assert_eq!(rt; diff.is_empty(), changes.is_empty());
-    for (change, (number, entry)) in diff.changes().iter().zip(changes) {
-        assert_eq!(rt; change.instance.number(), *number);
-        assert_eq!(rt; change.entry, *entry);
-    }
+    lists(rt, &diff, changes);
     before.apply(&diff);
     assert_eq!(rt; before, after);
     Ok(())

@@ -175,7 +175,7 @@ fn reports(rt: &impl Abort, report: &Report, receive: Place, earlier: &[u32]) {
     assert_eq!(rt; report.receive(), event_no(rt, receive));
     assert_eq!(rt; report.earlier().len(), earlier.len());
     for (race, index) in report.earlier().iter().zip(earlier) {
-        assert_eq!(rt; *race, event_no(rt, (receive.0, *index)));
+        assert_eq!(rt; race, event_no(rt, (receive.0, *index)));
     }
 }
 
@@ -206,7 +206,10 @@ fn report(rt: &impl Abort, alloc: Global, receive: Place, earlier: &[u32]) -> Re
         }
         events.push(event).expect(rt, "an event with room");
     }
-    Report::new(event_no(rt, receive), events)
+    if let Ok(report) = Report::of(alloc, event_no(rt, receive), events.as_slice()) {
+        return report;
+    }
+    Report::of(alloc, event_no(rt, receive), events.as_slice()).expect(rt, "a report")
 }
 
 fn reports_of(rt: &impl Abort, alloc: Global, told: &[Races]) -> Vec<Report> {

@@ -3,6 +3,7 @@ pub mod EventPaths
 pub mod Coregions
 pub mod Builders
 pub mod Found
+pub mod LastWords
 pub mod Looks
 pub mod Moves
 pub mod Onward

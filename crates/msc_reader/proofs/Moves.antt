@@ -1,8 +1,11 @@
 -- What may be said in each state of a chart's text, and in which words.
-use Rattle.std.proofs.Common.{◌≢◌, ℕ, ◌+◌, ◌<◌, List, [], ◌∷◌, ◌++◌}
-use Rattle.std.specs.Prelude.{codes}
+use Rattle.std.proofs.Common.{◌≢◌, ℕ, ◌+◌, ◌<◌, List, [], ◌∷◌}
+use Rattle.chart.specs.Keywords.{spelled}
+use Rattle.chart.specs.declared.keyword.Keyword.TheVariants as keywords
 use Rattle.chart.specs.Names.{IsName}
 use Rattle.chart.specs.declared.line.TheConstants.{MAX_EVENTS}
+use Rattle.msc_text.specs.ChartText.{chart_name}
+use Rattle.msc_reader.specs.LastWords.{semi}
 use Rattle.msc_reader.specs.Steps.{after_receive}
 use Rattle.msc_reader.specs.declared.state.State.{State}
 use Rattle.msc_reader.specs.declared.state.State.TheVariants as states
@@ -29,17 +32,13 @@ pub data Moves : State → Saying → State → Type 0 where
   shuts : {own : List ℕ} {events : ℕ} → Moves (states.Inside own events regions.Held) sayings.Shut (states.Inside own events regions.Closed)
   leaves : {own : List ℕ} {events : ℕ} → Moves (states.Inside own events regions.Closed) sayings.Foot states.Outside
 
--- a word with a semicolon behind it
-abbrev pub semi : List ℕ → List ℕ
-semi word = word ++ 59 ∷ []
-
 -- the words that say it
 abbrev pub saying_words : Saying → List (List ℕ)
-saying_words sayings.Begin = codes "msc" ∷ codes "run;" ∷ []
-saying_words (sayings.Head own) = codes "instance" ∷ semi own ∷ []
-saying_words (sayings.Send to name) = codes "out" ∷ name ∷ codes "to" ∷ semi to ∷ []
-saying_words (sayings.Receive from name) = codes "in" ∷ name ∷ codes "from" ∷ semi from ∷ []
-saying_words sayings.Open = codes "concurrent;" ∷ []
-saying_words sayings.Shut = codes "endconcurrent;" ∷ []
-saying_words sayings.Foot = codes "endinstance;" ∷ []
-saying_words sayings.End = codes "endmsc;" ∷ []
+saying_words sayings.Begin = spelled keywords.Msc ∷ semi chart_name ∷ []
+saying_words (sayings.Head own) = spelled keywords.Instance ∷ semi own ∷ []
+saying_words (sayings.Send to name) = spelled keywords.Out ∷ name ∷ spelled keywords.To ∷ semi to ∷ []
+saying_words (sayings.Receive from name) = spelled keywords.In ∷ name ∷ spelled keywords.From ∷ semi from ∷ []
+saying_words sayings.Open = semi (spelled keywords.Concurrent) ∷ []
+saying_words sayings.Shut = semi (spelled keywords.EndConcurrent) ∷ []
+saying_words sayings.Foot = semi (spelled keywords.EndInstance) ∷ []
+saying_words sayings.End = semi (spelled keywords.EndMsc) ∷ []

@@ -3,6 +3,9 @@ use Rattle.std.proofs.Common.{◌≡◌, ◌≢◌, ℕ, ◌+◌, Bool, true, fa
 use Rattle.std.specs.Prelude.{codes, bytes_eq, nat_le}
 use Rattle.std.specs.List.{join_with_byte}
 use Rattle.std.proofs.lemmas.Bool.{lt-leb}
+use Rattle.chart.specs.Keywords.{spelled, is_keyword}
+use Rattle.chart.specs.declared.keyword.Keyword.{Keyword}
+use Rattle.chart.specs.declared.keyword.Keyword.TheVariants as keywords
 use Rattle.chart.specs.Names.{IsName}
 use Rattle.chart.specs.declared.line.TheConstants.{MAX_EVENTS}
 use Rattle.msc_text.specs.Faults.{◌>>=◌}
@@ -11,8 +14,9 @@ use Rattle.msc_text.specs.declared.fault.Cause.TheVariants.{Syntax, ToItself, Li
 use Rattle.msc_text.proofs.Lookups.{same_bytes}
 use Rattle.msc_text.proofs.Parts.{lacks_if, lacks_append}
 use Rattle.msc_text.proofs.Results.{bind_at, name_again}
-use Rattle.msc_text.proofs.Spacing.{IsPlain, ArePlain, plain_name, spaced_again, spaced_lacks, is_spaced}
-use Rattle.msc_reader.specs.Keywords.{is_msc, is_run, is_instance, is_endinstance, is_out, is_to, is_in, is_from, is_concurrent, is_endconcurrent, is_endmsc}
+use Rattle.msc_text.proofs.Spacing.{IsPlain, ArePlain, plain_name, plain_literal, plain_keyword, spaced_again, spaced_lacks, is_spaced}
+use Rattle.msc_text.specs.ChartText.{chart_name}
+use Rattle.msc_reader.specs.LastWords.{semi, is_last_word}
 use Rattle.msc_reader.specs.Steps.{Step, name_part, head_of, pair_of, names_of, after_receive, send_of, receive_of, event_of, alone_of, step_by, step_of}
 use Rattle.msc_reader.specs.declared.state.State.{State}
 use Rattle.msc_reader.specs.declared.state.State.TheVariants as states
@@ -20,7 +24,7 @@ use Rattle.msc_reader.specs.declared.state.Region.{Region}
 use Rattle.msc_reader.specs.declared.state.Region.TheVariants as regions
 use Rattle.msc_reader.specs.declared.state.Saying.{Saying}
 use Rattle.msc_reader.specs.declared.state.Saying.TheVariants as sayings
-use Rattle.msc_reader.proofs.Moves.{IsEvent, Moves, semi, saying_words}
+use Rattle.msc_reader.proofs.Moves.{IsEvent, Moves, saying_words}
 use Rattle.msc_reader.proofs.Moves.Moves.{begins, heads, ends, sends, receives, opens, shuts, leaves}
 use Rattle.msc_reader.proofs.Sayings.{step-says}
 use Rattle.msc_reader.proofs.Semicolons.{before_again, plain_again}
@@ -28,15 +32,15 @@ use Rattle.msc_reader.proofs.Semicolons.{before_again, plain_again}
 -- ---- by the words
 
 start-again : step_by states.Start (saying_words sayings.Begin) ≡ Ok (sayings.Begin, states.Outside)
-unfolding is_msc is_run
+unfolding is_keyword is_last_word spelled chart_name
 start-again = refl
 
 end-again : step_by states.Outside (saying_words sayings.End) ≡ Ok (sayings.End, states.Done)
-unfolding is_endmsc
+unfolding is_last_word spelled
 end-again = refl
 
 head-again : (own : List ℕ) → IsName own → step_by states.Outside (saying_words (sayings.Head own)) ≡ Ok (sayings.Head own, states.Inside own 0 regions.Closed)
-unfolding is_instance head_of
+unfolding is_keyword spelled head_of
 head-again own h = ap head_of (before_again own h) ∙ bind_at (name_or_cause own) (λ o. Ok (sayings.Head o, states.Inside o 0 regions.Closed)) own (name_again own h)
 
 not_same : (a b : List ℕ) → a ≢ b → bytes_eq a b ≡ false
@@ -61,24 +65,24 @@ names-again own events partner message h =
 
 send-again : (own to name : List ℕ) (events : ℕ) → IsEvent own events to name
     → step_by (states.Inside own events regions.Closed) (saying_words (sayings.Send to name)) ≡ Ok (sayings.Send to name, states.Inside own (events + 1) regions.Closed)
-unfolding event_of send_of is_out is_to is_in is_from
+unfolding event_of send_of is_keyword spelled
 send-again own to name events h = bind_at (names_of own events name (name_part (semi to))) (λ pair. Ok (sayings.Send pair.1 pair.0, states.Inside own (events + 1) regions.Closed)) (name, to) (names-again own events to name h)
 
 receive-again : (own from name : List ℕ) (events : ℕ) (region : Region) → IsEvent own events from name
     → step_by (states.Inside own events region) (saying_words (sayings.Receive from name)) ≡ Ok (sayings.Receive from name, states.Inside own (events + 1) (after_receive region))
-unfolding event_of receive_of is_in is_from
+unfolding event_of receive_of is_keyword spelled
 receive-again own from name events region h = bind_at (names_of own events name (name_part (semi from))) (λ pair. Ok (sayings.Receive pair.1 pair.0, states.Inside own (events + 1) (after_receive region))) (name, from) (names-again own events from name h)
 
 open-again : (own : List ℕ) (events : ℕ) → step_by (states.Inside own events regions.Closed) (saying_words sayings.Open) ≡ Ok (sayings.Open, states.Inside own events regions.Empty)
-unfolding alone_of is_endinstance is_concurrent
+unfolding alone_of is_last_word spelled
 open-again own events = refl
 
 shut-again : (own : List ℕ) (events : ℕ) → step_by (states.Inside own events regions.Held) (saying_words sayings.Shut) ≡ Ok (sayings.Shut, states.Inside own events regions.Closed)
-unfolding alone_of is_endconcurrent
+unfolding alone_of is_last_word spelled
 shut-again own events = refl
 
 foot-again : (own : List ℕ) (events : ℕ) → step_by (states.Inside own events regions.Closed) (saying_words sayings.Foot) ≡ Ok (sayings.Foot, states.Outside)
-unfolding alone_of is_endinstance
+unfolding alone_of is_last_word spelled
 foot-again own events = refl
 
 words-again : {state next : State} {saying : Saying} → Moves state saying next → step_by state (saying_words saying) ≡ Ok (saying, next)
@@ -97,20 +101,29 @@ words-again (leaves {own} {events}) = foot-again own events
 abbrev pub saying_line : Saying → List ℕ
 saying_line saying = join_with_byte 32 (saying_words saying)
 
-plain_semi : (name : List ℕ) → IsName name → IsPlain (semi name)
-plain_semi name h =
-    let two = plain_name name h in
-    (lacks_append 32 name (59 ∷ []) two.0 (lacks_if 32 (59 ∷ []) refl), lacks_append 10 name (59 ∷ []) two.1 (lacks_if 10 (59 ∷ []) refl))
+plain_semi : (word : List ℕ) → IsPlain word → IsPlain (semi word)
+plain_semi word h =
+    (lacks_append 32 word (59 ∷ []) h.0 (lacks_if 32 (59 ∷ []) refl), lacks_append 10 word (59 ∷ []) h.1 (lacks_if 10 (59 ∷ []) refl))
+
+plain_own : (name : List ℕ) → IsName name → IsPlain (semi name)
+plain_own name h = plain_semi name (plain_name name h)
+
+plain_last : (word : Keyword) → IsPlain (semi (spelled word))
+plain_last word = plain_semi (spelled word) (plain_keyword word)
+
+plain_chart_name : IsPlain chart_name
+unfolding chart_name
+plain_chart_name = plain_literal (codes "run") refl refl
 
 plain-words : {state next : State} {saying : Saying} → Moves state saying next → ArePlain (saying_words saying)
-plain-words begins = ((lacks_if 32 (codes "msc") refl, lacks_if 10 (codes "msc") refl), ((lacks_if 32 (codes "run;") refl, lacks_if 10 (codes "run;") refl), tt))
-plain-words (heads {own} h) = ((lacks_if 32 (codes "instance") refl, lacks_if 10 (codes "instance") refl), (plain_semi own h, tt))
-plain-words ends = ((lacks_if 32 (codes "endmsc;") refl, lacks_if 10 (codes "endmsc;") refl), tt)
-plain-words (sends {own} {to} {name} h) = ((lacks_if 32 (codes "out") refl, lacks_if 10 (codes "out") refl), (plain_name name h.message_name, ((lacks_if 32 (codes "to") refl, lacks_if 10 (codes "to") refl), (plain_semi to h.partner_name, tt))))
-plain-words (receives {own} {from} {name} h) = ((lacks_if 32 (codes "in") refl, lacks_if 10 (codes "in") refl), (plain_name name h.message_name, ((lacks_if 32 (codes "from") refl, lacks_if 10 (codes "from") refl), (plain_semi from h.partner_name, tt))))
-plain-words opens = ((lacks_if 32 (codes "concurrent;") refl, lacks_if 10 (codes "concurrent;") refl), tt)
-plain-words shuts = ((lacks_if 32 (codes "endconcurrent;") refl, lacks_if 10 (codes "endconcurrent;") refl), tt)
-plain-words leaves = ((lacks_if 32 (codes "endinstance;") refl, lacks_if 10 (codes "endinstance;") refl), tt)
+plain-words begins = (plain_keyword keywords.Msc, (plain_semi chart_name plain_chart_name, tt))
+plain-words (heads {own} h) = (plain_keyword keywords.Instance, (plain_own own h, tt))
+plain-words ends = (plain_last keywords.EndMsc, tt)
+plain-words (sends {own} {to} {name} h) = (plain_keyword keywords.Out, (plain_name name h.message_name, (plain_keyword keywords.To, (plain_own to h.partner_name, tt))))
+plain-words (receives {own} {from} {name} h) = (plain_keyword keywords.In, (plain_name name h.message_name, (plain_keyword keywords.From, (plain_own from h.partner_name, tt))))
+plain-words opens = (plain_last keywords.Concurrent, tt)
+plain-words shuts = (plain_last keywords.EndConcurrent, tt)
+plain-words leaves = (plain_last keywords.EndInstance, tt)
 
 said-again : (saying : Saying) → ArePlain (saying_words saying) → words_of (saying_line saying) ≡ saying_words saying
 said-again sayings.Begin h = spaced_again _ _ h

@@ -11,8 +11,8 @@ use Rattle.std.proofs.lemmas.List.Sums.{position_or_len_is}
 use Rattle.chart.specs.Names.{IsName}
 use Rattle.msc_text.specs.Lines.{Lacks}
 use Rattle.msc_text.proofs.Results.{name_has_no_semicolon, name_some}
+use Rattle.msc_reader.specs.LastWords.{semi}
 use Rattle.msc_reader.specs.Steps.{is_semicolon, is_other, name_part_at, name_part, is_plain}
-use Rattle.msc_reader.proofs.Moves.{semi}
 
 either_not : (a b : Bool) (x y : Option (List ℕ)) (w : List ℕ) → cond (a || not b) None x ≡ Some w → (b ≡ true) × (x ≡ Some w)
 either_not true b x y w e = cc

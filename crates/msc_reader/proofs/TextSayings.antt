@@ -1,12 +1,13 @@
 -- A chart's text as a list of what its lines say.
 use Rattle.std.proofs.Common.{◌≡◌, ℕ, Bool, true, false, ◌||◌, cond, eqb, List, [], ◌∷◌, ◌++◌, refl, sym, ap, ◌∙◌, append_assoc, append-nil, map}
-use Rattle.std.specs.Prelude.{codes}
 use Rattle.std.specs.List.{flat_map}
 use Rattle.chart.specs.Charts.{LineView}
 use Rattle.chart.specs.Events.{region_of}
+use Rattle.chart.specs.Keywords.{spelled}
+use Rattle.chart.specs.declared.keyword.Keyword.TheVariants as keywords
 use Rattle.chart.specs.declared.event.Event.{Event}
 use Rattle.chart.specs.declared.event.Event.TheVariants as line_events
-use Rattle.msc_text.specs.ChartText.{name_at, event_text, ending, beginning, event_lines_text, events_text, head_text, foot_text, line_text, begin_text, end_text, chart_text}
+use Rattle.msc_text.specs.ChartText.{name_at, event_line, lone_line, chart_name, event_text, ending, beginning, event_lines_text, events_text, head_text, foot_text, line_text, begin_text, end_text, chart_text}
 use Rattle.msc_text.specs.Lines.{ended}
 use Rattle.msc_reader.specs.declared.state.Saying.{Saying}
 use Rattle.msc_reader.specs.declared.state.Saying.TheVariants.{Begin, Head, Send, Receive, Open, Shut, Foot, End}
@@ -58,23 +59,23 @@ spell-append [] ys = refl
 spell-append (x ∷ xs) ys = ap (λ l. ended (saying_line x) ++ l) (spell-append xs ys) ∙ sym (append_assoc (ended (saying_line x)) (spell xs) (spell ys))
 
 spell-closing : (r c : ℕ) → spell (closing r c) ≡ ending r c
-unfolding ending
+unfolding ending lone_line spelled
 spell-closing r c = by (eqb r c || eqb r 0)
   where
-    by : (b : Bool) → spell (cond b [] (Shut ∷ [])) ≡ cond b [] (codes "endconcurrent;\n")
+    by : (b : Bool) → spell (cond b [] (Shut ∷ [])) ≡ cond b [] (lone_line keywords.EndConcurrent)
     by true = refl
     by false = refl
 
 spell-opening : (r c : ℕ) → spell (opening r c) ≡ beginning r c
-unfolding beginning
+unfolding beginning lone_line spelled
 spell-opening r c = by (eqb r c || eqb c 0)
   where
-    by : (b : Bool) → spell (cond b [] (Open ∷ [])) ≡ cond b [] (codes "concurrent;\n")
+    by : (b : Bool) → spell (cond b [] (Open ∷ [])) ≡ cond b [] (lone_line keywords.Concurrent)
     by true = refl
     by false = refl
 
 spell-said : (names : List (List ℕ)) (m : Event) → spell (said names m ∷ []) ≡ event_text names m
-unfolding event_text
+unfolding event_text event_line
 spell-said names (line_events.Send to name) = simp (append_assoc, append-nil)
 spell-said names (line_events.Receive from name region) = simp (append_assoc, append-nil)
 
@@ -98,15 +99,15 @@ unfolding head_text
 spell-head names p = simp append_assoc
 
 spell-foot : spell (Foot ∷ []) ≡ foot_text
-unfolding foot_text
+unfolding foot_text lone_line spelled
 spell-foot = refl
 
 spell-begin : ended (saying_line Begin) ≡ begin_text
-unfolding begin_text
+unfolding begin_text spelled chart_name
 spell-begin = refl
 
 spell-end : spell (End ∷ []) ≡ end_text
-unfolding end_text
+unfolding end_text lone_line spelled
 spell-end = refl
 
 spell-part : (names : List (List ℕ)) (line : LineView) → spell (part names line) ≡ line_text names line

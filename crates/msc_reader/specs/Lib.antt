@@ -7,6 +7,6 @@ pub use Rattle.msc_text.specs.Faults
 pub use Rattle.msc_text.specs.Lines
 pub mod Builders
 pub mod HasText
-pub mod Keywords
+pub mod LastWords
 pub mod Reading
 pub mod Steps

@@ -1,12 +1,15 @@
 -- A line of a chart's text, by where it stands: what it says, or its first fault (this project's profile of ITU-T Z.120).
 use Rattle.std.specs.Prelude.{ℕ, ◌+◌, Bool, true, false, not, ◌&&◌, ◌||◌, ◌==◌, List, [], ◌∷◌, length, take, position, Option, None, Some, Result, Ok, Err, nat_le, bytes_eq, if◌then◌else◌}
 use Rattle.std.specs.List.{list_all}
+use Rattle.chart.specs.Keywords.{spelled, is_keyword}
+use Rattle.chart.specs.declared.keyword.Keyword.TheVariants as keywords
 use Rattle.chart.specs.declared.line.TheConstants.{MAX_EVENTS}
+use Rattle.msc_text.specs.ChartText.{chart_name}
 use Rattle.msc_text.specs.Faults.{◌>>=◌}
 use Rattle.msc_text.specs.Lines.{words_of, name_or_cause}
 use Rattle.msc_text.specs.declared.fault.Cause.{Cause}
 use Rattle.msc_text.specs.declared.fault.Cause.TheVariants.{Syntax, ToItself, LineFull}
-use Rattle.msc_reader.specs.Keywords.{is_msc, is_run, is_instance, is_endinstance, is_out, is_to, is_in, is_from, is_concurrent, is_endconcurrent, is_endmsc}
+use Rattle.msc_reader.specs.LastWords.{is_last_word}
 use Rattle.msc_reader.specs.declared.state.State.{State}
 use Rattle.msc_reader.specs.declared.state.State.TheVariants as states
 use Rattle.msc_reader.specs.declared.state.Region.{Region}
@@ -40,7 +43,7 @@ is_plain word = not (length word == 0) && list_all is_other word
 
 -- the text's first line, by its words
 abbrev pub start_by : List (List ℕ) → Result Step Cause
-start_by (m ∷ r ∷ []) = if is_msc m && is_run r then Ok (sayings.Begin, states.Outside) else Err Syntax
+start_by (m ∷ r ∷ []) = if is_keyword keywords.Msc m && is_last_word chart_name r then Ok (sayings.Begin, states.Outside) else Err Syntax
 start_by _ = Err Syntax
 
 -- an instance begins
@@ -52,8 +55,8 @@ head_of (Some word) = do
 
 -- a line outside of an instance, by its words
 abbrev pub outside_by : List (List ℕ) → Result Step Cause
-outside_by (k ∷ []) = if is_endmsc k then Ok (sayings.End, states.Done) else Err Syntax
-outside_by (k ∷ w ∷ []) = if is_instance k then head_of (name_part w) else Err Syntax
+outside_by (k ∷ []) = if is_last_word (spelled keywords.EndMsc) k then Ok (sayings.End, states.Done) else Err Syntax
+outside_by (k ∷ w ∷ []) = if is_keyword keywords.Instance k then head_of (name_part w) else Err Syntax
 outside_by _ = Err Syntax
 
 -- an event's message and partner, of the instance own with so many events
@@ -95,16 +98,16 @@ is_closed regions.Held = false
 -- a line of four words inside an instance
 unfoldable pub event_of : List ℕ → ℕ → Region → List ℕ → List ℕ → List ℕ → List ℕ → Result Step Cause
 event_of own events region k m t w =
-    if is_in k && is_from t then receive_of own events region m w else (
-    if is_out k && is_to t && is_closed region then send_of own events m w else Err Syntax)
+    if is_keyword keywords.In k && is_keyword keywords.From t then receive_of own events region m w else (
+    if is_keyword keywords.Out k && is_keyword keywords.To t && is_closed region then send_of own events m w else Err Syntax)
 
 -- a line of one word inside an instance
 unfoldable pub alone_of : List ℕ → ℕ → Region → List ℕ → Result Step Cause
 alone_of own events regions.Closed k =
-    if is_endinstance k then Ok (sayings.Foot, states.Outside) else (
-    if is_concurrent k then Ok (sayings.Open, states.Inside own events regions.Empty) else Err Syntax)
+    if is_last_word (spelled keywords.EndInstance) k then Ok (sayings.Foot, states.Outside) else (
+    if is_last_word (spelled keywords.Concurrent) k then Ok (sayings.Open, states.Inside own events regions.Empty) else Err Syntax)
 alone_of own events regions.Empty k = Err Syntax
-alone_of own events regions.Held k = if is_endconcurrent k then Ok (sayings.Shut, states.Inside own events regions.Closed) else Err Syntax
+alone_of own events regions.Held k = if is_last_word (spelled keywords.EndConcurrent) k then Ok (sayings.Shut, states.Inside own events regions.Closed) else Err Syntax
 
 -- a line inside an instance, by its words
 abbrev pub inside_by : List ℕ → ℕ → Region → List (List ℕ) → Result Step Cause

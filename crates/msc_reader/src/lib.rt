@@ -7,7 +7,7 @@
 #![tactic(auto)]
 
 mod builder;
-mod keyword;
+mod last_word;
 pub mod laws;
 mod reading;
 mod state;

@@ -5,13 +5,10 @@ ghost use Rattle.chart.specs.declared.line.TheConstants.{MAX_EVENTS};
 ghost use Rattle.msc_reader.specs.Steps.{is_semicolon, is_other, name_part, is_plain, start_by, head_of, outside_by, pair_of, names_of, after_receive, is_closed, send_of, receive_of, event_of, alone_of, inside_by, step_of};
 ghost use Rattle.msc_text.specs.Lines.{words_of};
 
-use crate::keyword::{
-    is_concurrent, is_endconcurrent, is_endinstance, is_endmsc, is_from, is_in, is_instance,
-    is_msc, is_out, is_run, is_to,
-};
+use crate::last_word::is_last_word;
 use crate::state::{Region, Saying, State};
-use chart::{MAX_EVENTS, Name};
-use msc_text::{Cause, Words, name_in, words_in};
+use chart::{Keyword, MAX_EVENTS, Name};
+use msc_text::{Cause, Words, chart_name, name_in, words_in};
 
 fn is_semicolon(byte: u8) -> bool
     ensures { result ≡ is_semicolon byte }
@@ -69,7 +66,10 @@ fn start_in(line: &[u8]) -> Result<(Saying, State), Cause>
     ensures { result ≡ start_by (words_of line.now) }
 {
     match words_in(line) {
-        Words::Two(msc, run) if is_msc(msc) && is_run(run) => Ok((Saying::Begin, State::Outside)),
+        Words::Two(msc, run) if Keyword::Msc.is(msc) && is_last_word(chart_name(), run) => Ok((
+            Saying::Begin,
+            State::Outside,
+        )),
         _ => Err(Cause::Syntax),
     }
 }
@@ -91,8 +91,11 @@ fn outside_in(line: &[u8]) -> Result<(Saying, State), Cause>
     ensures { result ≡ outside_by (words_of line.now) }
 {
     match words_in(line) {
-        Words::One(word) if is_endmsc(word) => Ok((Saying::End, State::Done)),
-        Words::Two(word, name) if is_instance(word) => head_in(name),
+        Words::One(word) if is_last_word(Keyword::EndMsc.as_bytes(), word) => Ok((
+            Saying::End,
+            State::Done,
+        )),
+        Words::Two(word, name) if Keyword::Instance.is(word) => head_in(name),
         _ => Err(Cause::Syntax),
     }
 }
@@ -189,11 +192,14 @@ fn alone_in(own: Name, events: usize, region: Region, word: &[u8]) -> Result<(Sa
     ensures { result ≡ alone_of own events region word.now }
 {
     match region {
-        Region::Closed if is_endinstance(word) => Ok((Saying::Foot, State::Outside)),
-        Region::Closed if is_concurrent(word) => {
+        Region::Closed if is_last_word(Keyword::EndInstance.as_bytes(), word) => Ok((
+            Saying::Foot,
+            State::Outside,
+        )),
+        Region::Closed if is_last_word(Keyword::Concurrent.as_bytes(), word) => {
             Ok((Saying::Open, inside(own, events, Region::Empty)))
         }
-        Region::Held if is_endconcurrent(word) => {
+        Region::Held if is_last_word(Keyword::EndConcurrent.as_bytes(), word) => {
             Ok((Saying::Shut, inside(own, events, Region::Closed)))
         }
         _ => Err(Cause::Syntax),
@@ -212,11 +218,12 @@ fn inside_in(
 {
     match words_in(line) {
         Words::One(word) => alone_in(own, events, region, word),
-        Words::Four(way, message, before, word) if is_in(way) && is_from(before) => {
+        Words::Four(way, message, before, word)
+            if Keyword::In.is(way) && Keyword::From.is(before) => {
             receive_in(own, events, region, message, word)
         }
         Words::Four(way, message, before, word)
-            if is_out(way) && is_to(before) && is_closed(region) => {
+            if Keyword::Out.is(way) && Keyword::To.is(before) && is_closed(region) => {
             send_in(own, events, message, word)
         }
         _ => Err(Cause::Syntax),

@@ -5,24 +5,35 @@ use Rattle.chart.specs.declared.event.Event.{Event}
 use Rattle.chart.specs.declared.event.Event.TheVariants.{Send, Receive}
 use Rattle.chart.specs.Events.{region_of}
 use Rattle.chart.specs.Charts.{LineView}
+use Rattle.chart.specs.Keywords.{spelled}
+use Rattle.chart.specs.declared.keyword.Keyword.{Keyword}
+use Rattle.chart.specs.declared.keyword.Keyword.TheVariants as keywords
 
 -- the name of an instance, by its number from 1
 abbrev pub name_at : List (List ℕ) → ℕ → List ℕ
 name_at names zero = []
 name_at names (suc place) = unwrap_or (slice_get names place) []
 
+-- a line of four words: in which direction goes the message, its name, and its partner behind a word of its own
+unfoldable pub event_line : Keyword → List ℕ → Keyword → List ℕ → List ℕ
+event_line direction message side partner = spelled direction ++ (codes " " ++ (message ++ (codes " " ++ (spelled side ++ (codes " " ++ (partner ++ codes ";\n"))))))
+
+-- a line of one word
+unfoldable pub lone_line : Keyword → List ℕ
+lone_line word = spelled word ++ codes ";\n"
+
 -- out MESSAGE to NAME; or in MESSAGE from NAME;
 unfoldable pub event_text : List (List ℕ) → Event → List ℕ
-event_text names (Send to name) = codes "out " ++ (name ++ (codes " to " ++ (name_at names to ++ codes ";\n")))
-event_text names (Receive from name region) = codes "in " ++ (name ++ (codes " from " ++ (name_at names from ++ codes ";\n")))
+event_text names (Send to name) = event_line keywords.Out name keywords.To (name_at names to)
+event_text names (Receive from name region) = event_line keywords.In name keywords.From (name_at names from)
 
 -- the line that ends the coregion r, where what comes next is in c
 unfoldable pub ending : ℕ → ℕ → List ℕ
-ending r c = if r == c || r == 0 then [] else codes "endconcurrent;\n"
+ending r c = if r == c || r == 0 then [] else lone_line keywords.EndConcurrent
 
 -- the line that begins the coregion c, where what came before was in r
 unfoldable pub beginning : ℕ → ℕ → List ℕ
-beginning r c = if r == c || c == 0 then [] else codes "concurrent;\n"
+beginning r c = if r == c || c == 0 then [] else lone_line keywords.Concurrent
 
 -- an event behind one that is in the coregion r
 unfoldable pub event_lines_text : List (List ℕ) → ℕ → Event → List ℕ
@@ -35,20 +46,24 @@ events_text names r (m ∷ line) = event_lines_text names r m ++ events_text nam
 
 -- instance NAME;
 unfoldable pub head_text : List (List ℕ) → ℕ → List ℕ
-head_text names p = codes "instance " ++ (name_at names p ++ codes ";\n")
+head_text names p = spelled keywords.Instance ++ (codes " " ++ (name_at names p ++ codes ";\n"))
 
 unfoldable pub foot_text : List ℕ
-foot_text = codes "endinstance;\n"
+foot_text = lone_line keywords.EndInstance
 
 -- an instance and the events of its line
 unfoldable pub line_text : List (List ℕ) → LineView → List ℕ
 line_text names line = head_text names line.instance ++ (events_text names 0 line.events ++ foot_text)
 
+-- the name that each chart has in its text
+unfoldable pub chart_name : List ℕ
+chart_name = codes "run"
+
 unfoldable pub begin_text : List ℕ
-begin_text = codes "msc run;\n"
+begin_text = spelled keywords.Msc ++ (codes " " ++ (chart_name ++ codes ";\n"))
 
 unfoldable pub end_text : List ℕ
-end_text = codes "endmsc;\n"
+end_text = lone_line keywords.EndMsc
 
 -- the text of the chart, whose instances have these names
 unfoldable pub chart_text : List (List ℕ) → List LineView → List ℕ

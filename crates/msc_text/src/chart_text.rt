@@ -1,54 +1,87 @@
 //! Charts as text.
-ghost use Rattle.std.specs.Prelude.{◌≡◌, ◌≤◌, length, unwrap_or, []};
-ghost use Rattle.chart.specs.declared.name.TheConstants.{MAX_NAME};
+ghost use Rattle.std.specs.Prelude.{◌≡◌, ◌≤◌, length, All};
+ghost use Rattle.chart.specs.Charts.{HasPartners};
+ghost use Rattle.chart.specs.Events.{partner_of};
 ghost use Rattle.std.specs.List.{flat_map};
-ghost use Rattle.msc_text.specs.ChartText.{name_at, event_text, ending, beginning, event_lines_text, events_text, head_text, foot_text, line_text, begin_text, end_text, chart_text};
+ghost use Rattle.msc_text.specs.ChartText.{name_at, event_line, lone_line, event_text, ending, beginning, event_lines_text, events_text, head_text, foot_text, line_text, chart_name, begin_text, end_text, chart_text};
 ghost use Rattle.msc_text.specs.Writing.{Wrote, Adds};
 
 use crate::out::Out;
 use crate::text_buffer::{TextBuffer, WriteError};
-use chart::{Chart, Event, InstanceNo, Line, Name, Names};
+use chart::{Chart, Event, InstanceNo, Keyword, Line, Name, Names};
 
-/// The bytes of the name, or none.
-pub(crate) fn bytes_of(name: &Option<Name>) -> &[u8]
-    ensures value { result.now ≡ unwrap_or name.now [] }
-    ensures short { length result.now ≤ MAX_NAME }
+/// The name of the instance, which has one. It takes no memory.
+pub fn named(names: &Names, instance: InstanceNo) -> Name
+    requires { instance ≤ length names.now }
+    ensures { result ≡ name_at names.now instance }
 {
-    match name {
-        Some(name) => name.as_bytes(),
-        None => &[],
+    let place = instance.place();
+    prove!(place < names.len());
+    match names.name(instance) {
+        Some(name) => name,
+        None => unreachable!(),
     }
 }
 
-/// The name of the instance.
-pub(crate) fn name_at(names: &Names, instance: InstanceNo) -> Option<Name>
-    ensures { unwrap_or result [] ≡ name_at names.now instance }
+/// Adds a line of one word.
+#[tactic(auto, unfolding(crate::specs::ChartText::lone_line))]
+fn add_lone<W: Out>(text: &mut TextBuffer<'_, W>, word: Keyword) -> Result<(), WriteError>
+    ensures { Adds W.contents W.failures text.old text.new result (lone_line word) }
 {
-    names.name(instance)
+    text.add_all(&[word.as_bytes(), b";\n"])
 }
 
-/// The line that ends the coregion before, where there is one and what comes next isn't in it.
+/// Adds the line that ends the coregion before, where there is one and what comes next isn't in it.
 #[tactic(auto, unfolding(crate::specs::ChartText::ending))]
-fn ending(before: u32, region: u32) -> &'static [u8]
-    ensures { result.now ≡ ending before region }
+fn add_ending<W: Out>(
+    text: &mut TextBuffer<'_, W>,
+    before: u32,
+    region: u32,
+) -> Result<(), WriteError>
+    ensures { Adds W.contents W.failures text.old text.new result (ending before region) }
 {
     if before == region || before == 0 {
-        &[]
-    } else {
-        b"endconcurrent;\n"
+        return text.add(&[]);
     }
+    add_lone(text, Keyword::EndConcurrent)
 }
 
-/// The line that begins this coregion, where there is one and what came before isn't in it.
+/// Adds the line that begins this coregion, where there is one and what came before isn't in it.
 #[tactic(auto, unfolding(crate::specs::ChartText::beginning))]
-fn beginning(before: u32, region: u32) -> &'static [u8]
-    ensures { result.now ≡ beginning before region }
+fn add_beginning<W: Out>(
+    text: &mut TextBuffer<'_, W>,
+    before: u32,
+    region: u32,
+) -> Result<(), WriteError>
+    ensures { Adds W.contents W.failures text.old text.new result (beginning before region) }
 {
     if before == region || region == 0 {
-        &[]
-    } else {
-        b"concurrent;\n"
+        return text.add(&[]);
     }
+    add_lone(text, Keyword::Concurrent)
+}
+
+/// Adds a line of four words: in which direction the message goes, its name, and its partner behind a word of its own.
+#[tactic(auto, unfolding(crate::specs::ChartText::event_line))]
+fn add_event_line<W: Out>(
+    text: &mut TextBuffer<'_, W>,
+    direction: Keyword,
+    message: Name,
+    side: Keyword,
+    partner: Name,
+) -> Result<(), WriteError>
+    ensures { Adds W.contents W.failures text.old text.new result (event_line direction message side partner) }
+{
+    text.add_all(&[
+        direction.as_bytes(),
+        b" ",
+        message.as_bytes(),
+        b" ",
+        side.as_bytes(),
+        b" ",
+        partner.as_bytes(),
+        b";\n",
+    ])
 }
 
 /// Adds the line of an event.
@@ -58,16 +91,15 @@ fn add_event<W: Out>(
     names: &Names,
     event: &Event,
 ) -> Result<(), WriteError>
+    requires { partner_of event.now ≤ length names.now }
     ensures { Adds W.contents W.failures text.old text.new result (event_text names.now event.now) }
 {
-    let partner = name_at(names, event.partner());
-    let partner = bytes_of(&partner);
     match event {
-        Event::Send { name, .. } => {
-            text.add_all(&[b"out ", name.as_bytes(), b" to ", partner, b";\n"])
+        Event::Send { to, name } => {
+            add_event_line(text, Keyword::Out, *name, Keyword::To, named(names, *to))
         }
-        Event::Receive { name, .. } => {
-            text.add_all(&[b"in ", name.as_bytes(), b" from ", partner, b";\n"])
+        Event::Receive { from, name, .. } => {
+            add_event_line(text, Keyword::In, *name, Keyword::From, named(names, *from))
         }
     }
 }
@@ -80,11 +112,12 @@ fn add_event_lines<W: Out>(
     before: u32,
     event: &Event,
 ) -> Result<(), WriteError>
+    requires { partner_of event.now ≤ length names.now }
     ensures { Adds W.contents W.failures text.old text.new result (event_lines_text names.now before event.now) }
 {
     let region = event.region();
-    text.add(ending(before, region))?;
-    text.add(beginning(before, region))?;
+    add_ending(text, before, region)?;
+    add_beginning(text, before, region)?;
     add_event(text, names, event)
 }
 
@@ -94,6 +127,7 @@ fn add_events<W: Out>(
     names: &Names,
     events: &[Event],
 ) -> Result<(), WriteError>
+    requires { All (λ m. partner_of m ≤ length names.now) events.now }
     ensures { Adds W.contents W.failures text.old text.new result (events_text names.now 0 events.now) }
 {
     let mut before = 0;
@@ -101,7 +135,7 @@ fn add_events<W: Out>(
         add_event_lines(text, names, before, event)?;
         before = event.region();
     }
-    text.add(ending(before, 0))
+    add_ending(text, before, 0)
 }
 
 #[tactic(auto, unfolding(crate::specs::ChartText::head_text))]
@@ -110,17 +144,18 @@ fn add_head<W: Out>(
     names: &Names,
     instance: InstanceNo,
 ) -> Result<(), WriteError>
+    requires { instance ≤ length names.now }
     ensures { Adds W.contents W.failures text.old text.new result (head_text names.now instance) }
 {
-    let name = name_at(names, instance);
-    text.add_all(&[b"instance ", bytes_of(&name), b";\n"])
+    let name = named(names, instance);
+    text.add_all(&[Keyword::Instance.as_bytes(), b" ", name.as_bytes(), b";\n"])
 }
 
 #[tactic(auto, unfolding(crate::specs::ChartText::foot_text))]
 fn add_foot<W: Out>(text: &mut TextBuffer<'_, W>) -> Result<(), WriteError>
     ensures { Adds W.contents W.failures text.old text.new result foot_text }
 {
-    text.add(b"endinstance;\n")
+    add_lone(text, Keyword::EndInstance)
 }
 
 /// Adds an instance.
@@ -130,6 +165,8 @@ fn add_line<W: Out>(
     names: &Names,
     line: &Line,
 ) -> Result<(), WriteError>
+    requires instance { line.now.instance ≤ length names.now }
+    requires partners { All (λ m. partner_of m ≤ length names.now) line.now.events }
     ensures { Adds W.contents W.failures text.old text.new result (line_text names.now line.now) }
 {
     add_head(text, names, line.instance())?;
@@ -142,6 +179,8 @@ fn add_lines<W: Out>(
     names: &Names,
     lines: &[Line],
 ) -> Result<(), WriteError>
+    requires instances { All (λ l. l.instance ≤ length names.now) lines.now }
+    requires partners { HasPartners (length names.now) lines.now }
     ensures { Adds W.contents W.failures text.old text.new result (flat_map (line_text names.now) lines.now) }
 {
     for line in lines {
@@ -150,18 +189,26 @@ fn add_lines<W: Out>(
     Ok(())
 }
 
+/// The name that each chart has in its text.
+#[tactic(auto, unfolding(crate::specs::ChartText::chart_name))]
+pub fn chart_name() -> &'static [u8]
+    ensures { result.now ≡ chart_name }
+{
+    b"run"
+}
+
 #[tactic(auto, unfolding(crate::specs::ChartText::begin_text))]
 fn add_begin<W: Out>(text: &mut TextBuffer<'_, W>) -> Result<(), WriteError>
     ensures { Adds W.contents W.failures text.old text.new result begin_text }
 {
-    text.add(b"msc run;\n")
+    text.add_all(&[Keyword::Msc.as_bytes(), b" ", chart_name(), b";\n"])
 }
 
 #[tactic(auto, unfolding(crate::specs::ChartText::end_text))]
 fn add_end<W: Out>(text: &mut TextBuffer<'_, W>) -> Result<(), WriteError>
     ensures { Adds W.contents W.failures text.old text.new result end_text }
 {
-    text.add(b"endmsc;\n")
+    add_lone(text, Keyword::EndMsc)
 }
 
 /// Adds the chart's text to one that is being written. It takes no memory.

@@ -24,7 +24,7 @@ pub enum Cause {
     /// F13: an instance sends to itself.
     #[error("an instance sends to itself")]
     ToItself,
-    /// F20: the line has no form that is allowed in its place.
+    /// F20: the line has no form that is allowed where it stands.
     #[error("the line has no form that is allowed here")]
     Syntax,
     /// F22: an instance's name was given before.

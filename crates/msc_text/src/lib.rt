@@ -19,7 +19,7 @@ mod retrying;
 mod text_buffer;
 mod word;
 
-pub use chart_text::{add_chart, write};
+pub use chart_text::{add_chart, chart_name, named, write};
 pub use fault::{Cause, Fault, TextError};
 pub use held::BUFFERED;
 pub use instances::{add_name, at_line, fault_at, known_in};

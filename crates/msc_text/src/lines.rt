@@ -2,7 +2,7 @@
 ghost use Rattle.std.specs.Prelude.{◌≡◌, ◌<◌, ◌==◌, ◌++◌, ◌∷◌, [], length, position, IfSome, IfNone};
 ghost use Rattle.msc_text.specs.Lines.{parts, lines_of, end_of};
 
-/// The first place of the byte.
+/// The index of the first such byte.
 fn place_of(byte: u8, bytes: &[u8]) -> Option<usize>
     ensures { result ≡ position (λ b. b == byte) bytes.now }
 {

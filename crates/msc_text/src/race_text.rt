@@ -1,15 +1,16 @@
 //! The races of a chart as text.
-ghost use Rattle.std.specs.Prelude.{◌≡◌, ◌≤◌, length};
+ghost use Rattle.std.specs.Prelude.{◌≡◌, ◌≤◌, length, unwrap_or, [], All};
 ghost use Rattle.chart.specs.declared.name.TheConstants.{MAX_NAME};
 ghost use Rattle.std.specs.List.{flat_map};
+ghost use Rattle.chart.specs.Ranges.{IsRange, events_of, events_in};
+ghost use Rattle.msc_text.specs.ChartText.{name_at};
 ghost use Rattle.msc_text.specs.RaceText.{race_front, race_end, race_line, report_text, races_text};
 ghost use Rattle.msc_text.specs.Writing.{Adds};
 
-use crate::chart_text::{bytes_of, name_at};
 use crate::held::Held;
 use crate::out::Out;
 use crate::text_buffer::{TextBuffer, WriteError};
-use chart::{EventNo, Names, Report};
+use chart::{EventNo, EventRange, InstanceNo, Name, Names, Report};
 use itoa::Buffer;
 
 /// The line of a race, but for the number of the earlier event: it is made once for all races of a receive.
@@ -55,19 +56,54 @@ impl RaceLine {
         text.add_three(self.front.as_bytes(), index, self.end.as_bytes())
     }
 
-    /// Adds the line of each of these earlier events.
+    /// Adds the line of each event of a range.
+    fn add_range<W: Out>(
+        &self,
+        text: &mut TextBuffer<'_, W>,
+        earlier: &EventRange,
+    ) -> Result<(), WriteError>
+        requires { IsRange earlier.now }
+        ensures { Adds W.contents W.failures text.old text.new result
+            (flat_map (race_line self.now.front self.now.end) (events_of earlier.now)) }
+    {
+        for number in 0..earlier.count {
+            self.add(text, earlier.event(number))?;
+        }
+        Ok(())
+    }
+
+    /// Adds the line of each event of these ranges.
     fn add_all<W: Out>(
         &self,
         text: &mut TextBuffer<'_, W>,
-        earlier: &[EventNo],
+        earlier: &[EventRange],
     ) -> Result<(), WriteError>
+        requires { All IsRange earlier.now }
         ensures { Adds W.contents W.failures text.old text.new result
-            (flat_map (race_line self.now.front self.now.end) earlier.now) }
+            (flat_map (race_line self.now.front self.now.end) (events_in earlier.now)) }
     {
-        for event in earlier {
-            self.add(text, *event)?;
+        for range in earlier {
+            self.add_range(text, range)?;
         }
         Ok(())
+    }
+}
+
+/// The name of the instance, if it has one.
+fn name_at(names: &Names, instance: InstanceNo) -> Option<Name>
+    ensures { unwrap_or result [] ≡ name_at names.now instance }
+{
+    names.name(instance)
+}
+
+/// The bytes of the name, or none.
+fn bytes_of(name: &Option<Name>) -> &[u8]
+    ensures value { result.now ≡ unwrap_or name.now [] }
+    ensures short { length result.now ≤ MAX_NAME }
+{
+    match name {
+        Some(name) => name.as_bytes(),
+        None => &[],
     }
 }
 
@@ -83,7 +119,7 @@ fn add_report<W: Out>(
     let receive = report.receive();
     let name = name_at(names, receive.instance);
     line.set(bytes_of(&name), receive.index);
-    line.add_all(text, report.earlier())
+    line.add_all(text, report.earlier().as_slice())
 }
 
 /// Adds a line for each race of these reports to a text that is being written. It takes no memory.

@@ -101,7 +101,24 @@ pub fn race_ranges(
 }
 
 /// The events of the line later than the entry that are neither receives from the sender nor, where the region isn't 0,
-/// receives of it, one by one: what [`race_ranges`] answers for the whole line. They rise by their index.
+/// receives of it: what [`race_ranges`] answers for the whole line, as it grows. They rise by their index.
+///
+/// F6: it fails only where there is no memory, and where there are no races it needs none.
+pub fn next_races(
+    alloc: Global,
+    line: &GrowingLine,
+    entry: u32,
+    sender: InstanceNo,
+    region: u32,
+) -> Result<EventRanges, AllocError>
+    ensures races { IfOk result (λ found. IsRaces line.now.line.events entry sender region (map (λ race. race.index) found)) }
+    ensures own { IfOk result (λ found. All (λ race. race.instance ≡ line.now.line.instance) found) }
+    ensures none { IsRaces line.now.line.events entry sender region [] → IsOk result }
+{
+    race_ranges(alloc, line, line.len(), entry, sender, region)
+}
+
+/// The same events of a line, one by one.
 ///
 /// F6: it fails only where there is no memory, and where there are no races it needs none.
 pub fn races(
@@ -115,21 +132,6 @@ pub fn races(
     ensures own { IfOk result (λ found. All (λ race. race.instance ≡ line.now.instance) found.items) }
     ensures none { IsRaces line.now.events entry sender region [] → IsOk result }
 {
-    next_races(alloc, line.as_growing(), entry, sender, region)
-}
-
-/// The same of a line that grows, as a receive comes.
-pub fn next_races(
-    alloc: Global,
-    line: &GrowingLine,
-    entry: u32,
-    sender: InstanceNo,
-    region: u32,
-) -> Result<Vec<EventNo>, AllocError>
-    ensures races { IfOk result (λ found. IsRaces line.now.line.events entry sender region (map (λ race. race.index) found.items)) }
-    ensures own { IfOk result (λ found. All (λ race. race.instance ≡ line.now.line.instance) found.items) }
-    ensures none { IsRaces line.now.line.events entry sender region [] → IsOk result }
-{
-    let found = race_ranges(alloc, line, line.len(), entry, sender, region)?;
+    let found = next_races(alloc, line.as_growing(), entry, sender, region)?;
     found.listed(alloc)
 }

@@ -1,13 +1,4 @@
-pub mod Actors
-pub mod ByLine
-pub mod Charts
-pub mod Clocks
-pub mod Commands
-pub mod Kept
-pub mod Lanes
-pub mod Outcomes
-pub mod Performed
-pub mod Places
-pub mod Scans
-pub mod Starts
-pub mod Words
+pub mod Answers
+pub mod Calls
+pub mod Posts
+pub mod Scanning

@@ -1,9 +1,6 @@
-pub use Rattle.msc_text.specs.ChartText
-pub use Rattle.msc_text.specs.Writing
 pub use Rattle.schedule.specs.Meaning
 pub use Rattle.schedule.specs.Plans
+pub use Rattle.outcomes.specs.Outcomes
+pub use Rattle.board.specs.Views
+pub use Rattle.board.specs.Meeting
 pub mod Agreement
-pub mod OutcomeText
-pub mod Outcomes
-pub mod Views
-pub mod Words

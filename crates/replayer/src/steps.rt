@@ -1,144 +1,147 @@
-//! What each command does to the instances.
-ghost use Rattle.std.specs.Prelude.{ℕ, ◌≡◌, ◌≢◌, ◌≤◌, List, length, Option, Result, Ok, Err};
+//! What each command does by the post of its instance.
+ghost use Rattle.std.specs.Prelude.{◌≡◌, ◌≢◌, ◌≤◌, ℕ, Option, unwrap_or, Ok};
 ghost use Rattle.schedule.specs.Plans.{HasPartner};
-ghost use Rattle.schedule.specs.Meaning.{Run, sends, receives, receives_any, first_waiting, closes, opens, shuts, acts};
-ghost use Rattle.replayer.specs.Agreement.{Agrees, IsReached, HasActed};
+ghost use Rattle.replayer.specs.Agreement.{GoesOn, Does};
 
-use crate::actor::Actor;
-use crate::error::ReplayError;
-use crate::lane::{Parcel, are_closed, first_waiting};
-use chart::{InstanceNo, Name};
+use board::{CloseError, Post, RegionError, SendError, TakeError, Taken};
+use chart::{InstanceNo, Message, Name};
+use mailbox::any_from;
+use outcomes::ReplayError;
 use schedule::{Action, Word};
+use std::alloc::Global;
 
+/// Sends a message of this name, with an empty body.
 fn send(
-    actors: &mut [Actor],
-    capacity: usize,
-    sender: InstanceNo,
-    receiver: InstanceNo,
+    alloc: Global,
+    post: &mut Post<'_>,
+    to: InstanceNo,
     name: Name,
 ) -> Result<Option<Word>, ReplayError>
-    requires sender { sender ≤ length actors.old }
-    requires receiver { receiver ≤ length actors.old }
-    requires two { sender ≢ receiver }
-    requires reached { IsReached capacity actors.old }
-    ensures { (n : ℕ) (r : Run) → Agrees n capacity r actors.old
-        → HasActed n capacity actors.old actors.new result (sends capacity r sender receiver name) }
+    requires known { to ≤ post.old.board.size }
+    requires two { post.old.number ≢ to }
+    requires places { 1 ≤ post.old.board.capacity }
+    ensures goes_on { GoesOn post.old post.new }
+    ensures does { (from : Option ℕ) → Does post.old from (Action.Send to name) result post.new from }
 {
-    let from = sender.place();
-    let to = receiver.place();
-    let lane = &actors[to].lanes()[from];
-    if let Some(word) = actors[from].send_word(lane, capacity) {
-        return Ok(Some(word));
+    let Ok(message) = Message::new(name, Vec::new(alloc)) else {
+        unreachable!()
+    };
+    match post.send(to, message) {
+        Ok(_) => Ok(None),
+        Err((_, SendError::InCoregion)) => Ok(Some(Word::InCoregion)),
+        Err((_, SendError::Closed)) => Ok(Some(Word::Closed)),
+        Err((_, SendError::LineFull)) => Ok(Some(Word::LineFull)),
+        Err((_, SendError::Full)) => Ok(Some(Word::Full)),
+        Err((_, SendError::Memory)) => Err(ReplayError::Memory),
+        Err((_, SendError::NoSuchInstance | SendError::ToItself | SendError::TooMany)) => {
+            unreachable!()
+        }
     }
-    let clock = actors[from].send(receiver, name)?;
-    actors[to].deliver(sender, Parcel { name, clock })?;
-    Ok(None)
 }
 
+/// Receives the first message that waits on the lane from an instance.
 fn receive(
-    actors: &mut [Actor],
-    receiver: InstanceNo,
-    sender: InstanceNo,
+    post: &mut Post<'_>,
+    last: &mut Option<InstanceNo>,
+    from: InstanceNo,
 ) -> Result<Option<Word>, ReplayError>
-    requires receiver { receiver ≤ length actors.old }
-    requires sender { sender ≤ length actors.old }
-    requires two { receiver ≢ sender }
-    requires reached { (k : ℕ) × IsReached k actors.old }
-    ensures { (n k : ℕ) (r : Run) → Agrees n k r actors.old
-        → HasActed n k actors.old actors.new result (receives r receiver sender) }
+    requires known { from ≤ post.old.board.size }
+    requires two { post.old.number ≢ from }
+    ensures goes_on { GoesOn post.old post.new }
+    ensures does { Does post.old last.old (Action.Receive from) result post.new last.new }
 {
-    let to = receiver.place();
-    let from = sender.place();
-    let actor = &actors[to];
-    let lane = &actor.lanes()[from];
-    if let Some(word) = actor.receive_word(lane) {
-        return Ok(Some(word));
+    match post.receive(from) {
+        Ok(Taken::Got(_)) => {
+            *last = Some(from);
+            Ok(None)
+        }
+        Ok(Taken::Nothing) => Ok(Some(Word::Nothing)),
+        Ok(Taken::Ended) => Ok(Some(Word::Ended)),
+        Err(TakeError::LineFull) => Ok(Some(Word::LineFull)),
+        Err(TakeError::Memory) => Err(ReplayError::Memory),
+        Err(TakeError::NoSuchInstance | TakeError::ToItself) => unreachable!(),
     }
-    actors[to].take(sender)?;
-    Ok(None)
 }
 
-fn close(actors: &mut [Actor], closer: InstanceNo, receiver: InstanceNo) -> Option<Word>
-    requires closer { closer ≤ length actors.old }
-    requires receiver { receiver ≤ length actors.old }
-    requires two { closer ≢ receiver }
-    requires reached { (k : ℕ) × IsReached k actors.old }
-    ensures { (n k : ℕ) (r : Run) → Agrees n k r actors.old
-        → HasActed n k actors.old actors.new (Ok result) (closes r closer receiver) }
+/// Closes the lane to an instance.
+fn close(post: &mut Post<'_>, to: InstanceNo) -> Option<Word>
+    requires known { to ≤ post.old.board.size }
+    requires two { post.old.number ≢ to }
+    ensures goes_on { GoesOn post.old post.new }
+    ensures does { (from : Option ℕ) → Does post.old from (Action.Close to) (Ok result) post.new from }
 {
-    let from = closer.place();
-    let to = receiver.place();
-    let lane = &actors[to].lanes()[from];
-    if lane.is_closed() {
-        return Some(Word::Closed);
+    match post.close(to) {
+        Ok(()) => None,
+        Err(CloseError::Closed) => Some(Word::Closed),
+        Err(CloseError::NoSuchInstance | CloseError::ToItself) => unreachable!(),
     }
-    actors[to].close(closer);
-    None
 }
 
-fn open(actors: &mut [Actor], opener: InstanceNo) -> Option<Word>
-    requires opener { opener ≤ length actors.old }
-    requires reached { (k : ℕ) × IsReached k actors.old }
-    ensures { (n k : ℕ) (r : Run) → Agrees n k r actors.old
-        → HasActed n k actors.old actors.new (Ok result) (opens r opener) }
+/// Opens a coregion.
+fn open(post: &mut Post<'_>) -> Option<Word>
+    ensures goes_on { GoesOn post.old post.new }
+    ensures does { (from : Option ℕ) → Does post.old from Action.Open (Ok result) post.new from }
 {
-    let place = opener.place();
-    if actors[place].region() > 0 {
-        return Some(Word::Open);
+    match post.open_coregion() {
+        Ok(()) => None,
+        Err(RegionError::CoregionOpen) => Some(Word::Open),
+        Err(RegionError::CoregionNotOpen) => unreachable!(),
     }
-    actors[place].open();
-    None
 }
 
-fn shut(actors: &mut [Actor], shutter: InstanceNo) -> Option<Word>
-    requires shutter { shutter ≤ length actors.old }
-    ensures { (n k : ℕ) (r : Run) → Agrees n k r actors.old
-        → HasActed n k actors.old actors.new (Ok result) (shuts r shutter) }
+/// Closes the coregion that is open.
+fn shut(post: &mut Post<'_>) -> Option<Word>
+    ensures goes_on { GoesOn post.old post.new }
+    ensures does { (from : Option ℕ) → Does post.old from Action.Shut (Ok result) post.new from }
 {
-    let place = shutter.place();
-    if actors[place].region() == 0 {
-        return Some(Word::NotOpen);
+    match post.close_coregion() {
+        Ok(()) => None,
+        Err(RegionError::CoregionNotOpen) => Some(Word::NotOpen),
+        Err(RegionError::CoregionOpen) => unreachable!(),
     }
-    actors[place].shut();
-    None
 }
 
 /// Receives from the first instance in scan order from which a message waits.
-fn receive_any(actors: &mut [Actor], receiver: InstanceNo) -> Result<Option<Word>, ReplayError>
-    requires receiver { receiver ≤ length actors.old }
-    requires reached { (k : ℕ) × IsReached k actors.old }
-    ensures { (n k : ℕ) (r : Run) → Agrees n k r actors.old
-        → HasActed n k actors.old actors.new result (receives_any n r receiver (first_waiting n r receiver)) }
+fn receive_any(
+    post: &mut Post<'_>,
+    last: &mut Option<InstanceNo>,
+) -> Result<Option<Word>, ReplayError>
+    requires known { unwrap_or last.old 0 ≤ post.old.board.size }
+    ensures goes_on { GoesOn post.old post.new }
+    ensures does { Does post.old last.old Action.Any result post.new last.new }
 {
-    let place = receiver.place();
-    let actor = &actors[place];
-    let lanes = actor.lanes();
-    match first_waiting(lanes, receiver, actor.last()) {
-        Some(sender) => receive(actors, receiver, sender),
-        None if are_closed(lanes, receiver) => Ok(Some(Word::Ended)),
-        None => Ok(Some(Word::Nothing)),
+    match any_from(post, *last) {
+        Ok(Taken::Got(arrival)) => {
+            *last = Some(arrival.from);
+            Ok(None)
+        }
+        Ok(Taken::Nothing) => Ok(Some(Word::Nothing)),
+        Ok(Taken::Ended) => Ok(Some(Word::Ended)),
+        Err(TakeError::LineFull) => Ok(Some(Word::LineFull)),
+        Err(TakeError::Memory) => Err(ReplayError::Memory),
+        Err(TakeError::NoSuchInstance | TakeError::ToItself) => unreachable!(),
     }
 }
 
-/// Does what a command says: `None`, or the word of its note.
+/// Does what a command of its instance says: `None`, or the word of its note.
 pub fn act(
-    actors: &mut [Actor],
-    capacity: usize,
-    actor: InstanceNo,
+    alloc: Global,
+    post: &mut Post<'_>,
+    last: &mut Option<InstanceNo>,
     action: Action,
 ) -> Result<Option<Word>, ReplayError>
-    requires actor { actor ≤ length actors.old }
-    requires partner { HasPartner (length actors.old) actor action }
-    requires reached { IsReached capacity actors.old }
-    ensures { (n : ℕ) (r : Run) → Agrees n capacity r actors.old
-        → HasActed n capacity actors.old actors.new result (acts n capacity r actor action) }
+    requires places { 1 ≤ post.old.board.capacity }
+    requires partner { HasPartner post.old.board.size post.old.number action }
+    requires known { unwrap_or last.old 0 ≤ post.old.board.size }
+    ensures goes_on { GoesOn post.old post.new }
+    ensures does { Does post.old last.old action result post.new last.new }
 {
     match action {
-        Action::Send { to, name } => send(actors, capacity, actor, to, name),
-        Action::Receive { from } => receive(actors, actor, from),
-        Action::Any => receive_any(actors, actor),
-        Action::Close { to } => Ok(close(actors, actor, to)),
-        Action::Open => Ok(open(actors, actor)),
-        Action::Shut => Ok(shut(actors, actor)),
+        Action::Send { to, name } => send(alloc, post, to, name),
+        Action::Receive { from } => receive(post, last, from),
+        Action::Any => receive_any(post, last),
+        Action::Close { to } => Ok(close(post, to)),
+        Action::Open => Ok(open(post)),
+        Action::Shut => Ok(shut(post)),
     }
 }

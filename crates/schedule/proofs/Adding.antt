@@ -11,7 +11,8 @@ use Rattle.msc_text.specs.declared.fault.Cause.TheVariants.{Syntax}
 use Rattle.msc_text.specs.declared.fault.TextError.{TextError}
 use Rattle.msc_text.specs.Instances.{with_name}
 use Rattle.schedule.specs.FirstLines.{is_word, are_words, with_word, with_words, instances_of, instances_by, names_of}
-use Rattle.schedule.specs.Keywords.{is_instances}
+use Rattle.schedule.specs.Keywords.{is_written}
+use Rattle.schedule.specs.declared.keyword.ScheduleWord.TheVariants as keywords
 use Rattle.msc_text.proofs.Results.{in_line_ok, bind_at, fails_in_line}
 
 -- ---- words
@@ -38,7 +39,7 @@ word_first words others word are some = ap (list_all is_word) are ∙ ap (λ b. 
 -- line 1 has a name at least
 pub lone_keyword : (line keyword : List ℕ) → words_of line ≡ keyword ∷ [] → names_of line ≡ Err Syntax
 unfolding names_of are_words
-lone_keyword line keyword are = ap instances_by are ∙ cond-false (is_instances keyword && are_words []) (instances_of []) (Err Syntax) (and_right (is_instances keyword) (are_words []) refl)
+lone_keyword line keyword are = ap instances_by are ∙ cond-false (is_written keywords.Instances keyword && are_words []) (instances_of []) (Err Syntax) (and_right (is_written keywords.Instances keyword) (are_words []) refl)
 
 -- ---- one name
 

@@ -1,14 +1,15 @@
 -- Line 2, the capacity: what is read is spelled so, and what is spelled so is read. Laws about lists alone.
 use Rattle.std.proofs.Common.{◌≡◌, ℕ, ◌+◌, ◌-◌, ◌*◌, ◌/◌, ◌%◌, ◌≤◌, ◌<◌, true, false, not, ◌&&◌, ◌||◌, leb, eqb, List, [], ◌∷◌, ◌++◌, Ok, Err, refl, sym, ap, ◌∙◌, subst, arith, inl, inr}
-use Rattle.std.specs.Prelude.{codes, decimal}
+use Rattle.std.specs.Prelude.{decimal}
 use Rattle.std.proofs.lemmas.Bool.{and_parts, and_from, le-leb, leb-true, ne_eqb, cond-true, cases_lt}
 use Rattle.std.proofs.lemmas.Fmt.{decimal_digit, decimal_step}
 use Rattle.msc_text.proofs.Lookups.{same_bytes}
-use Rattle.msc_text.proofs.Parts.{lacks_if}
 use Rattle.msc_text.specs.Lines.{words_of, Lacks}
 use Rattle.msc_text.specs.declared.fault.Cause.TheVariants.{Capacity, Syntax}
 use Rattle.schedule.specs.FirstLines.{is_digit, is_number, places, places_of, capacity_by, capacity_of}
-use Rattle.schedule.specs.Keywords.{is_capacity}
+use Rattle.schedule.specs.Keywords.{written, is_written}
+use Rattle.schedule.specs.declared.keyword.ScheduleWord.TheVariants as keywords
+use Rattle.schedule.proofs.PlainWords.{plain_written}
 use Rattle.schedule.specs.ScheduleText.{capacity_line, spaced}
 use Rattle.schedule.specs.declared.schedule.TheConstants.{MAX_CAPACITY}
 use Rattle.schedule.proofs.Numbers.{above_zero, long_number}
@@ -135,15 +136,15 @@ pub record AreSaidPlaces (line : List ℕ) (k : ℕ) : Type 0 where
   pub is : line ≡ capacity_line k
 
 capacity_by-said : (line : List ℕ) (words : List (List ℕ)) (k : ℕ) → line ≡ spaced words → capacity_by words ≡ Ok k → AreSaidPlaces line k
-unfolding is_capacity
+unfolding is_written
 capacity_by-said line [] k is e = absurd cc
 capacity_by-said line (keyword ∷ []) k is e = absurd cc
 capacity_by-said line (keyword ∷ digits ∷ []) k is e =
-    let a = when_ok (is_capacity keyword && is_number digits) Syntax (places_of digits) k e in
-    let both = and_parts (is_capacity keyword) (is_number digits) a.0 in
-    let same : keyword ≡ codes "capacity" = same_bytes keyword (codes "capacity") both.0 in
+    let a = when_ok (is_written keywords.Capacity keyword && is_number digits) Syntax (places_of digits) k e in
+    let both = and_parts (is_written keywords.Capacity keyword) (is_number digits) a.0 in
+    let same : keyword ≡ written keywords.Capacity = same_bytes keyword (written keywords.Capacity) both.0 in
     let say = places_said digits k both.1 a.1 in
-    record { first = say.first; last = say.last; is = is ∙ ap (λ w. spaced (w ∷ digits ∷ [])) same ∙ ap (λ w. spaced (codes "capacity" ∷ w ∷ [])) say.are }
+    record { first = say.first; last = say.last; is = is ∙ ap (λ w. spaced (w ∷ digits ∷ [])) same ∙ ap (λ w. spaced (written keywords.Capacity ∷ w ∷ [])) say.are }
 capacity_by-said line (keyword ∷ digits ∷ word ∷ words) k is e = absurd cc
 
 -- what is read
@@ -151,19 +152,19 @@ pub capacity_said : (line : List ℕ) (k : ℕ) → capacity_of line ≡ Ok k �
 unfolding capacity_of
 capacity_said line k e = capacity_by-said line (words_of line) k (is_spaced line) e
 
-plain_line : (k : ℕ) → 1 ≤ k → k ≤ MAX_CAPACITY → ArePlain (codes "capacity" ∷ decimal k ∷ [])
-plain_line k first last = ((lacks_if 32 (codes "capacity") refl, lacks_if 10 (codes "capacity") refl), ((digits_again k first last).plain, tt))
+plain_line : (k : ℕ) → 1 ≤ k → k ≤ MAX_CAPACITY → ArePlain (written keywords.Capacity ∷ decimal k ∷ [])
+plain_line k first last = (plain_written keywords.Capacity, ((digits_again k first last).plain, tt))
 
-capacity_by-again : (k : ℕ) → 1 ≤ k → k ≤ MAX_CAPACITY → capacity_by (codes "capacity" ∷ decimal k ∷ []) ≡ Ok k
-unfolding is_capacity
+capacity_by-again : (k : ℕ) → 1 ≤ k → k ≤ MAX_CAPACITY → capacity_by (written keywords.Capacity ∷ decimal k ∷ []) ≡ Ok k
+unfolding is_written written
 capacity_by-again k first last =
     let again = digits_again k first last in
-    cond-true (is_capacity (codes "capacity") && is_number (decimal k)) (places_of (decimal k)) (Err Syntax) (and_from (is_capacity (codes "capacity")) (is_number (decimal k)) refl again.number) ∙ again.says
+    cond-true (is_written keywords.Capacity (written keywords.Capacity) && is_number (decimal k)) (places_of (decimal k)) (Err Syntax) (and_from (is_written keywords.Capacity (written keywords.Capacity)) (is_number (decimal k)) refl again.number) ∙ again.says
 
 -- the capacity of a line 2 that is spelled so
 pub capacity_again : (k : ℕ) → 1 ≤ k → k ≤ MAX_CAPACITY → capacity_of (capacity_line k) ≡ Ok k
 unfolding capacity_of
-capacity_again k first last = ap capacity_by (spaced_again (codes "capacity") (decimal k ∷ []) (plain_line k first last)) ∙ capacity_by-again k first last
+capacity_again k first last = ap capacity_by (spaced_again (written keywords.Capacity) (decimal k ∷ []) (plain_line k first last)) ∙ capacity_by-again k first last
 
 pub capacity_lacks : (k : ℕ) → 1 ≤ k → k ≤ MAX_CAPACITY → Lacks 10 (capacity_line k)
-capacity_lacks k first last = spaced_lacks (codes "capacity" ∷ decimal k ∷ []) (plain_line k first last)
+capacity_lacks k first last = spaced_lacks (written keywords.Capacity ∷ decimal k ∷ []) (plain_line k first last)

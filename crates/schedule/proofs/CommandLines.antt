@@ -1,6 +1,6 @@
 -- A command's line: what is read is spelled so, and what is spelled so is read. Laws about lists alone.
 use Rattle.std.proofs.Common.{◌≡◌, ◌≢◌, ℕ, ◌+◌, ◌≤◌, Bool, true, false, cond, eqb, List, [], ◌∷◌, length, map, Option, Some, None, Result, Ok, Err, refl, sym, ap, ◌∙◌, subst, inl, inr, not, ◌||◌}
-use Rattle.std.specs.Prelude.{codes, bytes_eq}
+use Rattle.std.specs.Prelude.{bytes_eq}
 use Rattle.std.specs.List.{AllByRecursion}
 use Rattle.std.proofs.lemmas.Bool.{eqb-false}
 use Rattle.chart.specs.Names.{IsName, instance_of}
@@ -13,7 +13,8 @@ use Rattle.msc_text.proofs.Lookups.{IsNamed, instance_is, same_bytes}
 use Rattle.msc_text.proofs.Results.{bind_ok, guard_ok, in_line_ok, name_is, when_ok, chosen, ok_is}
 use Rattle.msc_text.specs.Instances.{known, known_of}
 use Rattle.schedule.specs.ActionLines.{ActorAction, pair_of, partners_of, send_of, receive_of, close_of, alone_of, by_two, by_three, action_by, action_of}
-use Rattle.schedule.specs.Keywords.{is_send, is_receive, is_any, is_close, is_concurrent, is_endconcurrent}
+use Rattle.schedule.specs.Keywords.{written, is_written}
+use Rattle.schedule.specs.declared.keyword.ScheduleWord.TheVariants as keywords
 use Rattle.schedule.specs.Plans.{IsAmong, HasPartner}
 use Rattle.schedule.specs.Reading.{command_at, commands_from}
 use Rattle.schedule.specs.ScheduleText.{action_words, command_line, spaced, AreNumbered, CanBeNamed, CanBeSpelled}
@@ -88,19 +89,19 @@ partner-says names x k y others r action acting words has can are e =
       are = same_three two.actor.has two.partner.has (words a.0.1);
     })
 
-send_words : {v m : List ℕ} (names : List (List ℕ)) (q : ℕ) → v ≡ m → action_words names (Send q v) ≡ codes "send" ∷ name_at names q ∷ m ∷ []
+send_words : {v m : List ℕ} (names : List (List ℕ)) (q : ℕ) → v ≡ m → action_words names (Send q v) ≡ written keywords.Send ∷ name_at names q ∷ m ∷ []
 send_words names q e = ap (λ v. action_words names (Send q v)) e
 
 send-says : (names : List (List ℕ)) (x y m a b c : List ℕ) (acting : ActorAction) → name_or_cause x ≡ Ok a → name_or_cause y ≡ Ok b → (c ≡ m) × IsName m → (pair_of names a b >>= λ pair. Ok (pair.0, Send pair.1 c)) ≡ Ok acting
-    → Says names (x ∷ codes "send" ∷ y ∷ m ∷ []) acting
+    → Says names (x ∷ written keywords.Send ∷ y ∷ m ∷ []) acting
 send-says names x y m a b c acting p q message e =
-    partner-says names x (codes "send") y (m ∷ []) (pair_of names a b) (λ r. Send r c) acting
+    partner-says names x (written keywords.Send) y (m ∷ []) (pair_of names a b) (λ r. Send r c) acting
     (λ r. send_words names r message.0)
     (λ p r within other. (within, other))
     (λ r first. (first, subst IsName (sym message.0) message.1))
     (λ pair. partners-read names x y a b pair p q) e
 
-send_of-says : (names : List (List ℕ)) (x y m : List ℕ) (acting : ActorAction) → send_of names x y m ≡ Ok acting → Says names (x ∷ codes "send" ∷ y ∷ m ∷ []) acting
+send_of-says : (names : List (List ℕ)) (x y m : List ℕ) (acting : ActorAction) → send_of names x y m ≡ Ok acting → Says names (x ∷ written keywords.Send ∷ y ∷ m ∷ []) acting
 unfolding send_of
 send_of-says names x y m acting e =
     let a = bind_ok (name_or_cause x) (λ actor. name_or_cause y >>= λ partner. name_or_cause m >>= λ name. pair_of names actor partner >>= λ pair. Ok (pair.0, Send pair.1 name)) acting e in
@@ -108,15 +109,15 @@ send_of-says names x y m acting e =
     let c = bind_ok (name_or_cause m) (λ name. pair_of names a.0 b.0 >>= λ pair. Ok (pair.0, Send pair.1 name)) acting b.2 in
     send-says names x y m a.0 b.0 c.0 acting a.1 b.1 (name_is m c.0 c.1) c.2
 
-receive_of-says : (names : List (List ℕ)) (x y : List ℕ) (acting : ActorAction) → receive_of names x y ≡ Ok acting → Says names (x ∷ codes "receive" ∷ y ∷ []) acting
+receive_of-says : (names : List (List ℕ)) (x y : List ℕ) (acting : ActorAction) → receive_of names x y ≡ Ok acting → Says names (x ∷ written keywords.Receive ∷ y ∷ []) acting
 unfolding receive_of
 receive_of-says names x y acting e =
-    partner-says names x (codes "receive") y [] (partners_of names x y) (λ q. Receive q) acting (λ q. refl) (λ p q within other. (within, other)) (λ q first. first) (partners_of-partners names x y) e
+    partner-says names x (written keywords.Receive) y [] (partners_of names x y) (λ q. Receive q) acting (λ q. refl) (λ p q within other. (within, other)) (λ q first. first) (partners_of-partners names x y) e
 
-close_of-says : (names : List (List ℕ)) (x y : List ℕ) (acting : ActorAction) → close_of names x y ≡ Ok acting → Says names (x ∷ codes "close" ∷ y ∷ []) acting
+close_of-says : (names : List (List ℕ)) (x y : List ℕ) (acting : ActorAction) → close_of names x y ≡ Ok acting → Says names (x ∷ written keywords.Close ∷ y ∷ []) acting
 unfolding close_of
 close_of-says names x y acting e =
-    partner-says names x (codes "close") y [] (partners_of names x y) (λ q. Close q) acting (λ q. refl) (λ p q within other. (within, other)) (λ q first. first) (partners_of-partners names x y) e
+    partner-says names x (written keywords.Close) y [] (partners_of names x y) (λ q. Close q) acting (λ q. refl) (λ p q within other. (within, other)) (λ q first. first) (partners_of-partners names x y) e
 
 -- an action with no partner
 alone_of-says : (names : List (List ℕ)) (x k : List ℕ) (action : Action) (acting : ActorAction) → action_words names action ≡ k ∷ [] → ((p : ℕ) → HasPartner (length names) p action) → CanBeNamed action → alone_of names x action ≡ Ok acting
@@ -131,13 +132,13 @@ alone_of-says names x k action acting words has can e =
 
 -- a line of two words
 by_two-says : (names : List (List ℕ)) (x k : List ℕ) (acting : ActorAction) → by_two names x k ≡ Ok acting → Says names (x ∷ k ∷ []) acting
-unfolding by_two is_any is_concurrent is_endconcurrent
+unfolding by_two is_written
 by_two-says names x k acting e =
-    elim (chosen (is_any k) (alone_of names x Any) (cond (is_concurrent k) (alone_of names x Open) (cond (is_endconcurrent k) (alone_of names x Shut) (Err Syntax))) (Ok acting) e) [
-      | inl any ↦ keyword (codes "any") any.0 (alone_of-says names x (codes "any") Any acting refl (λ p. tt) tt any.1)
-      | inr a ↦ elim (chosen (is_concurrent k) (alone_of names x Open) (cond (is_endconcurrent k) (alone_of names x Shut) (Err Syntax)) (Ok acting) a.1) [
-        | inl open_it ↦ keyword (codes "concurrent") open_it.0 (alone_of-says names x (codes "concurrent") Open acting refl (λ p. tt) tt open_it.1)
-        | inr b ↦ let shut = when_ok (is_endconcurrent k) Syntax (alone_of names x Shut) acting b.1 in keyword (codes "endconcurrent") shut.0 (alone_of-says names x (codes "endconcurrent") Shut acting refl (λ p. tt) tt shut.1)
+    elim (chosen (is_written keywords.Any k) (alone_of names x Any) (cond (is_written keywords.Concurrent k) (alone_of names x Open) (cond (is_written keywords.EndConcurrent k) (alone_of names x Shut) (Err Syntax))) (Ok acting) e) [
+      | inl any ↦ keyword (written keywords.Any) any.0 (alone_of-says names x (written keywords.Any) Any acting refl (λ p. tt) tt any.1)
+      | inr a ↦ elim (chosen (is_written keywords.Concurrent k) (alone_of names x Open) (cond (is_written keywords.EndConcurrent k) (alone_of names x Shut) (Err Syntax)) (Ok acting) a.1) [
+        | inl open_it ↦ keyword (written keywords.Concurrent) open_it.0 (alone_of-says names x (written keywords.Concurrent) Open acting refl (λ p. tt) tt open_it.1)
+        | inr b ↦ let shut = when_ok (is_written keywords.EndConcurrent k) Syntax (alone_of names x Shut) acting b.1 in keyword (written keywords.EndConcurrent) shut.0 (alone_of-says names x (written keywords.EndConcurrent) Shut acting refl (λ p. tt) tt shut.1)
       ]
     ]
   where
@@ -146,11 +147,11 @@ by_two-says names x k acting e =
 
 -- of three
 by_three-says : (names : List (List ℕ)) (x k y : List ℕ) (acting : ActorAction) → by_three names x k y ≡ Ok acting → Says names (x ∷ k ∷ y ∷ []) acting
-unfolding by_three is_receive is_close
+unfolding by_three is_written
 by_three-says names x k y acting e =
-    elim (chosen (is_receive k) (receive_of names x y) (cond (is_close k) (close_of names x y) (Err Syntax)) (Ok acting) e) [
-      | inl a ↦ keyword (codes "receive") a.0 (receive_of-says names x y acting a.1)
-      | inr b ↦ let close = when_ok (is_close k) Syntax (close_of names x y) acting b.1 in keyword (codes "close") close.0 (close_of-says names x y acting close.1)
+    elim (chosen (is_written keywords.Receive k) (receive_of names x y) (cond (is_written keywords.Close k) (close_of names x y) (Err Syntax)) (Ok acting) e) [
+      | inl a ↦ keyword (written keywords.Receive) a.0 (receive_of-says names x y acting a.1)
+      | inr b ↦ let close = when_ok (is_written keywords.Close k) Syntax (close_of names x y) acting b.1 in keyword (written keywords.Close) close.0 (close_of-says names x y acting close.1)
     ]
   where
     keyword : (word : List ℕ) → bytes_eq k word ≡ true → Says names (x ∷ word ∷ y ∷ []) acting → Says names (x ∷ k ∷ y ∷ []) acting
@@ -165,10 +166,10 @@ last_test false false false false e = cc
 
 -- of four
 by_four-says : (names : List (List ℕ)) (x k y m : List ℕ) (acting : ActorAction) → action_by names (x ∷ k ∷ y ∷ m ∷ []) ≡ Ok acting → Says names (x ∷ k ∷ y ∷ m ∷ []) acting
-unfolding is_send
+unfolding is_written
 by_four-says names x k y m acting e =
-    let g = guard_ok (eqb (length x) 0 || eqb (length y) 0 || eqb (length m) 0 || not (is_send k)) Syntax (send_of names x y m) acting e in
-    let same = same_bytes k (codes "send") (last_test (eqb (length x) 0) (eqb (length y) 0) (eqb (length m) 0) (is_send k) g.0) in
+    let g = guard_ok (eqb (length x) 0 || eqb (length y) 0 || eqb (length m) 0 || not (is_written keywords.Send k)) Syntax (send_of names x y m) acting e in
+    let same = same_bytes k (written keywords.Send) (last_test (eqb (length x) 0) (eqb (length y) 0) (eqb (length m) 0) (is_written keywords.Send k) g.0) in
     subst (λ w. Says names (x ∷ w ∷ y ∷ m ∷ []) acting) (sym same) (send_of-says names x y m acting g.1)
 
 -- of any number

@@ -1,6 +1,5 @@
 -- Commands whose lines are spelled are read again: laws about lists alone.
 use Rattle.std.proofs.Common.{◌≡◌, ◌≢◌, ℕ, ◌+◌, ◌≤◌, Bool, true, false, cond, eqb, List, [], ◌∷◌, length, map, Ok, Err, All, refl, sym, ap, ◌∙◌, not, ◌||◌}
-use Rattle.std.specs.Prelude.{codes}
 use Rattle.std.specs.List.{AllByRecursion}
 use Rattle.std.proofs.lemmas.Bool.{ne_eqb, cond-false}
 use Rattle.chart.specs.Names.{IsName}
@@ -10,11 +9,13 @@ use Rattle.msc_text.specs.Faults.{◌>>=◌, in_line}
 use Rattle.msc_text.specs.Lines.{name_or_cause, Lacks}
 use Rattle.msc_text.specs.declared.fault.Cause.TheVariants.{Syntax, ToItself}
 use Rattle.msc_text.proofs.Lookups.{instance_again, name_at_all}
-use Rattle.msc_text.proofs.Parts.{lacks_if}
 use Rattle.msc_text.proofs.Results.{bind_at, name_again, name_some}
 use Rattle.msc_text.specs.Instances.{known, known_of}
 use Rattle.schedule.specs.ActionLines.{pair_of, partners_of, send_of, receive_of, close_of, alone_of, by_two, by_three, action_by, action_of}
-use Rattle.schedule.specs.Keywords.{is_send, is_receive, is_any, is_close, is_concurrent, is_endconcurrent}
+use Rattle.schedule.specs.Keywords.{written, is_written}
+use Rattle.chart.specs.Keywords.{spelled}
+use Rattle.schedule.specs.declared.keyword.ScheduleWord.TheVariants as keywords
+use Rattle.schedule.proofs.PlainWords.{plain_written}
 use Rattle.schedule.specs.Plans.{IsAmong, HasPartner}
 use Rattle.schedule.specs.Reading.{command_at, commands_from}
 use Rattle.schedule.specs.ScheduleText.{action_words, command_line, AreNumbered, CanBeNamed, CanBeSpelled}
@@ -87,28 +88,28 @@ module _ (names : List (List ℕ)) (are : AreNames names) (named : All IsName na
 
   -- ---- the words of a command
 
-  any_by : (x : List ℕ) → by_two names x (codes "any") ≡ alone_of names x Any
-  unfolding by_two is_any
+  any_by : (x : List ℕ) → by_two names x (written keywords.Any) ≡ alone_of names x Any
+  unfolding by_two is_written written spelled
   any_by x = refl
 
-  open_by : (x : List ℕ) → by_two names x (codes "concurrent") ≡ alone_of names x Open
-  unfolding by_two is_any is_concurrent
+  open_by : (x : List ℕ) → by_two names x (written keywords.Concurrent) ≡ alone_of names x Open
+  unfolding by_two is_written written spelled
   open_by x = refl
 
-  shut_by : (x : List ℕ) → by_two names x (codes "endconcurrent") ≡ alone_of names x Shut
-  unfolding by_two is_any is_concurrent is_endconcurrent
+  shut_by : (x : List ℕ) → by_two names x (written keywords.EndConcurrent) ≡ alone_of names x Shut
+  unfolding by_two is_written written spelled
   shut_by x = refl
 
-  receive_by : (x y : List ℕ) → by_three names x (codes "receive") y ≡ receive_of names x y
-  unfolding by_three is_receive
+  receive_by : (x y : List ℕ) → by_three names x (written keywords.Receive) y ≡ receive_of names x y
+  unfolding by_three is_written written
   receive_by x y = refl
 
-  close_by : (x y : List ℕ) → by_three names x (codes "close") y ≡ close_of names x y
-  unfolding by_three is_receive is_close
+  close_by : (x y : List ℕ) → by_three names x (written keywords.Close) y ≡ close_of names x y
+  unfolding by_three is_written written
   close_by x y = refl
 
-  send_by : is_send (codes "send") ≡ true
-  unfolding is_send
+  send_by : is_written keywords.Send (written keywords.Send) ≡ true
+  unfolding is_written written
   send_by = refl
 
   some : (p : ℕ) → 1 ≤ p → p ≤ length names → eqb (length (name_at names p)) 0 ≡ false
@@ -132,26 +133,26 @@ module _ (names : List (List ℕ)) (are : AreNames names) (named : All IsName na
   action_again p (Send q m) first last has can =
       let x : List ℕ = name_at names p in
       let y : List ℕ = name_at names q in
-      cond-false (eqb (length x) 0 || eqb (length y) 0 || eqb (length m) 0 || not (is_send (codes "send"))) (Err Syntax) (send_of names x y m)
-      (not_empty_four (eqb (length x) 0) (eqb (length y) 0) (eqb (length m) 0) (is_send (codes "send")) (some p first last) (some q can.0 has.0) (name_some m can.1) send_by)
+      cond-false (eqb (length x) 0 || eqb (length y) 0 || eqb (length m) 0 || not (is_written keywords.Send (written keywords.Send))) (Err Syntax) (send_of names x y m)
+      (not_empty_four (eqb (length x) 0) (eqb (length y) 0) (eqb (length m) 0) (is_written keywords.Send (written keywords.Send)) (some p first last) (some q can.0 has.0) (name_some m can.1) send_by)
       ∙ send_again p q m first last can.0 has.0 has.1 can.1
-  action_again p (Receive q) first last has can = three_again p q (codes "receive") (Receive q) (receive_by (name_at names p) (name_at names q) ∙ receive_again p q first last can has.0 has.1) first last can has.0
-  action_again p Any first last has can = two_again p (codes "any") Any (any_by (name_at names p)) first last
-  action_again p (Close q) first last has can = three_again p q (codes "close") (Close q) (close_by (name_at names p) (name_at names q) ∙ close_again p q first last can has.0 has.1) first last can has.0
-  action_again p Open first last has can = two_again p (codes "concurrent") Open (open_by (name_at names p)) first last
-  action_again p Shut first last has can = two_again p (codes "endconcurrent") Shut (shut_by (name_at names p)) first last
+  action_again p (Receive q) first last has can = three_again p q (written keywords.Receive) (Receive q) (receive_by (name_at names p) (name_at names q) ∙ receive_again p q first last can has.0 has.1) first last can has.0
+  action_again p Any first last has can = two_again p (written keywords.Any) Any (any_by (name_at names p)) first last
+  action_again p (Close q) first last has can = three_again p q (written keywords.Close) (Close q) (close_by (name_at names p) (name_at names q) ∙ close_again p q first last can has.0 has.1) first last can has.0
+  action_again p Open first last has can = two_again p (written keywords.Concurrent) Open (open_by (name_at names p)) first last
+  action_again p Shut first last has can = two_again p (written keywords.EndConcurrent) Shut (shut_by (name_at names p)) first last
 
   -- the words have neither a space nor a line feed
   plain_instance : (p : ℕ) → 1 ≤ p → p ≤ length names → IsPlain (name_at names p)
   plain_instance p first last = plain_name (name_at names p) (is_name p first last)
 
   plain_action : (p : ℕ) (action : Action) → HasPartner (length names) p action → CanBeNamed action → ArePlain (action_words names action)
-  plain_action p (Send q m) has can = ((lacks_if 32 (codes "send") refl, lacks_if 10 (codes "send") refl), (plain_instance q can.0 has.0, (plain_name m can.1, tt)))
-  plain_action p (Receive q) has can = ((lacks_if 32 (codes "receive") refl, lacks_if 10 (codes "receive") refl), (plain_instance q can has.0, tt))
-  plain_action p Any has can = ((lacks_if 32 (codes "any") refl, lacks_if 10 (codes "any") refl), tt)
-  plain_action p (Close q) has can = ((lacks_if 32 (codes "close") refl, lacks_if 10 (codes "close") refl), (plain_instance q can has.0, tt))
-  plain_action p Open has can = ((lacks_if 32 (codes "concurrent") refl, lacks_if 10 (codes "concurrent") refl), tt)
-  plain_action p Shut has can = ((lacks_if 32 (codes "endconcurrent") refl, lacks_if 10 (codes "endconcurrent") refl), tt)
+  plain_action p (Send q m) has can = (plain_written keywords.Send, (plain_instance q can.0 has.0, (plain_name m can.1, tt)))
+  plain_action p (Receive q) has can = (plain_written keywords.Receive, (plain_instance q can has.0, tt))
+  plain_action p Any has can = (plain_written keywords.Any, tt)
+  plain_action p (Close q) has can = (plain_written keywords.Close, (plain_instance q can has.0, tt))
+  plain_action p Open has can = (plain_written keywords.Concurrent, tt)
+  plain_action p Shut has can = (plain_written keywords.EndConcurrent, tt)
 
   plain_command : (command : Command) → IsAmong (length names) command → CanBeSpelled command → ArePlain (name_at names command.actor ∷ action_words names command.action)
   plain_command command among can = (plain_instance command.actor can.0 among.0, plain_action command.actor command.action among.1 can.1)

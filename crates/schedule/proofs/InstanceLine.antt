@@ -1,6 +1,6 @@
 -- Line 1, the instances' names: what is read is spelled so, and what is spelled so is read. Laws about lists alone.
 use Rattle.std.proofs.Common.{◌≡◌, ℕ, ◌≤◌, ◌<◌, true, not, ◌&&◌, eqb, ltb, List, [], ◌∷◌, ◌++◌, length, Some, Ok, Err, All, Contains, refl, sym, ap, ◌∙◌, subst, arith, append_assoc, append-nil}
-use Rattle.std.specs.Prelude.{codes, slice_get}
+use Rattle.std.specs.Prelude.{slice_get}
 use Rattle.std.specs.List.{AllByRecursion, list_all}
 use Rattle.std.proofs.lemmas.Bool.{ne_eqb, ltb-false, le-ltb, and_parts, and_from, cond-true, cond-false}
 use Rattle.std.proofs.lemmas.List.{length-append}
@@ -12,13 +12,14 @@ use Rattle.chart.specs.Names.{IsName}
 use Rattle.chart.specs.NameSets.{AreNames}
 use Rattle.chart.specs.declared.instance.TheConstants.{MAX_INSTANCES}
 use Rattle.msc_text.proofs.Lookups.{same_bytes}
-use Rattle.msc_text.proofs.Parts.{lacks_if}
 use Rattle.msc_text.proofs.Results.{bind_ok, bind_at, guard_ok, name_is, name_again, name_some, when_ok, ok_is}
 use Rattle.msc_text.specs.Lines.{words_of, name_or_cause, Lacks}
 use Rattle.msc_text.specs.declared.fault.Cause.TheVariants.{Instances, Syntax}
 use Rattle.msc_text.specs.Instances.{with_name}
 use Rattle.schedule.specs.FirstLines.{is_word, are_words, with_word, with_words, several, instances_of, instances_by, names_of}
-use Rattle.schedule.specs.Keywords.{is_instances}
+use Rattle.schedule.specs.Keywords.{written, is_written}
+use Rattle.schedule.specs.declared.keyword.ScheduleWord.TheVariants as keywords
+use Rattle.schedule.proofs.PlainWords.{plain_written}
 use Rattle.schedule.specs.ScheduleText.{instances_line, spaced}
 use Rattle.msc_text.proofs.NewNames.{with_name-ok, with_name-names}
 use Rattle.msc_text.proofs.Spacing.{ArePlain, plain_names, spaced_again, spaced_lacks, is_spaced}
@@ -72,18 +73,18 @@ instances_of-given words names e =
 
 -- the same with the keyword
 instances_by-said : (line : List ℕ) (words names : List (List ℕ)) → line ≡ spaced words → instances_by words ≡ Ok names → AreInstances line names
-unfolding is_instances
+unfolding is_written
 instances_by-said line [] names is e = absurd cc
 instances_by-said line (keyword ∷ words) names is e =
-    let a = when_ok (is_instances keyword && are_words words) Syntax (instances_of words) names e in
+    let a = when_ok (is_written keywords.Instances keyword && are_words words) Syntax (instances_of words) names e in
     let given = instances_of-given words names a.1 in
-    let same : keyword ≡ codes "instances" = same_bytes keyword (codes "instances") (and_parts (is_instances keyword) (are_words words) a.0).0 in
+    let same : keyword ≡ written keywords.Instances = same_bytes keyword (written keywords.Instances) (and_parts (is_written keywords.Instances keyword) (are_words words) a.0).0 in
     let behind : names ≡ words = given.1.behind in
     record {
       several = given.0;
       are = given.1.are;
       named = subst (All IsName) (sym behind) (All-from_recursion IsName words given.1.named);
-      is = is ∙ ap (λ w. spaced (w ∷ words)) same ∙ ap (λ l. spaced (codes "instances" ∷ l)) (sym behind);
+      is = is ∙ ap (λ w. spaced (w ∷ words)) same ∙ ap (λ l. spaced (written keywords.Instances ∷ l)) (sym behind);
     }
 
 -- the same by the line
@@ -126,20 +127,20 @@ are_words_again : (words : List (List ℕ)) → 2 ≤ length words → AllByRecu
 unfolding are_words
 are_words_again words some named = and_from (not (eqb (length words) 0)) (list_all is_word words) (ap not (ne_eqb (length words) 0 (λ none. omega arith))) (each_is_word words named)
 
-instances_again : (names : List (List ℕ)) → 2 ≤ length names → AreNames names → AllByRecursion IsName names → instances_by (codes "instances" ∷ names) ≡ Ok names
-unfolding is_instances
+instances_again : (names : List (List ℕ)) → 2 ≤ length names → AreNames names → AllByRecursion IsName names → instances_by (written keywords.Instances ∷ names) ≡ Ok names
+unfolding is_written written
 instances_again names some are named =
-    cond-true (is_instances (codes "instances") && are_words names) (instances_of names) (Err Syntax) (and_from (is_instances (codes "instances")) (are_words names) refl (are_words_again names some named))
+    cond-true (is_written keywords.Instances (written keywords.Instances) && are_words names) (instances_of names) (Err Syntax) (and_from (is_written keywords.Instances (written keywords.Instances)) (are_words names) refl (are_words_again names some named))
     ∙ bind_at (with_words [] names) several names (with_words-again [] names are named) ∙ cond-false (ltb (length names) 2) (Err Instances) (Ok names) (le-ltb (length names) 2 some)
 
-plain_line : (names : List (List ℕ)) → All IsName names → ArePlain (codes "instances" ∷ names)
-plain_line names named = ((lacks_if 32 (codes "instances") refl, lacks_if 10 (codes "instances") refl), plain_names names named)
+plain_line : (names : List (List ℕ)) → All IsName names → ArePlain (written keywords.Instances ∷ names)
+plain_line names named = (plain_written keywords.Instances, plain_names names named)
 
 -- the names of a line 1 that is spelled so
 pub names_again : (names : List (List ℕ)) → 2 ≤ length names → AreNames names → All IsName names → names_of (instances_line names) ≡ Ok names
 unfolding names_of
 names_again names some are named =
-    ap instances_by (spaced_again (codes "instances") names (plain_line names named)) ∙ instances_again names some are (recursion_from_All IsName names named)
+    ap instances_by (spaced_again (written keywords.Instances) names (plain_line names named)) ∙ instances_again names some are (recursion_from_All IsName names named)
 
 pub instances_lack : (names : List (List ℕ)) → All IsName names → Lacks 10 (instances_line names)
-instances_lack names named = spaced_lacks (codes "instances" ∷ names) (plain_line names named)
+instances_lack names named = spaced_lacks (written keywords.Instances ∷ names) (plain_line names named)

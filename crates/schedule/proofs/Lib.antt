@@ -1,4 +1,5 @@
 pub mod Adding
+pub mod Along
 pub mod CapacityLine
 pub mod CommandLines
 pub mod Commands
@@ -7,5 +8,6 @@ pub mod FirstFault
 pub mod InstanceLine
 pub mod Legal
 pub mod Numbers
+pub mod PlainWords
 pub mod Read
 pub mod Scanning

@@ -5,7 +5,8 @@ use Rattle.msc_text.specs.Instances.{known_of}
 use Rattle.msc_text.specs.Lines.{words_of, name_or_cause}
 use Rattle.msc_text.specs.declared.fault.Cause.{Cause}
 use Rattle.msc_text.specs.declared.fault.Cause.TheVariants.{ToItself, Syntax}
-use Rattle.schedule.specs.Keywords.{is_send, is_receive, is_any, is_close, is_concurrent, is_endconcurrent}
+use Rattle.schedule.specs.Keywords.{is_written}
+use Rattle.schedule.specs.declared.keyword.ScheduleWord.TheVariants as keywords
 use Rattle.schedule.specs.declared.command.Action.{Action}
 use Rattle.schedule.specs.declared.command.Action.TheVariants.{Send, Receive, Any, Close, Open, Shut}
 
@@ -58,21 +59,21 @@ alone_of names a action = do
 -- a line of two words, the first of which has a byte at least
 unfoldable pub by_two : List (List ℕ) → List ℕ → List ℕ → Result ActorAction Cause
 by_two names a k =
-    if is_any k then alone_of names a Any else (
-    if is_concurrent k then alone_of names a Open else (
-    if is_endconcurrent k then alone_of names a Shut else Err Syntax))
+    if is_written keywords.Any k then alone_of names a Any else (
+    if is_written keywords.Concurrent k then alone_of names a Open else (
+    if is_written keywords.EndConcurrent k then alone_of names a Shut else Err Syntax))
 
 -- of three words, the first and the last of which do
 unfoldable pub by_three : List (List ℕ) → List ℕ → List ℕ → List ℕ → Result ActorAction Cause
 by_three names a k b =
-    if is_receive k then receive_of names a b else (
-    if is_close k then close_of names a b else Err Syntax)
+    if is_written keywords.Receive k then receive_of names a b else (
+    if is_written keywords.Close k then close_of names a b else Err Syntax)
 
 -- by the words of the line: none is empty
 abbrev pub action_by : List (List ℕ) → List (List ℕ) → Result ActorAction Cause
 action_by names (a ∷ k ∷ []) = if length a == 0 then Err Syntax else by_two names a k
 action_by names (a ∷ k ∷ b ∷ []) = if length a == 0 || length b == 0 then Err Syntax else by_three names a k b
-action_by names (a ∷ k ∷ b ∷ m ∷ []) = if length a == 0 || length b == 0 || length m == 0 || not (is_send k) then Err Syntax else send_of names a b m
+action_by names (a ∷ k ∷ b ∷ m ∷ []) = if length a == 0 || length b == 0 || length m == 0 || not (is_written keywords.Send k) then Err Syntax else send_of names a b m
 action_by names _ = Err Syntax
 
 -- what the line says

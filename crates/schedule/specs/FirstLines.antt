@@ -6,7 +6,8 @@ use Rattle.msc_text.specs.Instances.{with_name}
 use Rattle.msc_text.specs.Lines.{words_of, name_or_cause}
 use Rattle.msc_text.specs.declared.fault.Cause.{Cause}
 use Rattle.msc_text.specs.declared.fault.Cause.TheVariants.{Instances, Capacity, Syntax}
-use Rattle.schedule.specs.Keywords.{is_instances, is_capacity}
+use Rattle.schedule.specs.Keywords.{is_written}
+use Rattle.schedule.specs.declared.keyword.ScheduleWord.TheVariants as keywords
 use Rattle.schedule.specs.declared.schedule.TheConstants.{MAX_CAPACITY}
 
 -- a word has a byte at least
@@ -43,7 +44,7 @@ instances_of words = do
 -- the names of line 1, by its words
 abbrev pub instances_by : List (List ℕ) → Result (List (List ℕ)) Cause
 instances_by [] = Err Syntax
-instances_by (keyword ∷ words) = if is_instances keyword && are_words words then instances_of words else Err Syntax
+instances_by (keyword ∷ words) = if is_written keywords.Instances keyword && are_words words then instances_of words else Err Syntax
 
 -- the names of line 1
 unfoldable pub names_of : List ℕ → Result (List (List ℕ)) Cause
@@ -73,7 +74,7 @@ places_of digits = places (number_from 0 digits)
 
 -- the capacity of line 2, by its words
 abbrev pub capacity_by : List (List ℕ) → Result ℕ Cause
-capacity_by (keyword ∷ digits ∷ []) = if is_capacity keyword && is_number digits then places_of digits else Err Syntax
+capacity_by (keyword ∷ digits ∷ []) = if is_written keywords.Capacity keyword && is_number digits then places_of digits else Err Syntax
 capacity_by _ = Err Syntax
 
 -- the capacity of line 2

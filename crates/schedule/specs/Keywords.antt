@@ -1,35 +1,22 @@
--- The words that a schedule's text begins its lines with, or has behind an actor's name (this project's profile; those of
--- coregions are ITU-T Z.120's).
+-- The words that a schedule's text has of its own: they begin its first two lines, or stand behind an actor's name (this
+-- project's profile; those of coregions are the chart text's).
 use Rattle.std.specs.Prelude.{ℕ, Bool, List, codes, bytes_eq}
+use Rattle.chart.specs.Keywords.{spelled}
+use Rattle.chart.specs.declared.keyword.Keyword.TheVariants as chart_words
+use Rattle.schedule.specs.declared.keyword.ScheduleWord.{ScheduleWord}
+use Rattle.schedule.specs.declared.keyword.ScheduleWord.TheVariants.{Instances, Capacity, Send, Receive, Any, Close, Concurrent, EndConcurrent}
 
--- begins line 1
-unfoldable pub is_instances : List ℕ → Bool
-is_instances word = bytes_eq word (codes "instances")
+-- how the word is spelled
+unfoldable pub written : ScheduleWord → List ℕ
+written Instances = codes "instances"
+written Capacity = codes "capacity"
+written Send = codes "send"
+written Receive = codes "receive"
+written Any = codes "any"
+written Close = codes "close"
+written Concurrent = spelled chart_words.Concurrent
+written EndConcurrent = spelled chart_words.EndConcurrent
 
--- begins line 2
-unfoldable pub is_capacity : List ℕ → Bool
-is_capacity word = bytes_eq word (codes "capacity")
-
--- the word of a send
-unfoldable pub is_send : List ℕ → Bool
-is_send word = bytes_eq word (codes "send")
-
--- the word of a receive
-unfoldable pub is_receive : List ℕ → Bool
-is_receive word = bytes_eq word (codes "receive")
-
--- the word of a receive from anyone
-unfoldable pub is_any : List ℕ → Bool
-is_any word = bytes_eq word (codes "any")
-
--- the word that closes a lane
-unfoldable pub is_close : List ℕ → Bool
-is_close word = bytes_eq word (codes "close")
-
--- the word that opens a coregion
-unfoldable pub is_concurrent : List ℕ → Bool
-is_concurrent word = bytes_eq word (codes "concurrent")
-
--- the word that ends it
-unfoldable pub is_endconcurrent : List ℕ → Bool
-is_endconcurrent word = bytes_eq word (codes "endconcurrent")
+-- the bytes are this word
+unfoldable pub is_written : ScheduleWord → List ℕ → Bool
+is_written word bytes = bytes_eq bytes (written word)

@@ -1,9 +1,11 @@
 -- The text of a plan: its lines from the top, each ended by a line feed, with one space between words (this project's profile).
-use Rattle.std.specs.Prelude.{◌≡◌, ℕ, ◌+◌, ◌≤◌, List, [], ◌∷◌, All, codes, decimal, map}
+use Rattle.std.specs.Prelude.{◌≡◌, ℕ, ◌+◌, ◌≤◌, List, [], ◌∷◌, All, decimal, map}
 use Rattle.std.specs.List.{flat_map, join_with_byte}
 use Rattle.chart.specs.Names.{IsName}
 use Rattle.msc_text.specs.ChartText.{name_at}
 use Rattle.msc_text.specs.Lines.{ended}
+use Rattle.schedule.specs.Keywords.{written}
+use Rattle.schedule.specs.declared.keyword.ScheduleWord.TheVariants as keywords
 use Rattle.schedule.specs.declared.command.Action.{Action}
 use Rattle.schedule.specs.declared.command.Action.TheVariants.{Send, Receive, Any, Close, Open, Shut}
 use Rattle.schedule.specs.declared.command.Command.{Command}
@@ -16,20 +18,20 @@ spaced words = join_with_byte 32 words
 
 -- instances NAME NAME ..
 abbrev pub instances_line : List (List ℕ) → List ℕ
-instances_line names = spaced (codes "instances" ∷ names)
+instances_line names = spaced (written keywords.Instances ∷ names)
 
 -- capacity N, in decimal
 abbrev pub capacity_line : ℕ → List ℕ
-capacity_line capacity = spaced (codes "capacity" ∷ decimal capacity ∷ [])
+capacity_line capacity = spaced (written keywords.Capacity ∷ decimal capacity ∷ [])
 
 -- what stands behind the actor's name
 abbrev pub action_words : List (List ℕ) → Action → List (List ℕ)
-action_words names (Send to name) = codes "send" ∷ name_at names to ∷ name ∷ []
-action_words names (Receive from) = codes "receive" ∷ name_at names from ∷ []
-action_words names Any = codes "any" ∷ []
-action_words names (Close to) = codes "close" ∷ name_at names to ∷ []
-action_words names Open = codes "concurrent" ∷ []
-action_words names Shut = codes "endconcurrent" ∷ []
+action_words names (Send to name) = written keywords.Send ∷ name_at names to ∷ name ∷ []
+action_words names (Receive from) = written keywords.Receive ∷ name_at names from ∷ []
+action_words names Any = written keywords.Any ∷ []
+action_words names (Close to) = written keywords.Close ∷ name_at names to ∷ []
+action_words names Open = written keywords.Concurrent ∷ []
+action_words names Shut = written keywords.EndConcurrent ∷ []
 
 -- NAME send NAME MESSAGE, NAME receive NAME, and so on
 abbrev pub command_line : List (List ℕ) → Command → List ℕ

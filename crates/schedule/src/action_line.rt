@@ -3,7 +3,7 @@ ghost use Rattle.std.specs.Prelude.{◌≡◌};
 ghost use Rattle.schedule.specs.ActionLines.{pair_of, partners_of, send_of, receive_of, close_of, alone_of, by_two, by_three, action_of};
 
 use crate::command::Action;
-use crate::keyword::{is_any, is_close, is_concurrent, is_endconcurrent, is_receive, is_send};
+use crate::keyword::ScheduleWord;
 use chart::{InstanceNo, Name, Names};
 use msc_text::{Cause, Words, known_in, name_in, words_in};
 
@@ -84,13 +84,13 @@ fn read_alone(names: &Names, actor: &[u8], action: Action) -> Result<(InstanceNo
 fn by_two(names: &Names, actor: &[u8], keyword: &[u8]) -> Result<(InstanceNo, Action), Cause>
     ensures { result ≡ by_two names.now actor.now keyword.now }
 {
-    if is_any(keyword) {
+    if ScheduleWord::Any.is(keyword) {
         return read_alone(names, actor, Action::Any);
     }
-    if is_concurrent(keyword) {
+    if ScheduleWord::Concurrent.is(keyword) {
         return read_alone(names, actor, Action::Open);
     }
-    if is_endconcurrent(keyword) {
+    if ScheduleWord::EndConcurrent.is(keyword) {
         return read_alone(names, actor, Action::Shut);
     }
     Err(Cause::Syntax)
@@ -106,10 +106,10 @@ fn by_three(
 ) -> Result<(InstanceNo, Action), Cause>
     ensures { result ≡ by_three names.now actor.now keyword.now partner.now }
 {
-    if is_receive(keyword) {
+    if ScheduleWord::Receive.is(keyword) {
         return read_receive(names, actor, partner);
     }
-    if is_close(keyword) {
+    if ScheduleWord::Close.is(keyword) {
         return read_close(names, actor, partner);
     }
     Err(Cause::Syntax)
@@ -129,7 +129,7 @@ pub(crate) fn read_action(names: &Names, line: &[u8]) -> Result<(InstanceNo, Act
             if !actor.is_empty()
                 && !partner.is_empty()
                 && !message.is_empty()
-                && is_send(keyword) => { read_send(names, actor, partner, message) }
+                && ScheduleWord::Send.is(keyword) => { read_send(names, actor, partner, message) }
         _ => Err(Cause::Syntax),
     }
 }

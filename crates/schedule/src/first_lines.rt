@@ -5,7 +5,7 @@ ghost use Rattle.msc_text.specs.Faults.{Gives, in_line};
 ghost use Rattle.msc_text.specs.Lines.{words_of};
 ghost use Rattle.schedule.specs.FirstLines.{is_word, are_words, with_word, with_words, instances_of, names_of, is_digit, is_number, places, places_of, capacity_of};
 
-use crate::keyword::{is_capacity, is_instances};
+use crate::keyword::ScheduleWord;
 use crate::schedule::Capacity;
 use chart::Names;
 use msc_text::{
@@ -75,7 +75,7 @@ pub(crate) fn names_in(alloc: Global, line: &[u8]) -> Result<Names, TextError>
     let Some(words) = words else {
         return Err(fault_at(1, Cause::Syntax));
     };
-    if !is_instances(keyword) || !are_words(words) {
+    if !ScheduleWord::Instances.is(keyword) || !are_words(words) {
         return Err(fault_at(1, Cause::Syntax));
     }
     instances_in(alloc, words)
@@ -133,7 +133,7 @@ pub(crate) fn capacity_in(line: &[u8]) -> Result<Capacity, Cause>
     ensures { result ≡ capacity_of line.now }
 {
     match words_in(line) {
-        Words::Two(keyword, digits) if is_capacity(keyword) && is_number(digits) => {
+        Words::Two(keyword, digits) if ScheduleWord::Capacity.is(keyword) && is_number(digits) => {
             places_of(digits)
         }
         _ => Err(Cause::Syntax),

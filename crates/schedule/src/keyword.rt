@@ -1,65 +1,53 @@
-//! The words that a schedule's text begins its lines with, or has behind an actor's name.
+//! The words that a schedule's text has of its own.
 ghost use Rattle.std.specs.Prelude.{◌≡◌, bytes_eq};
-ghost use Rattle.schedule.specs.Keywords.{is_instances, is_capacity, is_send, is_receive, is_any, is_close, is_concurrent, is_endconcurrent};
+ghost use Rattle.schedule.specs.Keywords.{written, is_written};
 
-fn is(word: &[u8], other: &[u8]) -> bool
-    ensures { result ≡ bytes_eq word.now other.now }
-{
-    word == other
+use chart::Keyword;
+
+/// A word that begins one of a schedule's first two lines, or stands behind an actor's name.
+#[derive(Clone, Copy, Debug, PartialEq, Eq)]
+pub(crate) enum ScheduleWord {
+    /// Begins line 1.
+    Instances,
+    /// Begins line 2.
+    Capacity,
+    /// Sends a message.
+    Send,
+    /// Receives one from a given instance.
+    Receive,
+    /// Receives one from anyone.
+    Any,
+    /// Closes a lane.
+    Close,
+    /// Opens a coregion, as in a chart's text.
+    Concurrent,
+    /// Ends it, as there.
+    EndConcurrent,
 }
 
-#[tactic(auto, unfolding(crate::specs::Keywords::is_instances))]
-pub(crate) fn is_instances(word: &[u8]) -> bool
-    ensures { result ≡ is_instances word.now }
-{
-    is(word, b"instances")
-}
+impl ScheduleWord {
+    /// How it is spelled.
+    #[tactic(auto, unfolding(crate::specs::Keywords::written))]
+    fn as_bytes(&self) -> &[u8]
+        ensures { result.now ≡ written self.now }
+    {
+        match self {
+            ScheduleWord::Instances => b"instances",
+            ScheduleWord::Capacity => b"capacity",
+            ScheduleWord::Send => b"send",
+            ScheduleWord::Receive => b"receive",
+            ScheduleWord::Any => b"any",
+            ScheduleWord::Close => b"close",
+            ScheduleWord::Concurrent => Keyword::Concurrent.as_bytes(),
+            ScheduleWord::EndConcurrent => Keyword::EndConcurrent.as_bytes(),
+        }
+    }
 
-#[tactic(auto, unfolding(crate::specs::Keywords::is_capacity))]
-pub(crate) fn is_capacity(word: &[u8]) -> bool
-    ensures { result ≡ is_capacity word.now }
-{
-    is(word, b"capacity")
-}
-
-#[tactic(auto, unfolding(crate::specs::Keywords::is_send))]
-pub(crate) fn is_send(word: &[u8]) -> bool
-    ensures { result ≡ is_send word.now }
-{
-    is(word, b"send")
-}
-
-#[tactic(auto, unfolding(crate::specs::Keywords::is_receive))]
-pub(crate) fn is_receive(word: &[u8]) -> bool
-    ensures { result ≡ is_receive word.now }
-{
-    is(word, b"receive")
-}
-
-#[tactic(auto, unfolding(crate::specs::Keywords::is_any))]
-pub(crate) fn is_any(word: &[u8]) -> bool
-    ensures { result ≡ is_any word.now }
-{
-    is(word, b"any")
-}
-
-#[tactic(auto, unfolding(crate::specs::Keywords::is_close))]
-pub(crate) fn is_close(word: &[u8]) -> bool
-    ensures { result ≡ is_close word.now }
-{
-    is(word, b"close")
-}
-
-#[tactic(auto, unfolding(crate::specs::Keywords::is_concurrent))]
-pub(crate) fn is_concurrent(word: &[u8]) -> bool
-    ensures { result ≡ is_concurrent word.now }
-{
-    is(word, b"concurrent")
-}
-
-#[tactic(auto, unfolding(crate::specs::Keywords::is_endconcurrent))]
-pub(crate) fn is_endconcurrent(word: &[u8]) -> bool
-    ensures { result ≡ is_endconcurrent word.now }
-{
-    is(word, b"endconcurrent")
+    /// Whether the bytes are this word.
+    #[tactic(auto, unfolding(crate::specs::Keywords::is_written))]
+    pub(crate) fn is(&self, bytes: &[u8]) -> bool
+        ensures { result ≡ is_written self.now bytes.now }
+    {
+        bytes == self.as_bytes()
+    }
 }

@@ -12,8 +12,8 @@ use Rattle.msc_text.specs.Writing.{Puts, Breaks}
 use Rattle.schedule.specs.Plans.{Plan}
 use Rattle.schedule.specs.Reading.{schedule_of}
 use Rattle.interleaver.specs.Interleavings.{drawn_of}
-use Rattle.replayer.specs.Outcomes.{OutcomeView, IsOutcome}
-use Rattle.replayer.specs.OutcomeText.{outcome_text}
+use Rattle.outcomes.specs.Outcomes.{OutcomeView, IsOutcome}
+use Rattle.outcomes.specs.OutcomeText.{outcome_text}
 use Rattle.tasks.specs.declared.status.Status.{Status}
 use Rattle.tasks.specs.Statuses.{status_in, code_of}
 use Rattle.tasks.specs.declared.error.ProgramError.{ProgramError}

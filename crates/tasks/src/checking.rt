@@ -14,7 +14,7 @@ use crate::status::Status;
 use chart::{Chart, InstanceNo, Name, Names, Report, has_races};
 use closure::{ChartError, Closure};
 use msc_reader::read;
-use msc_text::{Out, TextBuffer, TextError, WriteError, add_races};
+use msc_text::{Out, TextBuffer, TextError, WriteError, add_races, named};
 use std::alloc::Global;
 
 /// The names and the chart that the text says.
@@ -37,19 +37,6 @@ fn write<W: Out>(names: &Names, reports: &[Report], out: &mut W) -> Result<(), W
     let mut text = TextBuffer::new(out);
     add_races(&mut text, names, reports)?;
     text.finish()
-}
-
-/// The name of the instance, which has one.
-fn named(names: &Names, instance: InstanceNo) -> Name
-    requires { instance ≤ length names.now }
-    ensures { result ≡ name_at names.now instance }
-{
-    let place = instance.place();
-    prove!(place < names.len());
-    match names.name(instance) {
-        Some(name) => name,
-        None => unreachable!(),
-    }
 }
 
 /// The refusal of the chart, by the names of its instances.

@@ -22,6 +22,3 @@ pub use error::ProgramError;
 pub use refusal::refused;
 pub use seed::seed_in;
 pub use task::{Task, perform};
-
-#[cfg(test)]
-mod tests;

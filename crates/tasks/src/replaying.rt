@@ -9,7 +9,8 @@ use crate::error::ProgramError;
 use crate::status::Status;
 use interleaver::{Memory, drawn};
 use msc_text::{Out, TextError};
-use replayer::{ReplayError, replay};
+use outcomes::ReplayError;
+use replayer::replay;
 use schedule::Schedule;
 use std::alloc::Global;
 

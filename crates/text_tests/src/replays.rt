@@ -4,9 +4,12 @@ ghost use Rattle.chart.specs.NameSets.{AreNames};
 ghost use Rattle.schedule.specs.Plans.{IsAmong};
 
 use chart::{Event, InstanceNo, Line, MAX_EVENTS, Name, Names};
-use replayer::{Outcome, ReplayError, replay};
+use outcomes::{Outcome, ReplayError};
+use plain_replayer::plain_replay;
+use replayer::replay;
 use schedule::{Action, Capacity, Command, Note, Schedule, Word};
 use std::alloc::Global;
+use std::process::Abort;
 use std::test::Fail;
 
 fn add(names: &mut Names, text: &[u8]) -> Result<(), Fail>
@@ -128,9 +131,14 @@ fn schedule_of(
     schedule(alloc, places, commands.as_slice())
 }
 
-/// The outcome, at the second attempt where the first found no memory.
+/// The outcome over running posts, at the second attempt where the first found no memory.
 fn outcome<'a>(alloc: Global, schedule: &'a Schedule) -> Result<Outcome<'a>, Fail> {
     Ok(replay(alloc, schedule).or_else(|_| replay(alloc, schedule))?)
+}
+
+/// The plain outcome, at the second attempt where the first found no memory.
+fn plain_outcome<'a>(alloc: Global, schedule: &'a Schedule) -> Result<Outcome<'a>, Fail> {
+    Ok(plain_replay(alloc, schedule).or_else(|_| plain_replay(alloc, schedule))?)
 }
 
 /// Whether these are sends to instance 2 of these names.
@@ -230,10 +238,8 @@ fn is_line(line: &Line) -> Result<bool, Fail> {
     }
 }
 
-#[test]
-fn deeds_of_three(rt: HostRuntime) -> Result<(), Fail> {
-    let schedule = schedule_of(rt.alloc(), 2, DEEDS.as_slice())?;
-    let outcome = outcome(rt.alloc(), &schedule)?;
+/// The outcome is that of the deeds.
+fn has_deeds(rt: &impl Abort, outcome: &Outcome<'_>) -> Result<(), Fail> {
     assert_eq!(rt; outcome.names().len(), 3);
     assert_eq!(rt; outcome.chart().lines().len(), 3);
     for line in outcome.chart().lines() {
@@ -241,6 +247,13 @@ fn deeds_of_three(rt: HostRuntime) -> Result<(), Fail> {
     }
     assert!(rt; are_notes(outcome.notes(), NOTES.as_slice()));
     Ok(())
+}
+
+#[test]
+fn deeds_of_three(rt: HostRuntime) -> Result<(), Fail> {
+    let schedule = schedule_of(rt.alloc(), 2, DEEDS.as_slice())?;
+    has_deeds(&rt, &outcome(rt.alloc(), &schedule)?)?;
+    has_deeds(&rt, &plain_outcome(rt.alloc(), &schedule)?)
 }
 
 static FULL: [(u64, Word); 3] = [
@@ -263,6 +276,8 @@ fn full_lines(rt: HostRuntime) -> Result<(), Fail> {
     let schedule = schedule_of(rt.alloc(), 1, deeds.as_slice())?;
     let outcome = outcome(rt.alloc(), &schedule)?;
     assert!(rt; are_notes(outcome.notes(), FULL.as_slice()));
+    let plain = plain_outcome(rt.alloc(), &schedule)?;
+    assert!(rt; are_notes(plain.notes(), FULL.as_slice()));
     Ok(())
 }
 

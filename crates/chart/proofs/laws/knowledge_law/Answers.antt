@@ -4,5 +4,5 @@ use Rattle.chart.proofs.laws.knowledge_law.Goals as goal
 pub returns-clause-own : goal.returns-clause-own
 returns-clause-own c = known_own
 
-pub returns-clause-other : goal.returns-clause-other
-returns-clause-other c = known_other
+pub returns-clause-other_lines : goal.returns-clause-other_lines
+returns-clause-other_lines c = known_other

@@ -2,8 +2,8 @@ use Rattle.chart.proofs.Steps.{line_of_other, line_after_close}
 use Rattle.chart.proofs.Sends.{line_after_send, line_after_receive}
 use Rattle.chart.proofs.laws.line_law.Goals as goal
 
-pub returns-clause-other : goal.returns-clause-other
-returns-clause-other c = line_of_other
+pub returns-clause-other_lines : goal.returns-clause-other_lines
+returns-clause-other_lines c = line_of_other
 
 pub returns-clause-close : goal.returns-clause-close
 returns-clause-close c = line_after_close

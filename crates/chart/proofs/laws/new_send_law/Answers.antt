@@ -8,8 +8,8 @@ returns-clause-send c = newest_is_send
 pub returns-clause-own : goal.returns-clause-own
 returns-clause-own c = new_send_knows_own
 
-pub returns-clause-other : goal.returns-clause-other
-returns-clause-other c = new_send_knows_other
+pub returns-clause-other_lines : goal.returns-clause-other_lines
+returns-clause-other_lines c = new_send_knows_other
 
 pub returns-clause-hearing : goal.returns-clause-hearing
 returns-clause-hearing c = new_send_hears

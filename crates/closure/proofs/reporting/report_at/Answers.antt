@@ -1,6 +1,5 @@
-use Rattle.std.proofs.Common.{◌≡◌, suc, List, map, take, All, sym, ap, ◌∙◌, subst, add-one}
+use Rattle.std.proofs.Common.{◌≡◌, suc, List, map, take, All, ap, ◌∙◌, subst, add-one}
 use Rattle.chart.specs.declared.event.Event.{Event}
-use Rattle.chart.specs.declared.instance.EventNo.{EventNo}
 use Rattle.chart.specs.Charts.{at, LineView, chart_lines}
 use Rattle.chart.specs.Order.{IsRaces}
 use Rattle.closure.proofs.KnowLemmas.{known_entry}
@@ -11,10 +10,9 @@ pub returns : goal.returns
 returns c =
     let known = known_entry c.args.lines.now c.args.known.now c.requires.known c.in-Sender.sender c.in-Sender.index (at (suc c.args.line) (suc c.args.place)) c.value_at-entry.result c.in-Sender.ensures.0 c.in-Sender.ensures.1 c.value_at-entry.ensures in
     let s = at (suc c.in-Sender.sender) c.in-Sender.index in
-    let found = c.in_ok-earlier.earlier.items in
-    let listed = sym c.in_ok-earlier.ensures.events in
-    let found_races = subst (λ (es : List EventNo). IsRaces (take c.args.place c.as_growing.result.now.line.events) c.value_at-entry.result c.at_place.result c.region-region.result (map (λ e. e.index) es)) listed c.in_ok-found.ensures.races in
-    let found_own = subst (λ (es : List EventNo). All (λ e. e.instance ≡ c.as_growing.result.now.line.instance) es) listed c.in_ok-found.ensures.own in
+    let found = c.in_ok-earlier.earlier in
+    let found_races = c.in_ok-earlier.ensures.races in
+    let found_own = c.in_ok-earlier.ensures.own in
     let xs = map (λ e. e.index) found in
     let in_line = subst (λ (line : List Event). IsRaces (take c.args.place line) c.value_at-entry.result c.at_place.result c.region-region.result xs) (ap (λ (l : LineView). l.events) c.as_growing.ensures ∙ c.line_of.ensures.events) found_races in
     let races = subst (λ q. IsRaces (take c.args.place (chart_lines c.args.lines.now (suc c.args.line))) c.value_at-entry.result q c.region-region.result xs) c.at_place.ensures in_line in

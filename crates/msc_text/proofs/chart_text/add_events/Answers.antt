@@ -16,4 +16,4 @@ loop-event-preserved g c =
 pub returns : goal.returns
 returns g c =
     let come = come_all c.args.events.now c.loop-event.event-index c.loop-event-test.false c.loop-event.invariant in
-    come_ends c.add.new.self c.add.result come (rw (← c.ending.ensures) c.add.ensures)
+    come_ends c.add_ending.new.text c.add_ending.result come c.add_ending.ensures

@@ -1,31 +1,24 @@
 use Rattle.std.proofs.Common.{length, sym, ap, ◌∙◌, subst}
-use Rattle.chart.specs.Reports.{AreReports}
-use Rattle.schedule.specs.Meaning.{meaning}
-use Rattle.replayer.specs.Outcomes.{AreByLine, IsOutcome}
-use Rattle.replayer.proofs.Charts.{lines-are, reports-are}
 use Rattle.chart.proofs.HistoryLines.{length-history_lines}
+use Rattle.outcomes.specs.Outcomes.{IsOutcome}
+use Rattle.schedule.specs.Meaning.{after}
 use Rattle.replayer.proofs.run.replay.Goals as goal
-
-pub chart-requires : goal.chart-requires
-chart-requires c =
-    let plan = c.args.schedule.now in
-    let n = length plan.names in
-    let agrees = c.in_ok-actors.ensures.agrees in
-    (n, plan.capacity, (meaning plan).run.history, c.names.ensures.plan.several, agrees.limit, agrees.legal, c.in_ok-lines.ensures.lines ∙ lines-are n plan.capacity (meaning plan).run c.in_ok-actors.actors.items agrees)
 
 pub new-requires : goal.new-requires
 new-requires c =
-    let plan = c.args.schedule.now in
-    let n = length plan.names in
-    let lines = c.in_ok-lines.ensures.lines ∙ lines-are n plan.capacity (meaning plan).run c.in_ok-actors.actors.items c.in_ok-actors.ensures.agrees in
-    ap length c.names.ensures.value ∙ sym (length-history_lines n (meaning plan).run.history) ∙ ap length (sym (c.chart.ensures ∙ lines))
+    let board = c.in_ok-board.board.board in
+    let its = c.in_ok-board.ensures in
+    let come = c.in_ok-gathered.ensures board (record { sized = rw (its.size, its.capacity) its.sized; new = c.in-Ok.ensures.ok.1 }) in
+    ap length c.names.ensures.value ∙ sym its.size ∙ sym (length-history_lines board.size (after board.size board.capacity c.commands.result.now).run.history) ∙ ap length (sym come.chart)
 
 pub returns : goal.returns
 returns c =
-    let plan = c.args.schedule.now in
-    let n = length plan.names in
-    let agrees = c.in_ok-actors.ensures.agrees in
-    let lines = c.chart.ensures ∙ c.in_ok-lines.ensures.lines ∙ lines-are n plan.capacity (meaning plan).run c.in_ok-actors.actors.items agrees in
-    let reports = subst (AreReports c.chart.result) (sym c.in_ok-lines.ensures.reports) (rw lines (reports-are n plan.capacity (meaning plan).run c.in_ok-actors.actors.items agrees)) in
-    let notes = subst (λ came. AreByLine came c.put_by_line.new.notes.items) c.in_ok-actors.ensures.notes c.in_ok-put_by_line.ensures in
-    subst (IsOutcome plan) (sym c.new.ensures) (record { names = c.names.ensures.value; chart = lines; reports = reports; notes = notes })
+    let board = c.in_ok-board.board.board in
+    let its = c.in_ok-board.ensures in
+    let come = c.in_ok-gathered.ensures board (record { sized = rw (its.size, its.capacity) its.sized; new = c.in-Ok.ensures.ok.1 }) in
+    subst (IsOutcome c.args.schedule.now) (sym c.new.ensures) (record {
+      names = c.names.ensures.value;
+      chart = rw (its.size, its.capacity, c.commands.ensures.value) at come.chart;
+      reports = come.reports;
+      notes = rw (its.size, its.capacity, c.commands.ensures.value) at come.notes;
+    })

@@ -1,21 +1,13 @@
-use Rattle.std.proofs.Common.{get_or, arith}
-use Rattle.std.proofs.lemmas.Option.{get_or_from_slice_get, slice_get-get_or}
-use Rattle.replayer.proofs.Commands.{open-refused, open-done}
+use Rattle.std.proofs.Common.{Err, ap}
+use Rattle.replayer.proofs.Calls.{onward, not_ok, open_done, open_refused}
 use Rattle.replayer.proofs.steps.open.Goals as goal
 
-pub returns-then-region-gt0 : goal.returns-then-region-gt0
-returns-then-region-gt0 c n k r agrees =
-    let actors = c.args.actors.now in
-    let i = c.place-place.result in
-    let a = get_or actors i c.index-actors-place.result in
-    let at_a = slice_get-get_or actors i c.index-actors-place.result (omega arith) in
-    open-refused n k r actors c.args.opener i a agrees c.place-place.ensures.value at_a (omega arith)
+pub returns-in-Ok-clause-does : goal.returns-in-Ok-clause-does
+returns-in-Ok-clause-does c from r far met its =
+    let answer = c.in-Ok.ensures in
+    open_done r from c.args.post.now c.open_coregion.new.self far (onward _ _ _ answer.ok) met its (λ some. not_ok (answer.open.1 some)) answer.ok
 
-pub returns : goal.returns
-returns c n k r agrees =
-    let actors = c.args.actors.now in
-    let i = c.place-place.result in
-    let a = get_or actors i c.index-actors-place.result in
-    let at_a = slice_get-get_or actors i c.index-actors-place.result (omega arith) in
-    let opened = rw (get_or_from_slice_get actors i a c.index-actors-place-2.result at_a) at c.open.ensures in
-    open-done n k r actors c.args.opener i a c.open.new.self agrees c.place-place.ensures.value at_a (omega arith) opened
+pub returns-in-Err-CoregionOpen-clause-does : goal.returns-in-Err-CoregionOpen-clause-does
+returns-in-Err-CoregionOpen-clause-does c from r far met its =
+    let answer = c.in-Err-CoregionOpen.ensures in
+    open_refused r from c.args.post.now c.open_coregion.new.self far (onward _ _ _ answer.err) met its (answer.open.0 (ap Err c.in-Err-CoregionOpen.field-0-is)) answer.err

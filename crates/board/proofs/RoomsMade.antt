@@ -1,0 +1,155 @@
+-- Room for what a board comes to, of whatever history its posts have in common.
+use Rattle.std.proofs.Common.{◌≡◌, ◌≢◌, ℕ, zero, suc, ◌+◌, ◌-◌, ◌≤◌, ⊎_elim, Bool, true, false, cond, List, [], ◌∷◌, ◌++◌, length, map, refl, sym, ap, ap₂, ◌∙◌, subst, arith, append-nil, append_assoc, length-append}
+use Rattle.std.specs.Prelude.{filter, nat_lt, vec_capacity}
+use Rattle.std.specs.List.{range_with_len, flat_map}
+use Rattle.std.proofs.lemmas.List.{length-map, map_push}
+use Rattle.std.proofs.lemmas.Bool.Decides.{leb_tells}
+use Rattle.std.proofs.lemmas.List.Concat.{flat_map-append}
+use Rattle.std.proofs.lemmas.List.Elements.{All-push, filter-append}
+use Rattle.std.proofs.lemmas.List.FromFn.{map-range_with_len_more}
+use Rattle.chart.specs.declared.history.Occurrence.{Occurrence}
+use Rattle.chart.specs.declared.event.Event.{Event}
+use Rattle.chart.specs.declared.event.Event.TheVariants.{Send, Receive}
+use Rattle.chart.specs.declared.line.TheConstants.{MAX_EVENTS}
+use Rattle.chart.specs.Histories.{own, sent, received, waiting, chart_of, AreTwo, IsLegal}
+use Rattle.chart.specs.HistoryLines.{history_line, history_lines}
+use Rattle.chart.specs.Reports.{ReportView, receives_from, receives_of}
+use Rattle.chart.proofs.Histories.{same_sent}
+use Rattle.chart.proofs.Histories as histories
+use Rattle.line_recorder.specs.Recorders.{RecorderView}
+use Rattle.line_recorder.specs.Recording.{IsRecorder}
+use Rattle.board_table.proofs.LastMessages.{waiting_back}
+use Rattle.board.specs.declared.ends.Outgoing.{Outgoing}
+use Rattle.board.specs.declared.ends.Incoming.{Incoming}
+use Rattle.board.specs.declared.parting.Room.{Room}
+use Rattle.board.specs.Known.{IsOutgoing, IsIncoming}
+use Rattle.board.specs.Views.{PostView}
+use Rattle.board.specs.Meeting.{IsJoint}
+use Rattle.board.specs.Gathering.{AreJoint, LaneEnds, lane_to, is_waiting}
+use Rattle.board.specs.Parting.{IsAmong, AreOf, room_lane, IsRoom, IsLaneRoom, HaveRooms, receives_until, AreCounted}
+use Rattle.board.proofs.Claiming.{sent_within}
+use Rattle.board.proofs.Closes.{line_short}
+use Rattle.board.proofs.DidLemmas.{waiting_many}
+
+-- What waits on a lane, by its ends.
+
+pub room_is : (n k q p : ℕ) (theirs mine h : List Occurrence) (o : Outgoing) (i : Incoming) (room : Room) → IsLegal n k h → AreTwo n q p → own h q ≡ own theirs q → own h p ≡ own mine p
+    → IsOutgoing n theirs q p o → IsIncoming n mine p q i → room.lane ≡ record { instances = n; capacity = k; sender = q; receiver = p } → room.sender ≡ q → room.receiver ≡ p
+    → room.taken ≡ i.taken → room.many ≡ o.put - i.taken → room.messages.items ≡ [] → room.many ≤ vec_capacity room.messages → IsRoom h n k q p room
+room_is n k q p theirs mine h o i room legal two sender receiver out into lane from to taken many empty enough =
+    let put : o.put ≡ length (sent h q p) = out.put ∙ ap length (sym (same_sent theirs h q p sender)) in
+    let heard : i.taken ≡ received h q p = into.taken ∙ sym (histories.same_received mine h q p receiver) in
+    let waits = waiting_many n k h q p legal in
+    let within = sent_within h q p in
+    let short = line_short n k h legal q in
+    record {
+      two = two;
+      lane = lane;
+      sender = from;
+      receiver = to;
+      taken = taken ∙ heard;
+      many = omega (arith, many, put, heard, waits);
+      empty = empty;
+      enough = enough;
+      few = omega (arith, taken, many, put, heard, waits, within, short);
+    }
+
+-- Lanes, one more.
+
+lane_waits : (many : ℕ) (h : List Occurrence) (lane : LaneEnds) → many ≡ length (waiting h lane.sender lane.receiver) → is_waiting h lane ≡ nat_lt 0 many
+lane_waits many h lane same = ap (λ (i : ℕ). nat_lt 0 i) (sym same)
+
+module _ (n k : ℕ) (posts : List PostView) (lanes : List LaneEnds) (rooms : List Room) (have : HaveRooms n k posts lanes rooms) (lane : LaneEnds) where
+  one_more : (h : List Occurrence) (its : Bool) → is_waiting h lane ≡ its → filter (is_waiting h) (lanes ++ lane ∷ []) ≡ filter (is_waiting h) lanes ++ cond its (lane ∷ []) []
+  one_more h its same = filter-append (is_waiting h) lanes (lane ∷ []) ∙ ap (λ b. filter (is_waiting h) lanes ++ cond b (lane ∷ []) []) same
+
+  pub rooms_skip : ((h : List Occurrence) → AreJoint h posts → is_waiting h lane ≡ false) → HaveRooms n k posts (lanes ++ lane ∷ []) rooms
+  rooms_skip none = record {
+    live = λ h joint. have.live h joint ∙ sym (append-nil (filter (is_waiting h) lanes)) ∙ sym (one_more h false (none h joint));
+    each = have.each;
+  }
+
+  pub rooms_put : (room : Room) → 0 ≢ room.many → ((h : List Occurrence) → AreJoint h posts → IsRoom h n k lane.sender lane.receiver room) → HaveRooms n k posts (lanes ++ lane ∷ []) (rooms ++ room ∷ [])
+  rooms_put room some is = record {
+    live = λ h joint.
+        let its = is h joint in
+        map_push room_lane rooms room
+        ∙ ap₂ (λ ls l. ls ++ l ∷ []) (have.live h joint) (ap₂ (λ q p. lane_to q p) its.sender its.receiver)
+        ∙ sym (one_more h true (lane_waits room.many h lane its.many ∙ some_waits room.many some));
+    each = λ h joint.
+        let its = is h joint in
+        All-push (IsLaneRoom h n k) rooms room (have.each h joint) (subst (λ q. IsRoom h n k q room.receiver room) (sym its.sender) (subst (λ p. IsRoom h n k lane.sender p room) (sym its.receiver) its));
+  }
+    where
+      some_waits : (many : ℕ) → 0 ≢ many → nat_lt 0 many ≡ true
+      some_waits many ne = ⊎_elim (λ its. its.0) (λ its. absurd (ne (let none : 0 ≡ many = omega (arith, its.1) in none))) (leb_tells 1 many)
+
+  pub rooms_none : (room : Room) → room.many ≡ 0 → ((h : List Occurrence) → AreJoint h posts → IsRoom h n k lane.sender lane.receiver room) → HaveRooms n k posts (lanes ++ lane ∷ []) rooms
+  rooms_none room none is = rooms_skip (λ h joint. lane_waits room.many h lane (is h joint).many ∙ ap (λ (i : ℕ). nat_lt 0 i) none)
+
+-- a history that all of a board's posts have in common is legal
+pub joint_legal : (n k : ℕ) (posts : List PostView) → AreOf n k posts → (number : ℕ) → 1 ≤ number → number ≤ n → (h : List Occurrence) → AreJoint h posts → IsLegal n k h
+joint_legal n k posts are number low high h joint =
+    let has = are.all number low high in
+    let sized = are.size has.0 has.1 has.2 in
+    subst (λ x. IsLegal x k h) sized.0 (subst (λ x. IsLegal has.1.board.size x h) sized.1 (joint has.0 has.1 has.2).legal)
+
+pub back_waits : (n k : ℕ) (posts : List PostView) → AreOf n k posts → (number : ℕ) → 1 ≤ number → number ≤ n → (h : List Occurrence) → AreJoint h posts → is_waiting h (lane_to number number) ≡ false
+back_waits n k posts are number low high h joint = lane_waits 0 h (lane_to number number) (ap length (sym (waiting_back n k h (joint_legal n k posts are number low high h joint) number)))
+
+-- the lanes of one sender to one receiver more
+pub lanes_next : (lanes : List LaneEnds) (q place : ℕ) → (lanes ++ map (lane_to q) (range_with_len 1 place)) ++ lane_to q (place + 1) ∷ [] ≡ lanes ++ map (lane_to q) (range_with_len 1 (place + 1))
+lanes_next lanes q place = append_assoc lanes (map (lane_to q) (range_with_len 1 place)) (lane_to q (place + 1) ∷ []) ∙ ap (λ ls. lanes ++ ls) (sym (map-range_with_len_more (lane_to q) 1 place (place + 1) (omega arith)))
+
+-- what a function makes of one number more
+pub numbers_next : {A : Type 0} (f : ℕ → List A) (place : ℕ) → flat_map f (range_with_len 1 (place + 1)) ≡ flat_map f (range_with_len 1 place) ++ f (place + 1)
+numbers_next {A} f place =
+    ap (flat_map f) (sym (map_same (range_with_len 1 (place + 1))) ∙ map-range_with_len_more (λ (i : ℕ). i) 1 place (place + 1) (omega arith) ∙ ap (λ is. is ++ (place + 1) ∷ []) (map_same (range_with_len 1 place)))
+    ∙ flat_map-append f (range_with_len 1 place) ((place + 1) ∷ []) ∙ ap (λ xs. flat_map f (range_with_len 1 place) ++ xs) (append-nil (f (place + 1)))
+  where
+    map_same : (xs : List ℕ) → map (λ (i : ℕ). i) xs ≡ xs
+    map_same [] = refl
+    map_same (x ∷ xs) = ap (λ ys. x ∷ ys) (map_same xs)
+
+-- Receives, counted.
+
+receives_few : (p i : ℕ) (line : List Event) → length (receives_from p i line) ≤ length line
+receives_few p i [] = omega arith
+receives_few p i (Send to name ∷ line) = let its = receives_few p (i + 1) line in omega (arith, its)
+receives_few p i (Receive from name region ∷ line) = let its = receives_few p (i + 1) line in omega (arith, its)
+
+pub count_is : (n : ℕ) (h : List Occurrence) (p : ℕ) (r : RecorderView) → IsRecorder n h p r → length r.reports ≡ length (receives_of (history_line h p))
+count_is n h p r its = sym (length-map r.reports (λ (report : ReportView). report.receive)) ∙ ap length its.receives ∙ ap (λ line. length (receives_of line)) its.line
+
+pub count_few : (n k : ℕ) (h : List Occurrence) (p : ℕ) (r : RecorderView) → IsLegal n k h → IsRecorder n h p r → length r.reports ≤ MAX_EVENTS
+count_few n k h p r legal its =
+    let short = line_short n k h legal p in
+    let few = receives_few p 1 (chart_of h p) in
+    omega (arith, count_is n h p r its, few, short)
+
+-- the line of one instance more
+pub lines_next : (h : List Occurrence) (place : ℕ) → history_lines (place + 1) h ≡ history_lines place h ++ history_line h (place + 1) ∷ []
+lines_next h place = map-range_with_len_more (history_line h) 1 place (place + 1) (omega arith)
+
+pub receives_next : (h : List Occurrence) (place : ℕ) → receives_until h (place + 1) ≡ receives_until h place ++ receives_of (history_line h (place + 1))
+receives_next h place = ap (flat_map receives_of) (lines_next h place) ∙ flat_map-append receives_of (history_lines place h) (history_line h (place + 1) ∷ []) ∙ ap (λ xs. receives_until h place ++ xs) (append-nil (receives_of (history_line h (place + 1))))
+
+pub receives_grow : (h : List Occurrence) (place more : ℕ) → length (receives_until h place) ≤ length (receives_until h (place + more))
+receives_grow h place zero = let same : place + 0 ≡ place = omega arith in subst (λ i. length (receives_until h place) ≤ length (receives_until h i)) (sym same) (omega arith)
+receives_grow h place (suc more) =
+    let before = receives_grow h place more in
+    let same : place + suc more ≡ place + more + 1 = omega arith in
+    subst (λ i. length (receives_until h place) ≤ length (receives_until h i)) (sym same)
+    (omega (arith, before, ap length (receives_next h (place + more)), length-append (receives_until h (place + more)) (receives_of (history_line h (place + more + 1)))))
+
+pub counted_next : (h : List Occurrence) (place total more : ℕ) → AreCounted h place total → more ≡ length (receives_of (history_line h (place + 1))) → AreCounted h (place + 1) (total + more)
+counted_next h place total more before same =
+    omega (arith, before, same, ap length (receives_next h place), length-append (receives_until h place) (receives_of (history_line h (place + 1))))
+
+-- the room of two of these posts is theirs by any history that all of them have in common
+pub room_for : (n k : ℕ) (posts : List PostView) → AreOf n k posts → (to from : PostView) (q p : ℕ) (room : Room) → IsAmong posts to → IsAmong posts from → to.number ≡ p → from.number ≡ q
+    → ((h : List Occurrence) → IsJoint h to → IsJoint h from → IsRoom h to.board.size to.board.capacity from.number to.number room) → (h : List Occurrence) → AreJoint h posts → IsRoom h n k q p room
+room_for n k posts are to from q p room to_there from_there to_is from_is its h joint =
+    let sized = are.size to_there.0 to to_there.1 in
+    subst (λ x. IsRoom h x k q p room) sized.0 (subst (λ x. IsRoom h to.board.size x q p room) sized.1 (subst (λ x. IsRoom h to.board.size to.board.capacity x p room) from_is (subst (λ x. IsRoom h to.board.size to.board.capacity from.number x room) to_is
+    (its h (joint to_there.0 to to_there.1) (joint from_there.0 from from_there.1)))))

@@ -1,0 +1,107 @@
+-- What the parts of a gathering tell each other (this project's profile).
+use Rattle.std.specs.Prelude.{◌≡◌, ℕ, suc, ◌+◌, ◌<◌, ◌≤◌, ◌==◌, List, [], ◌∷◌, ◌++◌, length, map, filter, take, drop, All, slice_get, vec_capacity, Option, Some}
+use Rattle.std.specs.List.{flat_map}
+use Rattle.chart.specs.declared.history.Occurrence.{Occurrence}
+use Rattle.chart.specs.declared.instance.EventNo.{EventNo}
+use Rattle.chart.specs.declared.line.TheConstants.{MAX_EVENTS}
+use Rattle.chart.specs.Charts.{LineView}
+use Rattle.chart.specs.Messages.{Content}
+use Rattle.chart.specs.Histories.{received, waiting, chart_of, AreTwo}
+use Rattle.chart.specs.HistoryLines.{history_lines}
+use Rattle.chart.specs.Reports.{ReportView, AreReportsOf, receives_of}
+use Rattle.atomic_table.specs.Seated.{TableId}
+use Rattle.board_table.specs.declared.packet.Packet.{Packet}
+use Rattle.board_table.specs.Layout.{LaneView}
+use Rattle.board_table.specs.Leaving.{ComeFirst, HaveLeft}
+use Rattle.board.specs.declared.parting.Leaver.{Leaver}
+use Rattle.board.specs.declared.parting.Room.{Room}
+use Rattle.board.specs.Views.{PostView}
+use Rattle.board.specs.Meeting.{HasPost}
+use Rattle.board.specs.Gathering.{AreJoint, LaneEnds, lane_to, is_waiting}
+
+abbrev pub Slots : Type 0
+Slots = List (ℕ × Option Packet)
+
+abbrev pub messages_in : List Packet → List Content
+messages_in packets = map (λ (x : Packet). x.message) packets
+
+-- of the packets of a lane that came first, so many, the first ones have been drawn, and their slots are behind the others
+pub record HasDrawn (l : LaneView) (taken many place : ℕ) (first now : Slots) (messages : List Content) : Type 0 where
+  pub drawn : (packets : List Packet) (others : Slots) → ComeFirst l.instances l.capacity l.sender l.receiver taken packets first others → length packets ≡ many
+      → (messages ≡ take place (messages_in packets)) × (more : Slots) × ComeFirst l.instances l.capacity l.sender l.receiver (taken + place) (drop place packets) now (others ++ more)
+
+-- the post is one of these
+abbrev pub IsAmong : List PostView → PostView → Type 0
+IsAmong posts post = (i : ℕ) × (slice_get posts i ≡ Some post)
+
+-- they are posts of boards of this size, and there is one of each number
+pub record AreOf (n k : ℕ) (posts : List PostView) : Type 0 where
+  pub size : (i : ℕ) (post : PostView) → slice_get posts i ≡ Some post → (post.board.size ≡ n) × (post.board.capacity ≡ k)
+  pub one : (i j : ℕ) (x y : PostView) → slice_get posts i ≡ Some x → slice_get posts j ≡ Some y → x.board ≡ y.board
+  pub all : (number : ℕ) → 1 ≤ number → number ≤ n → HasPost posts number
+
+abbrev pub room_lane : Room → LaneEnds
+room_lane room = lane_to room.sender room.receiver
+
+-- there is room for just the messages that wait on the lane from q to p after the history
+pub record IsRoom (h : List Occurrence) (n k q p : ℕ) (room : Room) : Type 0 where
+  pub two : AreTwo n q p
+  pub lane : room.lane ≡ record { instances = n; capacity = k; sender = q; receiver = p }
+  pub sender : room.sender ≡ q
+  pub receiver : room.receiver ≡ p
+  pub taken : room.taken ≡ received h q p
+  pub many : room.many ≡ length (waiting h q p)
+  pub empty : room.messages.items ≡ []
+  pub enough : room.many ≤ vec_capacity room.messages
+  pub few : room.taken + room.many ≤ MAX_EVENTS
+
+abbrev pub IsLaneRoom : List Occurrence → ℕ → ℕ → Room → Type 0
+IsLaneRoom h n k room = IsRoom h n k room.sender room.receiver room
+
+-- of these lanes each on which messages wait has its room
+pub record HaveRooms (n k : ℕ) (posts : List PostView) (lanes : List LaneEnds) (rooms : List Room) : Type 0 where
+  pub live : (h : List Occurrence) → AreJoint h posts → map room_lane rooms ≡ filter (is_waiting h) lanes
+  pub each : (h : List Occurrence) → AreJoint h posts → All (IsLaneRoom h n k) rooms
+
+-- the receives of so many instances
+abbrev pub receives_until : List Occurrence → ℕ → List EventNo
+receives_until h many = flat_map receives_of (history_lines many h)
+
+abbrev pub AreCounted : List Occurrence → ℕ → ℕ → Type 0
+AreCounted h many count = count ≡ length (receives_until h many)
+
+-- Posts that have met, and what they leave.
+
+-- a post of this board that has seen the history
+pub record HasMet (n k : ℕ) (table : TableId) (h : List Occurrence) (post : PostView) : Type 0 where
+  pub board : post.board ≡ record { table = table; size = n; capacity = k }
+  pub seen : post.seen ≡ h
+
+-- all of these have, and there is one of each number above this one
+pub record HaveSeen (n k : ℕ) (table : TableId) (h : List Occurrence) (from : ℕ) (posts : List PostView) : Type 0 where
+  pub each : (i : ℕ) (post : PostView) → slice_get posts i ≡ Some post → HasMet n k table h post
+  pub all : (number : ℕ) → from < number → number ≤ n → HasPost posts number
+
+-- the lines and reports of so many posts, which have left with the messages that wait for them
+pub record HaveParted (n k : ℕ) (table : TableId) (h : List Occurrence) (many : ℕ) (lines : List LineView) (reports : List ReportView) (leavers : List Leaver) : Type 0 where
+  pub lined : lines ≡ history_lines many h
+  pub reported : AreReportsOf (chart_of h) (history_lines many h) reports
+  pub as_many : length leavers ≡ many
+  pub seated : (i : ℕ) (leaver : Leaver) → slice_get leavers i ≡ Some leaver → leaver.seat.table_id ≡ table
+  pub left : (i : ℕ) (leaver : Leaver) → slice_get leavers i ≡ Some leaver → HaveLeft n k (suc i) h 1 n leaver.seat.me.1
+
+-- The messages of the lanes, to be drawn one lane after another.
+
+-- who sends to p on these lanes
+abbrev pub senders_to : ℕ → List LaneEnds → List ℕ
+senders_to p lanes = map (λ (lane : LaneEnds). lane.sender) (filter (λ (lane : LaneEnds). lane.receiver == p) lanes)
+
+-- for each of these senders come slots with what waits for p, and then others
+abbrev pub AreNext : ℕ → ℕ → ℕ → List Occurrence → List ℕ → Slots → Type 0
+AreNext n k p h [] slots = Unit {0}
+AreNext n k p h (q ∷ qs) slots = (packets : List Packet) × (others : Slots) × ComeFirst n k q p (received h q p) packets slots others × (messages_in packets ≡ waiting h q p) × AreNext n k p h qs others
+
+pub record AreReady (n k : ℕ) (table : TableId) (h : List Occurrence) (lanes : List LaneEnds) (leavers : List Leaver) : Type 0 where
+  pub as_many : length leavers ≡ n
+  pub seated : (i : ℕ) (leaver : Leaver) → slice_get leavers i ≡ Some leaver → leaver.seat.table_id ≡ table
+  pub next : (i : ℕ) (leaver : Leaver) → slice_get leavers i ≡ Some leaver → AreNext n k (suc i) h (senders_to (suc i) lanes) leaver.seat.me.1

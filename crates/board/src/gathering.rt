@@ -1,0 +1,149 @@
+//! How a whole board is gathered.
+
+ghost use Rattle.std.specs.Prelude.{◌≡◌, ◌≤◌, IfOk, length};
+ghost use Rattle.chart.specs.declared.history.Occurrence.{Occurrence};
+ghost use Rattle.chart.specs.declared.instance.TheConstants.{MAX_INSTANCES};
+ghost use Rattle.chart.specs.Charts.{HasPartners, IsNumbered};
+ghost use Rattle.board.specs.Meeting.{AreOfOneBoard, AreAll};
+ghost use Rattle.board.specs.Gathering.{size_of, IsWhole, Gathers};
+ghost use Rattle.board.specs.Provisions.{IsProvision};
+
+use crate::error::GatherCause;
+use crate::meeting::{are_all, meet};
+use crate::parting::{Leaver, Room, draw_lanes, part_all};
+use crate::post::Post;
+use crate::reserving::{count_receives, make_rooms};
+use board_table::Words;
+use chart::{Chart, InstanceNo, Line, Message, Report};
+use std::alloc::{AllocError, Global};
+
+/// What a whole board came to.
+#[derive(Drop)]
+pub struct Gathered {
+    pub chart: Chart,
+    /// The report of each receive, by instance and index.
+    pub reports: Vec<Report>,
+    /// The lanes on which messages wait, by sender and then receiver.
+    pub left: Vec<Left>,
+}
+
+/// A lane on which messages wait.
+#[derive(Debug, Drop)]
+pub struct Left {
+    pub sender: InstanceNo,
+    pub receiver: InstanceNo,
+    /// In the order in which they were sent.
+    pub messages: Vec<Message>,
+}
+
+/// A board isn't gathered: its posts come back as they were.
+#[derive(Drop)]
+pub struct GatherError<'a> {
+    pub posts: Vec<Post<'a>>,
+    pub cause: GatherCause,
+}
+
+/// Room for all that a board comes to.
+#[derive(Drop)]
+pub(crate) struct Provision {
+    pub lines: Vec<Line>,
+    pub reports: Vec<Report>,
+    pub leavers: Vec<Leaver>,
+    pub rooms: Vec<Room>,
+    pub left: Vec<Left>,
+}
+
+impl<'a> Post<'a> {
+    /// The words of its board.
+    fn words(&self) -> &'a Words
+        ensures { result.now.table_id ≡ self.now.board.table }
+    {
+        self.words
+    }
+}
+
+/// Makes room for all that a board comes to. F6: it fails only where there is no memory.
+fn make_provision(alloc: Global, posts: &[Post]) -> Result<Provision, AllocError>
+    requires board { AreOfOneBoard posts.now }
+    requires all { AreAll posts.now }
+    ensures { IfOk result (IsProvision (size_of posts.now) posts.now) }
+{
+    let instances = posts[0].board_size();
+    let receives = count_receives(posts, instances);
+    let rooms = make_rooms(alloc, posts, instances)?;
+    Ok(Provision {
+        lines: Vec::with_capacity(alloc, instances)?,
+        reports: Vec::with_capacity(alloc, receives)?,
+        leavers: Vec::with_capacity(alloc, instances)?,
+        left: Vec::with_capacity(alloc, rooms.len())?,
+        rooms,
+    })
+}
+
+/// The chart of these lines, which are those of a history.
+fn whole_chart(lines: Vec<Line>) -> Chart
+    requires numbered { IsNumbered lines.items }
+    requires several { (2 ≤ length lines.items) × (length lines.items ≤ MAX_INSTANCES) }
+    requires partners { HasPartners (length lines.items) lines.items }
+    ensures { result ≡ lines.items }
+{
+    match Chart::new(lines) {
+        Ok(chart) => chart,
+        Err(_) => unreachable!(),
+    }
+}
+
+/// Gathers all posts of a board, for which there is room. It takes no memory.
+fn gather_all(posts: Vec<Post>, provision: Provision) -> Gathered
+    requires board { AreOfOneBoard posts.items }
+    requires all { AreAll posts.items }
+    requires provision { IsProvision (size_of posts.items) posts.items provision }
+    ensures { IsWhole posts.entry.items result }
+{
+    let Provision {
+        lines,
+        reports,
+        leavers,
+        rooms,
+        left,
+    } = provision;
+    let mut posts = posts;
+    let mut lines = lines;
+    let mut reports = reports;
+    let mut leavers = leavers;
+    let mut left = left;
+    let instances = posts[0].board_size();
+    let words = posts[0].words();
+    meet(&mut posts);
+    part_all(posts, instances, &mut lines, &mut reports, &mut leavers);
+    draw_lanes(words, &mut leavers, rooms, &mut left);
+    Gathered {
+        chart: whole_chart(lines),
+        reports,
+        left,
+    }
+}
+
+/// Gathers a whole board: the chart of one history that begins with all that its posts had seen and has just their own
+/// events, the report of each receive, and the messages that wait on each lane.
+///
+/// The posts may come in any order. The first of F15 and F6 refuses it, and then they come back as they were: all memory
+/// is there before the first of them meets another.
+pub fn gather<'a>(alloc: Global, posts: Vec<Post<'a>>) -> Result<Gathered, GatherError<'a>>
+    requires board { AreOfOneBoard posts.items }
+    ensures { Gathers posts.entry.items result }
+{
+    if !are_all(posts.as_slice()) {
+        return Err(GatherError {
+            posts,
+            cause: GatherCause::NotAllPosts,
+        });
+    }
+    let Ok(provision) = make_provision(alloc, posts.as_slice()) else {
+        return Err(GatherError {
+            posts,
+            cause: GatherCause::Memory,
+        });
+    };
+    Ok(gather_all(posts, provision))
+}

@@ -1,0 +1,151 @@
+//! How posts leave their board, and what they leave.
+ghost use Rattle.std.specs.Prelude.{◌≡◌, ◌≢◌, ◌+◌, ◌≤◌, ◌<◌, ◌^◌, ℕ, List, [], ◌++◌, length, map, slice_get, vec_capacity, Option, Some, All};
+ghost use Rattle.atomic_table.specs.Seated.{TableId};
+ghost use Rattle.chart.specs.declared.history.Occurrence.{Occurrence};
+ghost use Rattle.chart.specs.Histories.{chart_of};
+ghost use Rattle.chart.specs.Reports.{IsReportIn, receives_of};
+ghost use Rattle.board_table.specs.declared.packet.Packet.{Packet};
+ghost use Rattle.board_table.specs.Leaving.{ComeFirst, HaveLeft};
+ghost use Rattle.board.specs.Views.{PostView, line_of};
+ghost use Rattle.board.specs.Meeting.{HasPost};
+ghost use Rattle.board.specs.Gathering.{left_view, left_on};
+ghost use Rattle.board.specs.Parting.{IsAmong, room_lane, IsLaneRoom, receives_until, HaveSeen, HaveParted, AreReady};
+
+use crate::gathering::Left;
+use crate::meeting::place_of;
+use crate::post::Post;
+use board_table::{Lane, Seat, Words, draw, leave};
+use chart::{InstanceNo, Line, Message, Report};
+
+/// Room for the messages of a lane that wait.
+#[derive(Drop)]
+pub(crate) struct Room {
+    pub lane: Lane,
+    pub sender: InstanceNo,
+    pub receiver: InstanceNo,
+    /// How many messages were received.
+    pub taken: u64,
+    /// How many wait.
+    pub many: u64,
+    /// As many places as messages wait.
+    pub messages: Vec<Message>,
+}
+
+/// A post that has left its board, and the messages that waited for it.
+#[derive(Drop)]
+pub(crate) struct Leaver {
+    pub number: InstanceNo,
+    pub seat: Seat,
+}
+
+impl<'a> Post<'a> {
+    /// Leaves its board, with the messages that wait for it. It takes no memory.
+    pub(crate) fn part(self) -> (Line, Vec<Report>, Leaver)
+        ensures line { result.0 ≡ record { instance = self.entry.number; events = line_of self.entry } }
+        ensures receives { map (λ report. report.receive) result.1.items ≡ receives_of (record { instance = self.entry.number; events = line_of self.entry }) }
+        ensures reports { All (IsReportIn (chart_of self.entry.seen)) result.1.items }
+        ensures table { result.2.seat.table_id ≡ self.entry.board.table }
+        ensures left { HaveLeft self.entry.board.size self.entry.board.capacity self.entry.number self.entry.seen 1 self.entry.board.size result.2.seat.me.1 }
+    {
+        let Post {
+            words,
+            mut seat,
+            number,
+            recorder,
+            ..
+        } = self;
+        leave(words, &mut seat);
+        let (line, reports) = recorder.into_parts();
+        (line, reports, Leaver { number, seat })
+    }
+}
+
+/// Draws the messages that have room, which come first of those that left with the seat.
+pub(crate) fn draw_all(words: &Words, seat: &mut Seat, room: Room) -> Left
+    requires table { seat.old.table_id ≡ words.now.table_id }
+    requires first { (packets : List Packet) × (others : List (ℕ × Option Packet)) × ComeFirst room.lane.instances room.lane.capacity room.lane.sender room.lane.receiver room.taken packets seat.old.me.1 others × (length packets ≡ room.many) }
+    requires empty { room.messages.items ≡ [] }
+    requires enough { room.many ≤ vec_capacity room.messages }
+    requires few { room.taken + room.many < 2 ^ 64 }
+    ensures table { seat.new.table_id ≡ seat.old.table_id }
+    ensures sender { result.sender ≡ room.sender }
+    ensures receiver { result.receiver ≡ room.receiver }
+    ensures drawn { (packets : List Packet) (others : List (ℕ × Option Packet)) → ComeFirst room.lane.instances room.lane.capacity room.lane.sender room.lane.receiver room.taken packets seat.old.me.1 others → length packets ≡ room.many
+        → (result.messages.items ≡ map (λ x. x.message) packets) × ((more : List (ℕ × Option Packet)) × (seat.new.me.1 ≡ others ++ more)) }
+{
+    let Room {
+        lane,
+        sender,
+        receiver,
+        taken,
+        many,
+        messages,
+    } = room;
+    let mut messages = messages;
+    for place in 0..many {
+        messages.push_reserved(draw(words, seat, &lane, taken + place));
+    }
+    Left {
+        sender,
+        receiver,
+        messages,
+    }
+}
+
+/// Takes the post of this number out of these.
+fn take_post<'a>(posts: &mut Vec<Post<'a>>, number: usize) -> Post<'a>
+    requires number { 1 ≤ number }
+    requires has { HasPost posts.old.items number }
+    ensures number { result.number ≡ number }
+    ensures among { IsAmong posts.old.items result }
+    ensures kept { (i : ℕ) (post : PostView) → slice_get posts.new.items i ≡ Some post → IsAmong posts.old.items post }
+    ensures others { (p : ℕ) → p ≢ number → HasPost posts.old.items p → HasPost posts.new.items p }
+{
+    let Some(place) = place_of(posts.as_slice(), number) else {
+        unreachable!()
+    };
+    posts.remove(place)
+}
+
+/// All posts of a board, which have met, leave it, by their numbers. There is room for their lines and their reports, and for
+/// themselves.
+pub(crate) fn part_all(
+    posts: Vec<Post>,
+    instances: usize,
+    lines: &mut Vec<Line>,
+    reports: &mut Vec<Report>,
+    leavers: &mut Vec<Leaver>,
+)
+    requires seen { (k : ℕ) × (table : TableId) × (h : List Occurrence) × HaveSeen instances k table h 0 posts.items × (length (receives_until h instances) ≤ vec_capacity reports.old) }
+    requires empty { (lines.old.items ≡ []) × (reports.old.items ≡ []) × (leavers.old.items ≡ []) }
+    requires enough { (instances ≤ vec_capacity lines.old) × (instances ≤ vec_capacity leavers.old) }
+    ensures { (k : ℕ) (table : TableId) (h : List Occurrence) → HaveSeen instances k table h 0 posts.entry.items → HaveParted instances k table h instances lines.new.items reports.new.items leavers.new.items }
+{
+    let mut posts = posts;
+    for place in 0..instances {
+        let (line, mut own, leaver) = take_post(&mut posts, place + 1).part();
+        lines.push_reserved(line);
+        let Ok(()) = reports.append(&mut own) else {
+            unreachable!()
+        };
+        leavers.push_reserved(leaver);
+    }
+}
+
+/// Draws the messages of each lane that has room, in this order. There is room for as many lanes.
+pub(crate) fn draw_lanes(
+    words: &Words,
+    leavers: &mut [Leaver],
+    rooms: Vec<Room>,
+    left: &mut Vec<Left>,
+)
+    requires ready { (n k : ℕ) × (h : List Occurrence) × AreReady n k words.now.table_id h (map room_lane rooms.items) leavers.old × All (IsLaneRoom h n k) rooms.items }
+    requires empty { left.old.items ≡ [] }
+    requires enough { length rooms.items ≤ vec_capacity left.old }
+    ensures { (n k : ℕ) (h : List Occurrence) → AreReady n k words.now.table_id h (map room_lane rooms.items) leavers.old → All (IsLaneRoom h n k) rooms.items → map left_view left.new.items ≡ map (left_on h) (map room_lane rooms.items) }
+{
+    for room in rooms {
+        let leaver = &mut leavers[room.receiver.place()];
+        left.push_reserved(draw_all(words, &mut leaver.seat, room));
+    }
+}

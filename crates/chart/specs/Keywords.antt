@@ -1,0 +1,30 @@
+-- The words that a chart's text keeps for itself (this project's profile of the words of ITU-T Z.120), each spelled here and nowhere else.
+use Rattle.std.specs.Prelude.{ℕ, Bool, List, [], ◌∷◌, codes, bytes_eq}
+use Rattle.std.specs.List.{list_any}
+use Rattle.chart.specs.declared.keyword.Keyword.{Keyword}
+use Rattle.chart.specs.declared.keyword.Keyword.TheVariants.{Msc, EndMsc, Instance, EndInstance, Out, To, In, From, Concurrent, EndConcurrent}
+
+-- how the word is spelled
+unfoldable pub spelled : Keyword → List ℕ
+spelled Msc = codes "msc"
+spelled EndMsc = codes "endmsc"
+spelled Instance = codes "instance"
+spelled EndInstance = codes "endinstance"
+spelled Out = codes "out"
+spelled To = codes "to"
+spelled In = codes "in"
+spelled From = codes "from"
+spelled Concurrent = codes "concurrent"
+spelled EndConcurrent = codes "endconcurrent"
+
+-- the bytes are this word
+unfoldable pub is_keyword : Keyword → List ℕ → Bool
+is_keyword keyword word = bytes_eq word (spelled keyword)
+
+-- each of them
+abbrev pub keywords : List Keyword
+keywords = Msc ∷ EndMsc ∷ Instance ∷ EndInstance ∷ Out ∷ To ∷ In ∷ From ∷ Concurrent ∷ EndConcurrent ∷ []
+
+-- the bytes are one of them
+unfoldable pub is_reserved : List ℕ → Bool
+is_reserved word = list_any (λ keyword. is_keyword keyword word) keywords

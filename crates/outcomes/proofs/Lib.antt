@@ -1,0 +1,3 @@
+pub mod ByLine
+pub mod Outcomes
+pub mod Performed

@@ -1,0 +1,11 @@
+pub mod Actors
+pub mod Charts
+pub mod Clocks
+pub mod Commands
+pub mod Kept
+pub mod Lanes
+pub mod Performed
+pub mod Places
+pub mod Scans
+pub mod Starts
+pub mod Words

@@ -1,6 +1,0 @@
-use Rattle.std.proofs.Common.{◌≡◌, replicate}
-use Rattle.replayer.specs.Views.{empty_lane}
-use Rattle.replayer.proofs.actor.open_lanes.Given as goal
-
-abbrev pub invariant-loop : goal.invariant-loop
-invariant-loop l = l.lanes.items ≡ replicate l.counter empty_lane
