@@ -2,8 +2,7 @@
 use behaviour::{BareAct, Behaviour, Script};
 use board::Board;
 use chart::InstanceNo;
-use instances::{End, Gate, drive_all};
-use mailbox::Mailbox;
+use instances::{End, Gate, run};
 use std::sync::atomic::{AtomicU64, Ordering};
 use std::test::Fail;
 
@@ -38,17 +37,19 @@ fn both_threads_move(rt: HostRuntime) -> Result<(), Fail> {
     };
     let mut board = Board::new(alloc, 3, 1)?;
     let posts = board.posts()?;
-    let mut jobs: Vec<(Mailbox, Box<dyn Behaviour + Send>)> = Vec::new(alloc);
-    for post in posts {
+    let mut behaviours: Vec<Box<dyn Behaviour + Send>> = Vec::new(alloc);
+    for _ in 0..3 {
         let script = Script::new([BareAct::Open].to_vec(alloc)?);
-        jobs.push((Mailbox::new(post), Box::new(alloc, script)?))?;
+        behaviours.push(Box::new(alloc, script)?)?;
     }
-    let done = drive_all(&rt, alloc, jobs, 9, &gate)?;
-    assert_eq!(rt; done.len(), 3);
-    for (_, trace, end) in done {
+    let Ok(ran) = run(&rt, posts, behaviours, 9, &gate) else {
+        return Err("the board was run")?;
+    };
+    assert_eq!(rt; ran.traces.len(), 3);
+    for end in ran.ends {
         assert_eq!(rt; end, End::Stopped);
-        assert_eq!(rt; trace.stretches().len(), 2);
     }
+    assert_eq!(rt; ran.gathered.reports.len(), 0);
     assert_eq!(rt; gate.late.load(Ordering::SeqCst), 0);
     Ok(())
 }

@@ -1,5 +1,6 @@
 -- A run so far, one turn more, and its ends.
 use Rattle.std.proofs.Common.{◌≡◌, ℕ, ◌+◌, ◌<◌, List, [], ◌∷◌, ◌++◌, length, refl, sym, ap, ◌∙◌, subst, arith, append-nil, append_assoc, length-append}
+use Rattle.board.specs.Views.{PostView}
 use Rattle.mailbox.specs.Mailboxes.{MailboxView}
 use Rattle.behaviour.specs.declared.act.Act.{Act}
 use Rattle.behaviour.specs.declared.act.Act.TheVariants.{Stop}
@@ -9,7 +10,7 @@ use Rattle.instances.specs.declared.end.End.{End}
 use Rattle.instances.specs.declared.end.End.TheVariants.{Stopped, TurnsSpent, Memory}
 use Rattle.instances.specs.declared.turn.Turn.{Turn}
 use Rattle.instances.specs.Answering.{Allows}
-use Rattle.instances.specs.Driving.{Meaning, Moment, Leads, Made, IsRun}
+use Rattle.instances.specs.Driving.{Meaning, Moment, Leads, Made, IsRun, IsRunOfPost}
 use Rattle.instances.specs.Traces.{turn_of, last_turn, accepted, all_accepted}
 use Rattle.instances.proofs.Effects.{Leaves, leaves-none, leaves-onward, leaves-act}
 
@@ -50,14 +51,14 @@ at-state {I = I} {D = D} at to is meaning a last =
     → (a ≡ (meaning to).act to.1 last) × ◌≡◌ {A = (y : I) × D y} (p.0, left) (to.0, (meaning to).after to.1 last))
     (sym is) (λ left acts leaves. (acts, ap (λ y. (to.0, y)) leaves))
 
--- a run of it, in the same way
+-- a run of it, in the same way, by a new mailbox
 pub run-at {ℓ} : {I : Type ℓ} {D : I → Type 0} (at to : (y : I) × D y) → at ≡ to
-    → (meaning : (p : (y : I) × D y) → Meaning (D p.0)) (most : ℕ) (old : MailboxView) (trace : List Turn) (end : End)
-    (new : MailboxView)
-    → ((left : D at.0) × IsRun (meaning at) most at.1 old trace end left new)
-    → (left : D to.0) × IsRun (meaning to) most to.1 old trace end left new
-run-at {I = I} {D = D} at to is meaning most old trace end new run =
-    subst (λ (p : (y : I) × D y). (left : D p.0) × IsRun (meaning p) most p.1 old trace end left new) is run
+    → (meaning : (p : (y : I) × D y) → Meaning (D p.0)) (most : ℕ) (old : PostView) (trace : List Turn) (end : End)
+    (new : MailboxView) (left : D at.0) → IsRun (meaning at) most at.1 (record { post = old; last = 0 }) trace end left new
+    → IsRunOfPost (meaning to) most to.1 old trace end new.post
+run-at {I = I} {D = D} at to is meaning most old trace end new left run =
+    subst (λ (p : (y : I) × D y). IsRunOfPost (meaning p) most p.1 old trace end new.post) is
+    (record { left = left; last = new.last; run = run })
 
 -- so many turns were made and led here
 pub record HasRun {S : Type 0} (m : Meaning S) (state : S) (old : MailboxView) (done : List Turn) (many : ℕ)

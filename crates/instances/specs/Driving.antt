@@ -2,7 +2,7 @@
 use Rattle.std.specs.Prelude.{◌≡◌, ℕ, ◌<◌, ◌≤◌, List, [], ◌∷◌, ◌++◌, length, map, reverse}
 use Rattle.chart.specs.declared.history.Occurrence.{Occurrence}
 use Rattle.chart.specs.Histories.{Begins}
-use Rattle.board.specs.Views.{IsSamePost}
+use Rattle.board.specs.Views.{PostView, IsSamePost}
 use Rattle.mailbox.specs.Mailboxes.{MailboxView}
 use Rattle.behaviour.specs.declared.act.Act.{Act}
 use Rattle.behaviour.specs.declared.act.Act.TheVariants as act
@@ -62,3 +62,10 @@ pub record IsRun {S : Type 0} (m : Meaning S) (most : ℕ) (state : S) (old : Ma
   pub made : Made old (all_accepted trace) new
   pub same : IsSamePost old.post new.post
   pub later : Begins old.post.seen new.post.seen
+
+-- The same from a post to the post that is left, by a new mailbox; the behaviour isn't kept.
+pub record IsRunOfPost {S : Type 0} (m : Meaning S) (most : ℕ) (state : S) (old : PostView)
+    (trace : List Turn) (end : End) (new : PostView) : Type 0 where
+  pub left : S
+  pub last : ℕ
+  pub run : IsRun m most state (record { post = old; last = 0 }) trace end left (record { post = new; last = last })
