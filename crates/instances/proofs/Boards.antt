@@ -1,12 +1,12 @@
 -- Posts that were driven, each by the behaviour at its place.
-use Rattle.std.proofs.Common.{◌≡◌, ℕ, ◌+◌, ◌<◌, List, [], ◌∷◌, length, map, Some, refl, sym, ap, ◌∙◌, subst, arith}
+use Rattle.std.proofs.Common.{◌≡◌, ℕ, ◌+◌, ◌<◌, ◌≤◌, List, [], ◌∷◌, length, map, Some, refl, sym, ap, ◌∙◌, subst, arith}
 use Rattle.std.specs.Prelude.{slice_get, slice_index_or}
 use Rattle.std.specs.List.{zip}
 use Rattle.std.proofs.lemmas.List.{get_or-map, length-map}
 use Rattle.std.proofs.lemmas.Option.{slice_get-get_or, get_or_from_slice_get, slice_get_within}
 use Rattle.std.proofs.lemmas.Slice.Zip.{length-zip, get_or-zip}
-use Rattle.board.specs.Meeting.{AreOfOneBoard}
-use Rattle.board.specs.Views.{PostView, IsSamePost}
+use Rattle.board.specs.Meeting.{AreOfOneBoard, AreAll, AreNotAll}
+use Rattle.board.specs.Views.{BoardView, PostView, IsSamePost}
 use Rattle.instances.specs.declared.end.End.{End}
 use Rattle.instances.specs.declared.turn.Turn.{Turn}
 
@@ -21,6 +21,22 @@ some_of (x ∷ xs) k within = x
 
 length-alike : {A B : Type 0} (xs : List A) (ys : List B) → length ys ≡ length xs → length (zip xs ys) ≡ length xs
 length-alike xs ys alike = omega (arith, length-zip xs ys, alike)
+
+-- posts that are the same as all of a board are all of it
+all-stay : (old new : List PostView) → length new ≡ length old
+    → ((k : ℕ) (x : PostView) → slice_get new k ≡ Some x → (k < length old) × IsSamePost (slice_index_or old k x) x)
+    → AreAll old → AreNotAll new → ⊥
+all-stay [] new alike same all not = all
+all-stay (p ∷ old) [] alike same all not = absurd (omega (arith, alike))
+all-stay (p ∷ old) (x ∷ new) alike same all (n, low, high, none) =
+    let first : IsSamePost p x = (same 0 x refl).1 in
+    let has = all n low (subst (λ (board : BoardView). n ≤ board.size) first.board high) in
+    let i = has.0 in
+    let within : i < length (x ∷ new) = omega (arith, slice_get_within (p ∷ old) i has.1 has.2, alike) in
+    let y = slice_index_or (x ∷ new) i x in
+    let is = slice_get-get_or (x ∷ new) i x within in
+    let read = get_or_from_slice_get (p ∷ old) i has.1 y has.2 in
+    none i y is ((same i y is).1.number ∙ ap (λ (post : PostView). post.number) read ∙ has.3)
 
 -- each pair of a post and a behaviour was driven so
 pub record AreDone {B : Type 0} (D : B → PostView → List Turn → End → PostView → Type 0) (posts : List PostView)
@@ -82,3 +98,7 @@ module _ {B : Type 0} (D : B → PostView → List Turn → End → PostView →
         of_x.board
         ∙ one i j (slice_index_or posts i x) (slice_index_or posts j y) (slice_get-get_or posts i x in_i) (slice_get-get_or posts j y in_j)
         ∙ sym of_y.board
+
+    pub all-left : AreAll posts → AreNotAll (map (λ (it : Done). it.0) done) → ⊥
+    all-left all not =
+        all-stay posts (map (λ (it : Done). it.0) done) (length-map done (λ (it : Done). it.0) ∙ length-done) same-left all not

@@ -11,7 +11,7 @@ use crate::jobs::drive_all;
 use crate::outcome::{Run, RunError};
 use crate::trace::Trace;
 use behaviour::Behaviour;
-use board::{Post, are_all, gather};
+use board::{GatherCause, Post, are_all, gather};
 use std::alloc::{AllocError, Global};
 use std::thread::Threads;
 
@@ -86,7 +86,10 @@ fn run_fit<'a, R: Threads + Sync, G: Gate + Sync>(
             traces,
             ends,
         }),
-        Err(_) => Err(AllocError),
+        Err(error) => match error.cause {
+            GatherCause::Memory => Err(AllocError),
+            GatherCause::NotAllPosts => unreachable!(),
+        },
     }
 }
 
