@@ -13,3 +13,5 @@ mod gates;
 mod growths;
 #[cfg(test)]
 mod reader;
+#[cfg(test)]
+mod schedules;
