@@ -14,4 +14,6 @@ mod growths;
 #[cfg(test)]
 mod reader;
 #[cfg(test)]
+mod schedules;
+#[cfg(test)]
 mod threads;

@@ -1,0 +1,3 @@
+pub use Rattle.behaviour.specs.Scripts
+pub use Rattle.schedule.specs.Plans
+pub mod InstanceScripts
