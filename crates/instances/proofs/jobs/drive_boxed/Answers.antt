@@ -1,5 +1,5 @@
 use Rattle.std.proofs.Common.{sym, subst}
-use Rattle.instances.specs.Driving.{meaning, IsRun, IsRunOfPost}
+use Rattle.instances.specs.Driving.{meaning, IsRunOfPost}
 use Rattle.instances.proofs.Running.{run-at}
 use Rattle.instances.proofs.jobs.drive_boxed.Goals as goal
 

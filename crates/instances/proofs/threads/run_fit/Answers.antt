@@ -1,10 +1,7 @@
-use Rattle.std.proofs.Common.{◌≡◌, ℕ, List, length, map, sym, ap, ◌∙◌, subst}
+use Rattle.std.proofs.Common.{length, map, sym, ap, ◌∙◌, subst}
 use Rattle.std.proofs.lemmas.List.{length-map}
 use Rattle.board.specs.Gathering.{IsWhole}
 use Rattle.board.specs.Meeting.{AreOfOneBoard, AreNotAll}
-use Rattle.board.specs.Views.{PostView}
-use Rattle.instances.specs.declared.end.End.{End}
-use Rattle.instances.specs.declared.turn.Turn.{Turn}
 use Rattle.instances.specs.Driving.{meaning, IsRunOfPost}
 use Rattle.instances.proofs.Boards.{AreDone, Done, length-done, done-parts, one-board-left, all-left}
 use Rattle.instances.proofs.threads.run_fit.Goals as goal
