@@ -15,8 +15,8 @@ pub record ScriptView : Type 0 where
   pub acts : List BareAct
   pub place : ℕ
 
--- At which of so many acts a script is after this answer: at the same again before the first, where its lane was full and
--- where nothing waited; past the last where memory was refused; and else at the next one.
+-- At which of so many acts a script is after this answer: at the same one after `Start`, where its lane was full and
+-- where nothing waited; past the last one where memory was refused; and else at the next one.
 abbrev pub script_next : ℕ → ℕ → BareAnswer → ℕ
 script_next many place Start = place
 script_next many place Nothing = place

@@ -34,7 +34,7 @@ pub enum Answer {
 }
 
 impl Answer {
-    /// The answer without its message's body and its report: of a message that came are left its sender and its receive.
+    /// The answer without its message and its report: of a message that came are left its sender and its receive.
     pub fn bare(&self) -> BareAnswer
         ensures { result ≡ bare_answer self.now }
     {

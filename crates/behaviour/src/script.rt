@@ -12,8 +12,8 @@ use std::marker::Model;
 
 /// A behaviour that does these acts in their order, whose messages have empty bodies, and then stops.
 ///
-/// It does an act again where its lane was full (F11) or nothing waited, stops where memory was refused (F6), and goes on to
-/// the next act after every other answer. A contract sees its acts and at which of them it is, from 0.
+/// It does an act again where its lane was full (F11) or nothing waited, stops where memory was refused (F6), and goes
+/// on to the next act after every other answer. A contract sees its acts and at which of them it is, from 0.
 #[derive(Debug, Drop)]
 pub struct Script {
     acts: Vec<BareAct>,

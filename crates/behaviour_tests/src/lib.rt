@@ -15,3 +15,5 @@ mod growths;
 mod reader;
 #[cfg(test)]
 mod schedules;
+#[cfg(test)]
+mod threads;

@@ -41,5 +41,5 @@ pub use error::{
     TakeError,
 };
 pub use gathering::{GatherError, Gathered, Left, gather};
-pub use meeting::{meet, meet_all};
+pub use meeting::{are_all, meet, meet_all};
 pub use post::Post;

@@ -74,7 +74,7 @@ pub(crate) fn place_of(posts: &[Post], number: usize) -> Option<usize>
 }
 
 /// Whether they are all posts of their board. It takes a time that depends on their number alone, if they come in order.
-pub(crate) fn are_all(posts: &[Post]) -> bool
+pub fn are_all(posts: &[Post]) -> bool
     ensures yes { result ≡ true → AreAll posts.now }
     ensures no { result ≡ false → AreNotAll posts.now }
 {

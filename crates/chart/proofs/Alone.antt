@@ -1,10 +1,10 @@
 -- Histories between which nobody, or one instance alone, has gone on.
-use Rattle.std.proofs.Common.{◌≡◌, ◌≢◌, ℕ, ◌==◌, ◌+◌, ◌≤◌, Bool, true, false, cond, List, [], ◌∷◌, ◌++◌, length, refl, sym, ap, ◌∙◌, subst, arith, inl, inr, ⊎_elim, length-append}
+use Rattle.std.proofs.Common.{◌≡◌, ◌≢◌, ℕ, ◌≤◌, cond, List, [], ◌∷◌, ◌++◌, length, refl, sym, ap, ◌∙◌, subst, arith, ⊎_elim, length-append}
 use Rattle.std.proofs.lemmas.Bool.{eq-eqb, ne_eqb, cases_eq}
 use Rattle.chart.specs.declared.history.Occurrence.{Occurrence}
 use Rattle.chart.specs.declared.history.Occurrence.TheVariants.{Send, Receive, Close}
 use Rattle.chart.specs.Histories.{by, own, MayFollow, IsLegal, Begins}
-use Rattle.chart.proofs.Histories.{begins_onward, own_begins, own-append}
+use Rattle.chart.proofs.Histories.{begins_onward, own_begins}
 use Rattle.chart.proofs.Begun.{legal_begun}
 
 -- a history that is no longer than its beginning is this

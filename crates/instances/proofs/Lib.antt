@@ -1,3 +1,4 @@
+pub mod Boards
 pub mod Effects
 pub mod Running
 pub mod Stretches

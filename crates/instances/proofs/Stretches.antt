@@ -9,18 +9,21 @@ replicate-last : (n : ℕ) (turn : Turn) → replicate (suc n) turn ≡ replicat
 replicate-last zero turn = refl
 replicate-last (suc n) turn = ap (λ turns. turn ∷ turns) (replicate-last n turn)
 
-pub turns_of-push : (stretches : List Stretch) (new : Stretch) → turns_of (stretches ++ new ∷ []) ≡ turns_of stretches ++ replicate new.count new.turn
+pub turns_of-push : (stretches : List Stretch) (new : Stretch)
+    → turns_of (stretches ++ new ∷ []) ≡ turns_of stretches ++ replicate new.count new.turn
 turns_of-push [] new = append-nil (replicate new.count new.turn)
 turns_of-push (s ∷ stretches) new =
     let first = replicate s.count s.turn in
-    ap (λ turns. first ++ turns) (turns_of-push stretches new) ∙ sym (append_assoc first (turns_of stretches) (replicate new.count new.turn))
+    ap (λ turns. first ++ turns) (turns_of-push stretches new)
+    ∙ sym (append_assoc first (turns_of stretches) (replicate new.count new.turn))
 
 -- the stretch with one turn more
 abbrev pub longer : Stretch → Stretch
 longer stretch = record { turn = stretch.turn; count = stretch.count + 1 }
 
 pub turns_of-longer : (stretches : List Stretch) (k : ℕ) (d : Stretch) → suc k ≡ length stretches
-    → turns_of (slice_set stretches k (longer (slice_index_or stretches k d))) ≡ turns_of stretches ++ (slice_index_or stretches k d).turn ∷ []
+    → turns_of (slice_set stretches k (longer (slice_index_or stretches k d))) ≡ turns_of stretches ++
+    (slice_index_or stretches k d).turn ∷ []
 turns_of-longer [] k d e = absurd (omega (arith, e))
 turns_of-longer (s ∷ []) zero d e =
     let more : s.count + 1 ≡ suc s.count = omega arith in

@@ -23,49 +23,64 @@ use Rattle.behaviour.specs.declared.act.Act.TheVariants as act
 use Rattle.behaviour.specs.declared.answer.Answer.{Answer}
 use Rattle.behaviour.specs.declared.answer.Answer.TheVariants as answer
 
+-- what the calls of a mailbox answer
+abbrev pub SendResult : Type 0
+SendResult = Result Sent (Content × SendError)
+
+abbrev pub TakeResult : Type 0
+TakeResult = Result Taken TakeError
+
+abbrev pub CloseResult : Type 0
+CloseResult = Result (Unit {0}) CloseError
+
+abbrev pub RegionResult : Type 0
+RegionResult = Result (Unit {0}) RegionError
+
 -- What a behaviour is told of each result of its mailbox.
 
-abbrev pub send_answer : Result Sent (Content × SendError) → Answer
+abbrev pub send_answer : SendResult → Answer
 send_answer (Ok sent) = answer.Sent sent.event
 send_answer (Err (message, error)) = answer.Unsent message error
 
-abbrev pub take_answer : Result Taken TakeError → Answer
+abbrev pub take_answer : TakeResult → Answer
 take_answer (Ok (taken.Got arrival)) = answer.Got arrival
 take_answer (Ok taken.Nothing) = answer.Nothing
 take_answer (Ok taken.Ended) = answer.Ended
 take_answer (Err error) = answer.Unreceived error
 
-abbrev pub close_answer : Result (Unit {0}) CloseError → Answer
+abbrev pub close_answer : CloseResult → Answer
 close_answer (Ok done) = answer.NowClosed
 close_answer (Err error) = answer.Unclosed error
 
-abbrev pub region_answer : Result (Unit {0}) RegionError → Answer
+abbrev pub region_answer : RegionResult → Answer
 region_answer (Ok done) = answer.Marked
 region_answer (Err error) = answer.Unmarked error
 
 -- What each call of a mailbox answers, as the mailbox promises it.
 
 -- with room, among up to eight instances, memory is no cause
-abbrev pub HasMemory : PostView → Result Sent (Content × SendError) → Type 0
-HasMemory old result = 0 < old.room → old.board.size ≤ INLINE_ENTRIES → IfErr result (λ refused. refused.1 ≢ sending.Memory)
+abbrev pub HasMemory : PostView → SendResult → Type 0
+HasMemory old result = 0 < old.room → old.board.size ≤ INLINE_ENTRIES
+    → IfErr result (λ refused. refused.1 ≢ sending.Memory)
 
-pub record IsSendResult (old : MailboxView) (to : ℕ) (message : Content) (result : Result Sent (Content × SendError)) (new : MailboxView) : Type 0 where
+pub record IsSendResult (old : MailboxView) (to : ℕ) (message : Content)
+    (result : SendResult) (new : MailboxView) : Type 0 where
   pub sound : Sound old.post new.post
   pub sends : Sends old.post to message result new.post
   pub memory : HasMemory old.post result
   pub last : new.last ≡ old.last
 
-pub record IsReceiveResult (old : MailboxView) (from : ℕ) (result : Result Taken TakeError) (new : MailboxView) : Type 0 where
+pub record IsReceiveResult (old : MailboxView) (from : ℕ) (result : TakeResult) (new : MailboxView) : Type 0 where
   pub sound : Sound old.post new.post
   pub takes : Takes old.post from result new.post
   pub last : new.last ≡ last_after old.last result
 
-pub record IsAnyResult (old : MailboxView) (result : Result Taken TakeError) (new : MailboxView) : Type 0 where
+pub record IsAnyResult (old : MailboxView) (result : TakeResult) (new : MailboxView) : Type 0 where
   pub sound : Sound old.post new.post
   pub takes : TakesAny old.post old.last result new.post
   pub last : new.last ≡ last_after old.last result
 
-pub record IsCloseResult (old : MailboxView) (to : ℕ) (result : Result (Unit {0}) CloseError) (new : MailboxView) : Type 0 where
+pub record IsCloseResult (old : MailboxView) (to : ℕ) (result : CloseResult) (new : MailboxView) : Type 0 where
   pub sound : Sound old.post new.post
   pub closes : Closes old.post to result new.post
   pub last : new.last ≡ old.last
@@ -75,20 +90,21 @@ abbrev pub in_region : MailboxView → ℕ → MailboxView
 in_region mailbox region = record mailbox { post = record mailbox.post { region = region } }
 
 -- a coregion of a new number begins, unless one is open
-abbrev pub IsOpenResult : MailboxView → Result (Unit {0}) RegionError → MailboxView → Type 0
+abbrev pub IsOpenResult : MailboxView → RegionResult → MailboxView → Type 0
 IsOpenResult old (Ok done) new = (old.post.region ≡ 0) × (new ≡ in_region old (greatest_region (line_of old.post) + 1))
 IsOpenResult old (Err CoregionOpen) new = (0 < old.post.region) × (new ≡ old)
 IsOpenResult old (Err CoregionNotOpen) new = ⊥
 
 -- the coregion ends, if one is open
-abbrev pub IsShutResult : MailboxView → Result (Unit {0}) RegionError → MailboxView → Type 0
+abbrev pub IsShutResult : MailboxView → RegionResult → MailboxView → Type 0
 IsShutResult old (Ok done) new = (0 < old.post.region) × (new ≡ in_region old 0)
 IsShutResult old (Err CoregionNotOpen) new = (old.post.region ≡ 0) × (new ≡ old)
 IsShutResult old (Err CoregionOpen) new = ⊥
 
 -- From the first view the act may be answered so, which leaves the second. Stopping has no answer.
 abbrev pub Allows : MailboxView → Act → Answer → MailboxView → Type 0
-Allows old (act.Send to message) a new = (result : _) × (a ≡ send_answer result) × IsSendResult old to message result new
+Allows old (act.Send to message) a new = (result : _) × (a ≡ send_answer result)
+    × IsSendResult old to message result new
 Allows old (act.Receive from) a new = (result : _) × (a ≡ take_answer result) × IsReceiveResult old from result new
 Allows old act.Any a new = (result : _) × (a ≡ take_answer result) × IsAnyResult old result new
 Allows old (act.Close to) a new = (result : _) × (a ≡ close_answer result) × IsCloseResult old to result new

@@ -2,7 +2,7 @@
 use Rattle.std.specs.Prelude.{◌≡◌, ℕ, ◌<◌, ◌≤◌, List, [], ◌∷◌, ◌++◌, length, map, reverse}
 use Rattle.chart.specs.declared.history.Occurrence.{Occurrence}
 use Rattle.chart.specs.Histories.{Begins}
-use Rattle.board.specs.Views.{IsSamePost}
+use Rattle.board.specs.Views.{PostView, IsSamePost}
 use Rattle.mailbox.specs.Mailboxes.{MailboxView}
 use Rattle.behaviour.specs.declared.act.Act.{Act}
 use Rattle.behaviour.specs.declared.act.Act.TheVariants as act
@@ -30,8 +30,8 @@ pub record Moment (S : Type 0) : Type 0 where
   pub last : Answer
   pub view : MailboxView
 
--- These turns lead from one moment to another: each is that of the act that the behaviour does and of an answer that the
--- mailbox may give to it.
+-- These turns lead from one moment to another: each is that of the act that the behaviour does and of an answer that
+-- the mailbox may give to it.
 abbrev pub Leads : {S : Type 0} → Meaning S → Moment S → List Turn → Moment S → Type 0
 Leads m now [] end = end ≡ now
 Leads m now (turn ∷ turns) end = (answer : Answer) × (view : MailboxView)
@@ -39,8 +39,8 @@ Leads m now (turn ∷ turns) end = (answer : Answer) × (view : MailboxView)
     × Allows now.view (m.act now.state now.last) answer view
     × Leads m (record { state = m.after now.state now.last; last = answer; view = view }) turns end
 
--- Why so many turns at most ended with this trace. Stopped: the last turn is that of the act of stopping. Turns spent: there
--- were all of them, and none was that. Memory: there were fewer, and the behaviour wasn't asked again.
+-- Why so many turns at most ended with this trace. Stopped: the last turn is that of the act of stopping. Turns spent:
+-- there were all of them, and none was that. Memory: there were fewer, and the behaviour wasn't asked again.
 abbrev pub Ends : {S : Type 0} → Meaning S → ℕ → Moment S → List Turn → End → S → MailboxView → Type 0
 Ends m most start trace Stopped left new = (turns : List Turn) × (now : _)
     × (trace ≡ turns ++ last_turn ∷ []) × (length trace ≤ most) × Leads m start turns now
@@ -56,8 +56,16 @@ Made old acts new = (events : List Occurrence) × (new.post.made ≡ events ++ o
     × (map made_by (reverse events) ≡ acts)
 
 -- A run of so many turns at most, from a behaviour's state and a mailbox's view to those that it left.
-pub record IsRun {S : Type 0} (m : Meaning S) (most : ℕ) (state : S) (old : MailboxView) (trace : List Turn) (end : End) (left : S) (new : MailboxView) : Type 0 where
+pub record IsRun {S : Type 0} (m : Meaning S) (most : ℕ) (state : S) (old : MailboxView)
+    (trace : List Turn) (end : End) (left : S) (new : MailboxView) : Type 0 where
   pub ends : Ends m most (record { state = state; last = Start; view = old }) trace end left new
   pub made : Made old (all_accepted trace) new
   pub same : IsSamePost old.post new.post
   pub later : Begins old.post.seen new.post.seen
+
+-- The same from a post to the post that is left, by a new mailbox; the behaviour isn't kept.
+pub record IsRunOfPost {S : Type 0} (m : Meaning S) (most : ℕ) (state : S) (old : PostView)
+    (trace : List Turn) (end : End) (new : PostView) : Type 0 where
+  pub left : S
+  pub last : ℕ
+  pub run : IsRun m most state (record { post = old; last = 0 }) trace end left (record { post = new; last = last })

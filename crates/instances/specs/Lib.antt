@@ -1,3 +1,4 @@
 pub mod Answering
 pub mod Driving
 pub mod Traces
+pub mod Whole

@@ -13,7 +13,8 @@ pub struct Stretch {
     pub count: u32,
 }
 
-/// The turns of a run, in their order. A contract sees the list of them; equal neighbours are kept as one with their count.
+/// The turns of a run, in their order. A contract sees the list of them; equal neighbours are kept as one with their
+/// count.
 #[derive(Debug, Drop)]
 pub struct Trace {
     stretches: Vec<Stretch>,
@@ -48,7 +49,8 @@ impl Trace {
 /// Adds a turn, for which there is room.
 pub(crate) fn add_turn(stretches: &mut Vec<Stretch>, act: BareAct, answer: Option<BareAnswer>)
     requires { vec_len stretches.old < vec_capacity stretches.old }
-    ensures { turns_of stretches.new.items ≡ turns_of stretches.old.items ++ record { act = act; answer = answer } ∷ [] }
+    ensures { turns_of stretches.new.items
+        ≡ turns_of stretches.old.items ++ record { act = act; answer = answer } ∷ [] }
 {
     let turn = Turn { act, answer };
     if let Some(last) = stretches.last_mut() {

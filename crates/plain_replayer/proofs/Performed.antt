@@ -1,5 +1,5 @@
 -- What a command left.
-use Rattle.std.proofs.Common.{◌≡◌, ℕ, List, Option, Some, None, Result, Ok, Err, sym, subst}
+use Rattle.std.proofs.Common.{ℕ, List, Option, Some, None, Result, Ok, Err, sym, subst}
 use Rattle.schedule.specs.declared.command.Word.{Word}
 use Rattle.schedule.specs.Meaning.{Run}
 use Rattle.outcomes.specs.declared.error.ReplayError.{ReplayError}

@@ -4,8 +4,8 @@
 //! for each receive of this chart, by instance and index, exactly its report, and the notes by line. The only refusal is F6
 //! ([`replay`]).
 //!
-//! All posts meet before each command. So a call finds nothing that the schedule doesn't have so far, and when they meet
-//! again, it shows that no other post has gone on in between: each answer is exact. In the end the board is gathered.
+//! All posts meet before each command, so that each has seen all that the schedule has come to. The next meeting shows that
+//! only the command's own post has gone on in between: each answer is exact. In the end the board is gathered.
 #![tactic(auto)]
 
 mod commands;

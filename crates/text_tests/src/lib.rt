@@ -4,6 +4,8 @@
 #![tactic(auto)]
 
 #[cfg(test)]
+mod agreement;
+#[cfg(test)]
 mod chart_texts;
 #[cfg(test)]
 mod drawn_orders;

@@ -5,7 +5,6 @@ use closure::audit;
 use msc_reader::read;
 use msc_text::{MemoryOut, write};
 use outcomes::Outcome;
-use plain_replayer::plain_replay;
 use replayer::replay;
 use schedule::Schedule;
 use std::alloc::Global;
@@ -48,25 +47,10 @@ fn finds_races(rt: &impl Abort, alloc: Global, outcome: &Outcome<'_>, chart: &[u
     has_races(rt, alloc, outcome, chart, races.as_bytes());
 }
 
-fn text_of<'a>(rt: &impl Abort, alloc: Global, outcome: &Outcome<'a>) -> MemoryOut {
-    let mut text = MemoryOut::new(alloc);
-    outcome.write(&mut text).expect(rt, "an outcome's text");
-    text
-}
-
-/// The plain replay comes to the same, and the audit accepts its reports too.
-fn is_plain(rt: &impl Abort, alloc: Global, schedule: &Schedule, outcome: &Outcome<'_>) {
-    let plain = plain_replay(alloc, schedule).expect(rt, "a plain outcome");
-    audit(alloc, plain.chart(), plain.reports()).expect(rt, "the same reports");
-    let text = text_of(rt, alloc, outcome);
-    assert_eq!(rt; text_of(rt, alloc, &plain).as_bytes(), text.as_bytes());
-}
-
-/// What the schedule comes to over running posts is what it comes to plainly. Its chart is written, read and written again;
-/// the checker finds the races that the clocks found; and the audit accepts the reports.
+/// The chart of what the schedule comes to is written, read and written again; the checker finds the races that the
+/// clocks found; and the audit accepts the reports.
 pub(super) fn is_checked(rt: &impl Abort, alloc: Global, schedule: &Schedule) {
     let outcome = replay(alloc, schedule).expect(rt, "an outcome");
-    is_plain(rt, alloc, schedule, &outcome);
     audit(alloc, outcome.chart(), outcome.reports()).expect(rt, "the same reports");
     let mut text = MemoryOut::new(alloc);
     write(outcome.names(), outcome.chart(), &mut text).expect(rt, "the chart's text");

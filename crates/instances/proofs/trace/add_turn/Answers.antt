@@ -16,7 +16,8 @@ returns-then-last-lt4294967295 c =
     let last = c.in-Some.last.now in
     let count : suc k ≡ length all = omega (arith, c.in-Some.ensures.item.3.0, c.args.stretches.now.ok) in
     let read = c.in-Some.ensures.value in
-    subst (λ s. turns_of (slice_set all k (longer s)) ≡ turns_of all ++ s.turn ∷ []) (sym read) (turns_of-longer all k last count)
+    subst (λ s. turns_of (slice_set all k (longer s)) ≡ turns_of all ++ s.turn ∷ []) (sym read)
+    (turns_of-longer all k last count)
     ∙ ap (λ t. turns_of all ++ t ∷ []) (c.is.ensures.0 c.if-is.true)
 
 pub returns : goal.returns
@@ -25,13 +26,16 @@ returns c =
     let all = c.args.stretches.now.items in
     let k = vec_len c.args.stretches.now - 1 in
     let items = λ (stretches : Vec Stretch). stretches.items in
-    let untouched = λ (last : Stretch) (read : last ≡ slice_index_or all k last). ap (λ s. slice_set all k s) read ∙ set-get_or all k last in
+    let untouched = λ (last : Stretch) (read : last ≡ slice_index_or all k last). ap (λ s. slice_set all k s) read
+    ∙ set-get_or all k last in
     let same : c.match-last_mut.stretches.items ≡ all = elim c.match-last_mut.branch [
       | in-Some+else-is w ↦ ap items w.stretches-is ∙ elim w.else-is.branch [
-        | else-is-via-then-is+else-last-lt4294967295 w' ↦ ap items w'.stretches-is ∙ untouched w.in-Some.last.now w.in-Some.ensures.value
+        | else-is-via-then-is+else-last-lt4294967295 w' ↦ ap items w'.stretches-is
+            ∙ untouched w.in-Some.last.now w.in-Some.ensures.value
         | else-is-via-else-is w' ↦ ap items w'.stretches-is ∙ untouched w.in-Some.last.now w.in-Some.ensures.value
       ]
       | in_default w ↦ ap items w.stretches-is
     ] in
-    ap turns_of c.push_reserved.ensures.items ∙ turns_of-push c.match-last_mut.stretches.items (record { turn = turn; count = 1 })
+    ap turns_of c.push_reserved.ensures.items
+    ∙ turns_of-push c.match-last_mut.stretches.items (record { turn = turn; count = 1 })
     ∙ ap (λ stretches. turns_of stretches ++ turn ∷ []) same

@@ -1,0 +1,55 @@
+//! Behaviours that are held back until each of them has begun.
+use behaviour::{BareAct, Behaviour, Script};
+use board::Board;
+use chart::InstanceNo;
+use instances::{End, Gate, run};
+use std::sync::atomic::{AtomicU64, Ordering};
+use std::test::Fail;
+
+/// Holds back each instance's first act until three have come to it.
+#[derive(Drop)]
+struct Meeting {
+    here: AtomicU64,
+    late: AtomicU64,
+}
+
+impl Gate for Meeting {
+    fn before(&self, _p: InstanceNo, turn: u32) {
+        if turn != 1 {
+            return;
+        }
+        self.here.fetch_add(1, Ordering::SeqCst);
+        for _ in 0..10_000_000 {
+            if self.here.load(Ordering::SeqCst) >= 3 {
+                return;
+            }
+        }
+        self.late.fetch_add(1, Ordering::SeqCst);
+    }
+}
+
+#[test]
+fn both_threads_move(rt: HostRuntime) -> Result<(), Fail> {
+    let alloc = rt.alloc();
+    let gate = Meeting {
+        here: AtomicU64::new(0),
+        late: AtomicU64::new(0),
+    };
+    let mut board = Board::new(alloc, 3, 1)?;
+    let posts = board.posts()?;
+    let mut behaviours: Vec<Box<dyn Behaviour + Send>> = Vec::new(alloc);
+    for _ in 0..3 {
+        let script = Script::new([BareAct::Open].to_vec(alloc)?);
+        behaviours.push(Box::new(alloc, script)?)?;
+    }
+    let Ok(ran) = run(&rt, posts, behaviours, 9, &gate) else {
+        return Err("the board was run")?;
+    };
+    assert_eq!(rt; ran.traces.len(), 3);
+    for end in ran.ends {
+        assert_eq!(rt; end, End::Stopped);
+    }
+    assert_eq!(rt; ran.gathered.reports.len(), 0);
+    assert_eq!(rt; gate.late.load(Ordering::SeqCst), 0);
+    Ok(())
+}

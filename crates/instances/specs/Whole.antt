@@ -1,0 +1,35 @@
+-- Runs of whole boards (this project's profile).
+use Rattle.std.specs.Prelude.{◌≡◌, ◌≢◌, ℕ, ◌<◌, ◌≤◌, ◌⊎◌, List, length, slice_index_or}
+use Rattle.board.specs.Gathering.{IsWhole}
+use Rattle.board.specs.Meeting.{AreAll, AreNotAll}
+use Rattle.board.specs.Views.{PostView}
+use Rattle.instances.specs.declared.end.End.{End}
+use Rattle.instances.specs.declared.outcome.Run.{Run}
+use Rattle.instances.specs.declared.outcome.RunError.{RunError}
+use Rattle.instances.specs.declared.outcome.RunError.TheVariants.{Unfit, Memory}
+use Rattle.instances.specs.declared.threads.TheConstants.{MAX_TURNS}
+use Rattle.instances.specs.declared.turn.Turn.{Turn}
+
+-- these posts are all of their board, so many behaviours are one of each, and a run has so many turns at most
+pub record IsFit (posts : List PostView) (behaviours turns : ℕ) : Type 0 where
+  pub all : AreAll posts
+  pub one_of_each : behaviours ≡ length posts
+  pub some : (1 ≤ turns) × (turns ≤ MAX_TURNS)
+
+-- one of this isn't so
+abbrev pub IsUnfit : List PostView → ℕ → ℕ → Type 0
+IsUnfit posts behaviours turns = AreNotAll posts ⊎ ((behaviours ≢ length posts) ⊎ ((turns ≡ 0) ⊎ (MAX_TURNS < turns)))
+
+-- Each post was driven as the behaviour at its place does, to the post that was left, with its trace and its end; and this
+-- is what the posts that were left came to, all of one board.
+pub record AreRuns (does : ℕ → PostView → List Turn → End → PostView → Type 0) (posts : List PostView) (run : Run) : Type 0 where
+  pub left : List PostView
+  pub as_many : (length left ≡ length posts) × (length run.traces.items ≡ length posts) × (length run.ends.items ≡ length posts)
+  pub each : (k : ℕ) (p : PostView) (t : List Turn) (e : End) (q : PostView) → k < length posts
+      → does k (slice_index_or posts k p) (slice_index_or run.traces.items k t) (slice_index_or run.ends.items k e) (slice_index_or left k q)
+  pub whole : IsWhole left run.gathered
+
+-- why a board isn't run: something is unfit, and all comes back; or memory was refused
+abbrev pub IsUnrun : {P B : Type 0} → P → B → Type 0 → Type 0 → RunError P B → Type 0
+IsUnrun posts behaviours fit unfit (Unfit p b) = (p ≡ posts) × (b ≡ behaviours) × unfit
+IsUnrun posts behaviours fit unfit Memory = fit
