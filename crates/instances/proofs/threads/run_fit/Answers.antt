@@ -45,6 +45,6 @@ unreachable-requires g c =
     let behaviours = c.args.behaviours.items in
     let runs = c.in_ok-runs.runs.items in
     let are : AreDone (λ b old trace end new. IsRunOfPost (meaning (goal.Behaviour-dyn g (b.vtable, b.value)).act (goal.Behaviour-dyn g (b.vtable, b.value)).after) c.args.turns b.value old trace end new) posts behaviours runs =
-        record { alike = c.requires.fit.one_of_each; as_many = c.in_ok-runs.ensures.len ∙ ap length c.in_ok-jobs.ensures; each = rw c.in_ok-jobs.ensures at c.in_ok-runs.ensures.each } in
+    record { alike = c.requires.fit.one_of_each; as_many = c.in_ok-runs.ensures.len ∙ ap length c.in_ok-jobs.ensures; each = rw c.in_ok-jobs.ensures at c.in_ok-runs.ensures.each } in
     let lacking = rw c.in-NotAllPosts.is at c.in-Err.ensures.1 in
     all-left _ posts behaviours runs are (λ b old trace end new run. run.run.same) c.requires.fit.all (subst AreNotAll c.in_ok-posts.ensures.posts lacking)
