@@ -2,7 +2,7 @@
 use behaviour::{BareAct, Behaviour, Script};
 use board::Board;
 use chart::InstanceNo;
-use instances::{End, Gate, Open, RunError, run};
+use instances::{End, Gate, run};
 use std::sync::atomic::{AtomicU64, Ordering};
 use std::test::Fail;
 
@@ -51,34 +51,5 @@ fn both_threads_move(rt: HostRuntime) -> Result<(), Fail> {
     }
     assert_eq!(rt; ran.gathered.reports.len(), 0);
     assert_eq!(rt; gate.late.load(Ordering::SeqCst), 0);
-    Ok(())
-}
-
-#[test]
-fn unfit_runs_come_back(rt: HostRuntime) -> Result<(), Fail> {
-    let alloc = rt.alloc();
-    let mut board = Board::new(alloc, 2, 1)?;
-    let mut posts = board.posts()?;
-    let mut behaviours: Vec<Box<dyn Behaviour + Send>> = Vec::new(alloc);
-    for turns in [9, 0, 1_000_001] {
-        match run(&rt, posts, behaviours, turns, &Open) {
-            Err(RunError::Unfit(back, others)) => {
-                posts = back;
-                behaviours = others;
-            }
-            _ => return Err("no F25")?,
-        }
-        for _ in behaviours.len()..2 {
-            behaviours.push(Box::new(alloc, Script::new(Vec::new(alloc)))?)?;
-        }
-    }
-    posts.truncate(1);
-    behaviours.truncate(1);
-    assert!(rt;
-        matches!(
-            run(&rt, posts, behaviours, 9, &Open),
-            Err(RunError::Unfit(_, _))
-        )
-    );
     Ok(())
 }
