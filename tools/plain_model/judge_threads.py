@@ -17,7 +17,7 @@ from made_schedules import Draw, made_schedule
 from schedule_texts import schedule_text
 from thread_runs import Impossible, judge, require
 
-TURNS = [1, 20, 1000, 10000]
+TURNS = [1, 20, 1000, 100000, 1000000]
 
 
 def turns_of(seed):

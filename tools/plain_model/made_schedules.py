@@ -37,22 +37,32 @@ def command(draw, line, count):
     return Command(line, verb, actor, partner, draw.one_of(MESSAGES) if verb == "send" else None)
 
 
+def is_left_out(draw, kind, verb):
+    """Whether a command isn't tried: most closes and coregions, after which little goes on; and `any` in a sure one."""
+    if verb in ("close", "concurrent") and draw.below(8):
+        return True
+    return kind == "sure" and verb == "any"
+
+
 def made_schedule(seed):
     """
-    A schedule of 2 to 8 instances. One half of them are drawn as it comes. In the other half each command is one that
-    is accepted where it stands, or (a few) leaves a note of a cause that stays; and what waits in the end is received.
+    A schedule of 2 to 8 instances. The commands of a wild one are drawn as it comes. In the other kinds no command is full
+    or finds nothing where it stands, few leave a note, and what waits in the end is received; a sure one has no `any`, so
+    that threads too come to its end, in whatever order they go on.
     """
     draw = Draw(seed)
     count = 2 + draw.below(7)
-    is_wild = draw.below(2) == 0
+    kind = draw.one_of(["wild", "made in order", "sure"])
     schedule = Schedule(names(draw, count), draw.one_of(FEW_SLOTS + [1 + draw.below(64)]), [])
     world = World(schedule)
-    for _ in range(draw.one_of([0, 3, 12, 40, 100, 300])):
+    for _ in range(draw.one_of([0, 10, 100, 400, 1500])):
         next_one = command(draw, 3 + len(schedule.commands), count)
+        if is_left_out(draw, kind, next_one.verb):
+            continue
         word = getattr(world, next_one.verb)(next_one)
-        if is_wild or word is None or (word not in PASSING and draw.below(8) == 0):
+        if kind == "wild" or word is None or (word not in PASSING and draw.below(6) == 0):
             schedule.commands.append(next_one)
-    if not is_wild:
+    if kind != "wild":
         for (q, p), lane in world.lanes.items():
             for _ in lane:
                 schedule.commands.append(Command(3 + len(schedule.commands), "receive", p, q, None))
