@@ -23,7 +23,7 @@ use Rattle.real_races.proofs.Turns.{Turns, IsWithin}
 use Rattle.real_races.proofs.Turns.IsWithin.{send, receive}
 
 -- up to an event that passes there are no more than up to a place just where it isn't past the place
-turn_from_place : (test : Event → Bool) (line : List Event) (i j : ℕ) → Passes test line i → tally test line i ≤ tally test line j → i ≤ j
+pub turn_from_place : (test : Event → Bool) (line : List Event) (i j : ℕ) → Passes test line i → tally test line i ≤ tally test line j → i ≤ j
 turn_from_place test line i j passes le = elim (cases_lt j i) [
   | inl past ↦ absurd (omega (arith, le, tally-lt test line j i past passes))
   | inr within ↦ within

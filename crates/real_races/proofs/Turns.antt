@@ -54,3 +54,8 @@ within_both c s r u v w x sends receives e (receive q is le) (receive a also low
     let same = one_sender c a q e also is in
     let other = subst (λ y. tally (is_receive_from y) (c e.instance) e.index ≤ v y e.instance) same lower in
     receive q is (omega (arith, le, other, receives q e.instance))
+
+-- what is within is an event of the chart
+pub within_event : (c : Chart) (s r : Turns) (e : Place) → IsWithin c s r e → IsEvent c e
+within_event c s r e (send q is le) = IsEvent-from_passes c (is_send_to q) e is
+within_event c s r e (receive q is le) = IsEvent-from_passes c (is_receive_from q) e is

@@ -19,7 +19,7 @@ use Rattle.chart.proofs.Histories.{sent_begins-le, received_begins}
 use Rattle.chart.proofs.Lanes.{sent_count, received_count}
 use Rattle.chart.proofs.Sends.{sends_of}
 use Rattle.real_races.specs.OtherRuns.{HasCome, HasEventsOf, KeepsCauses, IsRunOf, IsOvertaken, ComesFirst, CanBeOvertaken, AreOvertaken}
-use Rattle.real_races.proofs.Turns.{Turns, IsWithin, sends_in, within_come, come_within, within_weaker, within_both}
+use Rattle.real_races.proofs.Turns.{Turns, IsWithin, sends_in, within_come, come_within, within_event, within_weaker, within_both}
 use Rattle.real_races.proofs.Turns.IsWithin.{send, receive}
 use Rattle.real_races.proofs.Parts.{inner, parted, inner_sent, inner_received, inner_sends, outer_sent, parted_sends, parted_receives}
 use Rattle.real_races.proofs.Beginnings.{inner_begins, outer_begins, inner_first}
@@ -31,13 +31,13 @@ use Rattle.real_races.proofs.Past.{known, bound, past_sends, past_receives, with
 -- What has come in one part, or in both, of which chart ever.
 module _ (c : Chart) (s r : Turns) (h : List Occurrence) where
   -- in the first part: what is within, and had come
-  inner_come : (f : List Occurrence) (e : Place) → HasCome c (inner s r f) e → IsWithin c s r e × HasCome c f e
+  pub inner_come : (f : List Occurrence) (e : Place) → HasCome c (inner s r f) e → IsWithin c s r e × HasCome c f e
   inner_come f e come = (
     within_weaker c (sends_in (inner s r f)) (received (inner s r f)) s r (λ q p. omega (arith, inner_sends s r f q p)) (λ q p. omega (arith, inner_received s r f q p)) e (within_come c (inner s r f) e come),
     come_within c f e (within_weaker c (sends_in (inner s r f)) (received (inner s r f)) (sends_in f) (received f) (λ q p. omega (arith, inner_sends s r f q p)) (λ q p. omega (arith, inner_received s r f q p)) e (within_come c (inner s r f) e come)),
   )
 
-  come_inner : (f : List Occurrence) (e : Place) → IsWithin c s r e → HasCome c f e → HasCome c (inner s r f) e
+  pub come_inner : (f : List Occurrence) (e : Place) → IsWithin c s r e → HasCome c f e → HasCome c (inner s r f) e
   come_inner f e within come =
       come_within c (inner s r f) e (within_both c s r (sends_in f) (received f) (sends_in (inner s r f)) (received (inner s r f)) (λ q p. omega (arith, inner_sends s r f q p)) (λ q p. omega (arith, inner_received s r f q p)) e within (within_come c f e come))
 
@@ -66,7 +66,7 @@ module _ (c : Chart) (s r : Turns) (h : List Occurrence) where
 -- Of a legal history, and a part of its events that is closed under direct causes.
 module _ (n k : ℕ) (h : List Occurrence) (legal : IsLegal n k h) (s r : Turns) (closed_there : (e f : Place) → Direct (chart_of h) e f → IsWithin (chart_of h) s r f → IsWithin (chart_of h) s r e) where
   -- the parts keep the causes
-  parted_causes : KeepsCauses (chart_of h) (parted s r h h)
+  pub parted_causes : KeepsCauses (chart_of h) (parted s r h h)
   parted_causes g begins e f step come = elim (outer_begins s r h (inner s r h) g begins) [
     | inl w ↦
         let there = subst (λ x. HasCome (chart_of h) x f) w.2 come in
@@ -74,7 +74,7 @@ module _ (n k : ℕ) (h : List Occurrence) (legal : IsLegal n k h) (s r : Turns)
         (elim (outer_come (chart_of h) s r h w.0 f there) [
           | inl within ↦
               let its = closed_there e f step within in
-              come_behind (chart_of h) s r h w.0 e its (all_come n k h legal e (within_event its))
+              come_behind (chart_of h) s r h w.0 e its (all_come n k h legal e (within_event (chart_of h) s r e its))
           | inr came ↦ come_outer (chart_of h) s r h w.0 w.1 e (keeps_causes n k h legal w.0 w.1 e f step came)
         ])
     | inr first ↦
@@ -82,13 +82,9 @@ module _ (n k : ℕ) (h : List Occurrence) (legal : IsLegal n k h) (s r : Turns)
         let there = inner_come (chart_of h) s r h w.0 f (subst (λ x. HasCome (chart_of h) x f) w.2 come) in
         subst (λ x. HasCome (chart_of h) x e) (sym w.2) (come_inner (chart_of h) s r h w.0 e (closed_there e f step there.0) (keeps_causes n k h legal w.0 w.1 e f step there.1))
   ]
-    where
-      within_event : {x : Place} → IsWithin (chart_of h) s r x → IsEvent (chart_of h) x
-      within_event {x = x} (send q is le) = IsEvent-from_passes (chart_of h) (is_send_to q) x is
-      within_event {x = x} (receive q is le) = IsEvent-from_passes (chart_of h) (is_receive_from q) x is
 
   -- they have the history's events
-  parted_events : HasEventsOf (chart_of h) (parted s r h h)
+  pub parted_events : HasEventsOf (chart_of h) (parted s r h h)
   parted_events = record {
     messages = λ q p. ap names_of (outer_sent s r h (inner s r h) q p ∙ ap (λ ms. ms ++ drop (s q p) (sent h q p)) (inner_sent s r h q p) ∙ take-append-drop (s q p) (sent h q p)) ∙ names_sent h q p;
     receives = λ q p. omega (arith, parted_receives s r h h q p, received_count n k h legal q p);
@@ -134,11 +130,14 @@ module _ (n k : ℕ) (h : List Occurrence) (legal : IsLegal n k h) (s r : Place)
   comes_first : (g : List Occurrence) × IsRunOf n (chart_of h) g × ComesFirst (chart_of h) g r
   comes_first = (
     parted sends receives h h,
-    record {
-      legal = (k + length h, legal_parted n k (k + length h) sends receives (omega arith) has_sends has_places h legal);
-      events = parted_events n k h legal sends receives (closed n k h legal s r belongs);
-      causes = parted_causes n k h legal sends receives (closed n k h legal s r belongs);
-    },
+    (
+      k + length h,
+      record {
+        legal = legal_parted n k (k + length h) sends receives (omega arith) has_sends has_places h legal;
+        events = parted_events n k h legal sends receives (closed n k h legal s r belongs);
+        causes = parted_causes n k h legal sends receives (closed n k h legal s r belongs);
+      },
+    ),
     (
       inner sends receives h,
       inner_first sends receives h h,
@@ -164,7 +163,7 @@ module _ (n : ℕ) (c : Chart) (possible : IsPossible n c) (q : ℕ) (r : Place)
   pub turned : (e : Place) → IsEvent c e → e ≢ r → (Before c e r → ⊥) ↔ CanBeOvertaken n c e r
   turned e here differs = (
     λ apart. let w = witness n c possible q r from in (w.0, w.1, overtaken w.0 w.2 e differs apart),
-    λ can before. can.2.3 (order_kept can.0 can.2.0 can.1.causes can.2.1 before can.2.2),
+    λ can before. can.2.3 (order_kept can.0 can.2.0 can.1.1.causes can.2.1 before can.2.2),
   )
 
   -- an earlier event of its line isn't r

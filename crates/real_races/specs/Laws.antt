@@ -6,7 +6,7 @@ use Rattle.chart.specs.Histories.{Begins}
 use Rattle.chart.specs.Charts.{Chart, Place, at, IsReceiveFrom, IsPossible}
 use Rattle.chart.specs.Places.{IsEvent}
 use Rattle.chart.specs.Order.{Before, IsReport}
-use Rattle.real_races.specs.OtherRuns.{HasCome, IsRunOf, IsOvertaken, ComesFirst, CanBeOvertaken, AreOvertaken}
+use Rattle.real_races.specs.OtherRuns.{HasCome, IsRunOf, IsOvertaken, ComesFirst, CanBeOvertaken, AreOvertaken, BeforeWithin, IsRunWithin, ComesFirstWithin, IsPossibleWithin, CanBeOvertakenWithin}
 
 -- in each run what is enforced before r has come when r has
 abbrev pub OrderLaw : Type 0
@@ -33,3 +33,20 @@ abbrev pub OneRunLaw : Type 0
 OneRunLaw = (n : ℕ) (c : Chart) → IsPossible n c → (q : ℕ) (r : Place) → IsReceiveFrom c q r
     → (report : List ℕ) → IsReport c r report
     → (g : List Occurrence) × IsRunOf n c g × All (λ j. IsOvertaken c g (at r.instance j) r) report
+
+-- Where lanes have k slots.
+
+-- in each run what is enforced before r has come when r has
+abbrev pub SlotsOrderLaw : Type 0
+SlotsOrderLaw = (n k : ℕ) (c : Chart) (g : List Occurrence) → IsRunWithin n k c g → (e r : Place) → BeforeWithin k c e r
+    → (h : List Occurrence) → Begins h g → HasCome c h r → HasCome c h e
+
+-- in some run the receive r comes first
+abbrev pub SlotsWitnessLaw : Type 0
+SlotsWitnessLaw = (n k : ℕ) (c : Chart) → IsPossibleWithin n k c → (q : ℕ) (r : Place) → IsReceiveFrom c q r
+    → (g : List Occurrence) × IsRunWithin n k c g × ComesFirstWithin k c g r
+
+-- an event isn't before r just where r can overtake it
+abbrev pub SlotsTurningLaw : Type 0
+SlotsTurningLaw = (n k : ℕ) (c : Chart) → IsPossibleWithin n k c → (q : ℕ) (r : Place) → IsReceiveFrom c q r
+    → (e : Place) → IsEvent c e → e ≢ r → (BeforeWithin k c e r → ⊥) ↔ CanBeOvertakenWithin n k c e r

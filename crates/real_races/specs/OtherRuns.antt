@@ -3,13 +3,13 @@
 --
 -- An event is told by its lane and its turn there, as the third message from 2 to 1, or the receive of that message. So
 -- two runs are compared by counts, and no map between the places of two charts is needed.
-use Rattle.std.specs.Prelude.{◌≡◌, ℕ, ◌<◌, ◌≤◌, ◌↔◌, false, List, [], ◌∷◌, length, map, Some, count_by, AllPairs, Contains, if◌then◌else◌, ◌==◌}
+use Rattle.std.specs.Prelude.{◌≡◌, ℕ, ◌<◌, ◌≤◌, ◌↔◌, ◌⊎◌, ◌+◌, false, List, [], ◌∷◌, length, map, Some, count_by, AllPairs, Contains, if◌then◌else◌, ◌==◌}
 use Rattle.chart.specs.declared.history.Occurrence.{Occurrence}
 use Rattle.chart.specs.declared.event.Event.{Event}
 use Rattle.chart.specs.declared.event.Event.TheVariants.{Send, Receive}
 use Rattle.chart.specs.Messages.{Content}
 use Rattle.chart.specs.Events.{is_send_to, is_receive_from, is_in, tally}
-use Rattle.chart.specs.Histories.{sent, received, IsLegal, Begins}
+use Rattle.chart.specs.Histories.{sent, received, chart_of, IsLegal, Begins}
 use Rattle.chart.specs.Charts.{Chart, Place, at, chart_event, IsSendTo, IsReceiveFrom}
 use Rattle.chart.specs.Order.{Direct, region_of_event}
 use Rattle.chart.specs.Knowing.{IsUpTo}
@@ -37,11 +37,15 @@ abbrev pub KeepsCauses : Chart → List Occurrence → Type 0
 KeepsCauses c g =
     (h : List Occurrence) → Begins h g → (e f : Place) → Direct c e f → HasCome c h f → HasCome c h e
 
--- another run of the chart's events, or the same: a legal history of n instances, whatever their lanes hold
-pub record IsRunOf (n : ℕ) (c : Chart) (g : List Occurrence) : Type 0 where
-  pub legal : (k : ℕ) × IsLegal n k g
+-- a run of the chart's events: a legal history of n instances whose lanes have k slots each
+pub record IsRunWithin (n k : ℕ) (c : Chart) (g : List Occurrence) : Type 0 where
+  pub legal : IsLegal n k g
   pub events : HasEventsOf c g
   pub causes : KeepsCauses c g
+
+-- the same with whatever slots
+abbrev pub IsRunOf : ℕ → Chart → List Occurrence → Type 0
+IsRunOf n c g = (k : ℕ) × IsRunWithin n k c g
 
 -- at some moment of the history r has come, and e has not
 abbrev pub IsOvertaken : Chart → List Occurrence → Place → Place → Type 0
@@ -54,6 +58,36 @@ ComesFirst c g r = (h : List Occurrence) × Begins h g × ((e : Place) → HasCo
 -- some run of the chart's events has r before e
 abbrev pub CanBeOvertaken : ℕ → Chart → Place → Place → Type 0
 CanBeOvertaken n c e r = (g : List Occurrence) × IsRunOf n c g × IsOvertaken c g e r
+
+-- Runs whose lanes have so many slots.
+
+-- what is enforced directly where lanes have k slots: all that is enforced, and that the n-th receive of a lane comes
+-- before the send that is k further on, and before later ones
+pub data DirectWithin (k : ℕ) (c : Chart) (e f : Place) : Type 0 where
+  enforced : Direct c e f → DirectWithin k c e f
+  freed : IsReceiveFrom c f.instance e → IsSendTo c e.instance f
+      → tally (is_receive_from f.instance) (c e.instance) e.index + k ≤ tally (is_send_to e.instance) (c f.instance) f.index
+      → DirectWithin k c e f
+
+-- enforced where lanes have k slots: the least transitive relation that has all that is direct
+pub data BeforeWithin (k : ℕ) (c : Chart) : Place → Place → Type 0 where
+  direct : {e f : Place} → DirectWithin k c e f → BeforeWithin k c e f
+  through : {e d f : Place} → BeforeWithin k c e d → BeforeWithin k c d f → BeforeWithin k c e f
+
+-- at some moment of the history exactly r and what is enforced before r, where lanes have k slots, have come
+abbrev pub ComesFirstWithin : ℕ → Chart → List Occurrence → Place → Type 0
+ComesFirstWithin k c g r = (h : List Occurrence) × Begins h g
+    × ((e : Place) → HasCome c h e ↔ ((e ≡ r) ⊎ BeforeWithin k c e r))
+
+-- the chart is that of a history that is legal with k slots
+abbrev pub IsPossibleWithin : ℕ → ℕ → Chart → Type 0
+IsPossibleWithin n k c = (h : List Occurrence) × IsLegal n k h × ((p : ℕ) → chart_of h p ≡ c p)
+
+-- some run of the chart's events has r before e, with k slots
+abbrev pub CanBeOvertakenWithin : ℕ → ℕ → Chart → Place → Place → Type 0
+CanBeOvertakenWithin n k c e r = (g : List Occurrence) × IsRunWithin n k c g × IsOvertaken c g e r
+
+-- Reports.
 
 -- the chart has an event at e, outside of the coregion of r
 abbrev pub IsOutside : Chart → Place → Place → Type 0
