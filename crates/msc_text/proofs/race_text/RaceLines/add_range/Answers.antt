@@ -6,7 +6,7 @@ use Rattle.chart.proofs.RangeLists.{events_from-length, event_read}
 use Rattle.msc_text.specs.RaceText.{race_line}
 use Rattle.msc_text.specs.Writing.{Buffers}
 use Rattle.msc_text.proofs.Writes.{buffers_more_read, adds_in_read}
-use Rattle.msc_text.proofs.race_text.RaceLine.add_range.Goals as goal
+use Rattle.msc_text.proofs.race_text.RaceLines.add_range.Goals as goal
 
 pub loop-number-preserved : goal.loop-number-preserved
 loop-number-preserved g c =
