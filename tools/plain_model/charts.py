@@ -77,7 +77,7 @@ def in_order(pairs):
 
 
 def events_before(chart):
-    """For each event the set of all that are before it, as bits by `numbers`. F16, F17 or F18 where it is no chart's."""
+    """For each event the set of those before it, as bits by `numbers`. F16 to F18 where the chart isn't possible."""
     pairs = direct_pairs(chart, sends_of_receives(chart))
     order = in_order(pairs)
     if len(order) < len(pairs):

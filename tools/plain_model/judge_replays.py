@@ -1,6 +1,8 @@
 """
-Compares a program's answers to schedules that are made from seeds with the plain model's: `judge_replays.py PROGRAM COUNT
-SEED`. Each schedule has another seed, from SEED on, by which `random` draws too; `check` gets the chart of its replay.
+Compares a program's answers to schedules that are made from seeds with the plain model's.
+
+`judge_replays.py PROGRAM COUNT SEED`: each schedule has another seed, from SEED on, by which `random` draws too;
+`check` gets the charts of both.
 """
 
 import os
@@ -54,7 +56,7 @@ def main(program, count, first):
             difference = differs(program, folder, seed, seen)
             if difference:
                 failed += 1
-                print(f"FAILED seed {seed}:", *difference)
+                print(f"FAILED seed {seed}:", *difference, flush=True)
     for what, number in sorted(seen.items()):
         print(f"{what}: {number}")
     print(f"{count - failed} schedules are answered as by the model, {failed} aren't")

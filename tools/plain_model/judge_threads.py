@@ -1,8 +1,8 @@
 """
 Judges threaded runs of schedules that are made from seeds: `judge_threads.py PROGRAM RUNS SEED`.
 
-Each run has another seed, from SEED on. Its output is judged by `thread_runs`, and its race lines are compared with what
-the program's `check` says of its chart. Of each run that can't be, the seed, the schedule and the output are told.
+Each run has another seed, from SEED on. Its output is judged by `thread_runs`, and its race lines are compared with
+what the program's `check` says of its chart. Of each run that can't be, the seed, the schedule and the output are told.
 """
 
 import os
@@ -17,6 +17,7 @@ from made_schedules import Draw, made_schedule
 from schedule_texts import schedule_text
 from thread_runs import Impossible, judge, require
 
+SECONDS = 600
 TURNS = [1, 20, 1000, 100000, 1000000]
 
 
@@ -25,7 +26,8 @@ def turns_of(seed):
 
 
 def run(program, *words):
-    ended = subprocess.run([program, *words], stdin=subprocess.DEVNULL, capture_output=True, check=False, timeout=600)
+    words = [program, *words]
+    ended = subprocess.run(words, stdin=subprocess.DEVNULL, capture_output=True, timeout=SECONDS, check=False)
     return ended.returncode, ended.stdout, ended.stderr
 
 
@@ -44,14 +46,15 @@ def judge_seed(program, folder, seed, seen):
     file = os.path.join(folder, "schedule")
     with open(file, "wb") as text:
         text.write(schedule_text(schedule))
-    status, output, said = run(program, "threads", file, "--turns", str(turns))
+    output = b""
     try:
+        status, output, said = run(program, "threads", file, "--turns", str(turns))
         require(not said, "it says", said)
         chart, found, notes, spent = judge(schedule, turns, status, output)
         is_checked(program, folder, chart, found)
-    except Impossible as fault:
+    except (Impossible, subprocess.TimeoutExpired) as fault:
         print(f"FAILED seed {seed}, {turns} turns: {fault}")
-        print(schedule_text(schedule).decode() + output.decode(errors="replace"))
+        print(schedule_text(schedule).decode() + output.decode(errors="replace"), flush=True)
         return False
     count(seen, schedule, chart, found, notes, spent)
     return True

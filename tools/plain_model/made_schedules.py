@@ -46,9 +46,9 @@ def is_left_out(draw, kind, verb):
 
 def made_schedule(seed):
     """
-    A schedule of 2 to 8 instances. The commands of a wild one are drawn as it comes. In the other kinds no command is full
-    or finds nothing where it stands, few leave a note, and what waits in the end is received; a sure one has no `any`, so
-    that threads too come to its end, in whatever order they go on.
+    A schedule of 2 to 8 instances. The commands of a wild one are drawn as it comes. In the other kinds no command is
+    full or finds nothing where it stands, few leave a note, and what waits in the end is received; a sure one has no
+    `any`, so that threads too come to its end, in whatever order they go on.
     """
     draw = Draw(seed)
     count = 2 + draw.below(7)

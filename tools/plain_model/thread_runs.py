@@ -1,6 +1,7 @@
 """
-Whether an output of `mscrun threads FILE --turns N` may be: each run may differ, so what is judged is what can't differ.
+Whether an output of `mscrun threads FILE --turns N` may be.
 
+Each run may differ, so what is judged is what can't differ.
 Each instance goes through its commands in their order, and repeats one while its lane is full or nothing waits. So an
 instance that stopped went through all of them in fewer turns than N, and one that is spent through a beginning of them.
 """
@@ -71,9 +72,10 @@ class Walk:
     def cause(self, command):
         """The word of a cause that stands by what this instance itself did."""
         lane = (self.p, command.partner)
+        closed = (lane in self.steps.closes, "closed")
         causes = {
-            "send": [(self.coregion, "incoregion"), (lane in self.steps.closes, "closed"), (self.is_full(), "linefull")],
-            "close": [(lane in self.steps.closes, "closed")],
+            "send": [(self.coregion, "incoregion"), closed, (self.is_full(), "linefull")],
+            "close": [closed],
             "concurrent": [(self.coregion, "open")],
             "endconcurrent": [(not self.coregion, "notopen")],
         }
