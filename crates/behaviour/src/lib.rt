@@ -19,4 +19,4 @@ pub use answer::Answer;
 pub use bare_act::BareAct;
 pub use bare_answer::BareAnswer;
 pub use behaviour::Behaviour;
-pub use script::Script;
+pub use script::{Script, next_place};

@@ -31,6 +31,22 @@ impl Model for Script {
     ghost invariant = { λ script. script.place ≤ length script.acts.items };
 }
 
+/// At which of so many acts a script is after this answer to the one at a place, from 0: at the same one after
+/// [`BareAnswer::Start`], where its lane was full and where nothing waited; past the last one where memory was refused;
+/// and else at the next one.
+pub fn next_place(acts: usize, place: usize, last: BareAnswer) -> usize
+    ensures { result ≡ script_next acts place last }
+{
+    match last {
+        BareAnswer::Start | BareAnswer::Nothing | BareAnswer::Unsent(SendError::Full) => place,
+        BareAnswer::Unsent(SendError::Memory) | BareAnswer::Unreceived(TakeError::Memory) => {
+            acts
+        }
+        _ if acts <= place => acts,
+        _ => place + 1,
+    }
+}
+
 impl Script {
     /// A script that is at the first of these acts. It takes no memory.
     pub fn new(acts: Vec<BareAct>) -> Script
@@ -43,14 +59,7 @@ impl Script {
     fn next_place(&self, last: BareAnswer) -> usize
         ensures { result ≡ script_next (length self.now.acts) self.now.place last }
     {
-        match last {
-            BareAnswer::Start | BareAnswer::Nothing | BareAnswer::Unsent(SendError::Full) =>
-                self.place,
-            BareAnswer::Unsent(SendError::Memory) | BareAnswer::Unreceived(TakeError::Memory) => {
-                self.acts.len()
-            }
-            _ => self.acts.len().min(self.place + 1),
-        }
+        next_place(self.acts.len(), self.place, last)
     }
 
     /// The act at which it is, and past the last one that it stops.

@@ -5,8 +5,11 @@ use Rattle.std.specs.List.{zip}
 use Rattle.std.proofs.lemmas.List.{get_or-map, length-map}
 use Rattle.std.proofs.lemmas.Option.{slice_get-get_or, get_or_from_slice_get, slice_get_within}
 use Rattle.std.proofs.lemmas.Slice.Zip.{length-zip, get_or-zip}
+use Rattle.chart.proofs.HistoryLines.{length-history_lines}
+use Rattle.board.specs.Gathering.{IsWhole, size_of}
 use Rattle.board.specs.Meeting.{AreOfOneBoard, AreAll, AreNotAll}
 use Rattle.board.specs.Views.{BoardView, PostView, IsSamePost}
+use Rattle.board.specs.declared.gathering.Gathered.{Gathered}
 use Rattle.instances.specs.declared.end.End.{End}
 use Rattle.instances.specs.declared.turn.Turn.{Turn}
 
@@ -56,6 +59,15 @@ all-stay (p ∷ old) (x ∷ new) alike same all (n, low, high, none) =
     let is = slice_get-get_or (x ∷ new) i x within in
     let read = get_or_from_slice_get (p ∷ old) i has.1 y has.2 in
     none i y is ((same i y is).1.number ∙ ap (λ (post : PostView). post.number) read ∙ has.3)
+
+-- their board has as many instances
+same-size : (old new : List PostView) → length new ≡ length old
+    → ((k : ℕ) (x : PostView) → slice_get new k ≡ Some x → (k < length old) × IsSamePost (slice_index_or old k x) x)
+    → size_of new ≡ size_of old
+same-size [] [] alike same = refl
+same-size [] (x ∷ new) alike same = absurd (omega (arith, alike))
+same-size (p ∷ old) [] alike same = absurd (omega (arith, alike))
+same-size (p ∷ old) (x ∷ new) alike same = ap (λ (board : BoardView). board.size) (same 0 x refl).1.board
 
 -- each pair of a post and a behaviour was driven so
 pub record AreDone {B : Type 0} (D : B → PostView → List Turn → End → PostView → Type 0) (posts : List PostView)
@@ -117,3 +129,10 @@ module _ {B : Type 0} (D : B → PostView → List Turn → End → PostView →
     pub all-left : AreAll posts → AreNotAll (map (λ (it : Done). it.0) done) → ⊥
     all-left all not =
         all-stay posts (map (λ (it : Done). it.0) done) (length-map done (λ (it : Done). it.0) ∙ length-done) same-left all not
+
+    -- what they came to has a line for each instance
+    pub lines-left : (it : Gathered) → IsWhole (map (λ (it : Done). it.0) done) it → length it.chart ≡ size_of posts
+    lines-left it whole =
+        let left = map (λ (it : Done). it.0) done in
+        ap length whole.gathered.chart ∙ length-history_lines (size_of left) whole.history
+        ∙ same-size posts left (length-map done (λ (it : Done). it.0) ∙ length-done) same-left

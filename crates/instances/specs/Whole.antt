@@ -1,6 +1,6 @@
 -- Runs of whole boards (this project's profile).
 use Rattle.std.specs.Prelude.{◌≡◌, ◌≢◌, ℕ, ◌<◌, ◌≤◌, ◌⊎◌, List, length, slice_index_or}
-use Rattle.board.specs.Gathering.{IsWhole}
+use Rattle.board.specs.Gathering.{IsWhole, size_of}
 use Rattle.board.specs.Meeting.{AreAll, AreNotAll}
 use Rattle.board.specs.Views.{PostView}
 use Rattle.instances.specs.declared.end.End.{End}
@@ -21,13 +21,14 @@ abbrev pub IsUnfit : List PostView → ℕ → ℕ → Type 0
 IsUnfit posts behaviours turns = AreNotAll posts ⊎ ((behaviours ≢ length posts) ⊎ ((turns ≡ 0) ⊎ (MAX_TURNS < turns)))
 
 -- Each post was driven as the behaviour at its place does, to the post that was left, with its trace and its end; and this
--- is what the posts that were left came to, all of one board.
+-- is what the posts that were left came to, all of one board, whose chart has a line for each instance.
 pub record AreRuns (does : ℕ → PostView → List Turn → End → PostView → Type 0) (posts : List PostView) (run : Run) : Type 0 where
   pub left : List PostView
   pub as_many : (length left ≡ length posts) × (length run.traces.items ≡ length posts) × (length run.ends.items ≡ length posts)
   pub each : (k : ℕ) (p : PostView) (t : List Turn) (e : End) (q : PostView) → k < length posts
       → does k (slice_index_or posts k p) (slice_index_or run.traces.items k t) (slice_index_or run.ends.items k e) (slice_index_or left k q)
   pub whole : IsWhole left run.gathered
+  pub lines : length run.gathered.chart ≡ size_of posts
 
 -- it is what the posts of a board came to that were left
 abbrev pub IsGathered : Run → Type 0

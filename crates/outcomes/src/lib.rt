@@ -15,3 +15,4 @@ mod text;
 pub use error::ReplayError;
 pub use notes::put_by_line;
 pub use outcome::{Outcome, one_outcome_law, possible_outcome_law};
+pub use text::add_outcome;

@@ -43,8 +43,9 @@ fn add_notes<W: Out>(text: &mut TextBuffer<'_, W>, notes: &[Note]) -> Result<(),
     Ok(())
 }
 
+/// Adds an outcome's text to a text that is being written. It takes no memory.
 #[tactic(auto, using(msc_text::proofs::Writes::joining), unfolding(crate::specs::OutcomeText::outcome_text))]
-fn add_outcome<W: Out>(
+pub fn add_outcome<W: Out>(
     text: &mut TextBuffer<'_, W>,
     outcome: &Outcome<'_>,
 ) -> Result<(), WriteError>

@@ -3,7 +3,7 @@ use Rattle.std.proofs.lemmas.List.{length-map}
 use Rattle.board.specs.Gathering.{IsWhole}
 use Rattle.board.specs.Meeting.{AreOfOneBoard, AreNotAll}
 use Rattle.instances.specs.Driving.{meaning, IsRunOfPost}
-use Rattle.instances.proofs.Boards.{AreDone, Done, length-done, done-parts, one-board-left, all-left}
+use Rattle.instances.proofs.Boards.{AreDone, Done, length-done, done-parts, one-board-left, all-left, lines-left}
 use Rattle.instances.proofs.threads.run_fit.Goals as goal
 
 pub gather-requires : goal.gather-requires
@@ -25,6 +25,7 @@ returns-in-Ok g c =
     record { alike = c.requires.fit.one_of_each; as_many = c.in_ok-runs.ensures.len ∙ ap length c.in_ok-jobs.ensures; each = rw c.in_ok-jobs.ensures at c.in_ok-runs.ensures.each } in
     let parts = c.in_ok-posts.ensures in
     let many = length-done _ posts behaviours runs are in
+    let whole = subst (λ left. IsWhole left c.in-Ok.gathered) parts.posts c.in-Ok.ensures in
     record {
       left = map (λ (it : Done). it.0) runs;
       as_many = (
@@ -33,7 +34,8 @@ returns-in-Ok g c =
         ap length parts.ends ∙ length-map runs (λ (it : Done). it.2) ∙ many,
       );
       each = done-parts _ posts behaviours runs are c.in_ok-posts.traces.items c.in_ok-posts.ends.items parts.traces parts.ends;
-      whole = subst (λ left. IsWhole left c.in-Ok.gathered) parts.posts c.in-Ok.ensures;
+      whole = whole;
+      lines = lines-left _ posts behaviours runs are (λ b old trace end new run. run.run.same) c.in-Ok.gathered whole;
     }
 
 pub unreachable-requires : goal.unreachable-requires
