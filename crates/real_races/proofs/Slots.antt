@@ -13,17 +13,17 @@ use Rattle.chart.specs.Order.{Direct}
 use Rattle.chart.proofs.Belongs.{not_both, one_receiver}
 use Rattle.chart.proofs.Begun.{legal_begun}
 use Rattle.chart.proofs.Sends.{sends_of}
+use Rattle.real_races.specs.Walks.{Turns, Wanted, inner, parted, wanted}
 use Rattle.real_races.specs.OtherRuns.{HasCome, IsRunWithin, DirectWithin, BeforeWithin, ComesFirstWithin, IsPossibleWithin, CanBeOvertakenWithin}
 use Rattle.real_races.specs.OtherRuns.HasCome.{was_sent, was_received}
 use Rattle.real_races.specs.OtherRuns.DirectWithin.{enforced, freed}
 use Rattle.real_races.specs.OtherRuns.BeforeWithin.{direct, through}
-use Rattle.real_races.proofs.Turns.{Turns, IsWithin, within_event}
+use Rattle.real_races.proofs.Turns.{IsWithin, within_event}
 use Rattle.real_races.proofs.Turns.IsWithin.{receive}
-use Rattle.real_races.proofs.Parts.{inner, parted}
 use Rattle.real_races.proofs.Beginnings.{inner_first}
 use Rattle.real_races.proofs.Legality.{legal_parted}
 use Rattle.real_races.proofs.Causes.{all_come}
-use Rattle.real_races.proofs.Wanted.{Wanted, raise-new, wanted, balanced, balanced-first, more-wanted}
+use Rattle.real_races.proofs.Wanted.{raise-new, balanced, balanced-first, more-wanted}
 use Rattle.real_races.proofs.Sound.{wanted_first, sound}
 use Rattle.real_races.proofs.Closed.{closed-end}
 use Rattle.real_races.proofs.Witnesses.{inner_come, come_inner, parted_causes, parted_events}
