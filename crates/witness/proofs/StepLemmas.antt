@@ -1,5 +1,5 @@
 -- What one step more makes of the lanes' counts, and of the history.
-use Rattle.std.proofs.Common.{◌≡◌, ℕ, suc, ◌+◌, ◌<◌, ◌≤◌, ◌==◌, ◌&&◌, max, Bool, true, false, cond, List, [], ◌∷◌, ◌++◌, length, take, Some, refl, sym, ap, ◌∙◌, subst, arith, eqb-true}
+use Rattle.std.proofs.Common.{◌≡◌, ℕ, ◌+◌, ◌==◌, max, Bool, true, false, cond, List, [], ◌∷◌, ◌++◌, length, take, Some, refl, sym, ap, ◌∙◌, subst, arith, eqb-true}
 use Rattle.std.proofs.lemmas.Bool.{and_parts}
 use Rattle.std.proofs.lemmas.List.{length_push, take_more}
 use Rattle.std.proofs.lemmas.Option.{slice_get_within, get_or_from_slice_get}
@@ -8,7 +8,7 @@ use Rattle.chart.specs.declared.history.Occurrence.{Occurrence}
 use Rattle.chart.specs.declared.history.Occurrence.TheVariants as occurrences
 use Rattle.chart.specs.Messages.{Content}
 use Rattle.chart.specs.Histories.{is_lane, sent, received}
-use Rattle.real_races.specs.Walks.{Turns, sends_in, raise}
+use Rattle.real_races.specs.Walks.{sends_in, raise}
 use Rattle.witness.specs.declared.step.Step.{Step}
 use Rattle.witness.specs.declared.turned.Turned.{Turned}
 use Rattle.witness.specs.Steps.{occurrence_of, after, history_of, turn_of, AreTurned}
@@ -64,3 +64,11 @@ turned-push steps many turned t are is turn = record {
   whole = length_push turned t ∙ ap (λ x. x + 1) are.whole;
   each = each-push (λ i (x : Turned). (slice_get steps i ≡ Some x.step) × (x.turn ≡ turn_of (history_of (take i steps)) x.step)) turned t are.each (subst (λ i. (slice_get steps i ≡ Some t.step) × (t.turn ≡ turn_of (history_of (take i steps)) t.step)) (sym are.whole) (is, turn));
 }
+
+-- steps behind a history
+pub after-onto : (h : List Occurrence) (xs : List Step) → after h xs ≡ history_of xs ++ h
+after-onto h xs = go [] xs
+  where
+    go : (f : List Occurrence) (ys : List Step) → after (f ++ h) ys ≡ after f ys ++ h
+    go f [] = refl
+    go f (y ∷ ys) = go (occurrence_of y ∷ f) ys

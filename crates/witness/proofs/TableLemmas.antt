@@ -1,13 +1,13 @@
 -- Tables with a number for each lane, when one is raised.
-use Rattle.std.proofs.Common.{◌≡◌, ℕ, zero, suc, ◌+◌, ◌-◌, ◌*◌, ◌<◌, ◌≤◌, ◌⊎◌, inl, inr, ◌==◌, ◌&&◌, max, Bool, true, false, cond, List, length, set, replicate, refl, sym, ap, ◌∙◌, subst, arith, eqb-true}
-use Rattle.std.specs.Prelude.{slice_index, slice_index_or}
+use Rattle.std.proofs.Common.{◌≡◌, ℕ, ◌*◌, ◌<◌, inl, inr, ◌==◌, max, Bool, true, false, cond, List, length, set, replicate, refl, sym, ap, ◌∙◌, subst, arith, eqb-true}
+use Rattle.std.specs.Prelude.{slice_index}
 use Rattle.std.proofs.lemmas.Bool.{cases_eq, and_parts}
 use Rattle.std.proofs.lemmas.List.{get_or-set_same, get_or-set_other, get_or-replicate}
 use Rattle.chart.specs.declared.instance.TheConstants.{MAX_INSTANCES}
 use Rattle.chart.specs.Histories.{is_lane}
-use Rattle.chart.proofs.Histories.{is_lane-same, is_lane-from, is_lane-to}
+use Rattle.chart.proofs.Histories.{is_lane-same}
 use Rattle.real_races.specs.Walks.{Turns, raise}
-use Rattle.witness.specs.Tables.{slot_of, IsInstance, AreCounts, AreFlags}
+use Rattle.witness.specs.Tables.{slot_of, IsInstance, AreCounts}
 
 -- a lane's place is within
 pub slot-within : (q p : ℕ) → IsInstance q → IsInstance p → slot_of q p < MAX_INSTANCES * MAX_INSTANCES
