@@ -58,7 +58,8 @@ impl Counts {
 
     /// Makes the number of a lane at least so great.
     pub fn raise(&mut self, from: InstanceNo, to: InstanceNo, number: usize)
-        ensures { (numbers : Turns) → AreCounts self.old numbers → AreCounts self.new (raise numbers from to number) }
+        ensures { (numbers : Turns) → AreCounts self.old numbers
+            → AreCounts self.new (raise numbers from to number) }
     {
         let greater = self.at(from, to).max(number);
         self.numbers[slot(from, to)] = greater;

@@ -58,7 +58,8 @@ impl Needs {
     /// that frees its slot; with a receive its send.
     pub fn want(&mut self, turned: &Turned, places: usize)
         ensures { (w : Wanted) → StandFor self.old.sends self.old.receives self.old.lines w
-            → StandFor self.new.sends self.new.receives self.new.lines (with_step places w turned.now.step turned.now.turn) }
+            → StandFor self.new.sends self.new.receives self.new.lines
+            (with_step places w turned.now.step turned.now.turn) }
     {
         match &turned.step {
             Step::Send { from, to, .. } => {

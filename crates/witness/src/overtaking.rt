@@ -10,9 +10,10 @@ use crate::step::Step;
 use crate::turned::with_turns;
 use std::alloc::{AllocError, Global};
 
-/// Of a run whose lanes have so many slots, a receive in it and another step, both by their numbers from 0: a run with the
-/// same events and causes, and with as many slots, in which the receive overtakes the event of the other step. There is
-/// none exactly where the answer is `None`: then the event is the receive, or before it where lanes have so many slots.
+/// Of a run whose lanes have so many slots, a receive in it and another step, both by their numbers from 0: a run with
+/// the same events and causes, and with as many slots, in which the receive overtakes the event of the other step.
+/// There is none exactly where the answer is `None`: then the event is the receive, or before it where lanes have so
+/// many slots. Closes and coregions are no part of the answer.
 ///
 /// F6: it fails only where there is no memory.
 pub fn overtake(

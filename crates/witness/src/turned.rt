@@ -26,7 +26,8 @@ impl Passed {
     fn next(&mut self, step: &Step) -> usize
         requires { HavePassedSome self.old.sends self.old.receives }
         ensures { (h : List Occurrence) → HavePassed self.old.sends self.old.receives h
-            → (result ≡ turn_of h step.now) × HavePassed self.new.sends self.new.receives (occurrence_of step.now ∷ h) }
+            → (result ≡ turn_of h step.now)
+            × HavePassed self.new.sends self.new.receives (occurrence_of step.now ∷ h) }
     {
         match step {
             Step::Send { from, to, .. } => {
