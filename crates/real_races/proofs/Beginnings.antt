@@ -4,8 +4,7 @@ use Rattle.chart.specs.declared.history.Occurrence.{Occurrence}
 use Rattle.chart.specs.declared.history.Occurrence.TheVariants.{Send, Receive, Close}
 use Rattle.chart.specs.Histories.{sent, received, Begins}
 use Rattle.chart.proofs.Histories.{begins_same, begins_onward}
-use Rattle.real_races.proofs.Turns.{Turns}
-use Rattle.real_races.proofs.Parts.{inner, outer, parted}
+use Rattle.real_races.specs.Walks.{Turns, inner, outer, parted}
 
 -- a history is its beginning, or one without the newest event is
 begins_cases : (x : Occurrence) (g h : List Occurrence) → Begins h (x ∷ g) → (h ≡ x ∷ g) ⊎ Begins h g

@@ -15,13 +15,14 @@ use Rattle.chart.proofs.Belongs.{IsEvent-from_passes, same_place, same_send, not
 use Rattle.chart.proofs.Begun.{legal_begun}
 use Rattle.chart.proofs.Cycles.{event_cases}
 use Rattle.chart.proofs.Histories.{is_lane-same, begins_onward}
+use Rattle.real_races.specs.Walks.{Wanted, raise, step, wanted, wants_receive, wants_send, with_receive, with_send}
 use Rattle.real_races.specs.OtherRuns.{HasCome, DirectWithin}
 use Rattle.real_races.specs.OtherRuns.HasCome.{was_sent, was_received}
 use Rattle.real_races.specs.OtherRuns.DirectWithin.{enforced, freed}
 use Rattle.real_races.proofs.Turns.{IsWithin, within_weaker}
 use Rattle.real_races.proofs.Turns.IsWithin.{send, receive}
 use Rattle.real_races.proofs.Causes.{come_there}
-use Rattle.real_races.proofs.Wanted.{Wanted, raise, raise-old, raise-new, raise-cases, with_send, with_receive, wants_send, wants_receive, step, wanted}
+use Rattle.real_races.proofs.Wanted.{raise-old, raise-new, raise-cases}
 use Rattle.real_races.proofs.Newest.{next_place, is_there, newest_send, newest_receive}
 
 -- where the second of two tests passes, one of both does

@@ -9,7 +9,7 @@ use Rattle.chart.specs.declared.event.Event.TheVariants as line_events
 use Rattle.chart.specs.declared.line.TheConstants.{MAX_EVENTS}
 use Rattle.chart.specs.Messages.{Content}
 use Rattle.chart.specs.Events.{send_event, receive_event}
-use Rattle.chart.specs.Histories.{is_lane, sent, waiting, receive_of, chart_of, IsLegal}
+use Rattle.chart.specs.Histories.{is_lane, sent, received, waiting, receive_of, chart_of, IsLegal}
 use Rattle.real_races.specs.OtherRuns.{names_to}
 
 -- the names of two parts of a line
@@ -98,3 +98,14 @@ sends_short (Send a b m ∷ h) q p = go (is_lane a b q p) (sends_short h q p)
     go false before = omega (arith, before)
 sends_short (Receive a b c ∷ h) q p = omega (arith, sends_short h q p)
 sends_short (Close a b ∷ h) q p = omega (arith, sends_short h q p)
+
+-- nor received
+pub receives_short : (h : List Occurrence) (q p : ℕ) → received h q p ≤ length h
+receives_short [] q p = omega arith
+receives_short (Send a b m ∷ h) q p = omega (arith, receives_short h q p)
+receives_short (Receive a b c ∷ h) q p = go (is_lane b a q p) (receives_short h q p)
+  where
+    go : (its : Bool) → received h q p ≤ length h → cond its (received h q p + 1) (received h q p) ≤ suc (length h)
+    go true before = omega (arith, before)
+    go false before = omega (arith, before)
+receives_short (Close a b ∷ h) q p = omega (arith, receives_short h q p)

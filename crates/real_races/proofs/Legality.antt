@@ -6,8 +6,8 @@ use Rattle.chart.specs.declared.history.Occurrence.TheVariants.{Send, Receive, C
 use Rattle.chart.specs.declared.line.TheConstants.{MAX_EVENTS}
 use Rattle.chart.specs.Histories.{sent, received, is_closed, AreTwo, IsLegal, Begins}
 use Rattle.chart.proofs.Histories.{received-le, begins_same, begins_onward, sent_begins-le, received_begins}
-use Rattle.real_races.proofs.Turns.{Turns}
-use Rattle.real_races.proofs.Parts.{inner, outer, parted, inner_sends, inner_received, parted_sends, parted_receives}
+use Rattle.real_races.specs.Walks.{Turns, inner, outer, parted}
+use Rattle.real_races.proofs.Parts.{inner_sends, inner_received, parted_sends, parted_receives}
 use Rattle.real_races.proofs.Counted.{acts, line_short, acts_legal}
 
 -- sends and receives of n instances, outside of coregions: each send has one of k places, and each receive its message

@@ -1,32 +1,13 @@
 -- A history in two parts: of each lane the first so many sends and so many receives, and the rest. Neither has closes or
 -- coregions.
 use Rattle.std.proofs.Common.{◌≡◌, ℕ, ◌+◌, ◌-◌, ◌==◌, min, nat_lt, Bool, true, false, cond, List, [], ◌∷◌, ◌++◌, length, take, drop, refl, sym, ap, ap₂, ◌∙◌, subst₂, arith, append-nil, append_assoc, take_all}
-use Rattle.std.specs.Prelude.{if◌then◌else◌}
 use Rattle.std.proofs.lemmas.Bool.{ltb-true, ltb-false, eqb-true, and_parts}
 use Rattle.std.proofs.lemmas.List.{length_push, drop_all, take-append-le, drop-append-le, length-take, length-drop, length-append}
 use Rattle.chart.specs.declared.history.Occurrence.{Occurrence}
 use Rattle.chart.specs.declared.history.Occurrence.TheVariants.{Send, Receive, Close}
 use Rattle.chart.specs.Messages.{Content}
 use Rattle.chart.specs.Histories.{is_lane, sent, received}
-use Rattle.real_races.proofs.Turns.{Turns, sends_in}
-
--- the first so many sends and receives of each lane
-abbrev pub inner : Turns → Turns → List Occurrence → List Occurrence
-inner s r [] = []
-inner s r (Send a b m ∷ h) = if nat_lt (length (sent h a b)) (s a b) then Send a b m ∷ inner s r h else inner s r h
-inner s r (Receive a b c ∷ h) = if nat_lt (received h b a) (r b a) then Receive a b 0 ∷ inner s r h else inner s r h
-inner s r (Close a b ∷ h) = inner s r h
-
--- the other sends and receives
-abbrev pub outer : Turns → Turns → List Occurrence → List Occurrence
-outer s r [] = []
-outer s r (Send a b m ∷ h) = if nat_lt (length (sent h a b)) (s a b) then outer s r h else Send a b m ∷ outer s r h
-outer s r (Receive a b c ∷ h) = if nat_lt (received h b a) (r b a) then outer s r h else Receive a b 0 ∷ outer s r h
-outer s r (Close a b ∷ h) = outer s r h
-
--- the second part behind the first
-abbrev pub parted : Turns → Turns → List Occurrence → List Occurrence → List Occurrence
-parted s r h g = outer s r h ++ inner s r g
+use Rattle.real_races.specs.Walks.{Turns, inner, outer, parted, sends_in}
 
 -- a test of one lane's number is that of the lane which it is
 few_on : (f : Turns) (s : Turns) (a b q p : ℕ) (few : Bool) → nat_lt (f a b) (s a b) ≡ few → is_lane a b q p ≡ true → nat_lt (f q p) (s q p) ≡ few

@@ -19,7 +19,8 @@ use Rattle.chart.proofs.Chains.{chain_of, before_receive, before_its_receive}
 use Rattle.chart.proofs.Knowledge.{known_front, up_to_event}
 use Rattle.chart.proofs.Existence.{send_or_receive, known_exists}
 use Rattle.chart.proofs.Histories.{is_lane-same}
-use Rattle.real_races.proofs.Turns.{Turns, IsWithin}
+use Rattle.real_races.specs.Walks.{Turns}
+use Rattle.real_races.proofs.Turns.{IsWithin}
 use Rattle.real_races.proofs.Turns.IsWithin.{send, receive}
 
 -- up to an event that passes there are no more than up to a place just where it isn't past the place

@@ -13,17 +13,17 @@ use Rattle.chart.specs.Order.{Direct}
 use Rattle.chart.proofs.Belongs.{not_both, one_receiver}
 use Rattle.chart.proofs.Begun.{legal_begun}
 use Rattle.chart.proofs.Sends.{sends_of}
+use Rattle.real_races.specs.Walks.{Turns, Wanted, inner, parted, wanted}
 use Rattle.real_races.specs.OtherRuns.{HasCome, IsRunWithin, DirectWithin, BeforeWithin, ComesFirstWithin, IsPossibleWithin, CanBeOvertakenWithin}
 use Rattle.real_races.specs.OtherRuns.HasCome.{was_sent, was_received}
 use Rattle.real_races.specs.OtherRuns.DirectWithin.{enforced, freed}
 use Rattle.real_races.specs.OtherRuns.BeforeWithin.{direct, through}
-use Rattle.real_races.proofs.Turns.{Turns, IsWithin, within_event}
+use Rattle.real_races.proofs.Turns.{IsWithin, within_event}
 use Rattle.real_races.proofs.Turns.IsWithin.{receive}
-use Rattle.real_races.proofs.Parts.{inner, parted}
 use Rattle.real_races.proofs.Beginnings.{inner_first}
 use Rattle.real_races.proofs.Legality.{legal_parted}
 use Rattle.real_races.proofs.Causes.{all_come}
-use Rattle.real_races.proofs.Wanted.{Wanted, raise-new, wanted, balanced, balanced-first, more-wanted}
+use Rattle.real_races.proofs.Wanted.{raise-new, balanced, balanced-first, more-wanted}
 use Rattle.real_races.proofs.Sound.{wanted_first, sound}
 use Rattle.real_races.proofs.Closed.{closed-end}
 use Rattle.real_races.proofs.Witnesses.{inner_come, come_inner, parted_causes, parted_events}
@@ -62,13 +62,13 @@ module _ (n k : ℕ) (c : Chart) (g : List Occurrence) (run : IsRunWithin n k c 
 
 -- Of a receive in a history that is legal with k slots.
 module _ (n k : ℕ) (g : List Occurrence) (legal : IsLegal n k g) (s r : Place) (belongs : BelongsTo (chart_of g) s r) where
-  abbrev first : Wanted
+  abbrev pub first : Wanted
   first = wanted_first n k g legal s r belongs
 
-  abbrev sends : Turns
+  abbrev pub sends : Turns
   sends = (wanted k g first).sends
 
-  abbrev receives : Turns
+  abbrev pub receives : Turns
   receives = (wanted k g first).receives
 
   is_balanced : (q p : ℕ) → (receives q p ≤ sends q p) × (sends q p ≤ receives q p + k)
@@ -87,30 +87,33 @@ module _ (n k : ℕ) (g : List Occurrence) (legal : IsLegal n k g) (s r : Place)
   wants_before {e = e} {f = f} (direct d) wants = closed-end n k g legal first e f d wants
   wants_before (through x y) wants = wants_before x (wants_before y wants)
 
-  wants_up : (e : Place) → (e ≡ r) ⊎ BeforeWithin k (chart_of g) e r → IsWithin (chart_of g) sends receives e
+  pub wants_up : (e : Place) → (e ≡ r) ⊎ BeforeWithin k (chart_of g) e r → IsWithin (chart_of g) sends receives e
   wants_up e (inl same) = subst (λ x. IsWithin (chart_of g) sends receives x) (sym same) wants_it
   wants_up e (inr before) = wants_before before wants_it
 
   -- the run
-  first_within : (f : List Occurrence) × IsRunWithin n k (chart_of g) f × ComesFirstWithin k (chart_of g) f r
-  first_within = (
-    parted sends receives g g,
-    record {
-      legal = legal_parted n k k sends receives (omega arith) (λ q p. (is_balanced q p).0) (λ q p. (is_balanced q p).1) g legal;
-      events = parted_events n k g legal sends receives closed_direct;
-      causes = parted_causes n k g legal sends receives closed_direct;
-    },
-    (
-      inner sends receives g,
-      inner_first sends receives g g,
-      λ e. (
-        λ come. sound n k g legal s r belongs e (inner_come (chart_of g) sends receives g g e come).0,
-        λ up.
-            let wants = wants_up e up in
-            come_inner (chart_of g) sends receives g g e wants (all_come n k g legal e (within_event (chart_of g) sends receives e wants)),
-      ),
+  pub is_run : IsRunWithin n k (chart_of g) (parted sends receives g g)
+  is_run = record {
+    legal = legal_parted n k k sends receives (omega arith) (λ q p. (is_balanced q p).0) (λ q p. (is_balanced q p).1) g legal;
+    events = parted_events n k g legal sends receives closed_direct;
+    causes = parted_causes n k g legal sends receives closed_direct;
+  }
+
+  -- the receive comes first in it
+  pub comes_first_there : ComesFirstWithin k (chart_of g) (parted sends receives g g) r
+  comes_first_there = (
+    inner sends receives g,
+    inner_first sends receives g g,
+    λ e. (
+      λ come. sound n k g legal s r belongs e (inner_come (chart_of g) sends receives g g e come).0,
+      λ up.
+          let wants = wants_up e up in
+          come_inner (chart_of g) sends receives g g e wants (all_come n k g legal e (within_event (chart_of g) sends receives e wants)),
     ),
   )
+
+  first_within : (f : List Occurrence) × IsRunWithin n k (chart_of g) f × ComesFirstWithin k (chart_of g) f r
+  first_within = (parted sends receives g g, is_run, comes_first_there)
 
 -- in some run of the events of a chart that is possible with k slots the receive comes first
 pub witness_within : (n k : ℕ) (c : Chart) → IsPossibleWithin n k c → (q : ℕ) (r : Place) → IsReceiveFrom c q r → (g : List Occurrence) × IsRunWithin n k c g × ComesFirstWithin k c g r

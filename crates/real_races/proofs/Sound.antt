@@ -12,13 +12,14 @@ use Rattle.chart.specs.Order.Direct.{message, to_send, same_sender}
 use Rattle.chart.proofs.Tally.{tally-lt}
 use Rattle.chart.proofs.Belongs.{IsEvent-from_passes, same_place}
 use Rattle.chart.proofs.Histories.{begins_onward}
+use Rattle.real_races.specs.Walks.{Wanted, first_wanted, raise, step, wanted, wants_receive, wants_send, with_receive, with_send}
 use Rattle.real_races.specs.OtherRuns.{DirectWithin, BeforeWithin}
 use Rattle.real_races.specs.OtherRuns.DirectWithin.{enforced, freed}
 use Rattle.real_races.specs.OtherRuns.BeforeWithin.{direct, through}
 use Rattle.real_races.proofs.Turns.{IsWithin}
 use Rattle.real_races.proofs.Turns.IsWithin.{send, receive}
 use Rattle.real_races.proofs.Past.{turn_from_place}
-use Rattle.real_races.proofs.Wanted.{Wanted, raise, raise-cases, with_send, with_receive, wants_send, wants_receive, step, wanted, first_wanted}
+use Rattle.real_races.proofs.Wanted.{raise-cases}
 use Rattle.real_races.proofs.Newest.{next_place, event_begun, newest_send, newest_receive, newest_there}
 
 module _ (n k : ℕ) (g : List Occurrence) (legal : IsLegal n k g) (s r : Place) (belongs : BelongsTo (chart_of g) s r) where

@@ -1,26 +1,19 @@
 -- Events within so many of each lane's sends and of its receives.
-use Rattle.std.proofs.Common.{ℕ, ◌≤◌, min, length, List, subst, arith}
+use Rattle.std.proofs.Common.{ℕ, ◌≤◌, min, List, subst, arith}
 use Rattle.chart.specs.declared.history.Occurrence.{Occurrence}
 use Rattle.chart.specs.Events.{is_send_to, is_receive_from, tally}
-use Rattle.chart.specs.Histories.{sent, received}
+use Rattle.chart.specs.Histories.{received}
 use Rattle.chart.specs.Charts.{Chart, Place, IsSendTo, IsReceiveFrom}
 use Rattle.chart.specs.Places.{IsEvent}
 use Rattle.chart.proofs.Belongs.{IsEvent-from_passes, not_both, one_sender, one_receiver}
+use Rattle.real_races.specs.Walks.{Turns, sends_in}
 use Rattle.real_races.specs.OtherRuns.{HasCome}
 use Rattle.real_races.specs.OtherRuns.HasCome.{was_sent, was_received}
-
--- a number for each lane, by sender and receiver
-abbrev pub Turns : Type 0
-Turns = ℕ → ℕ → ℕ
 
 -- the event at e is within so many sends of its lane, or receives
 pub data IsWithin (c : Chart) (s r : Turns) (e : Place) : Type 0 where
   send : (q : ℕ) → IsSendTo c q e → tally (is_send_to q) (c e.instance) e.index ≤ s e.instance q → IsWithin c s r e
   receive : (q : ℕ) → IsReceiveFrom c q e → tally (is_receive_from q) (c e.instance) e.index ≤ r q e.instance → IsWithin c s r e
-
--- how many were sent on each lane
-abbrev pub sends_in : List Occurrence → Turns
-sends_in h q p = length (sent h q p)
 
 -- what has come is within what was sent and received
 pub within_come : (c : Chart) (h : List Occurrence) (e : Place) → HasCome c h e → IsWithin c (sends_in h) (received h) e

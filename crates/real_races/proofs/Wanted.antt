@@ -1,64 +1,12 @@
 -- What has to come when a receive comes first, found from a history's newest event to its oldest: so many sends and receives
 -- of each lane, and lines of which all that is older.
-use Rattle.std.proofs.Common.{◌≡◌, ℕ, ◌+◌, ◌-◌, ◌≤◌, ◌⊎◌, inl, inr, ◌==◌, ◌||◌, max, nat_lt, Bool, true, false, cond, List, [], ◌∷◌, length, refl, arith}
-use Rattle.std.specs.Prelude.{if◌then◌else◌}
+use Rattle.std.proofs.Common.{◌≡◌, ℕ, ◌+◌, ◌-◌, ◌≤◌, ◌⊎◌, inl, inr, ◌==◌, max, Bool, true, false, cond, List, [], ◌∷◌, length, refl, arith}
 use Rattle.std.proofs.lemmas.Bool.{and_parts, cases_lt, eqb-true}
 use Rattle.chart.specs.declared.history.Occurrence.{Occurrence}
 use Rattle.chart.specs.declared.history.Occurrence.TheVariants.{Send, Receive, Close}
 use Rattle.chart.specs.Histories.{is_lane, sent, received}
 use Rattle.chart.proofs.Histories.{is_lane-same}
-use Rattle.real_races.proofs.Turns.{Turns}
-
-pub record Wanted : Type 0 where
-  pub sends : Turns
-  pub receives : Turns
-  pub all : ℕ → Bool
-
--- the numbers with that of one lane at least so great
-abbrev pub raise : Turns → ℕ → ℕ → ℕ → Turns
-raise w a b t q p = if is_lane a b q p then max (w q p) t else w q p
-
--- a send that is wanted: with it all that is older on its line, and the receive that frees its slot
-abbrev pub with_send : ℕ → List Occurrence → ℕ → ℕ → Wanted → Wanted
-with_send k h a b w = record {
-  sends = raise w.sends a b (length (sent h a b) + 1);
-  receives = raise w.receives a b (length (sent h a b) + 1 - k);
-  all = λ p. (a == p) || w.all p;
-}
-
--- a receive that is wanted: with it its send
-abbrev pub with_receive : List Occurrence → ℕ → ℕ → Wanted → Wanted
-with_receive h a b w = record {
-  sends = raise w.sends b a (received h b a + 1);
-  receives = raise w.receives b a (received h b a + 1);
-  all = w.all;
-}
-
--- the send that comes after h is wanted, or the receive
-abbrev pub wants_send : List Occurrence → ℕ → ℕ → Wanted → Bool
-wants_send h a b w = w.all a || nat_lt (length (sent h a b)) (w.sends a b)
-
-abbrev pub wants_receive : List Occurrence → ℕ → ℕ → Wanted → Bool
-wants_receive h a b w = w.all a || nat_lt (received h b a) (w.receives b a)
-
--- one event, behind which the history h is
-abbrev pub step : ℕ → List Occurrence → Occurrence → Wanted → Wanted
-step k h (Send a b m) w = if wants_send h a b w then with_send k h a b w else w
-step k h (Receive a b c) w = if wants_receive h a b w then with_receive h a b w else w
-step k h (Close a b) w = w
-
--- all events
-abbrev pub wanted : ℕ → List Occurrence → Wanted → Wanted
-wanted k [] w = w
-wanted k (x ∷ h) w = wanted k h (step k h x w)
-
--- what is wanted of one receive, with its send
-abbrev pub first_wanted : ℕ → ℕ → ℕ → Wanted
-first_wanted q p t = record {
-  sends = raise (λ a b. 0) q p t;
-  receives = raise (λ a b. 0) q p t;
-  all = λ a. false;
-}
+use Rattle.real_races.specs.Walks.{Turns, Wanted, first_wanted, raise, step, wanted, wants_receive, wants_send, with_receive, with_send}
 
 pub raise-old : (w : Turns) (a b t q p : ℕ) → w q p ≤ raise w a b t q p
 raise-old w a b t q p = go (is_lane a b q p)

@@ -18,10 +18,11 @@ use Rattle.chart.proofs.Knowledge.{up_to_event}
 use Rattle.chart.proofs.Histories.{sent_begins-le, received_begins}
 use Rattle.chart.proofs.Lanes.{sent_count, received_count}
 use Rattle.chart.proofs.Sends.{sends_of}
+use Rattle.real_races.specs.Walks.{Turns, inner, parted, sends_in}
 use Rattle.real_races.specs.OtherRuns.{HasCome, HasEventsOf, KeepsCauses, IsRunOf, IsOvertaken, ComesFirst, CanBeOvertaken, AreOvertaken}
-use Rattle.real_races.proofs.Turns.{Turns, IsWithin, sends_in, within_come, come_within, within_event, within_weaker, within_both}
+use Rattle.real_races.proofs.Turns.{IsWithin, within_come, come_within, within_event, within_weaker, within_both}
 use Rattle.real_races.proofs.Turns.IsWithin.{send, receive}
-use Rattle.real_races.proofs.Parts.{inner, parted, inner_sent, inner_received, inner_sends, outer_sent, parted_sends, parted_receives}
+use Rattle.real_races.proofs.Parts.{inner_sent, inner_received, inner_sends, outer_sent, parted_sends, parted_receives}
 use Rattle.real_races.proofs.Beginnings.{inner_begins, outer_begins, inner_first}
 use Rattle.real_races.proofs.Counted.{names_of, names_sent, sends_short}
 use Rattle.real_races.proofs.Legality.{legal_parted}

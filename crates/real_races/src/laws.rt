@@ -1,5 +1,6 @@
 //! The laws of other runs with a chart's events and causes, each the contract of a function that does nothing.
-ghost use Rattle.real_races.specs.Laws.{OrderLaw, WitnessLaw, TurningLaw, ReportLaw, OneRunLaw, SlotsOrderLaw, SlotsWitnessLaw, SlotsTurningLaw};
+ghost use Rattle.real_races.specs.Laws.{OrderLaw, WitnessLaw, TurningLaw, ReportLaw, OneRunLaw};
+ghost use Rattle.real_races.specs.Laws.{SlotsOrderLaw, SlotsWitnessLaw, SlotsTurningLaw};
 
 /// In each run of a chart's events what is enforced before an event has come when this event has.
 pub fn order_law()
@@ -24,9 +25,9 @@ pub fn real_races_law()
     ensures one_run { OneRunLaw }
 {}
 
-/// The same where lanes have k slots, of a chart that is possible with these. There the n-th receive of a lane also comes
-/// before the send k further on. Whatever this and the enforced order put before a receive has come, in each run with so
-/// many slots, when the receive has; anything else it overtakes in one.
+/// The same where lanes have k slots, of a chart that is possible with these. There the n-th receive of a lane also
+/// comes before the send k further on. Whatever this and the enforced order put before a receive has come, in each run
+/// with so many slots, when the receive has; anything else it overtakes in one.
 pub fn slots_law()
     ensures order { SlotsOrderLaw }
     ensures witness { SlotsWitnessLaw }

@@ -11,8 +11,8 @@
 //!   events exactly those that are enforced before it have ([`witness_law`]).
 //! - So a report lists exactly the earlier events of the line, outside of the receive's coregion, that some such run
 //!   has after the receive, and one run shows all of them at once ([`real_races_law`]).
-//! - The same with so many slots a lane, where the receive that frees a slot comes before the send that takes it: in each
-//!   such run this order is kept, and each receive comes first in one ([`slots_law`]).
+//! - The same with so many slots a lane, where the receive that frees a slot comes before the send that takes it: in
+//!   each such run this order is kept, and each receive comes first in one ([`slots_law`]).
 #![tactic(auto)]
 
 pub mod laws;
