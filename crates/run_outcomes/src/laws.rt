@@ -1,0 +1,7 @@
+//! What follows from the definitions.
+ghost use Rattle.run_outcomes.specs.Laws.{TurnsLaw};
+
+/// In a run of the script of a schedule's instance each turn is one of the command to which its note is given.
+pub fn turns_law()
+    ensures { TurnsLaw }
+{}

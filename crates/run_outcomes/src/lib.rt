@@ -1,0 +1,21 @@
+//! What the run of a schedule comes to whose instances each do their own commands, on threads, and its text.
+//!
+//! What is promised:
+//!
+//! - A schedule's instances run on a board of their own ([`run_schedule`]).
+//! - A run has one outcome ([`RunOutcome::of`]): the chart and the reports that were gathered, a note for each command
+//!   that was refused or found its lane ended, by line, and the names of the instances whose turns were spent. Turns
+//!   that were answered full or nothing leave no note, since the script does its act again (`specs/RunNotes.antt`).
+//! - A note is given to the command that left it ([`laws::turns_law`]).
+//! - Where memory was refused in the run (F6) there is none.
+//! - Its text is written whole, or with F24 a beginning of it ([`RunOutcome::write`]).
+#![tactic(auto)]
+
+pub mod laws;
+mod notes;
+mod run_outcome;
+mod running;
+mod text;
+
+pub use run_outcome::RunOutcome;
+pub use running::run_schedule;
