@@ -16,6 +16,7 @@ mod keyword;
 pub mod laws;
 mod reading;
 mod schedule;
+mod text;
 
 pub use command::{Action, Command, Note, Word};
 pub use schedule::{Capacity, MAX_CAPACITY, Schedule};
