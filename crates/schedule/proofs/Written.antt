@@ -1,6 +1,6 @@
 -- That a schedule's text as it is written is its lines, with one space between words.
 use Rattle.std.proofs.Common.{◌≡◌, ℕ, List, [], ◌∷◌, ◌++◌, refl, sym, ap, ◌∙◌, append_assoc, append-nil, map, decimal, codes}
-use Rattle.std.specs.List.{flat_map, join_with_byte}
+use Rattle.std.specs.List.{flat_map}
 use Rattle.msc_text.specs.ChartText.{name_at}
 use Rattle.msc_text.specs.Lines.{ended}
 use Rattle.schedule.specs.Keywords.{written}
@@ -35,4 +35,4 @@ unfolding plan_text schedule_text
 plan_text-is plan =
     ap (λ l. l ++ (capacity_text plan.capacity ++ flat_map (command_text plan.names) plan.commands)) (sym (line-is (written keywords.Instances) plan.names))
     ∙ ap (λ l. ended (instances_line plan.names) ++ l) (ap (λ l. l ++ flat_map (command_text plan.names) plan.commands) (sym (capacity-is plan.capacity))
-      ∙ ap (λ l. ended (capacity_line plan.capacity) ++ l) (sym (commands-are plan.names plan.commands)))
+    ∙ ap (λ l. ended (capacity_line plan.capacity) ++ l) (sym (commands-are plan.names plan.commands)))

@@ -142,10 +142,7 @@ fn add_commands<W: Out>(
 
 /// Adds the three parts of a schedule's text.
 #[tactic(auto, using(msc_text::proofs::Writes::joining), unfolding(crate::specs::WrittenLines::plan_text))]
-fn add_schedule<W: Out>(
-    text: &mut TextBuffer<'_, W>,
-    schedule: &Schedule,
-) -> Result<(), WriteError>
+fn add_schedule<W: Out>(text: &mut TextBuffer<'_, W>, schedule: &Schedule) -> Result<(), WriteError>
     ensures { Adds W.contents W.failures text.old text.new result (plan_text schedule.now) }
 {
     let names = schedule.names();
