@@ -1,8 +1,8 @@
 //! The search and the clocks agree: what running posts report by their clocks is what the offline checker finds, which reads
 //! no clock.
 //!
-//! What is promised: an audit accepts what a whole board came to, unless an allocation is refused: what it was gathered to
-//! ([`audit_gathered`]), and what a run of it on threads came to ([`audit_run`]).
+//! What is promised: an audit accepts what a whole board came to, unless an allocation is refused: what it was gathered
+//! to ([`audit_gathered`]), and what a run of it on threads came to ([`audit_run`]).
 #![tactic(auto)]
 
 ghost use Rattle.std.specs.Prelude.{◌≡◌, List, IfErr};
