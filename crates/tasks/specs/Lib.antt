@@ -3,3 +3,4 @@ pub mod Refusals
 pub mod Tasks
 pub mod Seeds
 pub mod Statuses
+pub mod Showing

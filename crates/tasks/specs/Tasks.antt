@@ -74,9 +74,13 @@ module _ {S : Type 0} (contents : S → Option (List ℕ)) (failures : S → ℕ
   Does (Random seed) bytes old new done = Replays old new done (drawn_by seed (schedule_of bytes))
   Does Check bytes old new done = Checks old new done (chart_of bytes)
 
--- the task is done and nothing is said, or it is refused with status 2 and a line, of which a failed write may leave a
--- beginning
+-- what does this is done and nothing is said, or it is refused with status 2 and a line, of which a failed write may leave
+-- a beginning
+abbrev pub Answers : {S T : Type 0} → (S → S → Result Status ProgramError → Type 0) → (T → Option (List ℕ)) → (T → ℕ) → S → S → T → T → ℕ → Type 0
+Answers does err_contents err_failures old new err_old err_new status =
+    ((done : Status) × does old new (Ok done) × (status ≡ code_of done) × (err_new ≡ err_old))
+    ⊎ ((error : ProgramError) × does old new (Err error) × (status ≡ 2) × Tried err_contents err_failures err_old err_new (refusal_text error))
+
+-- what is answered to a task
 abbrev pub Performs : {S T : Type 0} → (S → Option (List ℕ)) → (S → ℕ) → (T → Option (List ℕ)) → (T → ℕ) → Task → List ℕ → S → S → T → T → ℕ → Type 0
-Performs contents failures err_contents err_failures task bytes old new err_old err_new status =
-    ((done : Status) × Does contents failures task bytes old new (Ok done) × (status ≡ code_of done) × (err_new ≡ err_old))
-    ⊎ ((error : ProgramError) × Does contents failures task bytes old new (Err error) × (status ≡ 2) × Tried err_contents err_failures err_old err_new (refusal_text error))
+Performs contents failures err_contents err_failures task bytes = Answers (Does contents failures task bytes) err_contents err_failures

@@ -6,8 +6,9 @@
 //!   which is possible; 1 says that there are races.
 //! - With status 2 the refusal's line was written, or a beginning of it where standard error failed, and nothing went
 //!   to the output before it, unless a write failed (F24).
+//! - A run of a schedule's scripts on threads ([`scripts`], [`run_schedule`]) decides the output's bytes too ([`show_run`]).
 //! - [`refused`] writes a refusal's line, or a beginning of it, and [`seed_in`] reads exactly the words of digits alone
-//!   whose number has 64 bits.
+//!   whose number has 64 bits, [`turns_in`] those whose number is one of turns that a run may have.
 #![tactic(auto)]
 
 mod checking;
@@ -15,10 +16,15 @@ mod error;
 mod refusal;
 mod replaying;
 mod seed;
+mod showing;
 mod status;
 mod task;
 
 pub use error::ProgramError;
 pub use refusal::refused;
-pub use seed::seed_in;
+pub use replaying::schedule_in;
+pub use run_outcomes::run_schedule;
+pub use schedule_scripts::scripts;
+pub use seed::{seed_in, turns_in};
+pub use showing::show_run;
 pub use task::{Task, perform};

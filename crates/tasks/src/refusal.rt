@@ -1,9 +1,11 @@
 //! Refusals as text.
-ghost use Rattle.std.specs.Prelude.{◌≡◌};
+ghost use Rattle.std.specs.Prelude.{◌≡◌, IfErr, IfOk};
 ghost use Rattle.msc_text.specs.Writing.{Wrote, Adds};
+ghost use Rattle.tasks.specs.Statuses.{code_of};
 ghost use Rattle.tasks.specs.Refusals.{name_label, cause_label, label, behind_space, cause_detail, event_detail, detail, start_text, end_text, refusal_text, Tried};
 
 use crate::error::ProgramError;
+use crate::status::Status;
 use chart::{Name, NameError};
 use itoa::Buffer;
 use msc_text::{Cause, Fault, Out, TextBuffer, WriteError};
@@ -145,4 +147,15 @@ pub fn refused<V: Out>(error: &ProgramError, err: &mut V) -> u8
 {
     let _ = write_refusal(error, err);
     2
+}
+
+/// The exit status of what was done, or of what is refused now.
+pub(crate) fn answered<V: Out>(done: Result<Status, ProgramError>, err: &mut V) -> u8
+    ensures ok { IfOk done (λ status. (result ≡ code_of status) × (err.new ≡ err.old)) }
+    ensures err { IfErr done (λ error. (result ≡ 2) × Tried V.contents V.failures err.old err.new (refusal_text error)) }
+{
+    match done {
+        Ok(status) => status.code(),
+        Err(error) => refused(&error, err),
+    }
 }

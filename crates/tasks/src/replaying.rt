@@ -14,7 +14,8 @@ use replayer::replay;
 use schedule::Schedule;
 use std::alloc::Global;
 
-fn schedule_in(alloc: Global, text: &[u8]) -> Result<Schedule, ProgramError>
+/// The schedule that a file's bytes say. A refusal is the text's first fault, or F6.
+pub fn schedule_in(alloc: Global, text: &[u8]) -> Result<Schedule, ProgramError>
     ensures { Reads result (schedule_of text.now) }
 {
     match Schedule::read(alloc, text) {

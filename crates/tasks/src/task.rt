@@ -3,7 +3,7 @@ ghost use Rattle.tasks.specs.Tasks.{Does, Performs};
 
 use crate::checking::check;
 use crate::error::ProgramError;
-use crate::refusal::refused;
+use crate::refusal::answered;
 use crate::replaying::{replay_drawn, replay_text};
 use crate::status::Status;
 use msc_text::Out;
@@ -48,8 +48,5 @@ pub fn perform<W: Out, V: Out>(
 ) -> u8
     ensures { Performs W.contents W.failures V.contents V.failures task.now text.now out.old out.new err.old err.new result }
 {
-    match do_task(alloc, task, text, out) {
-        Ok(status) => status.code(),
-        Err(error) => refused(&error, err),
-    }
+    answered(do_task(alloc, task, text, out), err)
 }

@@ -1,0 +1,56 @@
+//! Shows runs of schedules on threads.
+ghost use Rattle.std.specs.Prelude.{IfOk};
+ghost use Rattle.run_outcomes.specs.RunOutcomes.{IsRunOf};
+ghost use Rattle.tasks.specs.Showing.{Shows, ShowsRun};
+
+use crate::error::ProgramError;
+use crate::refusal::{answered, refused};
+use crate::status::Status;
+use instances::{Run, RunError};
+use msc_text::Out;
+use run_outcomes::RunOutcome;
+use schedule::Schedule;
+use std::alloc::Global;
+
+/// Writes what a run comes to, and answers whether it has races.
+fn write_run<W: Out>(
+    alloc: Global,
+    schedule: &Schedule,
+    run: Run,
+    out: &mut W,
+) -> Result<Status, ProgramError>
+    requires { IsRunOf schedule.now run }
+    ensures { Shows W.contents W.failures schedule.now run out.old out.new result }
+{
+    let Ok(outcome) = RunOutcome::of(alloc, schedule, run) else {
+        return Err(ProgramError::Memory);
+    };
+    match outcome.write(out) {
+        Ok(()) => Ok(Status::of(outcome.has_races())),
+        Err(_) => Err(ProgramError::Write),
+    }
+}
+
+/// Shows what the run of a schedule's scripts ([`crate::scripts`]) came to, whose first post, trace and end are those of
+/// instance 1, and so on: writes the chart, the races, the notes and who spent its turns to `out`, or the line of a
+/// refusal to `err`, and answers the exit status: 0, 1 where there are races, or 2 after a refusal.
+///
+/// F6 refuses it where a growth was refused, also where an act of the run was answered so, or an end says so: then
+/// nothing of the run is shown. Handed F25, which is never printed, it prints nothing. A failed write to `err` changes
+/// nothing.
+pub fn show_run<P: Drop, B: Drop, W: Out, V: Out>(
+    alloc: Global,
+    schedule: &Schedule,
+    ran: Result<Run, RunError<P, B>>,
+    out: &mut W,
+    err: &mut V,
+) -> u8
+    requires { IfOk ran (IsRunOf schedule.now) }
+    ensures { ShowsRun W.contents W.failures V.contents V.failures schedule.now ran out.old out.new err.old err.new result }
+{
+    match ran {
+        Ok(run) => answered(write_run(alloc, schedule, run, out), err),
+        Err(RunError::Memory) => refused(&ProgramError::Memory, err),
+        Err(RunError::Unfit(..)) => 2,
+    }
+}
