@@ -13,6 +13,8 @@ pub enum Request<'a> {
     Random { file: &'a str, seed: &'a str },
     /// `check FILE`.
     Check { file: &'a str },
+    /// `threads FILE --turns N`, whose number is a word still.
+    Threads { file: &'a str, turns: &'a str },
 }
 
 /// The word for the file that a command reads.
@@ -29,13 +31,17 @@ fn file_command<'a>(alloc: Global, name: &'static str) -> Result<Command<'a>, Al
         .arg(file_word(alloc))
 }
 
-/// `random FILE --seed N`.
-fn random_command<'a>(alloc: Global) -> Result<Command<'a>, AllocError> {
-    let seed = Arg::new(alloc, "seed")
-        .long("seed")
+/// A command with a FILE and an option, whose word must be given too.
+fn option_command<'a>(
+    alloc: Global,
+    name: &'static str,
+    option: &'static str,
+) -> Result<Command<'a>, AllocError> {
+    let word = Arg::new(alloc, option)
+        .long(option)
         .required(true)
         .action(ArgAction::Set);
-    file_command(alloc, "random")?.arg(seed)
+    file_command(alloc, name)?.arg(word)
 }
 
 /// The command line that the program understands. Help, the version, no command and an unknown one are all mistakes.
@@ -45,8 +51,9 @@ fn command_line<'a>(alloc: Global) -> Result<Command<'a>, AllocError> {
         .disable_help_subcommand(true)
         .subcommand_required(true)
         .subcommand(file_command(alloc, "replay")?)?
-        .subcommand(random_command(alloc)?)?
-        .subcommand(file_command(alloc, "check")?)
+        .subcommand(option_command(alloc, "random", "seed")?)?
+        .subcommand(file_command(alloc, "check")?)?
+        .subcommand(option_command(alloc, "threads", "turns")?)
 }
 
 /// What a command's words ask for.
@@ -58,6 +65,10 @@ fn request_of<'a>(command: &str, words: &ArgMatches<'a>) -> Option<Request<'a>> 
         "random" => {
             let seed = words.get_str("seed")?;
             Some(Request::Random { file, seed })
+        }
+        "threads" => {
+            let turns = words.get_str("turns")?;
+            Some(Request::Threads { file, turns })
         }
         _ => None,
     }

@@ -65,3 +65,35 @@ fn random_with_its_seed(rt: HostRuntime) {
     misses(&rt, rt.alloc(), &["mscrun", "random", "one", "--see", "7"]);
     misses(&rt, rt.alloc(), &["mscrun", "replay", "one", "--seed", "7"]);
 }
+
+#[test]
+fn threads_with_turns(rt: HostRuntime) {
+    let words = ["mscrun", "threads", "a file", "--turns", "7"];
+    assert!(rt;
+        matches!(
+            requested(rt.alloc(), &words),
+            Ok(Request::Threads {
+                file: "a file",
+                turns: "7"
+            })
+        )
+    );
+    misses(&rt, rt.alloc(), &["mscrun", "threads", "one"]);
+    misses(&rt, rt.alloc(), &["mscrun", "threads", "--turns", "7"]);
+    misses(&rt, rt.alloc(), &["mscrun", "threads", "one", "--turns"]);
+    misses(
+        &rt,
+        rt.alloc(),
+        &["mscrun", "threads", "one", "--seed", "7"],
+    );
+    misses(
+        &rt,
+        rt.alloc(),
+        &["mscrun", "replay", "one", "--turns", "7"],
+    );
+    misses(
+        &rt,
+        rt.alloc(),
+        &["mscrun", "random", "one", "--seed", "7", "--turns", "7"],
+    );
+}

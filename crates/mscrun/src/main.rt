@@ -1,16 +1,31 @@
-//! mscrun: reads the command line and one file, and hands the file's bytes to the library.
+//! mscrun: reads the command line and one file, and hands the file's bytes to the library. Runs on threads begin here.
 #![tactic(auto)]
 
 ghost use Rattle.std.specs.Prelude.{◌≡◌};
 
+use behaviour::Behaviour;
 use command_line::{CommandLineError, Request, requested};
-use msc_text::StreamOut;
-use std::alloc::Global;
+use msc_text::{Out, StreamOut};
+use schedule::Schedule;
+use std::alloc::{AllocError, Global};
 use std::convert::AsStr;
 use std::process::ExitCode;
 use std::rt::{Env, Files};
+use std::thread::Threads;
 use std::{env, fs, io};
-use tasks::{ProgramError, Task, perform, refused, seed_in};
+use tasks::{
+    ProgramError, Task, perform, refused, run_schedule, schedule_in, scripts, seed_in, show_run,
+    turns_in,
+};
+
+/// What is asked for.
+#[derive(Clone, Copy, Debug, PartialEq, Eq)]
+enum Asked {
+    /// A task of the library.
+    Task(Task),
+    /// A run on threads.
+    Threads { turns: u32 },
+}
 
 /// What the system refused is F6 where memory ran out, and else the other refusal.
 fn cause(error: &io::Error, other: ProgramError) -> ProgramError {
@@ -31,22 +46,26 @@ fn refusal(error: CommandLineError) -> ProgramError
     }
 }
 
-/// The task that is asked for, and its file. G1: the seed isn't one.
-fn task_of(request: Request) -> Result<(Task, &str), ProgramError> {
+/// What is asked for, and the file. G1: the seed isn't one, or the turns aren't.
+fn asked_by(request: Request) -> Result<(Asked, &str), ProgramError> {
     match request {
-        Request::Replay { file } => Ok((Task::Replay, file)),
-        Request::Check { file } => Ok((Task::Check, file)),
+        Request::Replay { file } => Ok((Asked::Task(Task::Replay), file)),
+        Request::Check { file } => Ok((Asked::Task(Task::Check), file)),
         Request::Random { file, seed } => match seed_in(seed) {
-            Some(seed) => Ok((Task::Random { seed }, file)),
+            Some(seed) => Ok((Asked::Task(Task::Random { seed }), file)),
+            None => Err(ProgramError::Usage),
+        },
+        Request::Threads { file, turns } => match turns_in(turns) {
+            Some(turns) => Ok((Asked::Threads { turns }, file)),
             None => Err(ProgramError::Usage),
         },
     }
 }
 
-/// What is asked for, and the file.
-fn task_in<'a, S: AsStr>(alloc: Global, words: &'a [S]) -> Result<(Task, &'a str), ProgramError> {
+/// What these words ask for, and the file.
+fn asked_in<'a, S: AsStr>(alloc: Global, words: &'a [S]) -> Result<(Asked, &'a str), ProgramError> {
     match requested(alloc, words) {
-        Ok(request) => task_of(request),
+        Ok(request) => asked_by(request),
         Err(error) => Err(refusal(error)),
     }
 }
@@ -61,11 +80,47 @@ fn bytes_of<R: Files + AllocGlobal>(rt: &R, file: &str) -> Result<Vec<u8>, Progr
 }
 
 /// What is asked for, and the bytes of the file.
-fn read_request<R: Env + Files + AllocGlobal>(rt: &R) -> Result<(Task, Vec<u8>), ProgramError> {
+fn read_request<R: Env + Files + AllocGlobal>(rt: &R) -> Result<(Asked, Vec<u8>), ProgramError> {
     let words = words_of(rt)?;
-    let (task, file) = task_in(rt.alloc(), words.as_slice())?;
+    let (asked, file) = asked_in(rt.alloc(), words.as_slice())?;
     let bytes = bytes_of(rt, file)?;
-    Ok((task, bytes))
+    Ok((asked, bytes))
+}
+
+/// Lets each instance of the schedule do its own commands, on a thread of its own, for so many turns at most, and shows
+/// what that came to. F6: a growth was refused before they began.
+fn run_on_threads<R: Threads + AllocGlobal + Sync, W: Out, V: Out>(
+    rt: &R,
+    schedule: &Schedule,
+    turns: u32,
+    out: &mut W,
+    err: &mut V,
+) -> Result<u8, AllocError> {
+    let alloc = rt.alloc();
+    let mut behaviours: Vec<Box<dyn Behaviour + Send>> = Vec::new(alloc);
+    for script in scripts(alloc, schedule)? {
+        behaviours.push(Box::new(alloc, script)?)?;
+    }
+    let ran = run_schedule(rt, alloc, schedule, behaviours, turns);
+    Ok(show_run(alloc, schedule, ran, out, err))
+}
+
+/// Runs the schedule that the bytes say.
+fn run_text<R: Threads + AllocGlobal + Sync, W: Out, V: Out>(
+    rt: &R,
+    text: &[u8],
+    turns: u32,
+    out: &mut W,
+    err: &mut V,
+) -> u8 {
+    let schedule = match schedule_in(rt.alloc(), text) {
+        Ok(schedule) => schedule,
+        Err(error) => return refused(&error, err),
+    };
+    match run_on_threads(rt, &schedule, turns, out, err) {
+        Ok(status) => status,
+        Err(_) => refused(&ProgramError::Memory, err),
+    }
 }
 
 fn main(rt: HostRuntime) -> ExitCode {
@@ -73,7 +128,12 @@ fn main(rt: HostRuntime) -> ExitCode {
     let stderr = rt.stderr();
     let mut err = StreamOut::new(io::writer(&stderr));
     let status = match read_request(&rt) {
-        Ok((task, bytes)) => perform(rt.alloc(), &task, bytes.as_slice(), &mut out, &mut err),
+        Ok((Asked::Task(task), bytes)) => {
+            perform(rt.alloc(), &task, bytes.as_slice(), &mut out, &mut err)
+        }
+        Ok((Asked::Threads { turns }, bytes)) => {
+            run_text(&rt, bytes.as_slice(), turns, &mut out, &mut err)
+        }
         Err(error) => refused(&error, &mut err),
     };
     ExitCode::from(status)
@@ -84,22 +144,22 @@ mod tests {
     use super::*;
     use std::process::Abort;
 
-    fn task_asked(alloc: Global, words: &[&str]) -> Option<Task> {
-        match task_in(alloc, words) {
-            Ok((task, _)) => Some(task),
+    fn asked(alloc: Global, words: &[&str]) -> Option<Asked> {
+        match asked_in(alloc, words) {
+            Ok((asked, _)) => Some(asked),
             Err(_) => None,
         }
     }
 
     /// The seed is read so.
     fn seeds(rt: &impl Abort, alloc: Global, word: &str, seed: u64) {
-        let task = task_asked(alloc, &["mscrun", "random", "a file", "--seed", word]);
-        assert_eq!(rt; task, Some(Task::Random { seed }));
+        let asked = asked(alloc, &["mscrun", "random", "a file", "--seed", word]);
+        assert_eq!(rt; asked, Some(Asked::Task(Task::Random { seed })));
     }
 
     /// The words aren't a command line.
     fn misses(rt: &impl Abort, alloc: Global, words: &[&str]) {
-        assert!(rt; matches!(task_in(alloc, words), Err(ProgramError::Usage)));
+        assert!(rt; matches!(asked_in(alloc, words), Err(ProgramError::Usage)));
     }
 
     /// The seed is none.
@@ -110,14 +170,31 @@ mod tests {
     #[test]
     fn tasks_of_command_lines(rt: HostRuntime) {
         let words = ["mscrun", "replay", "a file"];
-        assert!(rt; matches!(task_in(rt.alloc(), &words), Ok((Task::Replay, "a file"))));
+        assert!(rt;
+            matches!(
+                asked_in(rt.alloc(), &words),
+                Ok((Asked::Task(Task::Replay), "a file"))
+            )
+        );
         let words = ["mscrun", "check", "a file"];
-        assert!(rt; matches!(task_in(rt.alloc(), &words), Ok((Task::Check, "a file"))));
+        assert!(rt;
+            matches!(
+                asked_in(rt.alloc(), &words),
+                Ok((Asked::Task(Task::Check), "a file"))
+            )
+        );
         let words = ["mscrun", "random", "a file", "--seed", "7"];
         assert!(rt;
             matches!(
-                task_in(rt.alloc(), &words),
-                Ok((Task::Random { seed: 7 }, "a file"))
+                asked_in(rt.alloc(), &words),
+                Ok((Asked::Task(Task::Random { seed: 7 }), "a file"))
+            )
+        );
+        let words = ["mscrun", "threads", "a file", "--turns", "7"];
+        assert!(rt;
+            matches!(
+                asked_in(rt.alloc(), &words),
+                Ok((Asked::Threads { turns: 7 }, "a file"))
             )
         );
         misses(&rt, rt.alloc(), &["mscrun", "help"]);
@@ -140,5 +217,27 @@ mod tests {
         misses_seed(&rt, rt.alloc(), "0x7");
         misses_seed(&rt, rt.alloc(), "1_000");
         misses_seed(&rt, rt.alloc(), "seven");
+    }
+    /// The turns are read so.
+    fn has_turns(rt: &impl Abort, alloc: Global, word: &str, turns: u32) {
+        let asked = asked(alloc, &["mscrun", "threads", "a file", "--turns", word]);
+        assert_eq!(rt; asked, Some(Asked::Threads { turns }));
+    }
+
+    /// The turns are none.
+    fn misses_turns(rt: &impl Abort, alloc: Global, word: &str) {
+        misses(rt, alloc, &["mscrun", "threads", "a file", "--turns", word]);
+    }
+
+    #[test]
+    fn turns_up_to_a_million(rt: HostRuntime) {
+        has_turns(&rt, rt.alloc(), "1", 1);
+        has_turns(&rt, rt.alloc(), "0007", 7);
+        has_turns(&rt, rt.alloc(), "1000000", 1_000_000);
+        misses_turns(&rt, rt.alloc(), "0");
+        misses_turns(&rt, rt.alloc(), "1000001");
+        misses_turns(&rt, rt.alloc(), "18446744073709551617");
+        misses_turns(&rt, rt.alloc(), "+7");
+        misses_turns(&rt, rt.alloc(), "");
     }
 }
