@@ -6,7 +6,7 @@ use Rattle.run_outcomes.proofs.notes.add_turn.Goals as goal
 use Rattle.run_outcomes.proofs.notes.add_turn.Goals.{in-Some-note_of+in_ok-push, in_default-note_of}
 
 pub returns : goal.returns
-returns c = 
+returns c =
     let lines = c.args.lines.now in
     let old = c.args.notes.now.items in
     let answer = c.in-Some.answer in
