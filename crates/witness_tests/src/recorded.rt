@@ -1,0 +1,115 @@
+//! The steps that a schedule's accepted commands make, and what is asked of them.
+
+use chart::{Event, EventNo, InstanceNo};
+use outcomes::Outcome;
+use schedule::{Action, Note, Schedule};
+use std::alloc::{AllocError, Global};
+use witness::{Step, overtake};
+
+pub fn maker(step: &Step) -> InstanceNo {
+    match step {
+        Step::Send { from, .. } => *from,
+        Step::Receive { at, .. } => *at,
+    }
+}
+
+/// How many of the steps the instance makes.
+pub fn made_by(steps: &[Step], instance: InstanceNo) -> usize {
+    let mut many = 0usize;
+    for step in steps {
+        if maker(step) == instance {
+            many = many.saturating_add(1);
+        }
+    }
+    many
+}
+
+/// The instance's event of this number, from 0.
+fn event_of(outcome: &Outcome<'_>, instance: InstanceNo, number: usize) -> Option<Event> {
+    for line in outcome.chart().lines() {
+        if line.instance() == instance {
+            return line.events().get(number).copied();
+        }
+    }
+    None
+}
+
+fn step_of(maker: InstanceNo, event: Event) -> Step {
+    match event {
+        Event::Send { to, name } => Step::Send {
+            from: maker,
+            to,
+            name,
+        },
+        Event::Receive { from, region, .. } => Step::Receive {
+            at: maker,
+            from,
+            region,
+        },
+    }
+}
+
+fn has_note(notes: &[Note], line: u64) -> bool {
+    notes.iter().any(|note| note.line == line)
+}
+
+/// The steps that the accepted commands make, in their order.
+pub fn steps_of(
+    alloc: Global,
+    schedule: &Schedule,
+    outcome: &Outcome<'_>,
+) -> Result<Vec<Step>, AllocError> {
+    let mut steps = Vec::new(alloc);
+    for command in schedule.commands() {
+        let makes = matches!(
+            command.action,
+            Action::Send { .. } | Action::Receive { .. } | Action::Any
+        );
+        if makes && !has_note(outcome.notes(), command.line) {
+            let actor = command.actor;
+            let number = made_by(steps.as_slice(), actor);
+            if let Some(event) = event_of(outcome, actor, number) {
+                steps.push(step_of(actor, event))?;
+            }
+        }
+    }
+    Ok(steps)
+}
+
+/// The number of the step that makes an event.
+pub fn number_of(steps: &[Step], event: EventNo) -> Option<usize> {
+    let mut left = event.index as usize;
+    for number in 0..steps.len() {
+        if maker(&steps[number]) == event.instance {
+            left = left.saturating_sub(1);
+            if left == 0 {
+                return Some(number);
+            }
+        }
+    }
+    None
+}
+
+/// The event that a step makes.
+pub fn event_no(steps: &[Step], number: usize) -> Option<EventNo> {
+    let instance = maker(steps.get(number)?);
+    let before = made_by(steps.get(..number)?, instance);
+    let index = u32::try_from(before.saturating_add(1)).ok()?;
+    Some(EventNo { instance, index })
+}
+
+/// What is found for two steps, where the first receives.
+pub fn found(
+    alloc: Global,
+    steps: &[Step],
+    places: usize,
+    receive: usize,
+    earlier: usize,
+) -> Result<Option<Vec<Step>>, AllocError> {
+    if receive < steps.len() && earlier < steps.len() {
+        if let Step::Receive { .. } = steps[receive] {
+            return overtake(alloc, steps, places, receive, earlier);
+        }
+    }
+    Ok(None)
+}

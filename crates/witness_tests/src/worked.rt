@@ -1,0 +1,100 @@
+//! Worked schedules: each reported race has a witness.
+
+use crate::every_run::finds_all;
+use crate::recorded::{found, number_of, steps_of};
+use crate::runs::is_witness;
+use plain_replayer::plain_replay;
+use schedule::{MAX_CAPACITY, Schedule};
+use std::alloc::Global;
+use std::process::Abort;
+use std::test::Fail;
+use witness::Step;
+
+/// A schedule, how many races it has, and how many of them another run with as many places turns round.
+type Worked = (&'static [u8], usize, usize);
+
+static WORKED: [Worked; 7] = [
+    (
+        b"instances a b c\ncapacity 1\na send b x\nc send b y\nb receive a\nb receive c\n",
+        1,
+        1,
+    ),
+    (
+        b"instances a b c\ncapacity 1\na send b x\na send c y\nc receive a\nc send b z\nb receive a\nb receive c\n",
+        1,
+        1,
+    ),
+    (
+        b"instances a b\ncapacity 1\na send b q\nb send a p\na receive b\nb receive a\n",
+        2,
+        2,
+    ),
+    (
+        b"instances a b c\ncapacity 2\na send b x\na send b z\nc send b y\nb any\nb any\nb any\n",
+        2,
+        2,
+    ),
+    (
+        b"instances a b c d e f g h i\ncapacity 1\ni send a x\nh send a y\na any\na any\n",
+        1,
+        1,
+    ),
+    (
+        b"instances a b c\ncapacity 1\na send b x\nc send b y\nb concurrent\nb receive a\nb receive c\nb endconcurrent\n",
+        0,
+        0,
+    ),
+    (
+        b"instances a b c\ncapacity 1\na send b x\nb receive a\na send b y\na send c z\nc receive a\nc send b w\nb receive c\n",
+        1,
+        0,
+    ),
+];
+
+/// Whether a witness within so many places is found, which is then gone over.
+fn has_witness(
+    rt: &impl Abort,
+    alloc: Global,
+    steps: &[Step],
+    places: usize,
+    receive: usize,
+    earlier: usize,
+) -> Result<bool, Fail> {
+    let Some(run) = found(alloc, steps, places, receive, earlier)? else {
+        return Ok(false);
+    };
+    assert!(rt; is_witness(alloc, steps, run.as_slice(), places, receive, earlier)?);
+    Ok(true)
+}
+
+/// How many races are reported, and how many of them have a witness with as many places; each has one with the most.
+fn witnessed(rt: &impl Abort, alloc: Global, schedule: &Schedule) -> Result<(usize, usize), Fail> {
+    let outcome = plain_replay(alloc, schedule).expect(rt, "an outcome");
+    let steps = steps_of(alloc, schedule, &outcome)?;
+    let steps = steps.as_slice();
+    let mut races = 0usize;
+    let mut within = 0usize;
+    for report in outcome.reports() {
+        let receive = number_of(steps, report.receive()).ok_or("no such receive")?;
+        for event in report.earlier().iter() {
+            let earlier = number_of(steps, event).ok_or("no such event")?;
+            assert!(rt; has_witness(rt, alloc, steps, MAX_CAPACITY, receive, earlier)?);
+            races = races.saturating_add(1);
+            let places = schedule.capacity().places();
+            if has_witness(rt, alloc, steps, places, receive, earlier)? {
+                within = within.saturating_add(1);
+            }
+        }
+    }
+    Ok((races, within))
+}
+
+#[test]
+fn worked_schedules(rt: HostRuntime) -> Result<(), Fail> {
+    for (text, races, within) in WORKED {
+        let schedule = Schedule::read(rt.alloc(), text)?;
+        assert_eq!(rt; witnessed(&rt, rt.alloc(), &schedule)?, (races, within));
+        finds_all(&rt, rt.alloc(), &schedule)?;
+    }
+    Ok(())
+}
