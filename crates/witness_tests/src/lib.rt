@@ -6,6 +6,8 @@
 #[cfg(test)]
 mod every_run;
 #[cfg(test)]
+mod long_run;
+#[cfg(test)]
 mod recorded;
 #[cfg(test)]
 mod runs;
