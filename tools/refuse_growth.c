@@ -1,6 +1,6 @@
-/* Loaded before a program by LD_PRELOAD. The growth of memory whose number REFUSED_GROWTH gives, from 1, is refused, and
-   the file that REFUSAL_FILE names is then made: where there is none, the program ended before that growth. A program
-   that has not ended after REFUSAL_SECONDS, or else a minute, is stopped. */
+/* Loaded before a program by LD_PRELOAD. The growth of memory whose number REFUSED_GROWTH gives, from 1, is refused, and all
+   after it where REFUSED_FROM_THERE_ON is set. The file that REFUSAL_FILE names is then made: where there is none, the
+   program ended before that growth. A program that has not ended after REFUSAL_SECONDS, or else a minute, is stopped. */
 #include <errno.h>
 #include <fcntl.h>
 #include <stddef.h>
@@ -13,17 +13,20 @@ extern void *__libc_realloc(void *, size_t);
 extern void *__libc_memalign(size_t, size_t);
 
 static long growths, asked = -1;
+static int from_there_on;
 
 __attribute__((constructor)) static void begin(void) {
   const char *number = getenv("REFUSED_GROWTH");
   growths = 0;
   asked = number ? atol(number) : -1;
+  from_there_on = getenv("REFUSED_FROM_THERE_ON") != NULL;
   const char *seconds = getenv("REFUSAL_SECONDS");
   alarm(seconds ? atoi(seconds) : 60);
 }
 
 static int is_refused(void) {
-  if (__atomic_add_fetch(&growths, 1, __ATOMIC_SEQ_CST) != asked) return 0;
+  long growth = __atomic_add_fetch(&growths, 1, __ATOMIC_SEQ_CST);
+  if (asked < 0 || growth < asked || (growth > asked && !from_there_on)) return 0;
   const char *file = getenv("REFUSAL_FILE");
   int made = file ? open(file, O_CREAT | O_WRONLY | O_CLOEXEC, 0600) : -1;
   if (made >= 0) close(made);

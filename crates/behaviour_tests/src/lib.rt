@@ -17,3 +17,5 @@ mod reader;
 mod schedules;
 #[cfg(test)]
 mod threads;
+#[cfg(test)]
+mod unfit;

@@ -1,8 +1,11 @@
-//! Behaviours that are held back until each of them has begun.
+//! Behaviours on threads: held back until each of them has begun; and runs whose reports are audited.
+use agreement::audit_run;
 use behaviour::{BareAct, Behaviour, Script};
 use board::Board;
 use chart::InstanceNo;
-use instances::{End, Gate, run};
+use instances::{End, Gate, Open, run};
+use schedule::Schedule;
+use schedule_scripts::scripts;
 use std::sync::atomic::{AtomicU64, Ordering};
 use std::test::Fail;
 
@@ -51,5 +54,31 @@ fn both_threads_move(rt: HostRuntime) -> Result<(), Fail> {
     }
     assert_eq!(rt; ran.gathered.reports.len(), 0);
     assert_eq!(rt; gate.late.load(Ordering::SeqCst), 0);
+    Ok(())
+}
+
+/// Two instances whose messages a third gets in either order.
+const RACE: &[u8] = b"instances a b c
+capacity 1
+a send c x
+b send c y
+c any
+c any
+";
+
+#[test]
+fn audited_runs(rt: HostRuntime) -> Result<(), Fail> {
+    let alloc = rt.alloc();
+    let schedule = Schedule::read(alloc, RACE)?;
+    let mut board = Board::new(alloc, 3, 1)?;
+    let posts = board.posts()?;
+    let mut behaviours: Vec<Box<dyn Behaviour + Send>> = Vec::new(alloc);
+    for script in scripts(alloc, &schedule)? {
+        behaviours.push(Box::new(alloc, script)?)?;
+    }
+    let Ok(ran) = run(&rt, posts, behaviours, 1_000_000, &Open) else {
+        return Err("the board was run")?;
+    };
+    assert!(rt; audit_run(alloc, &ran).is_ok());
     Ok(())
 }

@@ -1,10 +1,13 @@
 //! Bursts of messages on one thread: as many as a lane has places are sent, and then received; and the same messages passed
 //! by two recorders alone.
+ghost use Rattle.recorder_pair.specs.Partners.{ArePartners};
+
 use crate::load::{Calls, Load, Stopped};
 use crate::ports::{Port, board_ports, ring_ports};
 use crate::timing::Over;
 use board::Board;
 use chart::Name;
+use line_recorder::Recorder;
 use recorder_pair::{Pattern, exchange, partners};
 use std::alloc::Global;
 use std::time::{Clock, Instant};
@@ -78,15 +81,26 @@ pub fn run_bursts<R: Clock>(rt: &R, alloc: Global, over: Over, load: Load) -> an
     }
 }
 
-/// How many nanoseconds as many sends and receives with their reports took two recorders, with no lane between them.
-pub fn run_recorders<R: Clock>(rt: &R, alloc: Global) -> anyhow::Result<u64> {
+/// How many nanoseconds these sends and receives with their reports take two new recorders.
+fn time_recorders<R: Clock>(
+    rt: &R,
+    first: &mut Recorder,
+    second: &mut Recorder,
+) -> anyhow::Result<u64>
+    requires { ArePartners first.old second.old }
+{
     let name = Name::new(b"m")?;
-    let (mut first, mut second) = partners(alloc, 2)?;
     let start = Instant::now(rt)?;
-    let races = exchange(&mut first, &mut second, Pattern::OneWay, MESSAGES, name)?;
+    let races = exchange(first, second, Pattern::OneWay, MESSAGES, name)?;
     let took = start.elapsed(rt)?;
     if races > 0 {
         anyhow::bail!("a report has races");
     }
     Ok(u64::try_from(took.as_nanos())?)
+}
+
+/// How many nanoseconds as many sends and receives with their reports took two recorders, with no lane between them.
+pub fn run_recorders<R: Clock>(rt: &R, alloc: Global) -> anyhow::Result<u64> {
+    let (mut first, mut second) = partners(alloc, 2)?;
+    time_recorders(rt, &mut first, &mut second)
 }

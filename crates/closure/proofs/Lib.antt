@@ -9,3 +9,4 @@ pub mod ReportLemmas
 pub mod RowLemmas
 pub mod RunLemmas
 pub mod SearchLemmas
+pub mod WholeReports

@@ -49,7 +49,7 @@ module _ (lines : List LineView) where
       same (Send to name) is passes = ap (receives_from (suc p) 1) (front_next (c (suc p)) k (Send to name) is) ∙ receives-send (suc p) 1 (take k (c (suc p))) to name
 
   -- a receive adds its own
-  pub HaveReported-receive : (p k : ℕ) (reports : List ReportView) (report : ReportView) → HaveReported lines p k reports → IsReportAt c (at (suc p) (suc k)) (Some report) → HaveReported lines p (k + 1) (reports ++ report ∷ [])
+  pub HaveReported-receive : (p k : ℕ) (reports : List ReportView) (report : ReportView) → HaveReported lines p k reports → IsReportAt c (at (suc p) (suc k)) report → HaveReported lines p (k + 1) (reports ++ report ∷ [])
   HaveReported-receive p k reports report old ((q, (m, is, from)), here, exact) = record {
     are = record {
       receives =

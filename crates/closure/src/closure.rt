@@ -1,5 +1,5 @@
 //! The closure of a chart.
-ghost use Rattle.std.specs.Prelude.{◌≡◌, ◌⊎◌, length, ◌↔◌, IsTrue, IfOk, OnOk, IfErr};
+ghost use Rattle.std.specs.Prelude.{◌≡◌, ◌⊎◌, [], length, ◌↔◌, IsTrue, IfOk, OnOk, IfErr};
 ghost use Rattle.chart.specs.Charts.{chart_lines, IsPossible};
 ghost use Rattle.chart.specs.Order.{Before};
 ghost use Rattle.closure.specs.Faults.{place_of, Refuses};
@@ -9,7 +9,7 @@ use crate::error::ChartError;
 use crate::linking::partners_of;
 use crate::order::is_before;
 use crate::partner::Partner;
-use crate::reporting::reports_of;
+use crate::reporting::{Reporter, reporter_of, reports_of};
 use crate::row::Row;
 use crate::running::runs;
 use chart::{Chart, EventNo, Line, Report};
@@ -80,6 +80,15 @@ impl<'a> Closure<'a> {
             later.instance.place(),
             later.index as usize,
         )
+    }
+
+    /// Goes over the receives, by instance and index, and finds the report of each without memory.
+    ///
+    /// One search a line serves all its sends. F6: it fails only where there is no memory.
+    pub fn reporter(&self) -> Result<Reporter<'_>, AllocError>
+        ensures { IfOk result (λ reporter. reporter ≡ record { lines = self.now; line = 0; place = 0; earlier = [] }) }
+    {
+        reporter_of(self.alloc, self.lines, self.partners.as_slice())
     }
 
     /// The report of each receive, by instance and index.

@@ -8,7 +8,8 @@
 //!   has no send or another name than its send, or that the order has a cycle ([`Closure::of`]).
 //! - For each two events: whether the first is before the second, and false where one isn't in the chart
 //!   ([`Closure::before`]).
-//! - The reports of all receives, by instance and index ([`Closure::races`]).
+//! - The reports of all receives, by instance and index ([`Closure::races`]), or one after another without memory
+//!   ([`Closure::reporter`]).
 //! - An audit accepts exactly this list, for a possible chart; else it names the first place where the lists differ
 //!   ([`audit`]).
 #![tactic(auto)]
@@ -30,3 +31,4 @@ mod search;
 pub use checking::audit;
 pub use closure::Closure;
 pub use error::{AuditError, ChartError};
+pub use reporting::Reporter;

@@ -1,83 +1,217 @@
-//! The reports of all receives.
-ghost use Rattle.std.specs.Prelude.{◌<◌, suc, length, IfOk, OnOk};
+//! The reports of the receives, one after another.
+ghost use Rattle.std.specs.Prelude.{◌≡◌, ◌<◌, ◌≤◌, ◌⊎◌, ◌++◌, ◌∷◌, [], suc, length, List, All, vec_capacity, IfOk, IfSome, OnSome, MatchOption};
+ghost use Rattle.chart.specs.declared.line.TheConstants.{MAX_EVENTS};
 ghost use Rattle.chart.specs.Charts.{at, chart_lines};
+ghost use Rattle.chart.specs.Ranges.{IsRange, events_in};
+ghost use Rattle.chart.specs.Reports.{ReportView, AreReports};
 ghost use Rattle.closure.specs.Rows.{AreRows};
-ghost use Rattle.closure.specs.Closures.{AreLinked};
+ghost use Rattle.closure.specs.Closures.{AreLinked, IsClosure};
 ghost use Rattle.closure.specs.Searches.{IsKnowledge};
-ghost use Rattle.chart.specs.Reports.{AreReports};
-ghost use Rattle.closure.specs.Reported.{HaveReported, IsReportAt};
+ghost use Rattle.closure.specs.Reported.{HaveReported, IsFound, IsReportAt, reports_left};
 
 use crate::knowing::knowledge;
 use crate::partner::{Partner, partner_of};
 use crate::reading::{event_at, len_of, line_of};
 use crate::row::{Row, value_at};
-use chart::{EventNo, InstanceNo, Line, Report};
-use online_races::race_ranges;
+use chart::{EventNo, EventRange, InstanceNo, Line, MAX_EVENTS, RangesBuilder, Report};
+use online_races::find_races;
 use std::alloc::{AllocError, Global};
+use std::marker::Model;
 
-/// The report of the event at a place of a line, where it is a receive: the races of the line before it, past what its
-/// send knows of the line.
-fn report_at(
-    alloc: Global,
+/// Where a receive stands, and the send that it is of.
+#[derive(Clone, Copy)]
+pub struct Receive {
+    line: usize,
+    place: usize,
+    /// The place of the sender's line.
+    sender: u8,
+    /// The send's index on it, from 1.
+    index: u16,
+}
+
+/// The next receive of a line, from a place on.
+fn next_on(lines: &[Line], partners: &[Row<Partner>], line: usize, from: usize) -> Option<Receive>
+    requires linked { AreLinked lines.now partners.now }
+    requires line { line < length lines.now }
+    requires from { from ≤ length (chart_lines lines.now (suc line)) }
+    ensures receive { IfSome result (IsFound lines.now) }
+    ensures line { IfSome result (λ receive. receive.line ≡ line) }
+    ensures later { IfSome result (λ receive. from ≤ receive.place) }
+    ensures reported { (reports : List ReportView) → HaveReported lines.now line from reports
+        → MatchOption result (HaveReported lines.now (suc line) 0 reports) (λ receive. HaveReported lines.now line receive.place reports) }
+{
+    for place in from..len_of(lines, line) {
+        if let Partner::Sender {
+            line: sender,
+            index,
+        } = partner_of(lines, partners, line, place)
+        {
+            return Some(Receive {
+                line,
+                place,
+                sender,
+                index,
+            });
+        }
+    }
+    None
+}
+
+/// The next receive by instance and index, from a place of a line on.
+fn next_receive(
+    lines: &[Line],
+    partners: &[Row<Partner>],
+    line: usize,
+    place: usize,
+) -> Option<Receive>
+    requires linked { AreLinked lines.now partners.now }
+    requires line { line < length lines.now }
+    requires place { place ≤ length (chart_lines lines.now (suc line)) }
+    ensures receive { IfSome result (IsFound lines.now) }
+    ensures later { IfSome result (λ receive. (line < receive.line) ⊎ ((receive.line ≡ line) × (place ≤ receive.place))) }
+    ensures reported { (reports : List ReportView) → HaveReported lines.now line place reports
+        → MatchOption result (AreReports lines.now reports) (λ receive. HaveReported lines.now receive.line receive.place reports) }
+{
+    let mut from = place;
+    for next in line..lines.len() {
+        if let Some(receive) = next_on(lines, partners, next, from) {
+            return Some(receive);
+        }
+        from = 0;
+    }
+    None
+}
+
+/// Puts the ranges of a receive's races in place of those in the list: of the races of its line before it, past what its
+/// send knows of the line. It answers the receive.
+fn find_report(
     lines: &[Line],
     partners: &[Row<Partner>],
     known: &[Row<u32>],
-    line: usize,
-    place: usize,
-) -> Result<Option<Report>, AllocError>
+    receive: &Receive,
+    found: &mut Vec<EventRange>,
+) -> EventNo
     requires linked { AreLinked lines.now partners.now }
     requires known { AreRows (IsKnowledge (chart_lines lines.now)) (chart_lines lines.now) (length lines.now) known.now }
-    requires line { line < length lines.now }
-    requires place { place < length (chart_lines lines.now (suc line)) }
-    ensures { IfOk result (IsReportAt (chart_lines lines.now) (at (suc line) (suc place))) }
+    requires receive { IsFound lines.now receive.now }
+    requires places { MAX_EVENTS ≤ vec_capacity found.old }
+    ensures report { IsReportAt (chart_lines lines.now) (at (suc receive.now.line) (suc receive.now.place))
+        (record { receive = result; earlier = events_in found.new.items }) }
+    ensures ranges { All IsRange found.new.items }
+    ensures places { vec_capacity found.new ≡ vec_capacity found.old }
 {
-    let Partner::Sender {
-        line: sender,
-        index,
-    } = partner_of(lines, partners, line, place)
-    else {
-        return Ok(None);
-    };
-    let sender = sender as usize;
-    let region = event_at(lines, line, place).region();
-    let entry = value_at(known, sender, index as usize - 1);
-    let earlier = race_ranges(
-        alloc,
-        line_of(lines, line).as_growing(),
-        place,
+    let sender = receive.sender as usize;
+    let region = event_at(lines, receive.line, receive.place).region();
+    let entry = value_at(known, sender, receive.index as usize - 1);
+    find_races(
+        found,
+        line_of(lines, receive.line).as_growing(),
+        receive.place,
         entry,
         InstanceNo::at_place(sender),
         region,
-    )?;
-    let receive = EventNo {
-        instance: InstanceNo::at_place(line),
-        index: place as u32 + 1,
-    };
-    Ok(Some(Report::new(receive, earlier)))
+    );
+    EventNo {
+        instance: InstanceNo::at_place(receive.line),
+        index: receive.place as u32 + 1,
+    }
 }
 
-/// Adds the reports of the receives of a line.
-fn add_reports(
-    alloc: Global,
-    lines: &[Line],
-    partners: &[Row<Partner>],
-    known: &[Row<u32>],
+/// Goes over the receives of a chart, by instance and index, and finds the races of each. It keeps those of the last one
+/// alone, so no receive needs memory. A contract sees the chart's lines, how far it has come, and the races that it found
+/// last.
+#[derive(Drop)]
+pub struct Reporter<'a> {
+    lines: &'a [Line],
+    partners: &'a [Row<Partner>],
+    known: Vec<Row<u32>>,
+    /// The line of the next event, and its place.
     line: usize,
-    reports: &mut Vec<Report>,
-) -> Result<(), AllocError>
-    requires linked { AreLinked lines.now partners.now }
-    requires known { AreRows (IsKnowledge (chart_lines lines.now)) (chart_lines lines.now) (length lines.now) known.now }
-    requires line { line < length lines.now }
-    requires reports { HaveReported lines.now line 0 reports.old.items }
-    ensures { OnOk result (HaveReported lines.now (suc line) 0 reports.new.items) }
+    place: usize,
+    /// It has places for the races of any receive.
+    found: Vec<EventRange>,
+}
+
+impl<'a> Model for Reporter<'a> {
+    ghost use Rattle.std.specs.Prelude.{◌≤◌, All, vec_capacity};
+    ghost use Rattle.chart.specs.declared.line.TheConstants.{MAX_EVENTS};
+    ghost use Rattle.chart.specs.Ranges.{IsRange, events_in};
+    ghost use Rattle.closure.specs.Reported.{ReporterView, IsReporting};
+
+    ghost Value = { ReporterView };
+
+    ghost view = { λ r. record { lines = r.lines.now; line = r.line; place = r.place; earlier = events_in r.found.items } };
+
+    ghost invariant = { λ r. IsReporting r.lines.now r.partners.now r.known.items r.line r.place × All IsRange r.found.items × (MAX_EVENTS ≤ vec_capacity r.found) };
+}
+
+/// A reporter that begins with the first event of a chart.
+pub fn reporter_of<'a>(
+    alloc: Global,
+    lines: &'a [Line],
+    partners: &'a [Row<Partner>],
+) -> Result<Reporter<'a>, AllocError>
+    requires { IsClosure lines.now partners.now }
+    ensures { IfOk result (λ reporter. reporter ≡ record { lines = lines.now; line = 0; place = 0; earlier = [] }) }
 {
-    for place in 0..len_of(lines, line) {
-        match report_at(alloc, lines, partners, known, line, place)? {
-            None => {}
-            Some(report) => reports.push(report)?,
-        }
+    let known = knowledge(alloc, lines, partners)?;
+    let found = Vec::with_capacity(alloc, MAX_EVENTS)?;
+    Ok(Reporter {
+        lines,
+        partners,
+        known,
+        line: 0,
+        place: 0,
+        found,
+    })
+}
+
+impl<'a> Reporter<'a> {
+    /// Goes on to the next receive and finds its races, or answers that there is none left. It takes no memory.
+    pub fn next(&mut self) -> Option<EventNo>
+        ensures lines { self.new.lines ≡ self.old.lines }
+        ensures reported { (reports : List ReportView) → HaveReported self.old.lines self.old.line self.old.place reports
+            → MatchOption result (AreReports self.old.lines reports)
+            (λ receive. HaveReported self.old.lines self.new.line self.new.place (reports ++ record { receive = receive; earlier = self.new.earlier } ∷ [])) }
+        ensures whole { OnSome result ((reports : List ReportView) → HaveReported self.new.lines self.new.line self.new.place reports
+            → (more : List ReportView) × AreReports self.new.lines (reports ++ more)) }
+        ensures instance { IfSome result (λ receive. receive.instance ≤ length self.new.lines) }
+        ensures fewer { OnSome result (reports_left self.new < reports_left self.old) }
+    {
+        let Some(receive) = next_receive(self.lines, self.partners, self.line, self.place) else {
+            return None;
+        };
+        let event = find_report(
+            self.lines,
+            self.partners,
+            self.known.as_slice(),
+            &receive,
+            &mut self.found,
+        );
+        self.line = receive.line;
+        self.place = receive.place + 1;
+        Some(event)
     }
-    Ok(())
+
+    /// The races of the receive that [`Reporter::next`] answered last: ranges of earlier events, the first of the line first.
+    pub fn earlier(&self) -> &[EventRange]
+        ensures events { events_in result.now ≡ self.now.earlier }
+        ensures each { All IsRange result.now }
+    {
+        self.found.as_slice()
+    }
+}
+
+/// The report of a receive, with the events of these ranges.
+fn report_of(alloc: Global, receive: EventNo, earlier: &[EventRange]) -> Result<Report, AllocError>
+    requires { All IsRange earlier.now }
+    ensures { IfOk result (λ report. report ≡ record { receive = receive; earlier = events_in earlier.now }) }
+{
+    let mut builder = RangesBuilder::new(alloc);
+    for passed in 0..earlier.len() {
+        builder.put_before(earlier[earlier.len() - 1 - passed])?;
+    }
+    Ok(Report::new(receive, builder.finish()))
 }
 
 /// The reports of all receives, by instance and index.
@@ -86,13 +220,14 @@ pub fn reports_of(
     lines: &[Line],
     partners: &[Row<Partner>],
 ) -> Result<Vec<Report>, AllocError>
-    requires { AreLinked lines.now partners.now }
+    requires { IsClosure lines.now partners.now }
     ensures { IfOk result (λ reports. AreReports lines.now reports.items) }
 {
-    let known = knowledge(alloc, lines, partners)?;
+    let mut reporter = reporter_of(alloc, lines, partners)?;
     let mut reports = Vec::new(alloc);
-    for line in 0..lines.len() {
-        add_reports(alloc, lines, partners, known.as_slice(), line, &mut reports)?;
+    while let Some(receive) = reporter.next() {
+        let report = report_of(alloc, receive, reporter.earlier())?;
+        reports.push(report)?;
     }
     Ok(reports)
 }

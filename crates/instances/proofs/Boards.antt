@@ -25,6 +25,25 @@ some_of (x ∷ xs) k within = x
 length-alike : {A B : Type 0} (xs : List A) (ys : List B) → length ys ≡ length xs → length (zip xs ys) ≡ length xs
 length-alike xs ys alike = omega (arith, length-zip xs ys, alike)
 
+-- posts at the same places of one board's list, each still at its board, are of one board
+pub one-board-kept : (old new : List PostView)
+    → ((k : ℕ) (x : PostView) → slice_get new k ≡ Some x → (k < length old) × (x.board ≡ (slice_index_or old k x).board))
+    → AreOfOneBoard old → AreOfOneBoard new
+one-board-kept old new kept one i j x y is at =
+    let (in_i, of_x) = kept i x is in
+    let (in_j, of_y) = kept j y at in
+    of_x
+    ∙ one i j (slice_index_or old i x) (slice_index_or old j y) (slice_get-get_or old i x in_i) (slice_get-get_or old j y in_j)
+    ∙ sym of_y
+
+-- the same, by the elements' places
+pub one-board-each : (old new : List PostView) → length new ≡ length old
+    → ((k : ℕ) (p : PostView) → k < length old → (slice_index_or new k p).board ≡ (slice_index_or old k p).board)
+    → AreOfOneBoard old → AreOfOneBoard new
+one-board-each old new alike same = one-board-kept old new (λ k x is.
+    let within : k < length old = omega (arith, slice_get_within new k x is, alike) in
+    (within, subst (λ (y : PostView). y.board ≡ (slice_index_or old k x).board) (get_or_from_slice_get new k x x is) (same k x within)))
+
 -- posts that are the same as all of a board are all of it
 all-stay : (old new : List PostView) → length new ≡ length old
     → ((k : ℕ) (x : PostView) → slice_get new k ≡ Some x → (k < length old) × IsSamePost (slice_index_or old k x) x)
@@ -104,12 +123,8 @@ module _ {B : Type 0} (D : B → PostView → List Turn → End → PostView →
         (within, subst (λ y. IsSamePost (slice_index_or posts k x) y) read (same _ _ _ _ _ (done-each k x it.1 it.2 x within b)))
 
     pub one-board-left : AreOfOneBoard posts → AreOfOneBoard (map (λ (it : Done). it.0) done)
-    one-board-left one i j x y is at =
-        let (in_i, of_x) = same-left i x is in
-        let (in_j, of_y) = same-left j y at in
-        of_x.board
-        ∙ one i j (slice_index_or posts i x) (slice_index_or posts j y) (slice_get-get_or posts i x in_i) (slice_get-get_or posts j y in_j)
-        ∙ sym of_y.board
+    one-board-left = one-board-kept posts (map (λ (it : Done). it.0) done)
+        (λ k x is. let (within, same) = same-left k x is in (within, same.board))
 
     pub all-left : AreAll posts → AreNotAll (map (λ (it : Done). it.0) done) → ⊥
     all-left all not =

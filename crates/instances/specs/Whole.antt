@@ -30,6 +30,10 @@ pub record AreRuns (does : ℕ → PostView → List Turn → End → PostView �
   pub whole : IsWhole left run.gathered
   pub lines : length run.gathered.chart ≡ size_of posts
 
+-- it is what the posts of a board came to that were left
+abbrev pub IsGathered : Run → Type 0
+IsGathered run = (left : List PostView) × IsWhole left run.gathered
+
 -- why a board isn't run: something is unfit, and all comes back; or memory was refused
 abbrev pub IsUnrun : {P B : Type 0} → P → B → Type 0 → Type 0 → RunError P B → Type 0
 IsUnrun posts behaviours fit unfit (Unfit p b) = (p ≡ posts) × (b ≡ behaviours) × unfit

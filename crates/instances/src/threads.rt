@@ -3,7 +3,7 @@ ghost use Rattle.std.specs.Prelude.{◌≡◌, ℕ, ◌<◌, ◌++◌, IfOk, IfE
 ghost use Rattle.std.specs.List.{zip};
 ghost use Rattle.board.specs.Meeting.{AreOfOneBoard, AreAll};
 ghost use Rattle.instances.specs.Driving.{meaning, IsRunOfPost};
-ghost use Rattle.instances.specs.Whole.{IsFit, IsUnfit, AreRuns, IsUnrun};
+ghost use Rattle.instances.specs.Whole.{IsFit, IsUnfit, AreRuns, IsGathered, IsUnrun};
 
 use crate::end::End;
 use crate::gate::Gate;
@@ -108,6 +108,7 @@ pub fn run<'a, R: Threads + Sync, G: Gate + Sync>(
     ensures ok { IfOk result (AreRuns (λ k old trace end new. (b : _) →
         IsRunOfPost (meaning (Behaviour-box (slice_index_or behaviours.items k b)).act (Behaviour-box (slice_index_or behaviours.items k b)).after)
         turns (slice_index_or behaviours.items k b).value old trace end new) posts.entry.items) }
+    ensures gathered { IfOk result IsGathered }
     ensures fit { IfOk result (λ run. IsFit posts.entry.items (length behaviours.items) turns) }
     ensures err { IfErr result (IsUnrun posts.entry behaviours (IsFit posts.entry.items (length behaviours.items) turns) (IsUnfit posts.entry.items (length behaviours.items) turns)) }
 {

@@ -2,7 +2,7 @@ pub mod EventLoops
 pub mod Lookups
 pub mod NewNames
 pub mod Parts
-pub mod RaceLines
+pub mod RaceTexts
 pub mod Results
 pub mod Spacing
 pub mod Writes

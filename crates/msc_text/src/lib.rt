@@ -25,6 +25,6 @@ pub use held::BUFFERED;
 pub use instances::{add_name, at_line, fault_at, known_in};
 pub use lines::next_line;
 pub use out::{MemoryOut, Out, OutFault, StreamOut};
-pub use race_text::add_races;
+pub use race_text::{RaceLines, add_races};
 pub use text_buffer::{TextBuffer, WriteError};
 pub use word::{Words, name_in, next_word, words_in};

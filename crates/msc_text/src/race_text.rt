@@ -13,22 +13,25 @@ use crate::text_buffer::{TextBuffer, WriteError};
 use chart::{EventNo, EventRange, InstanceNo, Name, Names, Report};
 use itoa::Buffer;
 
-/// The line of a race, but for the number of the earlier event: it is made once for all races of a receive.
+/// Writes the lines of races. What is the same in all lines of a receive is made once, so one value serves many receives.
 #[derive(Drop)]
-struct RaceLine {
+pub struct RaceLines {
+    /// What stands before the number of the earlier event.
     front: Held,
+    /// What stands behind it.
     end: Held,
 }
 
-impl RaceLine {
-    fn new() -> RaceLine {
-        RaceLine {
+impl RaceLines {
+    /// It takes no memory.
+    pub fn new() -> RaceLines {
+        RaceLines {
             front: Held::new(),
             end: Held::new(),
         }
     }
 
-    /// From now on it is that of races of the instance of this name, and of its receive of this number.
+    /// From now on they are those of races of the instance of this name, and of its receive of this number.
     #[tactic(auto, unfolding(crate::specs::RaceText::race_front, crate::specs::RaceText::race_end))]
     fn set(&mut self, name: &[u8], receive: u32)
         requires { length name.now ≤ MAX_NAME }
@@ -87,6 +90,23 @@ impl RaceLine {
         }
         Ok(())
     }
+
+    /// Adds a line for each race of a receive: for each event of these ranges. It takes no memory.
+    pub fn add_report<W: Out>(
+        &mut self,
+        text: &mut TextBuffer<'_, W>,
+        names: &Names,
+        receive: EventNo,
+        earlier: &[EventRange],
+    ) -> Result<(), WriteError>
+        requires { All IsRange earlier.now }
+        ensures { Adds W.contents W.failures text.old text.new result
+            (report_text names.now (record { receive = receive; earlier = events_in earlier.now })) }
+    {
+        let name = name_at(names, receive.instance);
+        self.set(bytes_of(&name), receive.index);
+        self.add_all(text, earlier)
+    }
 }
 
 /// The name of the instance, if it has one.
@@ -107,21 +127,6 @@ fn bytes_of(name: &Option<Name>) -> &[u8]
     }
 }
 
-/// Adds a line for each race of a report.
-fn add_report<W: Out>(
-    text: &mut TextBuffer<'_, W>,
-    line: &mut RaceLine,
-    names: &Names,
-    report: &Report,
-) -> Result<(), WriteError>
-    ensures { Adds W.contents W.failures text.old text.new result (report_text names.now report.now) }
-{
-    let receive = report.receive();
-    let name = name_at(names, receive.instance);
-    line.set(bytes_of(&name), receive.index);
-    line.add_all(text, report.earlier().as_slice())
-}
-
 /// Adds a line for each race of these reports to a text that is being written. It takes no memory.
 pub fn add_races<W: Out>(
     text: &mut TextBuffer<'_, W>,
@@ -130,9 +135,9 @@ pub fn add_races<W: Out>(
 ) -> Result<(), WriteError>
     ensures { Adds W.contents W.failures text.old text.new result (races_text names.now reports.now) }
 {
-    let mut line = RaceLine::new();
+    let mut lines = RaceLines::new();
     for report in reports {
-        add_report(text, &mut line, names, report)?;
+        lines.add_report(text, names, report.receive(), report.earlier().as_slice())?;
     }
     Ok(())
 }

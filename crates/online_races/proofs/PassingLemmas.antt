@@ -1,34 +1,22 @@
 -- The races of a line that are found so far, one step further back.
-use Rattle.std.proofs.Common.{◌≡◌, ℕ, zero, suc, ◌-◌, ◌<◌, ◌≤◌, ◌↔◌, ◌⊎◌, inl, inr, not, ◌==◌, ◌+◌, true, false, List, [], ◌∷◌, ◌++◌, length, get_or, take, map, All, AllPairs, Contains, Some, refl, sym, ap, ◌∙◌, subst, arith}
+use Rattle.std.proofs.Common.{◌≡◌, ℕ, zero, suc, ◌-◌, ◌<◌, ◌≤◌, ◌⊎◌, inl, inr, not, ◌==◌, ◌+◌, true, false, List, [], ◌∷◌, ◌++◌, length, reverse, get_or, take, map, All, AllPairs, Contains, Some, refl, sym, ap, ◌∙◌, subst, arith}
 use Rattle.std.proofs.lemmas.Bool.{cases_lt, cases_eq, false≢true, false_from_ne_true, eqb-true, eq-eqb}
 use Rattle.std.proofs.lemmas.List.Elements.{Contains-get_or, All-cons, All-nil, All-append}
-use Rattle.std.proofs.lemmas.List.{length-take-le}
+use Rattle.std.proofs.lemmas.List.{length-take-le, reverse-append}
 use Rattle.std.specs.Cmp.{second_so}
 use Rattle.std.proofs.lemmas.Option.{slice_get-get_or, slice_get_read, same_Some}
 use Rattle.chart.specs.declared.event.Event.{Event}
 use Rattle.chart.specs.declared.event.Event.TheVariants.{Send, Receive}
 use Rattle.chart.specs.Events.{ith, is_receive_from, is_in, region_of, receive_event}
-use Rattle.chart.specs.Ranges.{events_from}
+use Rattle.chart.specs.declared.ranges.EventRange.{EventRange}
+use Rattle.chart.specs.Ranges.{events_from, events_of, events_in}
 use Rattle.chart.specs.Runs.{IsRun, IsBeforeRun}
 use Rattle.chart.specs.declared.instance.EventNo.{EventNo}
 use Rattle.chart.specs.declared.line.TheConstants.{MAX_EVENTS}
 use Rattle.chart.specs.Charts.{LineView}
 use Rattle.chart.specs.Order.{IsRaces}
 use Rattle.chart.proofs.Tally.{ith_within, ith-take, ith_from_take}
-use Rattle.online_races.specs.Passing.{IsRace, ArePassed, AreRaces}
-
--- rising, the races later than the entry among the events after the first `before` ones
-pub record AreFound (line : List Event) (before entry q region : ℕ) (races : List ℕ) : Type 0 where
-  pub rising : AllPairs (λ i j. i < j) races
-  pub exact : (j : ℕ) → Contains races j ↔ ((before < j) × (entry < j) × IsRace line q region j)
-
--- what the search among the first events of a line keeps: where it is, and what it found
-pub record HasFound (line : LineView) (end index entry q region : ℕ) (found : List EventNo) : Type 0 where
-  pub within : index ≤ end
-  pub inside : end ≤ length line.events
-  pub short : length line.events ≤ MAX_EVENTS
-  pub races : AreFound (take end line.events) index entry q region (map (λ race. race.index) found)
-  pub own : All (λ race. race.instance ≡ line.instance) found
+use Rattle.online_races.specs.Passing.{IsRace, ArePassed, AreRaces, AreFound, HasFound}
 
 -- a head that is below each of a rising list makes a rising list
 AllPairs-cons : (x : ℕ) (xs : List ℕ) → AllPairs (λ i j. i < j) xs → ((j : ℕ) → Contains xs j → x < j) → AllPairs (λ i j. i < j) (x ∷ xs)
@@ -206,12 +194,21 @@ pub IsRaces-done : (line : LineView) (end index entry q region : ℕ) (found : L
 IsRaces-done line end index entry q region found done has = IsRaces-found (take end line.events) index entry q region _ done has.races
 
 -- where there are no races, none are met
-pub no_race : (line : LineView) (end entry q region index : ℕ) (found : List EventNo) → IsRaces (take end line.events) entry q region [] → entry < index → IsRace line.events q region index → HasFound line end index entry q region found → ⊥
-no_race line end entry q region index found none after race has =
-    let here = (none.exact index).1 (after, IsRace-front line.events end q region index has.within race) in omega (arith, here.1)
+pub none_met : (line : LineView) (end index entry q region : ℕ) (races : EventRange) (found : List EventNo) → IsRaces (take end line.events) entry q region [] → 0 < races.count → HasFound line end index entry q region (events_of races ++ found) → ⊥
+none_met line end index entry q region races found none some has = by races.first.instance races.first.index races.count some has
+  where
+    by : (p i n : ℕ) → 0 < n → HasFound line end index entry q region (events_from p i n ++ found) → ⊥
+    by p i zero some has = omega (arith, some)
+    by p i (suc n) some has =
+        let race = (has.races.exact i).0 (0, omega arith, refl) in
+        let here = (none.exact i).1 (race.1, race.2) in omega (arith, here.1)
 
 -- there is one list of races where there are none
 pub none_found : (line : List Event) (entry q region : ℕ) (found : List EventNo) → IsRaces line entry q region [] → IsRaces line entry q region (map (λ race. race.index) found) → found ≡ []
 none_found line entry q region [] none races = refl
 none_found line entry q region (race ∷ found) none races =
     let here = (none.exact race.index).1 ((races.exact race.index).0 (0, omega arith, refl)) in absurd (omega (arith, here.1))
+
+-- ranges that stand the other way round, the last range first, and one more
+pub events_in-pushed : (ranges now : List EventRange) (r : EventRange) → now ≡ ranges ++ r ∷ [] → events_in (reverse now) ≡ events_of r ++ events_in (reverse ranges)
+events_in-pushed ranges now r is = ap (λ xs. events_in (reverse xs)) is ∙ ap events_in (reverse-append ranges (r ∷ []))

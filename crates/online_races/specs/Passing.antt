@@ -1,9 +1,12 @@
 -- How the events of a line are passed, from its end on back, in search of races (Alur, Holzmann and Peled 1996; which
 -- events are no races is this project's profile).
-use Rattle.std.specs.Prelude.{◌≡◌, ℕ, ◌<◌, ◌≤◌, ◌⊎◌, true, false, List, Some}
+use Rattle.std.specs.Prelude.{◌≡◌, ℕ, ◌<◌, ◌≤◌, ◌↔◌, ◌⊎◌, true, false, List, length, take, map, All, AllPairs, Contains, Some}
 use Rattle.chart.specs.declared.event.Event.{Event}
 use Rattle.online_races.specs.declared.Stretch.{Stretch}
 use Rattle.online_races.specs.declared.Stretch.TheVariants.{Passed, Races}
+use Rattle.chart.specs.declared.instance.EventNo.{EventNo}
+use Rattle.chart.specs.declared.line.TheConstants.{MAX_EVENTS}
+use Rattle.chart.specs.Charts.{LineView}
 use Rattle.chart.specs.Events.{ith, is_receive_from, is_in}
 
 -- the event at j is neither a receive from q nor in the region
@@ -24,3 +27,16 @@ pub record AreRaces (line : List Event) (before last q region : ℕ) : Type 0 wh
 abbrev pub IsStretch : List Event → ℕ → ℕ → ℕ → Stretch → Type 0
 IsStretch line q region index (Passed before) = ArePassed line before index q region
 IsStretch line q region index (Races before) = AreRaces line before index q region
+
+-- rising, the races later than the entry among the events after the first `before` ones
+pub record AreFound (line : List Event) (before entry q region : ℕ) (races : List ℕ) : Type 0 where
+  pub rising : AllPairs (λ i j. i < j) races
+  pub exact : (j : ℕ) → Contains races j ↔ ((before < j) × (entry < j) × IsRace line q region j)
+
+-- what the search among the first events of a line keeps: where it is, and what it found
+pub record HasFound (line : LineView) (end index entry q region : ℕ) (found : List EventNo) : Type 0 where
+  pub within : index ≤ end
+  pub inside : end ≤ length line.events
+  pub short : length line.events ≤ MAX_EVENTS
+  pub races : AreFound (take end line.events) index entry q region (map (λ race. race.index) found)
+  pub own : All (λ race. race.instance ≡ line.instance) found

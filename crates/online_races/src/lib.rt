@@ -5,9 +5,11 @@
 //! the call isn't refused.
 #![tactic(auto)]
 
-ghost use Rattle.std.specs.Prelude.{◌≡◌, ℕ, ◌≤◌, [], length, map, take, All, IsOk, IfOk};
+ghost use Rattle.std.specs.Prelude.{◌≡◌, ℕ, ◌-◌, ◌<◌, ◌≤◌, List, [], ◌++◌, length, map, take, vec_capacity, All, IfSome, MatchOption, IsOk, IfOk};
 ghost use Rattle.chart.specs.Order.{IsRaces};
-ghost use Rattle.online_races.specs.Passing.{IsRace, AreRaces, IsStretch};
+ghost use Rattle.chart.specs.Ranges.{IsRange, events_of, events_in};
+ghost use Rattle.chart.specs.declared.line.TheConstants.{MAX_EVENTS};
+ghost use Rattle.online_races.specs.Passing.{IsRace, AreRaces, IsStretch, HasFound};
 
 use chart::{
     Event, EventNo, EventRange, EventRanges, GrowingLine, InstanceNo, Line, RangesBuilder,
@@ -57,12 +59,50 @@ fn stretch_to(line: &GrowingLine, index: usize, sender: InstanceNo, region: u32)
     }
 }
 
-/// Of the first events of the line, as many as `end` says, those later than the entry that are neither receives from
-/// the sender nor, where the region isn't 0, receives of it: the races of a receive that comes next, from this sender and
-/// in this region, if the entry is what its send knows of the line. What comes later on the line doesn't matter.
+/// The last neighbouring races among the first events of the line, as many as `index` says, as far as they are later
+/// than the entry.
 ///
 /// A run of receives from the sender and the coregion are each passed in one step, and so is a run of receives from
 /// another one, unless the receive that comes is in a coregion.
+fn last_races(
+    line: &GrowingLine,
+    index: usize,
+    entry: u32,
+    sender: InstanceNo,
+    region: u32,
+) -> Option<EventRange>
+    requires { index ≤ length line.now.line.events }
+    ensures range { IfSome result IsRange }
+    ensures later { IfSome result (λ races. entry < races.first.index) }
+    ensures within { IfSome result (λ races. races.first.index ≤ index) }
+    ensures found { (end : ℕ) (found : List EventNo) → HasFound line.now.line end index entry sender region found
+        → MatchOption result (IsRaces (take end line.now.line.events) entry sender region (map (λ race. race.index) found))
+        (λ races. HasFound line.now.line end (races.first.index - 1) entry sender region (events_of races ++ found)) }
+{
+    prove!(index <= line.len());
+    let mut last = index;
+    while last > entry as usize {
+        match stretch_to(line, last, sender, region) {
+            Stretch::Passed { before } => last = before,
+            Stretch::Races { before } => {
+                let earlier = before.max(entry as usize);
+                let first = EventNo {
+                    instance: line.instance(),
+                    index: earlier as u32 + 1,
+                };
+                return Some(EventRange {
+                    first,
+                    count: last - earlier,
+                });
+            }
+        }
+    }
+    None
+}
+
+/// Of the first events of the line, as many as `end` says, those later than the entry that are neither receives from
+/// the sender nor, where the region isn't 0, receives of it: the races of a receive that comes next, from this sender and
+/// in this region, if the entry is what its send knows of the line. What comes later on the line doesn't matter.
 ///
 /// F6: it fails only where there is no memory, and where there are no races it needs none.
 pub fn race_ranges(
@@ -81,23 +121,40 @@ pub fn race_ranges(
     prove!(end <= line.len());
     let mut found = RangesBuilder::new(alloc);
     let mut index = end;
-    while index > entry as usize {
-        match stretch_to(line, index, sender, region) {
-            Stretch::Passed { before } => index = before,
-            Stretch::Races { before } => {
-                let earlier = before.max(entry as usize);
-                found.put_before(EventRange {
-                    first: EventNo {
-                        instance: line.instance(),
-                        index: earlier as u32 + 1,
-                    },
-                    count: index - earlier,
-                })?;
-                index = earlier;
-            }
-        }
+    while let Some(races) = last_races(line, index, entry, sender, region) {
+        index = races.first.index as usize - 1;
+        found.put_before(races)?;
     }
     Ok(found.finish())
+}
+
+/// Puts the ranges of the same races in place of those in the list, the first of the line first. Neighbouring races may be in
+/// several ranges.
+///
+/// The list has places for as many ranges as a line has events, so no memory is needed.
+pub fn find_races(
+    found: &mut Vec<EventRange>,
+    line: &GrowingLine,
+    end: usize,
+    entry: u32,
+    sender: InstanceNo,
+    region: u32,
+)
+    requires end { end ≤ length line.now.line.events }
+    requires places { MAX_EVENTS ≤ vec_capacity found.old }
+    ensures races { IsRaces (take end line.now.line.events) entry sender region (map (λ race. race.index) (events_in found.new.items)) }
+    ensures own { All (λ race. race.instance ≡ line.now.line.instance) (events_in found.new.items) }
+    ensures ranges { All IsRange found.new.items }
+    ensures places { vec_capacity found.new ≡ vec_capacity found.old }
+{
+    prove!(end <= line.len());
+    found.clear();
+    let mut index = end;
+    while let Some(races) = last_races(line, index, entry, sender, region) {
+        index = races.first.index as usize - 1;
+        found.push_reserved(races);
+    }
+    found.as_mut_slice().reverse();
 }
 
 /// The events of the line later than the entry that are neither receives from the sender nor, where the region isn't 0,

@@ -3,11 +3,13 @@
 #![tactic(auto)]
 
 ghost use Rattle.chart.specs.declared.instance.TheConstants.{MAX_INSTANCES};
+ghost use Rattle.recorder_pair.specs.Partners.{ArePartners};
 ghost use Rattle.std.specs.Prelude.{◌≤◌};
 
 use anyhow::bail;
 use chart::Name;
 use clock::INLINE_ENTRIES;
+use line_recorder::Recorder;
 use recorder_pair::{Pattern, exchange, partners};
 use std::convert::AsStr;
 use std::env;
@@ -35,29 +37,37 @@ struct Load {
     instances: usize,
 }
 
+/// The nanoseconds that the timed messages between these two took, with so many events on each line before them.
+fn time_messages<R: Clock>(
+    rt: &R,
+    first: &mut Recorder,
+    second: &mut Recorder,
+    pattern: Pattern,
+    events: usize,
+) -> anyhow::Result<u64>
+    requires { ArePartners first.old second.old }
+{
+    let name = Name::new(b"ping")?;
+    let before = exchange(first, second, pattern, events.saturating_add(1), name)?;
+    let start = Instant::now(rt)?;
+    let after = exchange(first, second, pattern, TIMED, name)?;
+    let took = start.elapsed(rt)?;
+    if before > 0 || after > 0 {
+        bail!("a report has races");
+    }
+    Ok(u64::try_from(took.as_nanos())?)
+}
+
 /// The nanoseconds that the timed messages of fresh lines took in all, with so many events on each line before them.
 fn repetition<R: Clock + AllocGlobal>(rt: &R, load: Load, events: usize) -> anyhow::Result<u64>
     requires at_least_two { 2 ≤ load.instances }
     requires at_most { load.instances ≤ MAX_INSTANCES }
 {
-    let name = Name::new(b"ping")?;
     let mut nanoseconds = 0u64;
     for _ in 0..FRESH {
         let (mut first, mut second) = partners(rt.alloc(), load.instances)?;
-        let before = exchange(
-            &mut first,
-            &mut second,
-            load.pattern,
-            events.saturating_add(1),
-            name,
-        )?;
-        let start = Instant::now(rt)?;
-        let after = exchange(&mut first, &mut second, load.pattern, TIMED, name)?;
-        let took = start.elapsed(rt)?;
-        if before > 0 || after > 0 {
-            bail!("a report has races");
-        }
-        nanoseconds = nanoseconds.saturating_add(u64::try_from(took.as_nanos())?);
+        let took = time_messages(rt, &mut first, &mut second, load.pattern, events)?;
+        nanoseconds = nanoseconds.saturating_add(took);
     }
     Ok(nanoseconds)
 }

@@ -11,3 +11,4 @@ pub mod Numbers
 pub mod PlainWords
 pub mod Read
 pub mod Scanning
+pub mod Written

@@ -14,3 +14,4 @@ pub mod Meaning
 pub mod Plans
 pub mod Reading
 pub mod ScheduleText
+pub mod WrittenLines

@@ -28,7 +28,7 @@ pub(crate) enum ScheduleWord {
 impl ScheduleWord {
     /// How it is spelled.
     #[tactic(auto, unfolding(crate::specs::Keywords::written))]
-    fn as_bytes(&self) -> &[u8]
+    pub(crate) fn as_bytes(&self) -> &[u8]
         ensures { result.now ≡ written self.now }
     {
         match self {

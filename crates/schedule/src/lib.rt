@@ -6,7 +6,7 @@
 //! What is promised, unless an allocation is refused ([`Schedule::read`]): what is read is spelled so, to the byte, and
 //! within the limits; what is spelled so is read; and for anything else the answer is the first fault, in the order of
 //! `docs/FORMATS.md`. So no two schedules have one text, and the first faulty line decides, whatever follows it
-//! ([`laws`]).
+//! ([`laws`]). [`Schedule::write`] writes exactly this text, or with F24 a beginning of it.
 #![tactic(auto)]
 
 mod action_line;
@@ -16,6 +16,7 @@ mod keyword;
 pub mod laws;
 mod reading;
 mod schedule;
+mod text;
 
 pub use command::{Action, Command, Note, Word};
 pub use schedule::{Capacity, MAX_CAPACITY, Schedule};

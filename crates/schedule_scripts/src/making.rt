@@ -38,8 +38,8 @@ fn acts_of(
     Ok(acts)
 }
 
-/// A script for each instance, in rising order of their numbers: it does the instance's commands in the order in which the
-/// schedule has them, with messages whose bodies are empty.
+/// A script for each instance, in rising order of their numbers: it does the instance's commands in the order in which
+/// the schedule has them, with messages whose bodies are empty.
 ///
 /// It goes over the commands once for each instance. F6: it fails only where there is no memory.
 pub fn scripts(alloc: Global, schedule: &Schedule) -> Result<Vec<Script>, AllocError>

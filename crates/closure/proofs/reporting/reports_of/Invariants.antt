@@ -1,5 +1,9 @@
-use Rattle.closure.specs.Reported.{HaveReported}
+use Rattle.std.proofs.Common.{◌≡◌}
+use Rattle.closure.specs.Reported.{HaveReported, reports_left}
 use Rattle.closure.proofs.reporting.reports_of.Given as goal
 
-abbrev pub invariant-loop-line : goal.invariant-loop-line
-invariant-loop-line l = HaveReported l.lines l.line 0 l.reports.items
+abbrev pub invariant-loop-receive : goal.invariant-loop-receive
+invariant-loop-receive l = (l.reporter.lines ≡ l.lines) × HaveReported l.lines l.reporter.line l.reporter.place l.reports.items
+
+abbrev pub decreases-loop-receive : goal.decreases-loop-receive
+decreases-loop-receive l = reports_left l.reporter

@@ -1,0 +1,142 @@
+//! Whose calls a schedule's deeds are made by: those of posts, one message or a list at a time, or those of mailboxes.
+use board::{Arrival, Post, SendError, TakeError, Taken, TakenMany};
+use chart::{InstanceNo, Message};
+use mailbox::{Mailbox, any_from};
+use std::alloc::Global;
+
+/// An instance that sends and receives by some calls.
+pub trait Caller<'a>: Drop {
+    fn over(alloc: Global, post: Post<'a>) -> Self;
+
+    /// Sends the message, or gives it back.
+    fn send(&mut self, to: InstanceNo, message: Message) -> Result<(), (Message, SendError)>;
+
+    /// Receives the first message that waits on the lane from an instance, if any does.
+    fn receive(&mut self, from: InstanceNo) -> Result<Option<Arrival>, TakeError>;
+
+    /// Receives a message from whichever instance has one.
+    fn any(&mut self) -> Result<Option<Arrival>, TakeError>;
+
+    /// How many events its line has.
+    fn events(&self) -> usize;
+}
+
+/// A message, if one was taken.
+fn arrival(taken: Taken) -> Option<Arrival> {
+    match taken {
+        Taken::Got(arrival) => Some(arrival),
+        Taken::Nothing | Taken::Ended => None,
+    }
+}
+
+impl<'a> Caller<'a> for Mailbox<'a> {
+    fn over(_alloc: Global, post: Post<'a>) -> Mailbox<'a> {
+        Mailbox::new(post)
+    }
+
+    fn send(&mut self, to: InstanceNo, message: Message) -> Result<(), (Message, SendError)> {
+        match Mailbox::send(self, to, message) {
+            Ok(_) => Ok(()),
+            Err(refused) => Err(refused),
+        }
+    }
+
+    fn receive(&mut self, from: InstanceNo) -> Result<Option<Arrival>, TakeError> {
+        Ok(arrival(Mailbox::receive(self, from)?))
+    }
+
+    fn any(&mut self) -> Result<Option<Arrival>, TakeError> {
+        Ok(arrival(Mailbox::any(self)?))
+    }
+
+    fn events(&self) -> usize {
+        self.line().len()
+    }
+}
+
+/// A post that passes one message a call, and the instance that it got one from last.
+#[derive(Drop)]
+pub struct Single<'a> {
+    post: Post<'a>,
+    last: Option<InstanceNo>,
+}
+
+impl<'a> Caller<'a> for Single<'a> {
+    fn over(_alloc: Global, post: Post<'a>) -> Single<'a> {
+        Single { post, last: None }
+    }
+
+    fn send(&mut self, to: InstanceNo, message: Message) -> Result<(), (Message, SendError)> {
+        match self.post.send(to, message) {
+            Ok(_) => Ok(()),
+            Err(refused) => Err(refused),
+        }
+    }
+
+    fn receive(&mut self, from: InstanceNo) -> Result<Option<Arrival>, TakeError> {
+        Ok(arrival(self.post.receive(from)?))
+    }
+
+    fn any(&mut self) -> Result<Option<Arrival>, TakeError> {
+        // (the last one was got from, so it is an instance of the board)
+        let last = match self.last {
+            Some(last) if last.number() <= self.post.board_size() => Some(last),
+            _ => None,
+        };
+        let found = arrival(any_from(&mut self.post, last)?);
+        if let Some(arrival) = &found {
+            self.last = Some(arrival.from);
+        }
+        Ok(found)
+    }
+
+    fn events(&self) -> usize {
+        self.post.line().len()
+    }
+}
+
+/// A post that passes a list of messages a call, which has one here.
+#[derive(Drop)]
+pub struct Listed<'a> {
+    single: Single<'a>,
+    alloc: Global,
+}
+
+impl<'a> Caller<'a> for Listed<'a> {
+    fn over(alloc: Global, post: Post<'a>) -> Listed<'a> {
+        Listed {
+            single: Single { post, last: None },
+            alloc,
+        }
+    }
+
+    fn send(&mut self, to: InstanceNo, message: Message) -> Result<(), (Message, SendError)> {
+        let mut list = Vec::new(self.alloc);
+        if let Err(refused) = list.push(message) {
+            return Err((refused.value, SendError::Memory));
+        }
+        match self.single.post.send_all(to, list) {
+            Ok(_) => Ok(()),
+            Err((mut back, error)) => match back.pop() {
+                Some(message) => Err((message, error)),
+                // (a message that is lost so is missed by its receiver)
+                None => Ok(()),
+            },
+        }
+    }
+
+    fn receive(&mut self, from: InstanceNo) -> Result<Option<Arrival>, TakeError> {
+        match self.single.post.receive_up_to(from, 1)? {
+            TakenMany::Got { mut arrivals, .. } => Ok(arrivals.pop()),
+            TakenMany::Nothing | TakenMany::Ended => Ok(None),
+        }
+    }
+
+    fn any(&mut self) -> Result<Option<Arrival>, TakeError> {
+        self.single.any()
+    }
+
+    fn events(&self) -> usize {
+        self.single.events()
+    }
+}

@@ -1,0 +1,119 @@
+//! A post that goes on a thread of its own, while its partners send, receive and meet.
+ghost use Rattle.std.specs.Prelude.{◌≡◌};
+ghost use Rattle.board.specs.Meeting.{AreOfOneBoard};
+
+use crate::calls::{instance, message};
+use board::{Board, Post, meet};
+use std::alloc::Global;
+use std::process::Abort;
+use std::sync::Wait;
+use std::test::Fail;
+use std::thread;
+use std::thread::Threads;
+
+/// How often each of two that stay sends, receives and meets the other.
+const ROUNDS: usize = 2000;
+
+/// How often the one that goes sends and receives.
+const CALLS: usize = 500;
+
+/// Sends to an instance and receives from it, whatever is answered.
+fn exchange(rt: &impl Abort, alloc: Global, post: &mut Post, other: usize)
+    ensures { post.new.board ≡ post.old.board }
+{
+    let other = instance(rt, other);
+    let _ = post.send(other, message(rt, alloc, b'x'));
+    let _ = post.receive(other);
+}
+
+/// Exchanges messages with the others of three for a while. Then the post goes, with what waits for it.
+fn go(rt: &impl Abort, alloc: Global, post: Post) {
+    let mut post = post;
+    for _ in 0..CALLS {
+        exchange(rt, alloc, &mut post, 1);
+        exchange(rt, alloc, &mut post, 2);
+    }
+}
+
+/// Two posts exchange messages with each other and with the third.
+fn exchange_all(rt: &impl Abort, alloc: Global, posts: &mut [Post])
+    requires { AreOfOneBoard posts.old }
+    ensures { AreOfOneBoard posts.new }
+{
+    assert!(rt; posts.len() == 2);
+    exchange(rt, alloc, &mut posts[0], 3);
+    exchange(rt, alloc, &mut posts[0], 2);
+    exchange(rt, alloc, &mut posts[1], 3);
+    exchange(rt, alloc, &mut posts[1], 1);
+}
+
+/// They meet.
+fn meet_again(posts: &mut [Post])
+    requires { AreOfOneBoard posts.old }
+    ensures { AreOfOneBoard posts.new }
+{
+    meet(posts);
+}
+
+/// Posts of one board.
+#[derive(Drop)]
+struct Partners<'a> {
+    posts: Vec<Post<'a>>,
+    ghost of_one_board: { AreOfOneBoard posts.items },
+}
+
+fn of_one_board<'a>(posts: Vec<Post<'a>>) -> Partners<'a>
+    requires { AreOfOneBoard posts.items }
+{
+    Partners { posts }
+}
+
+/// Two posts exchange messages and meet, again and again.
+fn stay_long(rt: &impl Abort, alloc: Global, partners: Partners) {
+    let Partners { mut posts } = partners;
+    let posts = posts.as_mut_slice();
+    for _ in 0..ROUNDS {
+        exchange_all(rt, alloc, posts);
+        meet_again(posts);
+    }
+}
+
+/// Two posts stay and a third goes, on a thread of its own.
+fn lose_third<R: Threads + Wait + Abort + Sync>(
+    rt: &R,
+    alloc: Global,
+    partners: Partners,
+    third: Post,
+) {
+    let started = thread::scope(thread::scope_env(), rt, move |scope| {
+        match scope.spawn(move || go(rt, alloc, third)) {
+            Ok(child) => {
+                stay_long(rt, alloc, partners);
+                child.join(rt);
+                true
+            }
+            Err(_) => false,
+        }
+    });
+    assert!(rt; started);
+}
+
+/// The same over lanes of so many places.
+fn lose_third_over<R: Threads + Wait + Abort + Sync>(
+    rt: &R,
+    alloc: Global,
+    capacity: usize,
+) -> Result<(), Fail> {
+    let mut board = Board::new(alloc, 3, capacity)?;
+    let mut posts = board.posts()?;
+    let third = posts.pop().ok_or("three posts")?;
+    lose_third(rt, alloc, of_one_board(posts), third);
+    Ok(())
+}
+
+#[test]
+fn a_post_goes_while_others_move(rt: HostRuntime) -> Result<(), Fail> {
+    let alloc = rt.alloc();
+    lose_third_over(&rt, alloc, 1)?;
+    lose_third_over(&rt, alloc, 4)
+}

@@ -1,0 +1,37 @@
+//! Sends with room: once it is there, they take no memory.
+use crate::calls::{instance, message};
+use board::{Board, Post};
+use chart::MAX_EVENTS;
+use std::alloc::Global;
+use std::process::Abort;
+use std::test::Fail;
+
+/// How many messages are sent: as many as the lane has places.
+const MESSAGES: usize = 64;
+
+/// Makes room for a whole line, if memory isn't refused, and then sends messages, whatever is refused from then on.
+fn sends_with_room(rt: &impl Abort, alloc: Global, post: &mut Post) {
+    if post.reserve(MAX_EVENTS).is_err() {
+        assert_eq!(rt; post.room(), 0);
+        return;
+    }
+    let second = instance(rt, 2);
+    for _ in 0..MESSAGES {
+        assert!(rt; post.send(second, message(rt, alloc, b'x')).is_ok());
+    }
+    assert_eq!(rt; post.room(), MAX_EVENTS - MESSAGES);
+}
+
+/// It also holds where not one growth is refused but all from there on.
+#[test]
+fn refused_growths_from_there_on(rt: HostRuntime) -> Result<(), Fail> {
+    let alloc = rt.alloc();
+    if let Ok(mut board) = Board::new(alloc, 8, MESSAGES) {
+        if let Ok(mut posts) = board.posts() {
+            assert!(rt; posts.len() >= 1);
+            sends_with_room(&rt, alloc, &mut posts[0]);
+        }
+    }
+    Vec::<u8>::with_capacity(alloc, 1).map_err(|_| "every growth was refused")?;
+    Ok(())
+}

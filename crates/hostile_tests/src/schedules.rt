@@ -1,0 +1,70 @@
+//! The worked schedules whose growths are refused.
+
+/// What an instance does, and what comes of it.
+#[derive(Clone, Copy)]
+pub enum Deed {
+    /// A send of the message of this name to an instance.
+    Sends(u8, usize),
+    /// A receive of the message of this name from an instance, with this race or none.
+    Gets(u8, usize, Option<u32>),
+    /// The same, where it is received from whichever instance has a message.
+    GetsAny(u8, usize, Option<u32>),
+}
+
+/// A schedule: its instances, the places of its lanes, and its deeds, each by an instance.
+#[derive(Clone, Copy)]
+pub struct Worked<'d> {
+    pub instances: usize,
+    pub capacity: usize,
+    pub deeds: &'d [(usize, Deed)],
+}
+
+static REPLY: [(usize, Deed); 6] = [
+    (1, Deed::Sends(b'x', 2)),
+    (2, Deed::Gets(b'x', 1, None)),
+    (2, Deed::Sends(b'm', 3)),
+    (3, Deed::Gets(b'm', 2, None)),
+    (3, Deed::Sends(b'y', 2)),
+    (2, Deed::Gets(b'y', 3, None)),
+];
+
+static CROSSING: [(usize, Deed); 4] = [
+    (1, Deed::Sends(b'q', 2)),
+    (2, Deed::Sends(b'p', 1)),
+    (1, Deed::Gets(b'p', 2, Some(1))),
+    (2, Deed::Gets(b'q', 1, Some(1))),
+];
+
+static TURNS: [(usize, Deed); 6] = [
+    (1, Deed::Sends(b'x', 2)),
+    (1, Deed::Sends(b'z', 2)),
+    (3, Deed::Sends(b'y', 2)),
+    (2, Deed::GetsAny(b'x', 1, None)),
+    (2, Deed::GetsAny(b'y', 3, Some(1))),
+    (2, Deed::GetsAny(b'z', 1, Some(2))),
+];
+
+static NINE: [(usize, Deed); 4] = [
+    (9, Deed::Sends(b'x', 1)),
+    (8, Deed::Sends(b'y', 1)),
+    (1, Deed::GetsAny(b'y', 8, None)),
+    (1, Deed::GetsAny(b'x', 9, Some(1))),
+];
+
+/// `no_race_through_a_reply`, `crossing_messages_race`, `any_takes_turns`, and the one among nine instances.
+pub fn worked_schedules() -> [Worked<'static>; 4] {
+    [
+        schedule(3, 1, REPLY.as_slice()),
+        schedule(2, 1, CROSSING.as_slice()),
+        schedule(3, 2, TURNS.as_slice()),
+        schedule(9, 1, NINE.as_slice()),
+    ]
+}
+
+fn schedule<'d>(instances: usize, capacity: usize, deeds: &'d [(usize, Deed)]) -> Worked<'d> {
+    Worked {
+        instances,
+        capacity,
+        deeds,
+    }
+}

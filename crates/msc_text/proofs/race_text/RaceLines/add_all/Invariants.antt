@@ -1,0 +1,10 @@
+use Rattle.std.proofs.Common.{take}
+use Rattle.std.specs.List.{flat_map}
+use Rattle.msc_text.proofs.RaceTexts.{range_lines}
+use Rattle.msc_text.specs.Writing.{Buffers}
+use Rattle.msc_text.proofs.race_text.RaceLines.add_all.Given as goal
+
+-- the races of the ranges so far were added
+abbrev pub invariant-loop-range : goal.invariant-loop-range
+invariant-loop-range g l =
+    Buffers g.W.Out.contents g.W.Out.failures l.initial.text l.text (flat_map (range_lines l.self.front l.self.end) (take l.range-index l.earlier))

@@ -1,0 +1,13 @@
+pub mod Beginnings
+pub mod Causes
+pub mod Closed
+pub mod Counted
+pub mod Legality
+pub mod Newest
+pub mod Parts
+pub mod Past
+pub mod Slots
+pub mod Sound
+pub mod Turns
+pub mod Wanted
+pub mod Witnesses

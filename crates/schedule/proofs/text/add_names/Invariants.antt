@@ -1,0 +1,10 @@
+use Rattle.std.proofs.Common.{take}
+use Rattle.std.specs.List.{flat_map}
+use Rattle.msc_text.specs.Writing.{Buffers}
+use Rattle.schedule.specs.WrittenLines.{behind_space}
+use Rattle.schedule.proofs.text.add_names.Given as goal
+
+-- the names so far were added
+abbrev pub invariant-loop-place : goal.invariant-loop-place
+invariant-loop-place g l =
+    Buffers g.W.Out.contents g.W.Out.failures l.initial.text l.text (flat_map behind_space (take l.place l.names))

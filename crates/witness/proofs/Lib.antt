@@ -1,0 +1,4 @@
+pub mod FoundLemmas
+pub mod StepLemmas
+pub mod TableLemmas
+pub mod WalkLemmas

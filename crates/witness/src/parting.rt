@@ -1,0 +1,36 @@
+//! A run with what has to come put first.
+ghost use Rattle.std.specs.Prelude.{◌≡◌, length, IfOk};
+ghost use Rattle.real_races.specs.Walks.{Wanted, parted};
+ghost use Rattle.witness.specs.Steps.{history_of, AreTurned, StandFor};
+
+use crate::needs::Needs;
+use crate::step::Step;
+use crate::turned::Turned;
+use std::alloc::{AllocError, Global};
+
+/// The steps that have to come, and then the others, each in their order and outside of coregions.
+///
+/// F6: it fails only where there is no memory.
+pub fn part(
+    alloc: Global,
+    steps: &[Step],
+    turned: &[Turned],
+    needs: &Needs,
+) -> Result<Vec<Step>, AllocError>
+    requires { AreTurned steps.now (length steps.now) turned.now }
+    ensures { IfOk result (λ run. (w : Wanted) → StandFor needs.now.sends needs.now.receives needs.now.lines w
+        → history_of run.items ≡ parted w.sends w.receives (history_of steps.now) (history_of steps.now)) }
+{
+    let mut first = Vec::new(alloc);
+    let mut others = Vec::new(alloc);
+    for place in 0..steps.len() {
+        let step = steps[place].outside_regions();
+        if needs.has(&turned[place]) {
+            first.push(step)?;
+        } else {
+            others.push(step)?;
+        }
+    }
+    first.extend_from_slice(others.as_slice())?;
+    Ok(first)
+}
