@@ -1,0 +1,4 @@
+pub mod Clients
+pub mod Letters
+pub mod Loggers
+pub mod Servers

@@ -1,0 +1,131 @@
+//! The same exchange without behaviours: each holds its post itself, in a job of its own.
+ghost use Rattle.std.specs.Prelude.{◌≡◌};
+ghost use Rattle.board.specs.Meeting.{AreOfOneBoard};
+
+use crate::parties::{PATIENCE, PLACES, REQUESTS, client, logger, message, server};
+use agreement::audit_gathered;
+use anyhow::bail;
+use board::{Arrival, Board, GatherError, Gathered, Post, Taken, gather};
+use chart::InstanceNo;
+use mailbox::Mailbox;
+use std::alloc::Global;
+use std::thread;
+use std::thread::Threads;
+
+/// Sends a message of this name to an instance.
+fn send(
+    alloc: Global,
+    post: &mut Post,
+    to: InstanceNo,
+    name: &[u8],
+    request: u32,
+) -> anyhow::Result<()>
+    ensures { post.new.board ≡ post.old.board }
+{
+    match post.send(to, message(alloc, name, request)?) {
+        Ok(_) => Ok(()),
+        Err((_, error)) => bail!("not sent: {error}"),
+    }
+}
+
+/// The next message of an instance: none where its lane ends, or where none has come after so many looks.
+fn wait_for(post: &mut Post, from: InstanceNo) -> anyhow::Result<Option<Arrival>>
+    ensures { post.new.board ≡ post.old.board }
+{
+    for _ in 0..PATIENCE {
+        match post.receive(from)? {
+            Taken::Got(arrival) => return Ok(Some(arrival)),
+            Taken::Nothing => thread::yield_now(),
+            Taken::Ended => return Ok(None),
+        }
+    }
+    Ok(None)
+}
+
+/// The client: it tells the logger of each request, asks the server and waits for the answer.
+fn ask(alloc: Global, post: &mut Post) -> anyhow::Result<()>
+    ensures { post.new.board ≡ post.old.board }
+{
+    for request in 1..=REQUESTS {
+        send(alloc, post, logger(), b"asks", request)?;
+        send(alloc, post, server(), b"ask", request)?;
+        if wait_for(post, server())?.is_none() {
+            break;
+        }
+    }
+    post.close(server())?;
+    post.close(logger())?;
+    Ok(())
+}
+
+/// The server: it waits for a request, tells the logger of it and answers; and gives up where none comes for long.
+fn serve(alloc: Global, post: &mut Post) -> anyhow::Result<()>
+    ensures { post.new.board ≡ post.old.board }
+{
+    for request in 1..=REQUESTS {
+        if wait_for(post, client())?.is_none() {
+            break;
+        }
+        send(alloc, post, logger(), b"serves", request)?;
+        send(alloc, post, client(), b"answer", request)?;
+    }
+    post.close(client())?;
+    post.close(logger())?;
+    Ok(())
+}
+
+/// The logger: it gets whatever message comes, until nobody sends to it any more.
+fn log<'a>(post: Post<'a>) -> Post<'a>
+    ensures { result.board ≡ post.entry.board }
+{
+    let mut mailbox = Mailbox::new(post);
+    for _ in 0..PATIENCE {
+        match mailbox.any() {
+            Ok(Taken::Got(_)) => {}
+            Ok(Taken::Nothing) => thread::yield_now(),
+            _ => break,
+        }
+    }
+    mailbox.into_post()
+}
+
+/// What an instance does by itself. A refusal ends it.
+fn act<'a>(alloc: Global, mut post: Post<'a>) -> Post<'a>
+    ensures { result.board ≡ post.entry.board }
+{
+    let number = post.number();
+    if number == client() {
+        let _done = ask(alloc, &mut post);
+        post
+    } else if number == server() {
+        let _done = serve(alloc, &mut post);
+        post
+    } else {
+        log(post)
+    }
+}
+
+/// What their posts came to. Its reports were audited.
+fn audited(alloc: Global, posts: Vec<Post>) -> anyhow::Result<Gathered>
+    requires { AreOfOneBoard posts.items }
+{
+    match gather(alloc, posts) {
+        Ok(gathered) => match audit_gathered(alloc, &gathered) {
+            Ok(()) => Ok(gathered),
+            Err(_) => bail!("no memory for the audit"),
+        },
+        Err(GatherError { posts: _, cause }) => bail!("not gathered: {cause}"),
+    }
+}
+
+/// What the three came to. Its reports were audited.
+pub fn exchange<R: Threads + AllocGlobal + Sync>(rt: &R) -> anyhow::Result<Gathered> {
+    let alloc = rt.alloc();
+    let mut board = Board::new(alloc, 3, PLACES)?;
+    let posts = board.posts()?;
+    let each = move |post| -> Post
+        ensures { result.board ≡ post.entry.board }
+    { act(alloc, post) };
+    let left = thread::map_vec(rt, posts, &each)?;
+    audited(alloc, left)
+}

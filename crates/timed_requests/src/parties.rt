@@ -1,0 +1,42 @@
+//! Who takes part, and what they write.
+ghost use Rattle.std.specs.Prelude.{◌≡◌};
+
+use anyhow::bail;
+use chart::{InstanceNo, Message, Name};
+use std::alloc::Global;
+
+/// How many requests the client makes.
+pub const REQUESTS: u32 = 3;
+
+/// How often the server looks for a request at most, and how often anyone looks for a message.
+pub const PATIENCE: u32 = 100_000;
+
+/// How many places a lane has: more than messages are ever on their way, so no lane is full.
+pub const PLACES: usize = 8;
+
+pub fn client() -> InstanceNo
+    ensures { result ≡ 1 }
+{
+    InstanceNo::at_place(0)
+}
+
+pub fn server() -> InstanceNo
+    ensures { result ≡ 2 }
+{
+    InstanceNo::at_place(1)
+}
+
+pub fn logger() -> InstanceNo
+    ensures { result ≡ 3 }
+{
+    InstanceNo::at_place(2)
+}
+
+/// A message of this name, whose body tells of which request it is.
+pub fn message(alloc: Global, name: &[u8], request: u32) -> anyhow::Result<Message> {
+    let body = format!(in alloc; "request {request}")?.into_bytes();
+    match Message::new(Name::new(name)?, body) {
+        Ok(message) => Ok(message),
+        Err(_) => bail!("a body has at most 4,096 bytes"),
+    }
+}
