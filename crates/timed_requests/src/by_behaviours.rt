@@ -19,8 +19,8 @@ use std::sync::atomic::AtomicU64;
 use std::thread;
 use std::thread::Threads;
 
-/// Lets other threads go first before each act: so an instance that waits doesn't keep those from a processor that it waits
-/// for.
+/// Lets other threads go first before each act: so an instance that waits doesn't keep those from a processor that it
+/// waits for.
 struct OthersFirst;
 
 impl Gate for OthersFirst {

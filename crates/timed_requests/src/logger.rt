@@ -3,7 +3,8 @@ use behaviour::{Act, Answer, Behaviour};
 use std::sync::Arc;
 use std::sync::atomic::{AtomicU64, Ordering};
 
-/// It counts the bytes of the bodies, for whoever else has its counter: a behaviour itself doesn't come back from a run.
+/// It counts the bytes of the bodies, for whoever else has its counter: a behaviour itself doesn't come back from a
+/// run.
 #[derive(Drop)]
 pub struct Logger {
     pub bytes: Arc<AtomicU64>,

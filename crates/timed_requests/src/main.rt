@@ -1,8 +1,8 @@
-//! A client asks a server, a logger hears of it from both, and the server gives up where no request comes for long. Each is
-//! on a thread of its own, and the chart of what they did is printed with its races.
+//! A client asks a server, a logger hears of it from both, and the server gives up where no request comes for long.
+//! Each is on a thread of its own, and the chart of what they did is printed with its races.
 //!
-//! With no word each of them is a behaviour, and `run` lets them act. With the word `by-hand` each holds its post itself.
-//! With the word `check` both are done, and the program tells only what no schedule changes.
+//! With no word each of them is a behaviour, and `run` lets them act. With the word `by-hand` each holds its post
+//! itself. With the word `check` both are done, and the program tells only what no schedule changes.
 #![tactic(auto)]
 
 mod by_behaviours;

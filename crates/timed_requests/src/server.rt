@@ -52,8 +52,8 @@ impl ServerStep {
     }
 }
 
-/// It has two letters for each request: one for the logger and one for the client. Where nothing comes for as many turns as
-/// its patience lasts, it gives up.
+/// It has two letters for each request: one for the logger and one for the client. Where nothing comes for as many
+/// turns as its patience lasts, it gives up.
 #[derive(Drop)]
 pub struct Server {
     pub client: InstanceNo,
@@ -81,7 +81,8 @@ impl Behaviour for Server {
     ghost use Rattle.timed_requests.specs.Servers.{step_after, turns_left, server_act, server_left};
 
     ghost act = { λ server last.
-        server_act (step_after server.step last server.patience server.left) server.letters server.client server.logger };
+        server_act (step_after server.step last server.patience server.left)
+        server.letters server.client server.logger };
 
     ghost after = { λ server last. record server {
       letters = server_left (step_after server.step last server.patience server.left) server.letters;

@@ -45,8 +45,8 @@ fn got_from(chart: &Chart, sender: InstanceNo) -> usize {
     many
 }
 
-/// Tells what no schedule changes: the logger tells nobody what it got, so each message of the client may as well have come
-/// after each of the server's that came before it, and the other way round.
+/// Tells what no schedule changes: the logger tells nobody what it got, so each message of the client may as well have
+/// come after each of the server's that came before it, and the other way round.
 pub fn check<R: Print>(rt: &R, gathered: &Gathered) -> anyhow::Result<()> {
     let mut races = 0usize;
     for report in gathered.reports.iter() {
