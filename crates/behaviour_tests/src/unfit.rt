@@ -91,3 +91,27 @@ fn unfit_runs_come_back(rt: HostRuntime) -> Result<(), Fail> {
     }
     Ok(())
 }
+
+/// These posts without the last of them.
+fn without_last<'a>(posts: Vec<Post<'a>>) -> Vec<Post<'a>>
+    requires board { AreOfOneBoard posts.items }
+    ensures { AreOfOneBoard result.items }
+{
+    let mut others = posts;
+    let _last = others.pop();
+    others
+}
+
+#[test]
+fn lacking_posts_come_back(rt: HostRuntime) -> Result<(), Fail> {
+    let alloc = rt.alloc();
+    let mut board = Board::new(alloc, 2, 1)?;
+    let posts = without_last(board.posts()?);
+    let one = Case {
+        behaviours: 1,
+        turns: 9,
+    };
+    let back = come_back(&rt, alloc, posts, one)?;
+    assert_eq!(rt; back.len(), 1);
+    Ok(())
+}
