@@ -3,4 +3,5 @@ pub mod Refusals
 pub mod Tasks
 pub mod Seeds
 pub mod Statuses
+pub mod Checking
 pub mod Showing

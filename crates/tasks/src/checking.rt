@@ -1,20 +1,20 @@
 //! Checks charts: whether they are possible, and their races.
-ghost use Rattle.std.specs.Prelude.{◌≡◌, ◌≤◌, ◌⊎◌, List, length, OnOk, IfErr, IfOk};
+ghost use Rattle.std.specs.Prelude.{◌≡◌, ◌≤◌, ◌⊎◌, ◌||◌, List, [], length, nat_lt, All, OnOk, IfErr, IfOk};
 ghost use Rattle.chart.specs.Charts.{LineView, chart_lines, IsPossible};
-ghost use Rattle.chart.specs.Reports.{AreReports};
+ghost use Rattle.chart.specs.Ranges.{IsRange, events_in};
 ghost use Rattle.closure.specs.Faults.{Refuses};
+ghost use Rattle.closure.specs.Reported.{HaveReported};
 ghost use Rattle.msc_reader.specs.Reading.{chart_of};
 ghost use Rattle.msc_text.specs.ChartText.{name_at};
-ghost use Rattle.msc_text.specs.RaceText.{races_text};
-ghost use Rattle.msc_text.specs.Writing.{Wrote};
+ghost use Rattle.tasks.specs.Checking.{HasAdded, HasWritten};
 ghost use Rattle.tasks.specs.Tasks.{Reads, IsRefused, Checks};
 
 use crate::error::ProgramError;
 use crate::status::Status;
-use chart::{Chart, InstanceNo, Name, Names, Report, has_races};
-use closure::{ChartError, Closure};
+use chart::{Chart, EventRange, InstanceNo, Name, Names};
+use closure::{ChartError, Closure, Reporter};
 use msc_reader::read;
-use msc_text::{Out, TextBuffer, TextError, WriteError, add_races, named};
+use msc_text::{Out, RaceLines, TextBuffer, TextError, WriteError, named};
 use std::alloc::Global;
 
 /// The names and the chart that the text says.
@@ -29,14 +29,54 @@ fn chart_in(alloc: Global, text: &[u8]) -> Result<(Names, Chart), ProgramError>
     }
 }
 
-/// Writes the line of each race.
-#[tactic(auto, using(msc_text::proofs::Writes::joining))]
-fn write<W: Out>(names: &Names, reports: &[Report], out: &mut W) -> Result<(), WriteError>
-    ensures { Wrote W.contents W.failures out.old out.new result (races_text names.now reports.now) }
+/// Whether there is an event in these ranges.
+fn has_events(ranges: &[EventRange]) -> bool
+    requires { All IsRange ranges.now }
+    ensures { result ≡ nat_lt 0 (length (events_in ranges.now)) }
+{
+    !ranges.is_empty()
+}
+
+fn either(first: bool, second: bool) -> bool
+    ensures { result ≡ (first || second) }
+{
+    first || second
+}
+
+/// Adds the line of each race as it is found, and answers whether there is one. It takes no memory.
+fn add_found<W: Out>(
+    text: &mut TextBuffer<'_, W>,
+    names: &Names,
+    reporter: Reporter<'_>,
+) -> Result<bool, WriteError>
+    requires { HaveReported reporter.lines reporter.line reporter.place [] }
+    ensures { HasAdded W.contents W.failures text.old text.new names.now reporter.entry.lines result }
+{
+    let mut reporter = reporter;
+    let mut lines = RaceLines::new();
+    let mut has_races = false;
+    while let Some(receive) = reporter.next() {
+        let earlier = reporter.earlier();
+        lines.add_report(text, names, receive, earlier)?;
+        has_races = either(has_races, has_events(earlier));
+    }
+    Ok(has_races)
+}
+
+/// Writes the line of each race as it is found, and answers whether there is one.
+#[tactic(auto, using(msc_text::proofs::Writes::joining, crate::proofs::FoundRaces::wrote_failed, crate::proofs::FoundRaces::none_told))]
+fn write<W: Out>(
+    names: &Names,
+    reporter: Reporter<'_>,
+    out: &mut W,
+) -> Result<bool, WriteError>
+    requires { HaveReported reporter.lines reporter.line reporter.place [] }
+    ensures { HasWritten W.contents W.failures out.old out.new names.now reporter.entry.lines result }
 {
     let mut text = TextBuffer::new(out);
-    add_races(&mut text, names, reports)?;
-    text.finish()
+    let has_races = add_found(&mut text, names, reporter)?;
+    text.finish()?;
+    Ok(has_races)
 }
 
 /// The refusal of the chart, by the names of its instances.
@@ -59,31 +99,36 @@ fn refusal(names: &Names, error: ChartError) -> ProgramError
     }
 }
 
-/// The races of the chart, if it is possible.
-fn races_of(alloc: Global, names: &Names, chart: &Chart) -> Result<Vec<Report>, ProgramError>
+/// The closure of the chart, if it is possible.
+fn closure_of<'a>(
+    alloc: Global,
+    names: &Names,
+    chart: &'a Chart,
+) -> Result<Closure<'a>, ProgramError>
     requires { length names.now ≡ length chart.now }
+    ensures closure { IfOk result (λ closure. closure ≡ chart.now) }
     ensures possible { OnOk result (IsPossible (length chart.now) (chart_lines chart.now)) }
-    ensures reports { IfOk result (λ reports. AreReports chart.now reports.items) }
     ensures refused { IfErr result (λ e. (e ≡ ProgramError.Memory) ⊎ IsRefused e (names.now, chart.now)) }
 {
-    let closure = match Closure::of(alloc, chart) {
-        Ok(closure) => closure,
-        Err(error) => return Err(refusal(names, error)),
-    };
-    match closure.races() {
-        Ok(reports) => Ok(reports),
-        Err(_) => Err(ProgramError::Memory),
+    match Closure::of(alloc, chart) {
+        Ok(closure) => Ok(closure),
+        Err(error) => Err(refusal(names, error)),
     }
 }
 
 /// Checks the chart that the text says: writes its races, and answers whether it has some.
+///
+/// All memory is taken before the first race is written.
 pub fn check<W: Out>(alloc: Global, text: &[u8], out: &mut W) -> Result<Status, ProgramError>
     ensures { Checks W.contents W.failures out.old out.new result (chart_of text.now) }
 {
     let (names, chart) = chart_in(alloc, text)?;
-    let reports = races_of(alloc, &names, &chart)?;
-    match write(&names, reports.as_slice(), out) {
-        Ok(()) => Ok(Status::of(has_races(reports.as_slice()))),
+    let closure = closure_of(alloc, &names, &chart)?;
+    let Ok(reporter) = closure.reporter() else {
+        return Err(ProgramError::Memory);
+    };
+    match write(&names, reporter, out) {
+        Ok(has_races) => Ok(Status::of(has_races)),
         Err(_) => Err(ProgramError::Write),
     }
 }
