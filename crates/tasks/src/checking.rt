@@ -65,11 +65,7 @@ fn add_found<W: Out>(
 
 /// Writes the line of each race as it is found, and answers whether there is one.
 #[tactic(auto, using(msc_text::proofs::Writes::joining, crate::proofs::FoundRaces::wrote_failed, crate::proofs::FoundRaces::none_told))]
-fn write<W: Out>(
-    names: &Names,
-    reporter: Reporter<'_>,
-    out: &mut W,
-) -> Result<bool, WriteError>
+fn write<W: Out>(names: &Names, reporter: Reporter<'_>, out: &mut W) -> Result<bool, WriteError>
     requires { HaveReported reporter.lines reporter.line reporter.place [] }
     ensures { HasWritten W.contents W.failures out.old out.new names.now reporter.entry.lines result }
 {
