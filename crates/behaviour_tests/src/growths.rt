@@ -2,13 +2,18 @@
 //! A test ends with a growth of its own, whose refusal tells that each one before it was refused in an earlier run of the
 //! test.
 use crate::calls::{instance, name, stop};
-use behaviour::{BareAct, BareAnswer, Script};
+use behaviour::{BareAct, BareAnswer, Behaviour, Script};
 use board::{Board, SendError};
-use instances::{End, Open, Trace, drive};
+use chart::Line;
+use instances::{End, Open, Run, RunError, Trace, drive, run};
 use mailbox::Mailbox;
 use std::alloc::Global;
 use std::process::Abort;
 use std::test::Fail;
+use std::thread::Threads;
+
+/// How many messages each script sends.
+const MESSAGES: usize = 12;
 
 /// How many sends a trace says were made, up to a refusal for want of memory, after which the script stops.
 fn sent(rt: &impl Abort, trace: &Trace) -> usize {
@@ -23,10 +28,10 @@ fn sent(rt: &impl Abort, trace: &Trace) -> usize {
     many
 }
 
-/// A script of twelve sends.
-fn script(rt: &impl Abort, alloc: Global) -> Option<Script> {
-    let send = BareAct::Send(instance(rt, 2), name(rt, b'x'));
-    let acts = [send; 12].to_vec(alloc);
+/// A script of sends to the instance of this number.
+fn script(rt: &impl Abort, alloc: Global, to: usize) -> Option<Script> {
+    let send = BareAct::Send(instance(rt, to), name(rt, b'x'));
+    let acts = [send; MESSAGES].to_vec(alloc);
     match acts {
         Ok(acts) => Some(Script::new(acts)),
         Err(_) => None,
@@ -36,10 +41,10 @@ fn script(rt: &impl Abort, alloc: Global) -> Option<Script> {
 #[test]
 fn refused_growths_of_a_run(rt: HostRuntime) -> Result<(), Fail> {
     let alloc = rt.alloc();
-    let Ok(mut board) = Board::new(alloc, 2, 12) else {
+    let Ok(mut board) = Board::new(alloc, 2, MESSAGES) else {
         return Ok(());
     };
-    let (Ok(posts), Some(mut script)) = (board.posts(), script(&rt, alloc)) else {
+    let (Ok(posts), Some(mut script)) = (board.posts(), script(&rt, alloc, 2)) else {
         return Ok(());
     };
     let Some(post) = posts.into_iter().next() else {
@@ -52,6 +57,77 @@ fn refused_growths_of_a_run(rt: HostRuntime) -> Result<(), Fail> {
         End::TurnsSpent => panic!(rt; "a script of twelve acts stops before its twentieth turn"),
     }
     assert_eq!(rt; mailbox.line().len(), sent(&rt, &trace));
+    Vec::<u8>::with_capacity(alloc, 1).map_err(|_| "every growth was refused")?;
+    Ok(())
+}
+
+/// A board of two that these behaviours ran on threads; none where a growth was refused.
+fn run_two<R: Threads + Abort + Sync>(
+    rt: &R,
+    alloc: Global,
+    behaviours: Vec<Box<dyn Behaviour + Send>>,
+) -> Option<Run> {
+    let Ok(mut board) = Board::new(alloc, 2, MESSAGES) else {
+        return None;
+    };
+    let Ok(posts) = board.posts() else {
+        return None;
+    };
+    match run(rt, posts, behaviours, 20, &Open) {
+        Ok(run) => Some(run),
+        Err(RunError::Memory) => None,
+        Err(RunError::Unfit(..)) => panic!(rt; "two posts and two behaviours"),
+    }
+}
+
+/// A board of two that was run by scripts which send to each other; none where a growth was refused.
+fn run_scripts<R: Threads + Abort + Sync>(rt: &R, alloc: Global) -> Option<Run> {
+    let mut behaviours: Vec<Box<dyn Behaviour + Send>> = Vec::new(alloc);
+    for to in [2, 1] {
+        let Some(script) = script(rt, alloc, to) else {
+            return None;
+        };
+        let Ok(boxed) = Box::new(alloc, script) else {
+            return None;
+        };
+        if behaviours.push(boxed).is_err() {
+            return None;
+        }
+    }
+    run_two(rt, alloc, behaviours)
+}
+
+/// Whether an instance did all its acts. Else it tells that a growth was refused, and its line has just what its trace says.
+fn is_whole(rt: &impl Abort, line: &Line, trace: &Trace, end: End) -> bool {
+    let sends = sent(rt, trace);
+    assert_eq!(rt; line.len(), sends);
+    let refused = BareAnswer::Unsent(SendError::Memory);
+    let was_refused = trace
+        .stretches()
+        .iter()
+        .any(|stretch| stretch.turn.answer == Some(refused));
+    let is_whole = end == End::Stopped && sends == MESSAGES;
+    assert_eq!(rt; is_whole, end != End::Memory && !was_refused);
+    is_whole
+}
+
+/// At most one growth is refused in each run of the test: so F6 refuses it, or one instance tells of F6 while the other one
+/// did all its acts, or both did.
+#[test]
+fn refused_growths_on_threads(rt: HostRuntime) -> Result<(), Fail> {
+    let alloc = rt.alloc();
+    let Some(ran) = run_scripts(&rt, alloc) else {
+        return Ok(());
+    };
+    let mut whole: usize = 0;
+    for (place, line) in ran.gathered.chart.lines().iter().enumerate() {
+        let (Some(trace), Some(end)) = (ran.traces.get(place), ran.ends.get(place)) else {
+            panic!(rt; "a trace and an end for each line");
+        };
+        whole = whole.wrapping_add(usize::from(is_whole(&rt, line, trace, *end)));
+    }
+    assert!(rt; whole == 1 || whole == 2, "{whole} did all their acts");
+    assert_eq!(rt; ran.gathered.reports.len(), 0);
     Vec::<u8>::with_capacity(alloc, 1).map_err(|_| "every growth was refused")?;
     Ok(())
 }

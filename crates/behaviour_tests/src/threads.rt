@@ -8,6 +8,7 @@ use schedule::Schedule;
 use schedule_scripts::scripts;
 use std::sync::atomic::{AtomicU64, Ordering};
 use std::test::Fail;
+use std::thread;
 
 /// Holds back each instance's first act until three have come to it.
 #[derive(Drop)]
@@ -22,10 +23,11 @@ impl Gate for Meeting {
             return;
         }
         self.here.fetch_add(1, Ordering::SeqCst);
-        for _ in 0..10_000_000 {
+        for _ in 0..1_000_000 {
             if self.here.load(Ordering::SeqCst) >= 3 {
                 return;
             }
+            thread::yield_now();
         }
         self.late.fetch_add(1, Ordering::SeqCst);
     }

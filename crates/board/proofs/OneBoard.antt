@@ -6,7 +6,7 @@ use Rattle.chart.proofs.Places.{slice_get-append}
 use Rattle.board.specs.declared.error.MeetError.{MeetError}
 use Rattle.board.specs.Views.{BoardView, PostView}
 use Rattle.board.specs.Boards.{AreNewPosts}
-use Rattle.board.specs.Meeting.{AreOfOneBoard, MeetsAll}
+use Rattle.board.specs.Meeting.{AreOfOneBoard, HaveMet, MeetsAll}
 
 none_there : (y : PostView) → None ≡ Some y → ⊥
 none_there y never = cc
@@ -44,7 +44,11 @@ mapped f keeps (x ∷ xs) (suc i) y at =
     let its = mapped f keeps xs i y at in
     record { place = suc its.place; fellow = its.fellow; at = its.at; same = its.same }
 
+-- they have met
+pub one_board-met : (old new : List PostView) → HaveMet old new → AreOfOneBoard old → AreOfOneBoard new
+one_board-met old new met one = fellows old new (λ i y at. mapped (λ (post : PostView). record post { seen = met.history }) (λ x. refl) old i y (subst (λ (posts : List PostView). slice_get posts i ≡ Some y) met.seen at)) one
+
 -- they meet, or not
 pub one_board-meets : (old new : List PostView) (answer : Result (Unit {0}) MeetError) → MeetsAll old answer new → AreOfOneBoard old → AreOfOneBoard new
-one_board-meets old new (Ok done) its one = fellows old new (λ i y at. mapped (λ (post : PostView). record post { seen = its.1.history }) (λ x. refl) old i y (subst (λ (posts : List PostView). slice_get posts i ≡ Some y) its.1.seen at)) one
+one_board-meets old new (Ok done) its one = one_board-met old new its.1 one
 one_board-meets old new (Err error) its one = subst (λ (posts : List PostView). AreOfOneBoard posts) (sym its.1) one

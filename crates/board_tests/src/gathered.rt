@@ -1,42 +1,30 @@
 //! Boards that are gathered.
-ghost use Rattle.std.specs.Prelude.{◌≡◌};
 ghost use Rattle.board.specs.Meeting.{AreOfOneBoard};
 
-use crate::calls::{has_come, instance, send};
-use board::{Board, GatherCause, GatherError, Post, Taken, gather};
-use chart::Name;
+use crate::calls::{gets, instance, name, send};
+use board::{Board, GatherCause, GatherError, Post, gather};
 use std::alloc::Global;
 use std::process::Abort;
 use std::test::Fail;
 
 /// The first post sends a message of this name to the second one, once more where memory was refused.
-fn sends(rt: &impl Abort, alloc: Global, posts: &mut [Post], name: &[u8])
+fn sends(rt: &impl Abort, alloc: Global, posts: &mut [Post], letter: u8)
     requires { AreOfOneBoard posts.old }
     ensures { AreOfOneBoard posts.new }
 {
     assert!(rt; posts.len() >= 2);
-    if send(rt, alloc, &mut posts[0], 2, name).is_err() {
-        assert!(rt; send(rt, alloc, &mut posts[0], 2, name).is_ok());
-    }
-}
-
-/// The post receives a message of this name from the first one.
-fn takes(rt: &impl Abort, post: &mut Post, name: &[u8])
-    ensures { post.new.board ≡ post.old.board }
-{
-    match post.receive(instance(rt, 1)) {
-        Ok(Taken::Got(arrival)) => has_come(rt, &arrival, name, 0),
-        _ => panic!(rt; "no message came"),
+    if send(rt, alloc, &mut posts[0], 2, letter).is_err() {
+        assert!(rt; send(rt, alloc, &mut posts[0], 2, letter).is_ok());
     }
 }
 
 /// The second of two posts receives a message of this name from the first one.
-fn receives(rt: &impl Abort, posts: &mut [Post], name: &[u8])
+fn receives(rt: &impl Abort, posts: &mut [Post], letter: u8)
     requires { AreOfOneBoard posts.old }
     ensures { AreOfOneBoard posts.new }
 {
     assert!(rt; posts.len() == 2);
-    takes(rt, &mut posts[1], name);
+    gets(rt, &mut posts[1], 1, letter, &[]);
 }
 
 /// The board of these posts, which made so many receives, has one message left, on the lane from 1 to 2.
@@ -55,7 +43,7 @@ fn one_is_left(rt: &impl Abort, alloc: Global, posts: Vec<Post>, receives: usize
     assert!(rt; left.sender == instance(rt, 1));
     assert!(rt; left.receiver == instance(rt, 2));
     assert_eq!(rt; left.messages.len(), 1);
-    assert!(rt; left.messages[0].name() == Name::new(b"y").expect(rt, "a name"));
+    assert!(rt; left.messages[0].name() == name(rt, b'y'));
 }
 
 #[test]
@@ -63,9 +51,9 @@ fn gathered_board(rt: HostRuntime) -> Result<(), Fail> {
     let alloc = rt.alloc();
     let mut board = Board::new(alloc, 2, 2)?;
     let mut posts = board.posts()?;
-    sends(&rt, alloc, posts.as_mut_slice(), b"x");
-    sends(&rt, alloc, posts.as_mut_slice(), b"y");
-    receives(&rt, posts.as_mut_slice(), b"x");
+    sends(&rt, alloc, posts.as_mut_slice(), b'x');
+    sends(&rt, alloc, posts.as_mut_slice(), b'y');
+    receives(&rt, posts.as_mut_slice(), b'x');
     one_is_left(&rt, alloc, posts, 1);
     Ok(())
 }
@@ -113,7 +101,7 @@ fn gathered_of(rt: &impl Abort, alloc: Global, instances: usize) -> Result<(), F
     let Ok(mut posts) = board.posts() else {
         return Ok(());
     };
-    sends(rt, alloc, posts.as_mut_slice(), b"y");
+    sends(rt, alloc, posts.as_mut_slice(), b'y');
     gathers(rt, alloc, posts);
     Ok(())
 }

@@ -3,10 +3,9 @@
 //! take memory for each clock, those of two don't.
 ghost use Rattle.std.specs.Prelude.{◌≤◌};
 
-use crate::calls::{has_come, instance, message};
-use crate::several_calls::{are_named, have_come, messages};
+use crate::calls::{are_named, has_come, have_come, instance, message, messages, name};
 use board::{Board, BoardError, Post, PostsError, SendError, Stop, TakeError, Taken, TakenMany};
-use chart::{InstanceNo, Message, Name};
+use chart::{InstanceNo, Message};
 use std::alloc::Global;
 use std::process::Abort;
 use std::test::Fail;
@@ -37,13 +36,13 @@ fn posts_of(rt: &impl Abort, alloc: Global, instances: usize) {
 }
 
 /// Sends a message of this name, once more where memory was refused: that changed nothing.
-fn sends(rt: &impl Abort, alloc: Global, post: &mut Post, to: InstanceNo, name: &[u8]) {
+fn sends(rt: &impl Abort, alloc: Global, post: &mut Post, to: InstanceNo, letter: u8) {
     let events = post.line().len();
-    let sent = match post.send(to, message(rt, alloc, name)) {
+    let sent = match post.send(to, message(rt, alloc, letter)) {
         Ok(sent) => sent,
         Err((back, error)) => {
             assert_eq!(rt; error, SendError::Memory);
-            assert!(rt; back.name() == Name::new(name).expect(rt, "a name"));
+            assert!(rt; back.name() == name(rt, letter));
             assert_eq!(rt; post.line().len(), events);
             match post.send(to, back) {
                 Ok(sent) => sent,
@@ -56,7 +55,7 @@ fn sends(rt: &impl Abort, alloc: Global, post: &mut Post, to: InstanceNo, name: 
 }
 
 /// Receives a message of this name with so many races, once more where memory was refused: that changed nothing.
-fn gets(rt: &impl Abort, post: &mut Post, from: InstanceNo, name: &[u8], races: usize) {
+fn gets(rt: &impl Abort, post: &mut Post, from: InstanceNo, letter: u8, races: &[u32]) {
     let events = post.line().len();
     let taken = match post.receive(from) {
         Ok(taken) => taken,
@@ -69,7 +68,7 @@ fn gets(rt: &impl Abort, post: &mut Post, from: InstanceNo, name: &[u8], races: 
     let Taken::Got(arrival) = taken else {
         panic!(rt; "no message came")
     };
-    has_come(rt, &arrival, name, races);
+    has_come(rt, &arrival, letter, races);
 }
 
 /// Two messages from the first instance of so many to the second, and one back that crosses the second of them.
@@ -81,12 +80,12 @@ fn exchange(rt: &impl Abort, alloc: Global, instances: usize) -> Result<(), Fail
         return Ok(());
     };
     assert!(rt; posts.len() >= 2);
-    sends(rt, alloc, &mut posts[0], second, b"x");
-    sends(rt, alloc, &mut posts[0], second, b"y");
-    gets(rt, &mut posts[1], first, b"x", 0);
-    sends(rt, alloc, &mut posts[1], first, b"z");
-    gets(rt, &mut posts[0], second, b"z", 1);
-    gets(rt, &mut posts[1], first, b"y", 1);
+    sends(rt, alloc, &mut posts[0], second, b'x');
+    sends(rt, alloc, &mut posts[0], second, b'y');
+    gets(rt, &mut posts[1], first, b'x', &[]);
+    sends(rt, alloc, &mut posts[1], first, b'z');
+    gets(rt, &mut posts[0], second, b'z', &[2]);
+    gets(rt, &mut posts[1], first, b'y', &[2]);
     Ok(())
 }
 
@@ -123,21 +122,21 @@ fn refused_growths_among_nine(rt: HostRuntime) -> Result<(), Fail> {
 }
 
 /// Messages of these names, made once more where memory was refused.
-fn list_of(rt: &impl Abort, alloc: Global, names: &[&[u8]]) -> Vec<Message> {
-    match messages(rt, alloc, names) {
+fn list_of(rt: &impl Abort, alloc: Global, letters: &[u8]) -> Vec<Message> {
+    match messages(rt, alloc, letters) {
         Ok(list) => list,
-        Err(_) => messages(rt, alloc, names).expect(rt, "messages"),
+        Err(_) => messages(rt, alloc, letters).expect(rt, "messages"),
     }
 }
 
 /// Sends messages of these names at once, once more where memory was refused: that changed nothing.
-fn sends_several(rt: &impl Abort, alloc: Global, post: &mut Post, to: InstanceNo, names: &[&[u8]]) {
+fn sends_several(rt: &impl Abort, alloc: Global, post: &mut Post, to: InstanceNo, letters: &[u8]) {
     let events = post.line().len();
-    let sents = match post.send_all(to, list_of(rt, alloc, names)) {
+    let sents = match post.send_all(to, list_of(rt, alloc, letters)) {
         Ok(sents) => sents,
         Err((back, error)) => {
             assert_eq!(rt; error, SendError::Memory);
-            are_named(rt, back.as_slice(), names);
+            are_named(rt, back.as_slice(), letters);
             assert_eq!(rt; post.line().len(), events);
             match post.send_all(to, back) {
                 Ok(sents) => sents,
@@ -145,7 +144,7 @@ fn sends_several(rt: &impl Abort, alloc: Global, post: &mut Post, to: InstanceNo
             }
         }
     };
-    assert_eq!(rt; sents.len(), names.len());
+    assert_eq!(rt; sents.len(), letters.len());
 }
 
 /// Receives messages of the first of these names by one call, each with so many races. Answers how many came, and why no
@@ -155,8 +154,8 @@ fn takes_several(
     post: &mut Post,
     from: InstanceNo,
     max: usize,
-    names: &[&[u8]],
-    races: usize,
+    letters: &[u8],
+    races: &[u32],
 ) -> (usize, Stop)
     requires { 1 ≤ max }
 {
@@ -164,8 +163,8 @@ fn takes_several(
     match post.receive_up_to(from, max) {
         Ok(TakenMany::Got { arrivals, stop }) => {
             let came = arrivals.len();
-            assert!(rt; came <= names.len());
-            have_come(rt, arrivals.as_slice(), &names[..came], races);
+            assert!(rt; came <= letters.len());
+            have_come(rt, arrivals.as_slice(), &letters[..came], races);
             (came, stop)
         }
         Ok(_) => panic!(rt; "no messages came"),
@@ -178,17 +177,17 @@ fn takes_several(
 
 /// Receives messages of these names by one call, each with so many races. Where memory was refused, the same call made
 /// once more gets those that are left.
-fn gets_several(rt: &impl Abort, post: &mut Post, from: InstanceNo, names: &[&[u8]], races: usize) {
-    let max = names.len();
+fn gets_several(rt: &impl Abort, post: &mut Post, from: InstanceNo, letters: &[u8], races: &[u32]) {
+    let max = letters.len();
     assert!(rt; max > 0);
-    let (came, stop) = takes_several(rt, post, from, max, names, races);
+    let (came, stop) = takes_several(rt, post, from, max, letters, races);
     if came == max {
         assert_eq!(rt; stop, Stop::Asked);
         return;
     }
     assert_eq!(rt; stop, Stop::Refused(TakeError::Memory));
     assert!(rt; came < max);
-    let (left, stop) = takes_several(rt, post, from, max, &names[came..], races);
+    let (left, stop) = takes_several(rt, post, from, max, &letters[came..], races);
     assert_eq!(rt; left, max - came);
     assert_eq!(rt; stop, if came == 0 { Stop::Asked } else { Stop::NoMore });
 }
@@ -202,9 +201,9 @@ fn exchange_several(rt: &impl Abort, alloc: Global, instances: usize) -> Result<
         return Ok(());
     };
     assert!(rt; posts.len() >= 2);
-    sends(rt, alloc, &mut posts[1], first, b"w");
-    sends_several(rt, alloc, &mut posts[0], second, &[b"x", b"y", b"z"]);
-    gets_several(rt, &mut posts[1], first, &[b"x", b"y", b"z"], 1);
+    sends(rt, alloc, &mut posts[1], first, b'w');
+    sends_several(rt, alloc, &mut posts[0], second, b"xyz");
+    gets_several(rt, &mut posts[1], first, b"xyz", &[1]);
     Ok(())
 }
 
@@ -232,7 +231,7 @@ fn sends_with_room(rt: &impl Abort, alloc: Global, post: &mut Post) {
     }
     let second = instance(rt, 2);
     for left in [1, 0] {
-        let sent = post.send(second, message(rt, alloc, b"x"));
+        let sent = post.send(second, message(rt, alloc, b'x'));
         assert!(rt; sent.is_ok());
         assert_eq!(rt; post.room(), left);
     }

@@ -4,8 +4,6 @@
 #![tactic(auto)]
 
 #[cfg(test)]
-mod both_ends;
-#[cfg(test)]
 mod calls;
 #[cfg(test)]
 mod gathered;
@@ -20,10 +18,8 @@ mod refusals;
 #[cfg(test)]
 mod schedules;
 #[cfg(test)]
-mod several_calls;
+mod several_at_once;
 #[cfg(test)]
-mod several_received;
-#[cfg(test)]
-mod several_sent;
+mod tables;
 #[cfg(test)]
 mod threads;

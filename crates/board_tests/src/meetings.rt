@@ -33,11 +33,11 @@ fn two_of_three(rt: HostRuntime) -> Result<(), Fail> {
     let mut board = Board::new(alloc, 3, 1)?;
     let mut posts = board.posts()?;
     let mut third = posts.pop().ok_or("three posts")?;
-    assert_eq!(rt; send(&rt, alloc, &mut third, 1, b"x"), Ok(1));
+    assert_eq!(rt; send(&rt, alloc, &mut third, 1, b'x'), Ok(1));
     meet(posts.as_mut_slice());
     assert!(rt; posts.len() == 2);
-    assert_eq!(rt; send(&rt, alloc, &mut posts[1], 1, b"y"), Ok(1));
-    gets(&rt, &mut posts[0], 3, b"x", 0);
-    gets(&rt, &mut posts[0], 2, b"y", 1);
+    assert_eq!(rt; send(&rt, alloc, &mut posts[1], 1, b'y'), Ok(1));
+    gets(&rt, &mut posts[0], 3, b'x', &[]);
+    gets(&rt, &mut posts[0], 2, b'y', &[1]);
     Ok(())
 }

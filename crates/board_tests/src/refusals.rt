@@ -1,6 +1,6 @@
 //! Each refusal once, in the order in which a call looks for them.
-use crate::calls::{gets, instance, send};
-use board::{Board, BoardError, CloseError, PostsError, RegionError, SendError, TakeError, Taken};
+use crate::tables::{Call, Missed, Turns, play, play_turns};
+use board::{Board, BoardError, CloseError, PostsError, RegionError, SendError, TakeError};
 use chart::MAX_EVENTS;
 use std::test::Fail;
 
@@ -25,100 +25,79 @@ fn a_board_within_limits(rt: HostRuntime) -> Result<(), Fail> {
     Ok(())
 }
 
-#[test]
-fn no_such_partner(rt: HostRuntime) -> Result<(), Fail> {
-    let alloc = rt.alloc();
-    let mut board = Board::new(alloc, 2, 1)?;
-    let mut posts = board.posts()?;
-    assert_eq!(rt; posts.len(), 2);
-    let post = &mut posts[1];
-    let itself = instance(&rt, 2);
-    let unknown = instance(&rt, 3);
-    assert!(rt; post.number() == itself);
-    assert!(rt; post.open_coregion().is_ok());
-    assert_eq!(rt;
-        send(&rt, alloc, post, 3, b"m"),
-        Err(SendError::NoSuchInstance)
-    );
-    assert_eq!(rt; send(&rt, alloc, post, 2, b"m"), Err(SendError::ToItself));
-    assert!(rt; matches!(post.receive(unknown), Err(TakeError::NoSuchInstance)));
-    assert!(rt; matches!(post.receive(itself), Err(TakeError::ToItself)));
-    assert_eq!(rt; post.close(unknown), Err(CloseError::NoSuchInstance));
-    assert_eq!(rt; post.close(itself), Err(CloseError::ToItself));
-    assert!(rt; post.line().is_empty());
-    Ok(())
-}
+static NO_SUCH_PARTNER: [(usize, Call); 8] = [
+    (2, Call::Open(Ok(()))),
+    (2, Call::Send(3, b'm', Err(SendError::NoSuchInstance))),
+    (2, Call::Send(2, b'm', Err(SendError::ToItself))),
+    (2, Call::Miss(3, Missed::Refused(TakeError::NoSuchInstance))),
+    (2, Call::Miss(2, Missed::Refused(TakeError::ToItself))),
+    (2, Call::Close(3, Err(CloseError::NoSuchInstance))),
+    (2, Call::Close(2, Err(CloseError::ToItself))),
+    (2, Call::HasEvents(0)),
+];
 
 #[test]
-fn coregions_by_turns(rt: HostRuntime) -> Result<(), Fail> {
-    let alloc = rt.alloc();
-    let mut board = Board::new(alloc, 2, 1)?;
-    let mut posts = board.posts()?;
-    assert_eq!(rt; posts.len(), 2);
-    let post = &mut posts[0];
-    assert_eq!(rt; post.close_coregion(), Err(RegionError::CoregionNotOpen));
-    assert_eq!(rt; post.open_coregion(), Ok(()));
-    assert_eq!(rt; post.open_coregion(), Err(RegionError::CoregionOpen));
-    assert_eq!(rt; post.close(instance(&rt, 2)), Ok(()));
-    assert_eq!(rt; send(&rt, alloc, post, 2, b"m"), Err(SendError::InCoregion));
-    assert_eq!(rt; post.close_coregion(), Ok(()));
-    assert_eq!(rt; send(&rt, alloc, post, 2, b"m"), Err(SendError::Closed));
-    assert_eq!(rt; post.close(instance(&rt, 2)), Err(CloseError::Closed));
-    Ok(())
+fn no_such_partner(rt: HostRuntime) {
+    play(&rt, rt.alloc(), 2, 1, &NO_SUCH_PARTNER);
 }
+
+static COREGIONS: [(usize, Call); 8] = [
+    (1, Call::Shut(Err(RegionError::CoregionNotOpen))),
+    (1, Call::Open(Ok(()))),
+    (1, Call::Open(Err(RegionError::CoregionOpen))),
+    (1, Call::Close(2, Ok(()))),
+    (1, Call::Send(2, b'm', Err(SendError::InCoregion))),
+    (1, Call::Shut(Ok(()))),
+    (1, Call::Send(2, b'm', Err(SendError::Closed))),
+    (1, Call::Close(2, Err(CloseError::Closed))),
+];
+
+#[test]
+fn coregions_by_turns(rt: HostRuntime) {
+    play(&rt, rt.alloc(), 2, 1, &COREGIONS);
+}
+
+static FULL_AND_CLOSED: [(usize, Call); 10] = [
+    (1, Call::Send(2, b'x', Ok(1))),
+    (1, Call::Send(2, b'y', Ok(2))),
+    (1, Call::Send(2, b'z', Err(SendError::Full))),
+    (2, Call::Gets(1, b"x", &[])),
+    (1, Call::Send(2, b'z', Ok(3))),
+    (1, Call::Close(2, Ok(()))),
+    (1, Call::Send(2, b'w', Err(SendError::Closed))),
+    (2, Call::Gets(1, b"yz", &[])),
+    (2, Call::Miss(1, Missed::Ended)),
+    (1, Call::Miss(2, Missed::Nothing)),
+];
 
 /// A full lane is closed, and what waits on it still comes.
 #[test]
-fn full_and_closed(rt: HostRuntime) -> Result<(), Fail> {
-    let alloc = rt.alloc();
-    let mut board = Board::new(alloc, 2, 2)?;
-    let mut posts = board.posts()?;
-    assert_eq!(rt; posts.len(), 2);
-    assert_eq!(rt; send(&rt, alloc, &mut posts[0], 2, b"x"), Ok(1));
-    assert_eq!(rt; send(&rt, alloc, &mut posts[0], 2, b"y"), Ok(2));
-    assert_eq!(rt;
-        send(&rt, alloc, &mut posts[0], 2, b"z"),
-        Err(SendError::Full)
-    );
-    gets(&rt, &mut posts[1], 1, b"x", 0);
-    assert_eq!(rt; send(&rt, alloc, &mut posts[0], 2, b"z"), Ok(3));
-    assert_eq!(rt; posts[0].close(instance(&rt, 2)), Ok(()));
-    assert_eq!(rt;
-        send(&rt, alloc, &mut posts[0], 2, b"w"),
-        Err(SendError::Closed)
-    );
-    gets(&rt, &mut posts[1], 1, b"y", 0);
-    gets(&rt, &mut posts[1], 1, b"z", 0);
-    assert!(rt; matches!(posts[1].receive(instance(&rt, 1)), Ok(Taken::Ended)));
-    assert!(rt; matches!(posts[0].receive(instance(&rt, 2)), Ok(Taken::Nothing)));
-    Ok(())
+fn full_and_closed(rt: HostRuntime) {
+    play(&rt, rt.alloc(), 2, 2, &FULL_AND_CLOSED);
 }
+
+static PASSED: [(usize, Call); 2] = [(1, Call::Sends(2, b"m")), (2, Call::Gets(1, b"m", &[]))];
+
+static FULL_LINE: [(usize, Call); 9] = [
+    (2, Call::HasEvents(MAX_EVENTS)),
+    (1, Call::Send(2, b'm', Err(SendError::LineFull))),
+    (3, Call::Send(2, b'x', Ok(1))),
+    (2, Call::Miss(3, Missed::Refused(TakeError::LineFull))),
+    (2, Call::Miss(1, Missed::Nothing)),
+    (2, Call::Miss(3, Missed::Refused(TakeError::LineFull))),
+    (2, Call::Miss(1, Missed::Nothing)),
+    (3, Call::Send(2, b'y', Err(SendError::Full))),
+    (2, Call::HasEvents(MAX_EVENTS)),
+];
 
 /// A full line takes no message, and tells of a lane where none waits as ever.
 #[test]
-fn a_full_line(rt: HostRuntime) -> Result<(), Fail> {
-    let alloc = rt.alloc();
-    let mut board = Board::new(alloc, 3, 1)?;
-    let mut posts = board.posts()?;
-    assert_eq!(rt; posts.len(), 3);
-    for _ in 0..MAX_EVENTS {
-        assert!(rt; send(&rt, alloc, &mut posts[0], 2, b"m").is_ok());
-        gets(&rt, &mut posts[1], 1, b"m", 0);
-    }
-    assert_eq!(rt; posts[1].line().len(), MAX_EVENTS);
-    assert_eq!(rt;
-        send(&rt, alloc, &mut posts[0], 2, b"m"),
-        Err(SendError::LineFull)
-    );
-    assert_eq!(rt; send(&rt, alloc, &mut posts[2], 2, b"x"), Ok(1));
-    for _ in 0..2 {
-        assert!(rt; matches!(posts[1].receive(instance(&rt, 3)), Err(TakeError::LineFull)));
-        assert!(rt; matches!(posts[1].receive(instance(&rt, 1)), Ok(Taken::Nothing)));
-    }
-    assert_eq!(rt;
-        send(&rt, alloc, &mut posts[2], 2, b"y"),
-        Err(SendError::Full)
-    );
-    assert_eq!(rt; posts[1].line().len(), MAX_EVENTS);
-    Ok(())
+fn a_full_line(rt: HostRuntime) {
+    let turns = Turns {
+        first: &[],
+        times: MAX_EVENTS,
+        turn: &PASSED,
+        last: &FULL_LINE,
+    };
+    play_turns(&rt, rt.alloc(), 3, 1, &turns);
 }

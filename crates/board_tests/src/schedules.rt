@@ -3,13 +3,13 @@
 ghost use Rattle.std.specs.Prelude.{◌≡◌};
 ghost use Rattle.board.specs.Meeting.{AreOfOneBoard};
 
-use crate::calls::{instance, send};
+use crate::calls::{instance, name};
 use crate::meetings::all_meet;
-use board::{Board, Post, SendError, Taken};
-use chart::{Event, Name, Report};
+use crate::tables::{Call, Missed, make};
+use board::{Board, Post, SendError};
+use chart::Event;
 use std::alloc::Global;
 use std::process::Abort;
-use std::test::Fail;
 
 const A: usize = 1;
 
@@ -17,87 +17,36 @@ const B: usize = 2;
 
 const C: usize = 3;
 
-fn name(rt: &impl Abort, letter: u8) -> Name {
-    Name::new(&[letter]).expect(rt, "a name")
-}
-
-/// A send on a line.
-fn out(rt: &impl Abort, letter: u8, to: usize) -> Event {
-    Event::Send {
-        to: instance(rt, to),
-        name: name(rt, letter),
-    }
-}
-
-/// A receive on a line, in no coregion.
-fn into(rt: &impl Abort, letter: u8, from: usize) -> Event {
-    within(rt, letter, from, 0)
-}
-
-/// A receive on a line, in this coregion.
-fn within(rt: &impl Abort, letter: u8, from: usize, region: u32) -> Event {
-    Event::Receive {
-        from: instance(rt, from),
-        name: name(rt, letter),
-        region,
-    }
-}
-
-/// A call of a post, and what it answers.
+/// An event of a line: the name of its message, its partner, and of a receive its coregion.
 #[derive(Clone, Copy)]
-enum Call<'a> {
-    /// A send of a message of this name to an instance.
-    Sends(u8, usize, Result<u32, SendError>),
-    /// A receive of the message of this name from an instance, with these races.
-    Gets(u8, usize, &'a [u32]),
-    FindsNothing(usize),
-    FindsEnd(usize),
-    Closes(usize),
-    OpensCoregion,
-    ClosesCoregion,
+enum Told {
+    Out(u8, usize),
+    In(u8, usize, u32),
 }
 
-/// Receives the message of this name, with these races.
-fn gets(rt: &impl Abort, post: &mut Post, letter: u8, from: usize, races: &[u32])
-    ensures { post.new.board ≡ post.old.board }
-{
-    match post.receive(instance(rt, from)) {
-        Ok(Taken::Got(arrival)) => {
-            assert!(rt; arrival.message.name() == name(rt, letter));
-            assert!(rt; arrival.from == instance(rt, from));
-            reports(rt, &arrival.report, races);
-        }
-        _ => panic!(rt; "no message came"),
-    }
+use Told::{In, Out};
+
+fn is_told(rt: &impl Abort, event: &Event, told: Told) -> bool {
+    let wanted = match told {
+        Out(letter, to) => Event::Send {
+            to: instance(rt, to),
+            name: name(rt, letter),
+        },
+        In(letter, from, region) => Event::Receive {
+            from: instance(rt, from),
+            name: name(rt, letter),
+            region,
+        },
+    };
+    *event == wanted
 }
 
-/// The report has these races.
-fn reports(rt: &impl Abort, report: &Report, races: &[u32]) {
-    assert_eq!(rt; report.earlier().len(), races.len());
-    for (earlier, index) in report.earlier().iter().zip(races) {
-        assert!(rt; earlier.instance == report.receive().instance);
-        assert_eq!(rt; earlier.index, *index);
-    }
-}
-
-/// Makes the call, which answers so.
-fn make(rt: &impl Abort, alloc: Global, post: &mut Post, call: &Call)
-    ensures { post.new.board ≡ post.old.board }
-{
-    match *call {
-        Call::Sends(letter, to, answer) => {
-            assert_eq!(rt; send(rt, alloc, post, to, &[letter]), answer)
-        }
-        Call::Gets(letter, from, races) => gets(rt, post, letter, from, races),
-        Call::FindsNothing(from) => {
-            assert!(rt; matches!(post.receive(instance(rt, from)), Ok(Taken::Nothing)))
-        }
-        Call::FindsEnd(from) => {
-            assert!(rt; matches!(post.receive(instance(rt, from)), Ok(Taken::Ended)))
-        }
-        Call::Closes(to) => assert_eq!(rt; post.close(instance(rt, to)), Ok(())),
-        Call::OpensCoregion => assert_eq!(rt; post.open_coregion(), Ok(())),
-        Call::ClosesCoregion => assert_eq!(rt; post.close_coregion(), Ok(())),
+/// The post's line has these events.
+fn has_line(rt: &impl Abort, post: &Post, line: &[Told]) {
+    let events = post.line().events();
+    assert_eq!(rt; events.len(), line.len());
+    for (event, told) in events.iter().zip(line) {
+        assert!(rt; is_told(rt, event, *told));
     }
 }
 
@@ -120,198 +69,225 @@ fn make_all(rt: &impl Abort, alloc: Global, posts: &mut [Post], calls: &[(usize,
     }
 }
 
-/// The post's line has these events.
-fn has_line(rt: &impl Abort, post: &Post, events: &[Event]) {
-    assert_eq!(rt; post.line().events(), events);
-}
-
 /// After these calls over lanes of so many places the chart has these lines.
 fn follow(
     rt: &impl Abort,
     alloc: Global,
     capacity: usize,
     calls: &[(usize, Call)],
-    lines: &[&[Event]],
-) -> Result<(), Fail> {
-    let mut board = Board::new(alloc, lines.len(), capacity)?;
-    let mut posts = board.posts()?;
+    lines: &[&[Told]],
+) {
+    let mut board = Board::new(alloc, lines.len(), capacity).expect(rt, "a board");
+    let mut posts = board.posts().expect(rt, "posts");
     make_all(rt, alloc, posts.as_mut_slice(), calls);
     assert_eq!(rt; posts.len(), lines.len());
-    for (post, events) in posts.iter().zip(lines) {
-        has_line(rt, post, events);
+    for (post, line) in posts.iter().zip(lines) {
+        has_line(rt, post, line);
     }
-    Ok(())
 }
 
-#[test]
-fn one_message(rt: HostRuntime) -> Result<(), Fail> {
-    let calls = [
-        (B, Call::FindsNothing(A)),
-        (A, Call::Sends(b'p', B, Ok(1))),
-        (B, Call::Gets(b'p', A, &[])),
-    ];
-    let a = [out(&rt, b'p', B)];
-    let b = [into(&rt, b'p', A)];
-    follow(&rt, rt.alloc(), 1, &calls, &[&a, &b])
-}
+static ONE_MESSAGE: [(usize, Call); 3] = [
+    (B, Call::Miss(A, Missed::Nothing)),
+    (A, Call::Send(B, b'p', Ok(1))),
+    (B, Call::Gets(A, b"p", &[])),
+];
+
+static ONE_MESSAGE_LINES: [&[Told]; 2] = [&[Out(b'p', B)], &[In(b'p', A, 0)]];
 
 #[test]
-fn crossing_messages_race(rt: HostRuntime) -> Result<(), Fail> {
-    let calls = [
-        (A, Call::Sends(b'q', B, Ok(1))),
-        (B, Call::Sends(b'p', A, Ok(1))),
-        (A, Call::Gets(b'p', B, &[1])),
-        (B, Call::Gets(b'q', A, &[1])),
-    ];
-    let a = [out(&rt, b'q', B), into(&rt, b'p', B)];
-    let b = [out(&rt, b'p', A), into(&rt, b'q', A)];
-    follow(&rt, rt.alloc(), 1, &calls, &[&a, &b])
+fn one_message(rt: HostRuntime) {
+    follow(&rt, rt.alloc(), 1, &ONE_MESSAGE, &ONE_MESSAGE_LINES);
 }
 
-#[test]
-fn two_senders_race(rt: HostRuntime) -> Result<(), Fail> {
-    let calls = [
-        (A, Call::Sends(b'x', B, Ok(1))),
-        (C, Call::Sends(b'y', B, Ok(1))),
-        (B, Call::Gets(b'x', A, &[])),
-        (B, Call::Gets(b'y', C, &[1])),
-    ];
-    let a = [out(&rt, b'x', B)];
-    let b = [into(&rt, b'x', A), into(&rt, b'y', C)];
-    let c = [out(&rt, b'y', B)];
-    follow(&rt, rt.alloc(), 1, &calls, &[&a, &b, &c])
-}
+static CROSSING: [(usize, Call); 4] = [
+    (A, Call::Send(B, b'q', Ok(1))),
+    (B, Call::Send(A, b'p', Ok(1))),
+    (A, Call::Gets(B, b"p", &[1])),
+    (B, Call::Gets(A, b"q", &[1])),
+];
+
+static CROSSING_LINES: [&[Told]; 2] = [
+    &[Out(b'q', B), In(b'p', B, 0)],
+    &[Out(b'p', A), In(b'q', A, 0)],
+];
 
 #[test]
-fn two_from_one_sender(rt: HostRuntime) -> Result<(), Fail> {
-    let calls = [
-        (A, Call::Sends(b'x', B, Ok(1))),
-        (A, Call::Sends(b'y', B, Ok(2))),
-        (B, Call::Gets(b'x', A, &[])),
-        (B, Call::Gets(b'y', A, &[])),
-    ];
-    let a = [out(&rt, b'x', B), out(&rt, b'y', B)];
-    let b = [into(&rt, b'x', A), into(&rt, b'y', A)];
-    follow(&rt, rt.alloc(), 2, &calls, &[&a, &b])
+fn crossing_messages_race(rt: HostRuntime) {
+    follow(&rt, rt.alloc(), 1, &CROSSING, &CROSSING_LINES);
 }
 
-#[test]
-fn no_race_through_a_reply(rt: HostRuntime) -> Result<(), Fail> {
-    let calls = [
-        (A, Call::Sends(b'x', B, Ok(1))),
-        (B, Call::Gets(b'x', A, &[])),
-        (B, Call::Sends(b'm', C, Ok(2))),
-        (C, Call::Gets(b'm', B, &[])),
-        (C, Call::Sends(b'y', B, Ok(2))),
-        (B, Call::Gets(b'y', C, &[])),
-    ];
-    let a = [out(&rt, b'x', B)];
-    let b = [into(&rt, b'x', A), out(&rt, b'm', C), into(&rt, b'y', C)];
-    let c = [into(&rt, b'm', B), out(&rt, b'y', B)];
-    follow(&rt, rt.alloc(), 1, &calls, &[&a, &b, &c])
-}
+static TWO_SENDERS: [(usize, Call); 4] = [
+    (A, Call::Send(B, b'x', Ok(1))),
+    (C, Call::Send(B, b'y', Ok(1))),
+    (B, Call::Gets(A, b"x", &[])),
+    (B, Call::Gets(C, b"y", &[1])),
+];
+
+static TWO_SENDERS_LINES: [&[Told]; 3] = [
+    &[Out(b'x', B)],
+    &[In(b'x', A, 0), In(b'y', C, 0)],
+    &[Out(b'y', B)],
+];
 
 #[test]
-fn overtaken_by_a_third(rt: HostRuntime) -> Result<(), Fail> {
-    let calls = [
-        (A, Call::Sends(b'x', B, Ok(1))),
-        (A, Call::Sends(b'y', C, Ok(2))),
-        (C, Call::Gets(b'y', A, &[])),
-        (C, Call::Sends(b'z', B, Ok(2))),
-        (B, Call::Gets(b'x', A, &[])),
-        (B, Call::Gets(b'z', C, &[1])),
-    ];
-    let a = [out(&rt, b'x', B), out(&rt, b'y', C)];
-    let b = [into(&rt, b'x', A), into(&rt, b'z', C)];
-    let c = [into(&rt, b'y', A), out(&rt, b'z', B)];
-    follow(&rt, rt.alloc(), 1, &calls, &[&a, &b, &c])
+fn two_senders_race(rt: HostRuntime) {
+    follow(&rt, rt.alloc(), 1, &TWO_SENDERS, &TWO_SENDERS_LINES);
 }
 
-#[test]
-fn clock_of_this_message(rt: HostRuntime) -> Result<(), Fail> {
-    let calls = [
-        (B, Call::Sends(b'm', C, Ok(1))),
-        (C, Call::Gets(b'm', B, &[])),
-        (C, Call::Sends(b'y', B, Ok(2))),
-        (A, Call::Sends(b'x', B, Ok(1))),
-        (B, Call::Gets(b'y', C, &[])),
-        (B, Call::Gets(b'x', A, &[1, 2])),
-    ];
-    let a = [out(&rt, b'x', B)];
-    let b = [out(&rt, b'm', C), into(&rt, b'y', C), into(&rt, b'x', A)];
-    let c = [into(&rt, b'm', B), out(&rt, b'y', B)];
-    follow(&rt, rt.alloc(), 1, &calls, &[&a, &b, &c])
-}
+static ONE_SENDER: [(usize, Call); 4] = [
+    (A, Call::Send(B, b'x', Ok(1))),
+    (A, Call::Send(B, b'y', Ok(2))),
+    (B, Call::Gets(A, b"x", &[])),
+    (B, Call::Gets(A, b"y", &[])),
+];
+
+static ONE_SENDER_LINES: [&[Told]; 2] = [
+    &[Out(b'x', B), Out(b'y', B)],
+    &[In(b'x', A, 0), In(b'y', A, 0)],
+];
 
 #[test]
-fn ended_after_drain(rt: HostRuntime) -> Result<(), Fail> {
-    let calls = [
-        (A, Call::Sends(b'x', B, Ok(1))),
-        (A, Call::Sends(b'y', B, Err(SendError::Full))),
-        (A, Call::Closes(B)),
-        (B, Call::Gets(b'x', A, &[])),
-        (B, Call::FindsEnd(A)),
-    ];
-    let a = [out(&rt, b'x', B)];
-    let b = [into(&rt, b'x', A)];
-    follow(&rt, rt.alloc(), 1, &calls, &[&a, &b])
+fn two_from_one_sender(rt: HostRuntime) {
+    follow(&rt, rt.alloc(), 2, &ONE_SENDER, &ONE_SENDER_LINES);
 }
 
-#[test]
-fn send_after_close(rt: HostRuntime) -> Result<(), Fail> {
-    let calls = [
-        (A, Call::Sends(b'x', B, Ok(1))),
-        (A, Call::Sends(b'y', B, Ok(2))),
-        (A, Call::Closes(B)),
-        (A, Call::Sends(b'z', B, Err(SendError::Closed))),
-        (B, Call::Gets(b'x', A, &[])),
-        (B, Call::Gets(b'y', A, &[])),
-        (B, Call::FindsEnd(A)),
-    ];
-    let a = [out(&rt, b'x', B), out(&rt, b'y', B)];
-    let b = [into(&rt, b'x', A), into(&rt, b'y', A)];
-    follow(&rt, rt.alloc(), 2, &calls, &[&a, &b])
-}
+static REPLY: [(usize, Call); 6] = [
+    (A, Call::Send(B, b'x', Ok(1))),
+    (B, Call::Gets(A, b"x", &[])),
+    (B, Call::Send(C, b'm', Ok(2))),
+    (C, Call::Gets(B, b"m", &[])),
+    (C, Call::Send(B, b'y', Ok(2))),
+    (B, Call::Gets(C, b"y", &[])),
+];
+
+static REPLY_LINES: [&[Told]; 3] = [
+    &[Out(b'x', B)],
+    &[In(b'x', A, 0), Out(b'm', C), In(b'y', C, 0)],
+    &[In(b'm', B, 0), Out(b'y', B)],
+];
 
 #[test]
-fn coregion_hides_a_race(rt: HostRuntime) -> Result<(), Fail> {
-    let calls = [
-        (A, Call::Sends(b'x', B, Ok(1))),
-        (C, Call::Sends(b'y', B, Ok(1))),
-        (B, Call::OpensCoregion),
-        (B, Call::Gets(b'x', A, &[])),
-        (B, Call::Gets(b'y', C, &[])),
-        (B, Call::ClosesCoregion),
-    ];
-    let a = [out(&rt, b'x', B)];
-    let b = [within(&rt, b'x', A, 1), within(&rt, b'y', C, 1)];
-    let c = [out(&rt, b'y', B)];
-    follow(&rt, rt.alloc(), 1, &calls, &[&a, &b, &c])
+fn no_race_through_a_reply(rt: HostRuntime) {
+    follow(&rt, rt.alloc(), 1, &REPLY, &REPLY_LINES);
+}
+
+static OVERTAKEN: [(usize, Call); 6] = [
+    (A, Call::Send(B, b'x', Ok(1))),
+    (A, Call::Send(C, b'y', Ok(2))),
+    (C, Call::Gets(A, b"y", &[])),
+    (C, Call::Send(B, b'z', Ok(2))),
+    (B, Call::Gets(A, b"x", &[])),
+    (B, Call::Gets(C, b"z", &[1])),
+];
+
+static OVERTAKEN_LINES: [&[Told]; 3] = [
+    &[Out(b'x', B), Out(b'y', C)],
+    &[In(b'x', A, 0), In(b'z', C, 0)],
+    &[In(b'y', A, 0), Out(b'z', B)],
+];
+
+#[test]
+fn overtaken_by_a_third(rt: HostRuntime) {
+    follow(&rt, rt.alloc(), 1, &OVERTAKEN, &OVERTAKEN_LINES);
+}
+
+static THIS_MESSAGE: [(usize, Call); 6] = [
+    (B, Call::Send(C, b'm', Ok(1))),
+    (C, Call::Gets(B, b"m", &[])),
+    (C, Call::Send(B, b'y', Ok(2))),
+    (A, Call::Send(B, b'x', Ok(1))),
+    (B, Call::Gets(C, b"y", &[])),
+    (B, Call::Gets(A, b"x", &[1, 2])),
+];
+
+static THIS_MESSAGE_LINES: [&[Told]; 3] = [
+    &[Out(b'x', B)],
+    &[Out(b'm', C), In(b'y', C, 0), In(b'x', A, 0)],
+    &[In(b'm', B, 0), Out(b'y', B)],
+];
+
+#[test]
+fn clock_of_this_message(rt: HostRuntime) {
+    follow(&rt, rt.alloc(), 1, &THIS_MESSAGE, &THIS_MESSAGE_LINES);
+}
+
+static DRAINED: [(usize, Call); 5] = [
+    (A, Call::Send(B, b'x', Ok(1))),
+    (A, Call::Send(B, b'y', Err(SendError::Full))),
+    (A, Call::Close(B, Ok(()))),
+    (B, Call::Gets(A, b"x", &[])),
+    (B, Call::Miss(A, Missed::Ended)),
+];
+
+static DRAINED_LINES: [&[Told]; 2] = [&[Out(b'x', B)], &[In(b'x', A, 0)]];
+
+#[test]
+fn ended_after_drain(rt: HostRuntime) {
+    follow(&rt, rt.alloc(), 1, &DRAINED, &DRAINED_LINES);
+}
+
+static CLOSED: [(usize, Call); 7] = [
+    (A, Call::Send(B, b'x', Ok(1))),
+    (A, Call::Send(B, b'y', Ok(2))),
+    (A, Call::Close(B, Ok(()))),
+    (A, Call::Send(B, b'z', Err(SendError::Closed))),
+    (B, Call::Gets(A, b"x", &[])),
+    (B, Call::Gets(A, b"y", &[])),
+    (B, Call::Miss(A, Missed::Ended)),
+];
+
+static CLOSED_LINES: [&[Told]; 2] = [
+    &[Out(b'x', B), Out(b'y', B)],
+    &[In(b'x', A, 0), In(b'y', A, 0)],
+];
+
+#[test]
+fn send_after_close(rt: HostRuntime) {
+    follow(&rt, rt.alloc(), 2, &CLOSED, &CLOSED_LINES);
+}
+
+static HIDDEN: [(usize, Call); 6] = [
+    (A, Call::Send(B, b'x', Ok(1))),
+    (C, Call::Send(B, b'y', Ok(1))),
+    (B, Call::Open(Ok(()))),
+    (B, Call::Gets(A, b"x", &[])),
+    (B, Call::Gets(C, b"y", &[])),
+    (B, Call::Shut(Ok(()))),
+];
+
+static HIDDEN_LINES: [&[Told]; 3] = [
+    &[Out(b'x', B)],
+    &[In(b'x', A, 1), In(b'y', C, 1)],
+    &[Out(b'y', B)],
+];
+
+#[test]
+fn coregion_hides_a_race(rt: HostRuntime) {
+    follow(&rt, rt.alloc(), 1, &HIDDEN, &HIDDEN_LINES);
 }
 
 /// In the place of `any` a receive from the instance that it took from.
+static TOUCHING: [(usize, Call); 11] = [
+    (A, Call::Send(B, b'p', Ok(1))),
+    (A, Call::Send(B, b'q', Ok(2))),
+    (C, Call::Send(B, b'r', Ok(1))),
+    (B, Call::Open(Ok(()))),
+    (B, Call::Gets(A, b"p", &[])),
+    (B, Call::Gets(C, b"r", &[])),
+    (B, Call::Shut(Ok(()))),
+    (B, Call::Open(Ok(()))),
+    (B, Call::Gets(A, b"q", &[2])),
+    (B, Call::Shut(Ok(()))),
+    (B, Call::Send(A, b'd', Ok(4))),
+];
+
+static TOUCHING_LINES: [&[Told]; 3] = [
+    &[Out(b'p', B), Out(b'q', B)],
+    &[In(b'p', A, 1), In(b'r', C, 1), In(b'q', A, 2), Out(b'd', A)],
+    &[Out(b'r', B)],
+];
+
 #[test]
-fn touching_coregions(rt: HostRuntime) -> Result<(), Fail> {
-    let calls = [
-        (A, Call::Sends(b'p', B, Ok(1))),
-        (A, Call::Sends(b'q', B, Ok(2))),
-        (C, Call::Sends(b'r', B, Ok(1))),
-        (B, Call::OpensCoregion),
-        (B, Call::Gets(b'p', A, &[])),
-        (B, Call::Gets(b'r', C, &[])),
-        (B, Call::ClosesCoregion),
-        (B, Call::OpensCoregion),
-        (B, Call::Gets(b'q', A, &[2])),
-        (B, Call::ClosesCoregion),
-        (B, Call::Sends(b'd', A, Ok(4))),
-    ];
-    let a = [out(&rt, b'p', B), out(&rt, b'q', B)];
-    let b = [
-        within(&rt, b'p', A, 1),
-        within(&rt, b'r', C, 1),
-        within(&rt, b'q', A, 2),
-        out(&rt, b'd', A),
-    ];
-    let c = [out(&rt, b'r', B)];
-    follow(&rt, rt.alloc(), 2, &calls, &[&a, &b, &c])
+fn touching_coregions(rt: HostRuntime) {
+    follow(&rt, rt.alloc(), 2, &TOUCHING, &TOUCHING_LINES);
 }

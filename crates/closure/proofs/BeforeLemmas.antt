@@ -6,7 +6,7 @@ use Rattle.chart.specs.Order.Direct.{same_sender}
 use Rattle.chart.specs.Order.Before.{direct}
 use Rattle.chart.specs.Knowing.{IsUpTo}
 use Rattle.chart.proofs.Chains.{chain_of, before_events, before_receive, before_its_receive}
-use Rattle.closure.specs.Searches.{IsReceiveAbove}
+use Rattle.closure.specs.Searches.{IsEarlierReceive}
 use Rattle.closure.proofs.ReadLemmas.{instance_within}
 
 -- nothing is before what is on no line
@@ -23,17 +23,17 @@ pub before_send : (c : Chart) (e s : Place) → (e ≡ s → ⊥) → IsUpTo c s
 before_send c e s differs = (λ up. elim up [ inl same ↦ absurd (differs same) | inr before ↦ before ], λ before. inr before)
 
 -- before a receive is an earlier receive from its sender, and what is up to its send
-pub before_received : (c : Chart) (e s r : Place) → BelongsTo c s r → Before c e r ↔ (IsReceiveAbove c s.instance e r ⊎ IsUpTo c s e)
+pub before_received : (c : Chart) (e s r : Place) → BelongsTo c s r → Before c e r ↔ (IsEarlierReceive c s.instance e r ⊎ IsUpTo c s e)
 before_received c e s r belongs = (
   λ before. before_receive (chain_of before) s belongs,
   λ h. elim h [
-    | inl above ↦ direct (same_sender s.instance above.0 above.1 belongs.received)
+    | inl received ↦ direct (same_sender s.instance received.0 received.1 belongs.received)
     | inr up ↦ before_its_receive c e s r up belongs
   ],
 )
 
 -- so, where it is none of these receives
-pub before_received_up : (c : Chart) (e s r : Place) → BelongsTo c s r → (IsReceiveAbove c s.instance e r → ⊥) → IsUpTo c s e ↔ Before c e r
+pub before_received_up : (c : Chart) (e s r : Place) → BelongsTo c s r → (IsEarlierReceive c s.instance e r → ⊥) → IsUpTo c s e ↔ Before c e r
 before_received_up c e s r belongs other =
     let both = before_received c e s r belongs in
-    (λ up. both.1 (inr up), λ before. elim (both.0 before) [ inl above ↦ absurd (other above) | inr up ↦ up ])
+    (λ up. both.1 (inr up), λ before. elim (both.0 before) [ inl received ↦ absurd (other received) | inr up ↦ up ])

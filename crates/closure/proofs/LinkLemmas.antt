@@ -153,7 +153,7 @@ module _ (lines : List LineView) where
 
   -- no sooner receive is faulty
   is_first : (p : ℕ) (rows : List (List Partner)) (r : EventNo) → AreRows (IsPartner lines) (chart_lines lines) p rows → r.instance ≡ suc p → ((i : ℕ) → i < r.index → IsFaulty (chart_lines lines) (at (suc p) i) → ⊥) → IsFirst (chart_lines lines) (place_of r)
-  is_first p rows r are line first d (inl above) faulty = lines_not_faulty p rows are d (omega (arith, line)) faulty
+  is_first p rows r are line first d (inl sooner) faulty = lines_not_faulty p rows are d (omega (arith, line)) faulty
   is_first p rows r are line first d (inr (same, less)) faulty = first d.index less (subst (λ x. IsFaulty (chart_lines lines) (at x d.index)) (same ∙ line) faulty)
 
   -- the first faulty receive of a line after good ones is the chart's first

@@ -10,7 +10,7 @@ pub record AreLinked (lines : List LineView) (partners : List (List Partner)) : 
   pub chart : IsChart lines
   pub rows : AreRows (IsPartner lines) (chart_lines lines) (length lines) partners
 
--- the chart is possible too
-pub record IsClosure (lines : List LineView) (partners : List (List Partner)) : Type 0 where
-  pub linked : AreLinked lines partners
+-- the lines are a possible chart
+pub record IsPossibleChart (lines : List LineView) : Type 0 where
+  pub chart : IsChart lines
   pub possible : IsPossible (length lines) (chart_lines lines)

@@ -4,21 +4,19 @@ use Rattle.chart.specs.declared.instance.EventNo.{EventNo}
 use Rattle.chart.specs.declared.line.TheConstants.{MAX_EVENTS}
 use Rattle.chart.specs.Charts.{Chart, Place, at, LineView, IsReceiveFrom, chart_lines}
 use Rattle.chart.specs.Reports.{ReportView, IsReportIn, AreReportsOf}
-use Rattle.closure.specs.declared.partner.Partner.{Partner}
 use Rattle.closure.specs.declared.partner.Partner.TheVariants.{Sender}
 use Rattle.closure.specs.declared.reporting.Receive.{Receive}
-use Rattle.closure.specs.Closures.{IsClosure}
+use Rattle.closure.specs.Closures.{IsPossibleChart}
 use Rattle.closure.specs.Links.{IsPartner}
-use Rattle.closure.specs.Rows.{AreRows}
-use Rattle.closure.specs.Searches.{IsKnowledge}
+use Rattle.closure.specs.Searches.{HasKnowledge}
 
 -- the line of p with its first k events alone
-abbrev pub line_above : Chart → ℕ → ℕ → LineView
-line_above c p k = record { instance = p; events = take k (c p) }
+abbrev pub line_front : Chart → ℕ → ℕ → LineView
+line_front c p k = record { instance = p; events = take k (c p) }
 
 -- the reports are those of the receives of the lines before p, and among the first k events of the line at p
 pub record HaveReported (lines : List LineView) (p k : ℕ) (reports : List ReportView) : Type 0 where
-  pub are : AreReportsOf (chart_lines lines) (take p lines ++ line_above (chart_lines lines) (suc p) k ∷ []) reports
+  pub are : AreReportsOf (chart_lines lines) (take p lines ++ line_front (chart_lines lines) (suc p) k ∷ []) reports
 
 -- a receive that was found: an event of a line, which is of the send that it says
 abbrev pub IsFound : List LineView → Receive → Type 0
@@ -40,8 +38,8 @@ abbrev pub reports_left : ReporterView → ℕ
 reports_left r = (length r.lines - r.line) * (MAX_EVENTS + 1) - r.place
 
 -- what a reporter keeps: that the chart is possible, what its sends know, and that it is at an event or the end of a line
-pub record IsReporting (lines : List LineView) (partners : List (List Partner)) (known : List (List ℕ)) (line place : ℕ) : Type 0 where
-  pub closure : IsClosure lines partners
-  pub knows : AreRows (IsKnowledge (chart_lines lines)) (chart_lines lines) (length lines) known
+pub record IsReporting (lines : List LineView) (known : List (List ℕ)) (line place : ℕ) : Type 0 where
+  pub chart : IsPossibleChart lines
+  pub knows : HasKnowledge lines known
   pub line_within : line < length lines
   pub place_within : place ≤ length (chart_lines lines (suc line))

@@ -1,10 +1,10 @@
 -- Searching backwards from a send: for each line the greatest send that is this send or before it (over the order of Alur,
 -- Holzmann and Peled 1996, in this project's profile).
 use Rattle.std.specs.Prelude.{◌≡◌, ℕ, suc, ◌+◌, ◌<◌, ◌≤◌, ◌↔◌, ◌⊎◌, List, length, slice_index}
-use Rattle.chart.specs.Charts.{Chart, Place, at, IsSendTo, IsReceiveFrom, BelongsTo}
+use Rattle.chart.specs.Charts.{Chart, Place, at, LineView, IsSendTo, IsReceiveFrom, BelongsTo, chart_lines}
 use Rattle.chart.specs.Order.{IsEarlier}
 use Rattle.chart.specs.Knowing.{IsUpTo, IsKnown}
-use Rattle.closure.specs.Rows.{entry}
+use Rattle.closure.specs.Rows.{entry, AreRows}
 
 -- there is a send
 abbrev pub IsSend : Chart → Place → Type 0
@@ -32,8 +32,8 @@ abbrev pub HaveGrown : List ℕ → List ℕ → Type 0
 HaveGrown fronts after = (p : ℕ) → entry fronts p ≤ entry after p
 
 -- e is an earlier receive of r's line, from this sender
-abbrev pub IsReceiveAbove : Chart → ℕ → Place → Place → Type 0
-IsReceiveAbove c q e r = IsEarlier e r × IsReceiveFrom c q e
+abbrev pub IsEarlierReceive : Chart → ℕ → Place → Place → Type 0
+IsEarlierReceive c q e r = IsEarlier e r × IsReceiveFrom c q e
 
 -- for each send of the line at p, after its first k events, the search goes on
 abbrev pub IsSearchAfter : Chart → ℕ → ℕ → ℕ → List ℕ → List ℕ → Type 0
@@ -42,3 +42,7 @@ IsSearchAfter c n p k fronts seen = (i : ℕ) → k ≤ i → IsSend c (at (suc 
 -- where s is a send, it knows so many events of its receiver's line
 abbrev pub IsKnowledge : Chart → Place → ℕ → Type 0
 IsKnowledge c s k = (q : ℕ) → IsSendTo c q s → IsKnown c s q k
+
+-- what each send of the chart with these lines knows of its receiver's line
+abbrev pub HasKnowledge : List LineView → List (List ℕ) → Type 0
+HasKnowledge lines known = AreRows (IsKnowledge (chart_lines lines)) (chart_lines lines) (length lines) known

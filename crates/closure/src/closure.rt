@@ -1,14 +1,19 @@
 //! The closure of a chart.
-ghost use Rattle.std.specs.Prelude.{◌≡◌, ◌⊎◌, [], length, ◌↔◌, IsTrue, IfOk, OnOk, IfErr};
-ghost use Rattle.chart.specs.Charts.{chart_lines, IsPossible};
+ghost use Rattle.std.specs.Prelude.{◌≡◌, ◌⊎◌, ℕ, [], length, ◌↔◌, IsTrue, IfOk, OnOk, IfErr, MatchOption};
+ghost use Rattle.chart.specs.Charts.{chart_lines, IsPossible, IsReceiveFrom, BelongsTo};
 ghost use Rattle.chart.specs.Order.{Before};
+ghost use Rattle.closure.specs.Closures.{IsPossibleChart};
 ghost use Rattle.closure.specs.Faults.{place_of, Refuses};
+ghost use Rattle.closure.specs.Searches.{IsSend, IsReached};
 ghost use Rattle.chart.specs.Reports.{AreReports};
 
 use crate::error::ChartError;
+use crate::linked::Linked;
 use crate::linking::partners_of;
+use crate::numbers::Numbers;
 use crate::order::is_before;
 use crate::partner::Partner;
+use crate::past::{send_of, up_to};
 use crate::reporting::{Reporter, reporter_of, reports_of};
 use crate::row::Row;
 use crate::running::runs;
@@ -28,13 +33,13 @@ pub struct Closure<'a> {
 impl<'a> Model for Closure<'a> {
     ghost use Rattle.std.specs.Prelude.{List};
     ghost use Rattle.chart.specs.Charts.{LineView};
-    ghost use Rattle.closure.specs.Closures.{IsClosure};
+    ghost use Rattle.closure.specs.Closures.{AreLinked, IsPossibleChart};
 
     ghost Value = { List LineView };
 
     ghost view = { λ c. c.lines.now };
 
-    ghost invariant = { λ c. IsClosure c.lines.now c.partners.items };
+    ghost invariant = { λ c. AreLinked c.lines.now c.partners.items × IsPossibleChart c.lines.now };
 }
 
 impl<'a> Closure<'a> {
@@ -55,7 +60,7 @@ impl<'a> Closure<'a> {
             Ok(partners) => partners,
             Err(error) => return Err(error),
         };
-        if !runs(alloc, lines, partners.as_slice())? {
+        if !runs(alloc, &Linked::new(lines, partners.as_slice()))? {
             return Err(ChartError::Cyclic);
         }
         Ok(Closure {
@@ -65,6 +70,14 @@ impl<'a> Closure<'a> {
         })
     }
 
+    /// The lines with their partners.
+    fn linked(&self) -> Linked<'_>
+        ensures lines { result ≡ self.now }
+        ensures chart { IsPossibleChart self.now }
+    {
+        Linked::new(self.lines, self.partners.as_slice())
+    }
+
     /// Whether the enforced order puts the one event before the other. It doesn't where either is no event of the chart.
     ///
     /// F6: it fails only where there is no memory.
@@ -72,13 +85,47 @@ impl<'a> Closure<'a> {
         ensures { IfOk result (λ before. IsTrue before
             ↔ Before (chart_lines self.now) (place_of earlier) (place_of later)) }
     {
+        let linked = self.linked();
         is_before(
             self.alloc,
-            self.lines,
-            self.partners.as_slice(),
+            &linked,
             &earlier,
             later.instance.place(),
             later.index as usize,
+        )
+    }
+
+    /// The chart's lines.
+    pub fn lines(&self) -> &[Line]
+        ensures { result.now ≡ self.now }
+    {
+        self.lines
+    }
+
+    /// The send that a receive belongs to. There is none exactly where the event is no receive of the chart.
+    pub fn send_of(&self, receive: &EventNo) -> Option<EventNo>
+        ensures { MatchOption result
+            ((q : ℕ) → IsReceiveFrom (chart_lines self.now) q (place_of receive.now) → ⊥)
+            (λ send. BelongsTo (chart_lines self.now) (place_of send) (place_of receive.now)) }
+    {
+        let linked = self.linked();
+        send_of(&linked, receive.instance.place(), receive.index as usize)
+    }
+
+    /// Of each line, by instance, how many of its first events are the send or before it. They are all that is.
+    ///
+    /// F6: it fails only where there is no memory.
+    pub fn up_to(&self, send: &EventNo) -> Result<Numbers, AllocError>
+        requires { IsSend (chart_lines self.now) (place_of send.now) }
+        ensures whole { IfOk result (λ fronts. length fronts ≡ length self.now) }
+        ensures reached { IfOk result (IsReached (chart_lines self.now) (place_of send.now)) }
+    {
+        let linked = self.linked();
+        up_to(
+            self.alloc,
+            &linked,
+            send.instance.place(),
+            send.index as usize,
         )
     }
 
@@ -88,7 +135,7 @@ impl<'a> Closure<'a> {
     pub fn reporter(&self) -> Result<Reporter<'_>, AllocError>
         ensures { IfOk result (λ reporter. reporter ≡ record { lines = self.now; line = 0; place = 0; earlier = [] }) }
     {
-        reporter_of(self.alloc, self.lines, self.partners.as_slice())
+        reporter_of(self.alloc, self.linked())
     }
 
     /// The report of each receive, by instance and index.
@@ -98,6 +145,6 @@ impl<'a> Closure<'a> {
     pub fn races(&self) -> Result<Vec<Report>, AllocError>
         ensures { IfOk result (λ reports. AreReports self.now reports.items) }
     {
-        reports_of(self.alloc, self.lines, self.partners.as_slice())
+        reports_of(self.alloc, self.linked())
     }
 }

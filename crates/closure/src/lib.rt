@@ -8,6 +8,8 @@
 //!   has no send or another name than its send, or that the order has a cycle ([`Closure::of`]).
 //! - For each two events: whether the first is before the second, and false where one isn't in the chart
 //!   ([`Closure::before`]).
+//! - The send of a receive ([`Closure::send_of`]), and of each line how many first events are a send or before it
+//!   ([`Closure::up_to`]).
 //! - The reports of all receives, by instance and index ([`Closure::races`]), or one after another without memory
 //!   ([`Closure::reporter`]).
 //! - An audit accepts exactly this list, for a possible chart; else it names the first place where the lists differ
@@ -18,10 +20,12 @@ mod checking;
 mod closure;
 mod error;
 mod knowing;
+mod linked;
 mod linking;
 mod numbers;
 mod order;
 mod partner;
+mod past;
 mod reading;
 mod reporting;
 mod row;
@@ -31,4 +35,5 @@ mod search;
 pub use checking::audit;
 pub use closure::Closure;
 pub use error::{AuditError, ChartError};
+pub use numbers::Numbers;
 pub use reporting::Reporter;

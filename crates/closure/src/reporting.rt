@@ -4,16 +4,15 @@ ghost use Rattle.chart.specs.declared.line.TheConstants.{MAX_EVENTS};
 ghost use Rattle.chart.specs.Charts.{at, chart_lines};
 ghost use Rattle.chart.specs.Ranges.{IsRange, events_in};
 ghost use Rattle.chart.specs.Reports.{ReportView, AreReports};
-ghost use Rattle.closure.specs.Rows.{AreRows};
-ghost use Rattle.closure.specs.Closures.{AreLinked, IsClosure};
-ghost use Rattle.closure.specs.Searches.{IsKnowledge};
+ghost use Rattle.closure.specs.Closures.{IsPossibleChart};
+ghost use Rattle.closure.specs.Searches.{HasKnowledge};
 ghost use Rattle.closure.specs.Reported.{HaveReported, IsFound, IsReportAt, reports_left};
 
 use crate::knowing::knowledge;
-use crate::partner::{Partner, partner_of};
-use crate::reading::{event_at, len_of, line_of};
+use crate::linked::Linked;
+use crate::partner::Partner;
 use crate::row::{Row, value_at};
-use chart::{EventNo, EventRange, InstanceNo, Line, MAX_EVENTS, RangesBuilder, Report};
+use chart::{EventNo, EventRange, InstanceNo, MAX_EVENTS, RangesBuilder, Report};
 use online_races::find_races;
 use std::alloc::{AllocError, Global};
 use std::marker::Model;
@@ -30,21 +29,21 @@ pub struct Receive {
 }
 
 /// The next receive of a line, from a place on.
-fn next_on(lines: &[Line], partners: &[Row<Partner>], line: usize, from: usize) -> Option<Receive>
-    requires linked { AreLinked lines.now partners.now }
-    requires line { line < length lines.now }
-    requires from { from ≤ length (chart_lines lines.now (suc line)) }
-    ensures receive { IfSome result (IsFound lines.now) }
+fn next_on(linked: &Linked<'_>, line: usize, from: usize) -> Option<Receive>
+    requires line { line < length linked.now }
+    requires from { from ≤ length (chart_lines linked.now (suc line)) }
+    ensures receive { IfSome result (IsFound linked.now) }
     ensures line { IfSome result (λ receive. receive.line ≡ line) }
     ensures later { IfSome result (λ receive. from ≤ receive.place) }
-    ensures reported { (reports : List ReportView) → HaveReported lines.now line from reports
-        → MatchOption result (HaveReported lines.now (suc line) 0 reports) (λ receive. HaveReported lines.now line receive.place reports) }
+    ensures reported { (reports : List ReportView) → HaveReported linked.now line from reports
+        → MatchOption result (HaveReported linked.now (suc line) 0 reports)
+        (λ receive. HaveReported linked.now line receive.place reports) }
 {
-    for place in from..len_of(lines, line) {
+    for place in from..linked.len_of(line) {
         if let Partner::Sender {
             line: sender,
             index,
-        } = partner_of(lines, partners, line, place)
+        } = linked.partner_of(line, place)
         {
             return Some(Receive {
                 line,
@@ -58,23 +57,19 @@ fn next_on(lines: &[Line], partners: &[Row<Partner>], line: usize, from: usize) 
 }
 
 /// The next receive by instance and index, from a place of a line on.
-fn next_receive(
-    lines: &[Line],
-    partners: &[Row<Partner>],
-    line: usize,
-    place: usize,
-) -> Option<Receive>
-    requires linked { AreLinked lines.now partners.now }
-    requires line { line < length lines.now }
-    requires place { place ≤ length (chart_lines lines.now (suc line)) }
-    ensures receive { IfSome result (IsFound lines.now) }
-    ensures later { IfSome result (λ receive. (line < receive.line) ⊎ ((receive.line ≡ line) × (place ≤ receive.place))) }
-    ensures reported { (reports : List ReportView) → HaveReported lines.now line place reports
-        → MatchOption result (AreReports lines.now reports) (λ receive. HaveReported lines.now receive.line receive.place reports) }
+fn next_receive(linked: &Linked<'_>, line: usize, place: usize) -> Option<Receive>
+    requires line { line < length linked.now }
+    requires place { place ≤ length (chart_lines linked.now (suc line)) }
+    ensures receive { IfSome result (IsFound linked.now) }
+    ensures later { IfSome result
+        (λ receive. (line < receive.line) ⊎ ((receive.line ≡ line) × (place ≤ receive.place))) }
+    ensures reported { (reports : List ReportView) → HaveReported linked.now line place reports
+        → MatchOption result (AreReports linked.now reports)
+        (λ receive. HaveReported linked.now receive.line receive.place reports) }
 {
     let mut from = place;
-    for next in line..lines.len() {
-        if let Some(receive) = next_on(lines, partners, next, from) {
+    for next in line..linked.len() {
+        if let Some(receive) = next_on(linked, next, from) {
             return Some(receive);
         }
         from = 0;
@@ -85,27 +80,25 @@ fn next_receive(
 /// Puts the ranges of a receive's races in place of those in the list: of the races of its line before it, past what its
 /// send knows of the line. It answers the receive.
 fn find_report(
-    lines: &[Line],
-    partners: &[Row<Partner>],
+    linked: &Linked<'_>,
     known: &[Row<u32>],
     receive: &Receive,
     found: &mut Vec<EventRange>,
 ) -> EventNo
-    requires linked { AreLinked lines.now partners.now }
-    requires known { AreRows (IsKnowledge (chart_lines lines.now)) (chart_lines lines.now) (length lines.now) known.now }
-    requires receive { IsFound lines.now receive.now }
+    requires known { HasKnowledge linked.now known.now }
+    requires receive { IsFound linked.now receive.now }
     requires places { MAX_EVENTS ≤ vec_capacity found.old }
-    ensures report { IsReportAt (chart_lines lines.now) (at (suc receive.now.line) (suc receive.now.place))
+    ensures report { IsReportAt (chart_lines linked.now) (at (suc receive.now.line) (suc receive.now.place))
         (record { receive = result; earlier = events_in found.new.items }) }
     ensures ranges { All IsRange found.new.items }
     ensures places { vec_capacity found.new ≡ vec_capacity found.old }
 {
     let sender = receive.sender as usize;
-    let region = event_at(lines, receive.line, receive.place).region();
+    let region = linked.event_at(receive.line, receive.place).region();
     let entry = value_at(known, sender, receive.index as usize - 1);
     find_races(
         found,
-        line_of(lines, receive.line).as_growing(),
+        linked.line_of(receive.line).as_growing(),
         receive.place,
         entry,
         InstanceNo::at_place(sender),
@@ -122,8 +115,7 @@ fn find_report(
 /// last.
 #[derive(Drop)]
 pub struct Reporter<'a> {
-    lines: &'a [Line],
-    partners: &'a [Row<Partner>],
+    linked: Linked<'a>,
     known: Vec<Row<u32>>,
     /// The line of the next event, and its place.
     line: usize,
@@ -140,25 +132,20 @@ impl<'a> Model for Reporter<'a> {
 
     ghost Value = { ReporterView };
 
-    ghost view = { λ r. record { lines = r.lines.now; line = r.line; place = r.place; earlier = events_in r.found.items } };
+    ghost view = { λ r. record { lines = r.linked; line = r.line; place = r.place; earlier = events_in r.found.items } };
 
-    ghost invariant = { λ r. IsReporting r.lines.now r.partners.now r.known.items r.line r.place × All IsRange r.found.items × (MAX_EVENTS ≤ vec_capacity r.found) };
+    ghost invariant = { λ r. IsReporting r.linked r.known.items r.line r.place × All IsRange r.found.items × (MAX_EVENTS ≤ vec_capacity r.found) };
 }
 
 /// A reporter that begins with the first event of a chart.
-pub fn reporter_of<'a>(
-    alloc: Global,
-    lines: &'a [Line],
-    partners: &'a [Row<Partner>],
-) -> Result<Reporter<'a>, AllocError>
-    requires { IsClosure lines.now partners.now }
-    ensures { IfOk result (λ reporter. reporter ≡ record { lines = lines.now; line = 0; place = 0; earlier = [] }) }
+pub fn reporter_of<'a>(alloc: Global, linked: Linked<'a>) -> Result<Reporter<'a>, AllocError>
+    requires { IsPossibleChart linked }
+    ensures { IfOk result (λ reporter. reporter ≡ record { lines = linked.entry; line = 0; place = 0; earlier = [] }) }
 {
-    let known = knowledge(alloc, lines, partners)?;
+    let known = knowledge(alloc, &linked)?;
     let found = Vec::with_capacity(alloc, MAX_EVENTS)?;
     Ok(Reporter {
-        lines,
-        partners,
+        linked,
         known,
         line: 0,
         place: 0,
@@ -172,18 +159,19 @@ impl<'a> Reporter<'a> {
         ensures lines { self.new.lines ≡ self.old.lines }
         ensures reported { (reports : List ReportView) → HaveReported self.old.lines self.old.line self.old.place reports
             → MatchOption result (AreReports self.old.lines reports)
-            (λ receive. HaveReported self.old.lines self.new.line self.new.place (reports ++ record { receive = receive; earlier = self.new.earlier } ∷ [])) }
-        ensures whole { OnSome result ((reports : List ReportView) → HaveReported self.new.lines self.new.line self.new.place reports
+            (λ receive. HaveReported self.old.lines self.new.line self.new.place
+            (reports ++ record { receive = receive; earlier = self.new.earlier } ∷ [])) }
+        ensures whole { OnSome result
+            ((reports : List ReportView) → HaveReported self.new.lines self.new.line self.new.place reports
             → (more : List ReportView) × AreReports self.new.lines (reports ++ more)) }
         ensures instance { IfSome result (λ receive. receive.instance ≤ length self.new.lines) }
         ensures fewer { OnSome result (reports_left self.new < reports_left self.old) }
     {
-        let Some(receive) = next_receive(self.lines, self.partners, self.line, self.place) else {
+        let Some(receive) = next_receive(&self.linked, self.line, self.place) else {
             return None;
         };
         let event = find_report(
-            self.lines,
-            self.partners,
+            &self.linked,
             self.known.as_slice(),
             &receive,
             &mut self.found,
@@ -215,15 +203,11 @@ fn report_of(alloc: Global, receive: EventNo, earlier: &[EventRange]) -> Result<
 }
 
 /// The reports of all receives, by instance and index.
-pub fn reports_of(
-    alloc: Global,
-    lines: &[Line],
-    partners: &[Row<Partner>],
-) -> Result<Vec<Report>, AllocError>
-    requires { IsClosure lines.now partners.now }
-    ensures { IfOk result (λ reports. AreReports lines.now reports.items) }
+pub fn reports_of(alloc: Global, linked: Linked<'_>) -> Result<Vec<Report>, AllocError>
+    requires { IsPossibleChart linked }
+    ensures { IfOk result (λ reports. AreReports linked.entry reports.items) }
 {
-    let mut reporter = reporter_of(alloc, lines, partners)?;
+    let mut reporter = reporter_of(alloc, linked)?;
     let mut reports = Vec::new(alloc);
     while let Some(receive) = reporter.next() {
         let report = report_of(alloc, receive, reporter.earlier())?;

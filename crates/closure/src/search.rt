@@ -1,19 +1,19 @@
 //! Searching backwards over the pairs that are enforced directly.
 //!
-//! What is a send or before it is, of each line, the events up to some send, its front: all that stands above a send is
-//! before it. So the pairs to be followed are those from a receive to its send, and each event is seen once. Of a later
+//! What is a send or before it is, of each line, the events up to some send, its front: all that is earlier than a send on
+//! its line is before it. So the pairs to be followed are those from a receive to its send, and each event is seen once. Of a later
 //! send of the same line the fronts are no smaller, and the search goes on from where it is.
 ghost use Rattle.std.specs.Prelude.{ℕ, ◌≡◌, ◌<◌, ◌≤◌, ◌+◌, ◌↔◌, suc, max, length, replicate, slice_index, slice_set, IsTrue, IfOk, IfSome, MatchBool, MatchOption};
+ghost use Rattle.chart.specs.declared.line.TheConstants.{MAX_EVENTS};
 ghost use Rattle.chart.specs.Charts.{Place, at, chart_lines};
 ghost use Rattle.chart.specs.Knowing.{IsUpTo};
 ghost use Rattle.closure.specs.Faults.{place_of};
-ghost use Rattle.closure.specs.Closures.{AreLinked};
 ghost use Rattle.closure.specs.Searches.{IsSend, IsReached, IsSearch, AreSeen, HaveGrown};
 
+use crate::linked::Linked;
 use crate::numbers::Numbers;
-use crate::partner::{Partner, partner_of};
-use crate::row::Row;
-use chart::{EventNo, Line};
+use crate::partner::Partner;
+use chart::EventNo;
 use std::alloc::{AllocError, Global};
 
 /// How far a search has come.
@@ -69,7 +69,9 @@ impl Search {
     /// Reaches the send of this index of a line.
     fn raise(&mut self, line: usize, index: usize)
         requires { line < length self.old.fronts }
-        ensures { self.new ≡ record self.old { fronts = slice_set self.old.fronts line (max (slice_index self.old.fronts line) index) } }
+        ensures { self.new ≡ record self.old {
+          fronts = slice_set self.old.fronts line (max (slice_index self.old.fronts line) index);
+        } }
     {
         let front = self.fronts.at(line).max(index);
         self.fronts.set(line, front);
@@ -77,22 +79,23 @@ impl Search {
 }
 
 /// Follows the next event of a line that was reached, and answers the line where the search may go on.
-fn follow(lines: &[Line], partners: &[Row<Partner>], search: &mut Search, line: usize) -> usize
-    requires linked { AreLinked lines.now partners.now }
-    requires line { line < length lines.now }
-    requires fronts { length search.old.fronts ≡ length lines.now }
-    requires seen { length search.old.seen ≡ length lines.now }
+fn follow(linked: &Linked<'_>, search: &mut Search, line: usize) -> usize
+    requires line { line < length linked.now }
+    requires fronts { length search.old.fronts ≡ length linked.now }
+    requires seen { length search.old.seen ≡ length linked.now }
     requires pending { slice_index search.old.seen line < slice_index search.old.fronts line }
-    requires within { slice_index search.old.fronts line ≤ length (chart_lines lines.now (suc line)) }
-    ensures line { result < length lines.now }
+    requires within { slice_index search.old.fronts line ≤ length (chart_lines linked.now (suc line)) }
+    requires short { length (chart_lines linked.now (suc line)) ≤ MAX_EVENTS }
+    ensures line { result < length linked.now }
     ensures seen { search.new.seen ≡ slice_set search.old.seen line (slice_index search.old.seen line + 1) }
     ensures grown { HaveGrown search.old.fronts search.new.fronts }
-    ensures kept { (s : Place) → IsSearch (chart_lines lines.now) (length lines.now) s search.old.fronts search.old.seen
-        → IsSearch (chart_lines lines.now) (length lines.now) s search.new.fronts search.new.seen }
+    ensures kept { (s : Place)
+        → IsSearch (chart_lines linked.now) (length linked.now) s search.old.fronts search.old.seen
+        → IsSearch (chart_lines linked.now) (length linked.now) s search.new.fronts search.new.seen }
 {
     let place = search.seen.at(line);
     search.seen.set(line, place + 1);
-    match partner_of(lines, partners, line, place) {
+    match linked.partner_of(line, place) {
         Partner::Receiver { .. } => line,
         Partner::Sender {
             line: sender,
@@ -107,49 +110,44 @@ fn follow(lines: &[Line], partners: &[Row<Partner>], search: &mut Search, line: 
 
 /// Goes on to the send of this index of a line, and all that is before it. What was reached before is it or before it, as
 /// where it was searched for earlier sends of this line.
-pub fn reach(
-    lines: &[Line],
-    partners: &[Row<Partner>],
-    search: &mut Search,
-    line: usize,
-    index: usize,
-)
-    requires linked { AreLinked lines.now partners.now }
-    requires line { line < length lines.now }
-    requires send { IsSend (chart_lines lines.now) (at (suc line) index) }
-    requires search { IsSearch (chart_lines lines.now) (length lines.now) (at (suc line) index) search.old.fronts search.old.seen }
-    ensures search { IsSearch (chart_lines lines.now) (length lines.now) (at (suc line) index) search.new.fronts search.new.seen }
-    ensures reached { IsReached (chart_lines lines.now) (at (suc line) index) search.new.fronts }
+pub fn reach(linked: &Linked<'_>, search: &mut Search, line: usize, index: usize)
+    requires line { line < length linked.now }
+    requires send { IsSend (chart_lines linked.now) (at (suc line) index) }
+    requires search { IsSearch (chart_lines linked.now) (length linked.now) (at (suc line) index)
+        search.old.fronts search.old.seen }
+    ensures search { IsSearch (chart_lines linked.now) (length linked.now) (at (suc line) index)
+        search.new.fronts search.new.seen }
+    ensures reached { IsReached (chart_lines linked.now) (at (suc line) index) search.new.fronts }
 {
+    prove!(line < linked.len());
     search.raise(line, index);
     let mut next = line;
     while let Some(pending) = search.pending(next) {
-        next = follow(lines, partners, search, pending);
+        next = follow(linked, search, pending);
     }
 }
 
 /// Whether an event is the send of this index of a line, or before it.
 pub fn is_up_to(
     alloc: Global,
-    lines: &[Line],
-    partners: &[Row<Partner>],
+    linked: &Linked<'_>,
     event: &EventNo,
     line: usize,
     index: usize,
 ) -> Result<bool, AllocError>
-    requires linked { AreLinked lines.now partners.now }
-    requires line { line < length lines.now }
-    requires send { IsSend (chart_lines lines.now) (at (suc line) index) }
-    ensures { IfOk result (λ up_to. IsTrue up_to ↔ IsUpTo (chart_lines lines.now) (at (suc line) index) (place_of event.now)) }
+    requires line { line < length linked.now }
+    requires send { IsSend (chart_lines linked.now) (at (suc line) index) }
+    ensures { IfOk result (λ up_to. IsTrue up_to
+        ↔ IsUpTo (chart_lines linked.now) (at (suc line) index) (place_of event.now)) }
 {
     let place = event.instance.place();
-    if place >= lines.len() {
+    if place >= linked.len() {
         return Ok(false);
     }
     if event.index == 0 {
         return Ok(false);
     }
-    let mut search = Search::new(alloc, lines.len())?;
-    reach(lines, partners, &mut search, line, index);
+    let mut search = Search::new(alloc, linked.len())?;
+    reach(linked, &mut search, line, index);
     Ok(event.index as usize <= search.fronts.at(place))
 }

@@ -7,9 +7,9 @@ use std::alloc::Global;
 use std::process::Abort;
 use std::test::Fail;
 
-/// Sends so many messages with the longest bodies to each of the others among three.
+/// Sends so many messages with the longest bodies to each other instance of the board.
 fn send_to_others(rt: &impl Abort, alloc: Global, post: &mut Post, many: usize) {
-    for number in 1..=3 {
+    for number in 1..=post.board_size() {
         let to = instance(rt, number);
         if to == post.number() {
             continue;
@@ -44,5 +44,42 @@ fn all_is_given_back(rt: HostRuntime) -> Result<(), Fail> {
     drop(third);
     drop(second);
     drop(posts);
+    Ok(())
+}
+
+/// How many instances pass messages to each other, over lanes of how many places that they fill, and how many messages each
+/// of them takes of each other one.
+const BOARDS: [(usize, usize, usize); 4] = [(2, 1, 0), (3, 2, 1), (9, 4, 4), (4, 64, 40)];
+
+/// Takes so many messages of each other instance.
+fn take_of_others(rt: &impl Abort, post: &mut Post, many: usize) {
+    for number in 1..=post.board_size() {
+        let from = instance(rt, number);
+        if from == post.number() {
+            continue;
+        }
+        for _ in 0..many {
+            match post.receive(from) {
+                Ok(Taken::Got(_)) => {}
+                _ => panic!(rt; "no message came"),
+            }
+        }
+    }
+}
+
+/// Lanes of each size are filled and emptied in part. Then the posts go, one after the other, and the board.
+#[test]
+fn full_lanes_are_given_back(rt: HostRuntime) -> Result<(), Fail> {
+    let alloc = rt.alloc();
+    for (instances, places, many) in BOARDS {
+        let mut board = Board::new(alloc, instances, places)?;
+        let mut posts = board.posts()?;
+        for post in posts.iter_mut() {
+            send_to_others(&rt, alloc, post, places);
+        }
+        for post in posts.iter_mut() {
+            take_of_others(&rt, post, many);
+        }
+    }
     Ok(())
 }

@@ -11,14 +11,20 @@ mod calls;
 #[cfg(test)]
 mod dropped_posts;
 #[cfg(test)]
+mod gathering;
+#[cfg(test)]
 mod growths;
 #[cfg(test)]
 mod left_messages;
 #[cfg(test)]
 mod moving_partners;
 #[cfg(test)]
+mod nothing;
+#[cfg(test)]
 mod replays;
 #[cfg(test)]
 mod room;
 #[cfg(test)]
 mod schedules;
+#[cfg(test)]
+mod searches;

@@ -9,7 +9,7 @@ use std::process::Abort;
 use std::test::Fail;
 
 /// The texts of the schedules, and those of what they come to.
-static TEXTS: [(&[u8], &[u8]); 4] = [
+pub static TEXTS: [(&[u8], &[u8]); 4] = [
     (
         b"instances a b c\ncapacity 1\na send b x\nb receive a\nb send c m\nc receive b\nc send b y\nb receive c\n",
         b"msc run;\ninstance a;\nout x to b;\nendinstance;\ninstance b;\nin x from a;\nout m to c;\nin y from c;\nendinstance;\ninstance c;\nin m from b;\nout y to b;\nendinstance;\nendmsc;\n",
@@ -29,7 +29,7 @@ static TEXTS: [(&[u8], &[u8]); 4] = [
 ];
 
 /// The schedule of the text, read once more where memory was refused.
-fn schedule_of(rt: &impl Abort, alloc: Global, text: &[u8]) -> Schedule {
+pub fn schedule_of(rt: &impl Abort, alloc: Global, text: &[u8]) -> Schedule {
     match Schedule::read(alloc, text) {
         Ok(schedule) => schedule,
         Err(_) => Schedule::read(alloc, text).expect(rt, "a schedule"),
@@ -37,7 +37,7 @@ fn schedule_of(rt: &impl Abort, alloc: Global, text: &[u8]) -> Schedule {
 }
 
 /// What it comes to, replayed once more where memory was refused.
-fn outcome_of<'a>(rt: &impl Abort, alloc: Global, schedule: &'a Schedule) -> Outcome<'a> {
+pub fn outcome_of<'a>(rt: &impl Abort, alloc: Global, schedule: &'a Schedule) -> Outcome<'a> {
     match replay(alloc, schedule) {
         Ok(outcome) => outcome,
         Err(error) => {

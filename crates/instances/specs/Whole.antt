@@ -9,6 +9,7 @@ use Rattle.instances.specs.declared.outcome.RunError.{RunError}
 use Rattle.instances.specs.declared.outcome.RunError.TheVariants.{Unfit, Memory}
 use Rattle.instances.specs.declared.threads.TheConstants.{MAX_TURNS}
 use Rattle.instances.specs.declared.turn.Turn.{Turn}
+use Rattle.instances.specs.Driving.{Meaning, IsRunOfPost}
 
 -- these posts are all of their board, so many behaviours are one of each, and a run has so many turns at most
 pub record IsFit (posts : List PostView) (behaviours turns : ℕ) : Type 0 where
@@ -20,13 +21,26 @@ pub record IsFit (posts : List PostView) (behaviours turns : ℕ) : Type 0 where
 abbrev pub IsUnfit : List PostView → ℕ → ℕ → Type 0
 IsUnfit posts behaviours turns = AreNotAll posts ⊎ ((behaviours ≢ length posts) ⊎ ((turns ≡ 0) ⊎ (MAX_TURNS < turns)))
 
--- Each post was driven as the behaviour at its place does, to the post that was left, with its trace and its end; and this
--- is what the posts that were left came to, all of one board, whose chart has a line for each instance.
-pub record AreRuns (does : ℕ → PostView → List Turn → End → PostView → Type 0) (posts : List PostView) (run : Run) : Type 0 where
+-- what comes of the post at a place: from it, with a trace and an end, to the post that is left
+abbrev pub Drives : Type 1
+Drives = ℕ → PostView → List Turn → End → PostView → Type 0
+
+-- The behaviour at the place, of these, drives the post: each of them means this and begins in this state, and has so many
+-- turns at most.
+abbrev pub DrivenBy : {B : Type 0} {S : B → Type 0} → ((b : B) → Meaning (S b)) → ((b : B) → S b) → ℕ → List B
+    → ℕ → PostView → List Turn → End → PostView → Type 0
+DrivenBy means state turns behaviours k old trace end new = (b : _) → IsRunOfPost
+    (means (slice_index_or behaviours k b)) turns (state (slice_index_or behaviours k b)) old trace end new
+
+-- Each post was driven so, to the post that was left, with its trace and its end; and this is what the posts that were left
+-- came to, all of one board, whose chart has a line for each instance.
+pub record AreRuns (does : Drives) (posts : List PostView) (run : Run) : Type 0 where
   pub left : List PostView
-  pub as_many : (length left ≡ length posts) × (length run.traces.items ≡ length posts) × (length run.ends.items ≡ length posts)
+  pub as_many : (length left ≡ length posts) × (length run.traces.items ≡ length posts)
+      × (length run.ends.items ≡ length posts)
   pub each : (k : ℕ) (p : PostView) (t : List Turn) (e : End) (q : PostView) → k < length posts
-      → does k (slice_index_or posts k p) (slice_index_or run.traces.items k t) (slice_index_or run.ends.items k e) (slice_index_or left k q)
+      → does k (slice_index_or posts k p) (slice_index_or run.traces.items k t) (slice_index_or run.ends.items k e)
+      (slice_index_or left k q)
   pub whole : IsWhole left run.gathered
   pub lines : length run.gathered.chart ≡ size_of posts
 

@@ -1,9 +1,9 @@
 //! Runs of whole boards.
-ghost use Rattle.std.specs.Prelude.{◌≡◌, ℕ, ◌<◌, ◌++◌, IfOk, IfErr, length, map, slice_index_or, true, false};
+ghost use Rattle.std.specs.Prelude.{◌≡◌, IfOk, IfErr, length, map, true, false};
 ghost use Rattle.std.specs.List.{zip};
-ghost use Rattle.board.specs.Meeting.{AreOfOneBoard, AreAll};
-ghost use Rattle.instances.specs.Driving.{meaning, IsRunOfPost};
-ghost use Rattle.instances.specs.Whole.{IsFit, IsUnfit, AreRuns, IsGathered, IsUnrun};
+ghost use Rattle.board.specs.Meeting.{AreOfOneBoard};
+ghost use Rattle.instances.specs.Driving.{meaning};
+ghost use Rattle.instances.specs.Whole.{IsFit, IsUnfit, DrivenBy, AreRuns, IsGathered, IsUnrun};
 
 use crate::end::End;
 use crate::gate::Gate;
@@ -72,9 +72,9 @@ fn run_fit<'a, R: Threads + Sync, G: Gate + Sync>(
 ) -> Result<Run, AllocError>
     requires board { AreOfOneBoard posts.items }
     requires fit { IsFit posts.items (length behaviours.items) turns }
-    ensures { IfOk result (AreRuns (λ k old trace end new. (b : _) →
-        IsRunOfPost (meaning (Behaviour-box (slice_index_or behaviours.items k b)).act (Behaviour-box (slice_index_or behaviours.items k b)).after)
-        turns (slice_index_or behaviours.items k b).value old trace end new) posts.entry.items) }
+    ensures { IfOk result (AreRuns
+        (DrivenBy (λ b. meaning (Behaviour-box b).act (Behaviour-box b).after) (λ b. b.value) turns behaviours.items)
+        posts.entry.items) }
 {
     let alloc = *posts.allocator();
     let jobs = pairs(alloc, posts, behaviours)?;
@@ -93,8 +93,8 @@ fn run_fit<'a, R: Threads + Sync, G: Gate + Sync>(
     }
 }
 
-/// Runs a board: lets each behaviour drive the post at its place, each in a thread, or one after the other where no thread
-/// can be made, for so many turns at most, and then gathers the board.
+/// Runs a board: lets each behaviour drive the post at its place, each in a thread, or one after the other where no
+/// thread can be made, for so many turns at most, and then gathers the board.
 ///
 /// F25 refuses it before anything is started, and then posts and behaviours come back. Else F6 does, and they are gone.
 pub fn run<'a, R: Threads + Sync, G: Gate + Sync>(
@@ -105,12 +105,14 @@ pub fn run<'a, R: Threads + Sync, G: Gate + Sync>(
     gate: &G,
 ) -> Result<Run, RunError<Vec<Post<'a>>, Vec<Box<dyn Behaviour + Send>>>>
     requires board { AreOfOneBoard posts.items }
-    ensures ok { IfOk result (AreRuns (λ k old trace end new. (b : _) →
-        IsRunOfPost (meaning (Behaviour-box (slice_index_or behaviours.items k b)).act (Behaviour-box (slice_index_or behaviours.items k b)).after)
-        turns (slice_index_or behaviours.items k b).value old trace end new) posts.entry.items) }
+    ensures ok { IfOk result (AreRuns
+        (DrivenBy (λ b. meaning (Behaviour-box b).act (Behaviour-box b).after) (λ b. b.value) turns behaviours.items)
+        posts.entry.items) }
     ensures gathered { IfOk result IsGathered }
     ensures fit { IfOk result (λ run. IsFit posts.entry.items (length behaviours.items) turns) }
-    ensures err { IfErr result (IsUnrun posts.entry behaviours (IsFit posts.entry.items (length behaviours.items) turns) (IsUnfit posts.entry.items (length behaviours.items) turns)) }
+    ensures err { let many = length behaviours.items in
+        IfErr result (IsUnrun posts.entry behaviours
+        (IsFit posts.entry.items many turns) (IsUnfit posts.entry.items many turns)) }
 {
     if !is_fit(posts.as_slice(), behaviours.len(), turns) {
         return Err(RunError::Unfit(posts, behaviours));

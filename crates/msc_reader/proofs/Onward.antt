@@ -18,7 +18,7 @@ use Rattle.msc_text.proofs.Lookups.{IsNamed, instance_is}
 use Rattle.msc_text.proofs.NewNames.{with_name-names}
 use Rattle.msc_text.proofs.Results.{guard_ok, ok_is}
 use Rattle.msc_text.specs.Instances.{known, known_of}
-use Rattle.msc_reader.specs.Builders.{BuilderView, with_event, with_foot, with_send, with_receive, built, next_region}
+use Rattle.msc_reader.specs.Builders.{BuilderView, with_event, with_foot, with_coregion, with_send, with_receive, built, next_region}
 use Rattle.msc_text.specs.Instances.{with_name}
 use Rattle.msc_reader.specs.Reading.{names_after}
 use Rattle.msc_reader.specs.Steps.{after_receive}
@@ -185,10 +185,10 @@ open-on names begun own events d s =
     let line = inside.0 in
     let i = inside.1 in
     inr (
-      record d { open_region = next_region d.line },
+      record d { open_region = next_region line },
       record {
-        is_built = refl;
-        made = region-state (next_region d.line) line s i (ap next_region i.there);
+        is_built = ap (with_coregion d) i.there;
+        made = region-state (next_region line) line s i refl;
         says = said-on names own regions.Closed regions.Empty d line sayings.Open i.there refl;
       },
     )

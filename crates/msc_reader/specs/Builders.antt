@@ -9,7 +9,7 @@ use Rattle.chart.specs.declared.line.TheConstants.{MAX_EVENTS}
 use Rattle.msc_text.specs.Faults.{◌>>=◌}
 use Rattle.msc_text.specs.Instances.{known_of}
 use Rattle.msc_text.specs.declared.fault.Cause.{Cause}
-use Rattle.msc_text.specs.declared.fault.Cause.TheVariants.{Syntax, Instances, ToItself, LineFull}
+use Rattle.msc_text.specs.declared.fault.Cause.TheVariants.{Syntax, Instances, ToItself, LineFull, UnknownInstance}
 use Rattle.msc_reader.specs.declared.state.Saying.{Saying}
 use Rattle.msc_reader.specs.declared.state.Saying.TheVariants.{Begin, Head, Send, Receive, Open, Shut, Foot, End}
 
@@ -29,10 +29,9 @@ pushed line m =
     if partner_of m == line.instance then Err ToItself else (
     if length line.events == MAX_EVENTS then Err LineFull else Ok (record line { events = line.events ++ m ∷ [] }))
 
--- the next coregion of the line that is being built
-abbrev pub next_region : Option LineView → ℕ
-next_region None = 1
-next_region (Some line) = greatest_region line.events + 1
+-- the next coregion of a line
+abbrev pub next_region : LineView → ℕ
+next_region line = greatest_region line.events + 1
 
 -- the line that is being built gets an event
 abbrev pub with_event : BuilderView → Option LineView → Event → Result BuilderView Cause
@@ -50,6 +49,11 @@ with_head d =
 abbrev pub with_foot : BuilderView → Option LineView → Result BuilderView Cause
 with_foot d None = Err Syntax
 with_foot d (Some line) = Ok (record { lines = d.lines ++ line ∷ []; line = None; open_region = 0 })
+
+-- the line that is being built gets its next coregion
+abbrev pub with_coregion : BuilderView → Option LineView → Result BuilderView Cause
+with_coregion d None = Err Syntax
+with_coregion d (Some line) = Ok (record d { open_region = next_region line })
 
 -- a send
 unfoldable pub with_send : List (List ℕ) → BuilderView → List ℕ → List ℕ → Result BuilderView Cause
@@ -69,15 +73,21 @@ built names d Begin = Ok d
 built names d (Head own) = with_head d
 built names d (Send to name) = with_send names d to name
 built names d (Receive from name) = with_receive names d from name
-built names d Open = Ok (record d { open_region = next_region d.line })
+built names d Open = with_coregion d d.line
 built names d Shut = Ok (record d { open_region = 0 })
 built names d Foot = with_foot d d.line
 built names d End = Ok d
 
+-- it has no fault but that of an instance that isn't known
+abbrev pub IsRight : {A : Type 0} → Result A Cause → Type 0
+IsRight (Ok x) = Unit {0}
+IsRight (Err UnknownInstance) = Unit {0}
+IsRight (Err _) = ⊥
+
 -- what a line keeps that is being built behind so many lines, with this open coregion
 pub record IsNextLine (lines open_region : ℕ) (line : LineView) : Type 0 where
   pub next : line.instance ≡ suc lines
-  pub may : MayHaveRegion line.events open_region
+  pub coregion : MayHaveRegion line.events open_region
 
 -- what a builder keeps
 pub record IsBuilder (d : BuilderView) : Type 0 where

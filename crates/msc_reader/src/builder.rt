@@ -1,14 +1,15 @@
-//! What the lines of a chart's text build, once all names are known.
-ghost use Rattle.std.specs.Prelude.{◌≡◌, ◌+◌, ◌⊎◌, ◌≤◌, if◌then◌else◌};
+//! What the lines of a chart's text build, once all names are known and each line was found right by itself: so the only
+//! fault that is left is a partner that is no instance.
+ghost use Rattle.std.specs.Prelude.{◌≡◌, ◌⊎◌, Ok, IfOk, OnOk};
 ghost use Rattle.chart.specs.Charts.{IsNumbered};
 ghost use Rattle.chart.specs.Events.{region_of, MayHaveRegion};
 ghost use Rattle.msc_text.specs.Faults.{Gives, in_line};
-ghost use Rattle.msc_reader.specs.Builders.{blank, pushed, next_region, with_event, with_head, with_foot, with_send, with_receive, built};
+ghost use Rattle.msc_reader.specs.Builders.{blank, pushed, next_region, with_event, with_head, with_foot, with_coregion, with_send, with_receive, built, IsRight};
 
 use crate::state::Saying;
-use chart::{Event, InstanceNo, Line, LineError, MAX_EVENTS, MAX_INSTANCES, Name, Names};
-use msc_text::{Cause, TextError, at_line, fault_at, known_in};
-use std::alloc::Global;
+use chart::{Event, InstanceNo, Line, LineError, MAX_EVENTS, Name, Names};
+use msc_text::{TextError, at_line, known_in};
+use std::alloc::{AllocError, Global};
 use std::marker::Model;
 
 /// A chart that is being built: the lines that are whole so far, and that which is being built. A contract sees a record of its fields.
@@ -31,31 +32,27 @@ impl Model for Builder {
     ghost invariant = { λ d. IsBuilder (record { lines = d.lines.items; line = d.line; open_region = d.open_region }) };
 }
 
-/// Adds an event to the line, which may have its coregion.
+/// Adds an event to the line, which takes it: its partner is another instance, and there is room. It fails only where
+/// there is no memory.
 #[tactic(auto, unfolding(crate::specs::Builders::pushed))]
-fn push(number: u64, line: &mut Line, event: Event) -> Result<(), TextError>
-    requires { MayHaveRegion line.old.events (region_of event) }
-    ensures { Gives (λ _. line.new) result (in_line number (pushed line.old event)) }
+fn push(line: &mut Line, event: Event) -> Result<(), AllocError>
+    requires region { MayHaveRegion line.old.events (region_of event) }
+    requires right { IsRight (pushed line.old event) }
+    ensures { OnOk result (pushed line.old event ≡ Ok line.new) }
 {
     match line.push(event) {
         Ok(()) => Ok(()),
-        Err(LineError::ToItself) => Err(fault_at(number, Cause::ToItself)),
-        Err(LineError::LineFull) => Err(fault_at(number, Cause::LineFull)),
-        Err(LineError::Memory) => Err(TextError::Memory),
+        Err(LineError::Memory) => Err(AllocError),
+        Err(LineError::ToItself | LineError::LineFull) => unreachable!(),
     }
 }
 
-/// The next coregion of the line that is being built.
-fn next_region(line: &Option<Line>) -> u32
+/// The next coregion of a line.
+fn next_region(line: &Line) -> u32
     ensures { result ≡ next_region line.now }
 {
-    match line {
-        Some(line) => {
-            prove!(line.len() <= MAX_EVENTS);
-            line.greatest_region() + 1
-        }
-        None => 1,
-    }
+    prove!(line.len() <= MAX_EVENTS);
+    line.greatest_region() + 1
 }
 
 impl Builder {
@@ -80,33 +77,30 @@ impl Builder {
     }
 
     /// The next instance's line begins.
-    fn with_head(self, alloc: Global, number: u64) -> Result<Builder, TextError>
-        ensures { Gives (λ d. d) result (in_line number (with_head self)) }
+    fn with_head(self, alloc: Global) -> Builder
+        requires { IsRight (with_head self) }
+        ensures { with_head self ≡ Ok result }
     {
         let Builder { lines, .. } = self;
-        if lines.len() >= MAX_INSTANCES {
-            return Err(fault_at(number, Cause::Instances));
-        }
         let instance = InstanceNo::at_place(lines.len());
-        Ok(Builder {
+        Builder {
             lines,
             line: Some(Line::new(alloc, instance)),
             open_region: 0,
-        })
+        }
     }
 
-    /// The line that is being built is whole.
-    fn with_foot(self, number: u64) -> Result<Builder, TextError>
-        ensures { Gives (λ d. d) result (in_line number (with_foot self self.line)) }
+    /// The line that is being built is whole. It fails only where there is no memory.
+    fn with_foot(self) -> Result<Builder, AllocError>
+        requires { IsRight (with_foot self self.line) }
+        ensures { IfOk result (λ d. with_foot self self.line ≡ Ok d) }
     {
         let Builder {
             mut lines,
             line,
             ..
         } = self;
-        let Some(line) = line else {
-            return Err(fault_at(number, Cause::Syntax));
-        };
+        let Some(line) = line else { unreachable!() };
         lines.push(line)?;
         Ok(Builder {
             lines,
@@ -115,16 +109,16 @@ impl Builder {
         })
     }
 
-    /// The line that is being built gets an event, in the open coregion or in none.
-    fn with_event(self, number: u64, event: Event) -> Result<Builder, TextError>
-        requires { (region_of event ≡ 0) ⊎ (region_of event ≡ self.open_region) }
-        ensures { Gives (λ d. d) result (in_line number (with_event self self.line event)) }
+    /// The line that is being built gets an event, in the open coregion or in none. It fails only where there is no
+    /// memory.
+    fn with_event(self, event: Event) -> Result<Builder, AllocError>
+        requires region { (region_of event ≡ 0) ⊎ (region_of event ≡ self.open_region) }
+        requires right { IsRight (with_event self self.line event) }
+        ensures { IfOk result (λ d. with_event self self.line event ≡ Ok d) }
     {
         let Builder { lines, line, .. } = self;
-        let Some(mut line) = line else {
-            return Err(fault_at(number, Cause::Syntax));
-        };
-        push(number, &mut line, event)?;
+        let Some(mut line) = line else { unreachable!() };
+        push(&mut line, event)?;
         let region = event.region();
         Ok(Builder {
             lines,
@@ -133,12 +127,19 @@ impl Builder {
         })
     }
 
-    /// A coregion begins, the next of its line.
-    fn with_coregion(mut self) -> Builder
-        ensures { result ≡ record self { open_region = next_region self.line } }
+    /// A coregion begins, the next of the line that is being built.
+    fn with_coregion(self) -> Builder
+        requires { IsRight (with_coregion self self.line) }
+        ensures { with_coregion self self.line ≡ Ok result }
     {
-        self.open_region = next_region(&self.line);
-        self
+        let Builder { lines, line, .. } = self;
+        let Some(line) = line else { unreachable!() };
+        let open_region = next_region(&line);
+        Builder {
+            lines,
+            line: Some(line),
+            open_region,
+        }
     }
 
     /// No coregion is open.
@@ -149,7 +150,7 @@ impl Builder {
         self
     }
 
-    /// A send.
+    /// A send. F23 refuses a receiver that is no instance.
     #[tactic(auto, unfolding(crate::specs::Builders::with_send))]
     fn with_send(
         self,
@@ -158,13 +159,14 @@ impl Builder {
         to: Name,
         name: Name,
     ) -> Result<Builder, TextError>
+        requires { IsRight (with_send names.now self to name) }
         ensures { Gives (λ d. d) result (in_line number (with_send names.now self to name)) }
     {
         let to = at_line(number, known_in(names, to))?;
-        self.with_event(number, Event::Send { to, name })
+        Ok(self.with_event(Event::Send { to, name })?)
     }
 
-    /// A receive, which is in the open coregion.
+    /// A receive, which is in the open coregion. F23 refuses a sender that is no instance.
     #[tactic(auto, unfolding(crate::specs::Builders::with_receive))]
     fn with_receive(
         self,
@@ -173,14 +175,15 @@ impl Builder {
         from: Name,
         name: Name,
     ) -> Result<Builder, TextError>
+        requires { IsRight (with_receive names.now self from name) }
         ensures { Gives (λ d. d) result (in_line number (with_receive names.now self from name)) }
     {
         let from = at_line(number, known_in(names, from))?;
         let region = self.open_region;
-        self.with_event(number, Event::Receive { from, name, region })
+        Ok(self.with_event(Event::Receive { from, name, region })?)
     }
 
-    /// What is built with what one more line says.
+    /// What is built with what one more line says, the line of this number.
     pub(crate) fn with(
         self,
         alloc: Global,
@@ -188,16 +191,17 @@ impl Builder {
         number: u64,
         saying: Saying,
     ) -> Result<Builder, TextError>
+        requires { IsRight (built names.now self saying) }
         ensures { Gives (λ d. d) result (in_line number (built names.now self saying)) }
     {
         match saying {
             Saying::Begin | Saying::End => Ok(self),
-            Saying::Head(_) => self.with_head(alloc, number),
+            Saying::Head(_) => Ok(self.with_head(alloc)),
             Saying::Send { to, name } => self.with_send(names, number, to, name),
             Saying::Receive { from, name } => self.with_receive(names, number, from, name),
             Saying::Open => Ok(self.with_coregion()),
             Saying::Shut => Ok(self.without_coregion()),
-            Saying::Foot => self.with_foot(number),
+            Saying::Foot => Ok(self.with_foot()?),
         }
     }
 }

@@ -1,5 +1,5 @@
 //! Charts' texts, read whole: two looks at their lines.
-ghost use Rattle.std.specs.Prelude.{◌≡◌, ℕ, List, [], IfOk};
+ghost use Rattle.std.specs.Prelude.{◌≡◌, ℕ, List, [], Ok, IfOk};
 ghost use Rattle.chart.specs.Charts.{LineView, IsNumbered};
 ghost use Rattle.msc_text.specs.ChartText.{chart_text};
 ghost use Rattle.msc_text.specs.Faults.{Gives, in_line};
@@ -58,8 +58,10 @@ fn names_in(alloc: Global, bytes: &[u8]) -> Result<Names, TextError>
     }
 }
 
-/// The second look: the lines of the instances, or the first line whose partner is no instance.
+/// The second look, at a text of which the first look found these names: the lines of the instances, or the first line
+/// whose partner is no instance.
 fn lines_in(alloc: Global, names: &Names, bytes: &[u8]) -> Result<Vec<Line>, TextError>
+    requires { names_in bytes.now ≡ Ok names.now }
     ensures lines { Gives (λ l. l.items) result (lines_in names.now bytes.now) }
     ensures numbered { IfOk result (λ l. IsNumbered l.items) }
 {

@@ -1,5 +1,6 @@
 pub mod EventLoops
 pub mod Lookups
+pub mod NamedReports
 pub mod NewNames
 pub mod Parts
 pub mod RaceTexts

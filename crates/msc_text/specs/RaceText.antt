@@ -1,5 +1,5 @@
 -- The lines of a chart's races (this project's profile).
-use Rattle.std.specs.Prelude.{ℕ, List, ◌++◌, codes, decimal}
+use Rattle.std.specs.Prelude.{ℕ, ◌≤◌, List, length, ◌++◌, codes, decimal, All}
 use Rattle.std.specs.List.{flat_map}
 use Rattle.chart.specs.declared.instance.EventNo.{EventNo}
 use Rattle.chart.specs.Reports.{ReportView}
@@ -28,3 +28,7 @@ report_text names report = flat_map (race_text (name_at names report.receive.ins
 -- a line for each race of each of these receives
 abbrev pub races_text : List (List ℕ) → List ReportView → List ℕ
 races_text names reports = flat_map (report_text names) reports
+
+-- the instance of each receive has a name
+abbrev pub AreNamed : List (List ℕ) → List ReportView → Type 0
+AreNamed names reports = All (λ report. report.receive.instance ≤ length names) reports

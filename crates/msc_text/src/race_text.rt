@@ -1,16 +1,15 @@
 //! The races of a chart as text.
-ghost use Rattle.std.specs.Prelude.{◌≡◌, ◌≤◌, length, unwrap_or, [], All};
-ghost use Rattle.chart.specs.declared.name.TheConstants.{MAX_NAME};
+ghost use Rattle.std.specs.Prelude.{◌≡◌, ◌≤◌, length, All};
 ghost use Rattle.std.specs.List.{flat_map};
 ghost use Rattle.chart.specs.Ranges.{IsRange, events_of, events_in};
-ghost use Rattle.msc_text.specs.ChartText.{name_at};
-ghost use Rattle.msc_text.specs.RaceText.{race_front, race_end, race_line, report_text, races_text};
+ghost use Rattle.msc_text.specs.RaceText.{race_front, race_end, race_line, report_text, races_text, AreNamed};
 ghost use Rattle.msc_text.specs.Writing.{Adds};
 
+use crate::chart_text::named;
 use crate::held::Held;
 use crate::out::Out;
 use crate::text_buffer::{TextBuffer, WriteError};
-use chart::{EventNo, EventRange, InstanceNo, Name, Names, Report};
+use chart::{EventNo, EventRange, Name, Names, Report};
 use itoa::Buffer;
 
 /// Writes the lines of races. What is the same in all lines of a receive is made once, so one value serves many receives.
@@ -33,14 +32,13 @@ impl RaceLines {
 
     /// From now on they are those of races of the instance of this name, and of its receive of this number.
     #[tactic(auto, unfolding(crate::specs::RaceText::race_front, crate::specs::RaceText::race_end))]
-    fn set(&mut self, name: &[u8], receive: u32)
-        requires { length name.now ≤ MAX_NAME }
-        ensures front { self.new.front ≡ race_front name.now }
+    fn set(&mut self, name: Name, receive: u32)
+        ensures front { self.new.front ≡ race_front name }
         ensures end { self.new.end ≡ race_end receive }
     {
         self.front.clear();
         self.front.push(b"race ");
-        self.front.push(name);
+        self.front.push(name.as_bytes());
         self.front.push(b" ");
         let mut digits = Buffer::new();
         self.end.clear();
@@ -91,7 +89,8 @@ impl RaceLines {
         Ok(())
     }
 
-    /// Adds a line for each race of a receive: for each event of these ranges. It takes no memory.
+    /// Adds a line for each race of a receive, whose instance has a name: for each event of these ranges. It takes no
+    /// memory.
     pub fn add_report<W: Out>(
         &mut self,
         text: &mut TextBuffer<'_, W>,
@@ -99,40 +98,24 @@ impl RaceLines {
         receive: EventNo,
         earlier: &[EventRange],
     ) -> Result<(), WriteError>
-        requires { All IsRange earlier.now }
+        requires named { receive.instance ≤ length names.now }
+        requires ranges { All IsRange earlier.now }
         ensures { Adds W.contents W.failures text.old text.new result
             (report_text names.now (record { receive = receive; earlier = events_in earlier.now })) }
     {
-        let name = name_at(names, receive.instance);
-        self.set(bytes_of(&name), receive.index);
+        self.set(named(names, receive.instance), receive.index);
         self.add_all(text, earlier)
     }
 }
 
-/// The name of the instance, if it has one.
-fn name_at(names: &Names, instance: InstanceNo) -> Option<Name>
-    ensures { unwrap_or result [] ≡ name_at names.now instance }
-{
-    names.name(instance)
-}
-
-/// The bytes of the name, or none.
-fn bytes_of(name: &Option<Name>) -> &[u8]
-    ensures value { result.now ≡ unwrap_or name.now [] }
-    ensures short { length result.now ≤ MAX_NAME }
-{
-    match name {
-        Some(name) => name.as_bytes(),
-        None => &[],
-    }
-}
-
-/// Adds a line for each race of these reports to a text that is being written. It takes no memory.
+/// Adds a line for each race of these reports, whose instances have names, to a text that is being written. It takes no
+/// memory.
 pub fn add_races<W: Out>(
     text: &mut TextBuffer<'_, W>,
     names: &Names,
     reports: &[Report],
 ) -> Result<(), WriteError>
+    requires { AreNamed names.now reports.now }
     ensures { Adds W.contents W.failures text.old text.new result (races_text names.now reports.now) }
 {
     let mut lines = RaceLines::new();

@@ -14,6 +14,11 @@ pub record OutcomeView : Type 0 where
   pub reports : List ReportView
   pub notes : List Note
 
+-- what each outcome keeps: its chart has a line for each name, and the reports are those of its receives
+pub record FitTogether (names : List (List ℕ)) (lines : List LineView) (reports : List ReportView) : Type 0 where
+  pub as_many : length names ≡ length lines
+  pub exact : AreReports lines reports
+
 -- the notes that came, now by line: those of each line as they came
 pub record AreByLine (came listed : List Note) : Type 0 where
   pub rising : AllPairs (λ a b. a.line ≤ b.line) listed

@@ -1,7 +1,7 @@
 //! What a replay gives.
 ghost use Rattle.std.specs.Prelude.{◌≡◌, length};
-ghost use Rattle.chart.specs.Reports.{has_races};
-ghost use Rattle.outcomes.specs.Outcomes.{OneOutcomeLaw, PossibleOutcomeLaw};
+ghost use Rattle.chart.specs.Reports.{AreReports, has_races};
+ghost use Rattle.outcomes.specs.Outcomes.{FitTogether, OneOutcomeLaw, PossibleOutcomeLaw};
 
 use chart::{Chart, Names, Report, has_races};
 use schedule::Note;
@@ -9,7 +9,7 @@ use std::marker::Model;
 
 /// What a schedule comes to: its instances' names, the chart of what happened, the report of each receive by
 /// instance and index, and a note for each command that was refused or found nothing, by line. A
-/// contract sees a record of these. There are as many names as lines.
+/// contract sees a record of these. There are as many names as lines, and the reports are those of the chart's receives.
 #[derive(Debug, Drop)]
 pub struct Outcome<'a> {
     names: &'a Names,
@@ -19,14 +19,13 @@ pub struct Outcome<'a> {
 }
 
 impl<'a> Model for Outcome<'a> {
-    ghost use Rattle.std.specs.Prelude.{◌≡◌, length};
-    ghost use Rattle.outcomes.specs.Outcomes.{OutcomeView};
+    ghost use Rattle.outcomes.specs.Outcomes.{OutcomeView, FitTogether};
 
     ghost Value = { OutcomeView };
 
     ghost view = { λ o. record { names = o.names.now; chart = o.chart; reports = o.reports.items; notes = o.notes.items } };
 
-    ghost invariant = { λ o. length o.names.now ≡ length o.chart };
+    ghost invariant = { λ o. FitTogether o.names.now o.chart o.reports.items };
 }
 
 impl<'a> Outcome<'a> {
@@ -38,7 +37,7 @@ impl<'a> Outcome<'a> {
         reports: Vec<Report>,
         notes: Vec<Note>,
     ) -> Outcome<'a>
-        requires { length names.now ≡ length chart }
+        requires { FitTogether names.now chart reports.items }
         ensures { result ≡ record { names = names.now; chart = chart; reports = reports.items; notes = notes.items } }
     {
         Outcome {
@@ -65,7 +64,8 @@ impl<'a> Outcome<'a> {
 
     /// The report of each receive, by instance and index.
     pub fn reports(&self) -> &[Report]
-        ensures { result.now ≡ self.now.reports }
+        ensures value { result.now ≡ self.now.reports }
+        ensures exact { AreReports self.now.chart self.now.reports }
     {
         self.reports.as_slice()
     }

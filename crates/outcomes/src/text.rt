@@ -55,6 +55,7 @@ pub fn add_outcome<W: Out>(
     let chart = outcome.chart();
     let reports = outcome.reports();
     let notes = outcome.notes();
+    prove!(names.len() == chart.lines().len());
     add_chart(text, names, chart)?;
     add_races(text, names, reports)?;
     add_notes(text, notes)

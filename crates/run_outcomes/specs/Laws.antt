@@ -25,6 +25,6 @@ AreOf acts many place (turn ∷ turns) =
 -- In a run of an instance's script each turn is one of the command to which its note is given: the acts and the lines of
 -- the instance's commands have the same places.
 abbrev pub TurnsLaw : Type 0
-TurnsLaw = (commands : List Command) (p most : ℕ) (old new : MailboxView) (trace : List Turn) (end : End) (left : ScriptView)
-    → IsRun script_meaning most (script_of commands p) old trace end left new
+TurnsLaw = (commands : List Command) (p most : ℕ) (old new : MailboxView) (trace : List Turn) (end : End)
+    → (left : ScriptView) → IsRun script_meaning most (script_of commands p) old trace end left new
     → AreOf (acts_of commands p) (length (lines_of commands p)) 0 trace

@@ -1,6 +1,7 @@
 pub use Rattle.outcomes.specs.Outcomes
 pub use Rattle.msc_text.specs.Writing
 pub use Rattle.schedule.specs.Plans
+pub mod OwnBoards
 pub mod Passing
 pub mod RunNotes
 pub mod RunOutcomes

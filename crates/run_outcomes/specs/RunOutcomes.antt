@@ -1,6 +1,7 @@
 -- What the run of a schedule's scripts comes to (this project's profile).
 use Rattle.std.specs.Prelude.{◌≡◌, ℕ, ◌+◌, Bool, true, false, List, [], ◌∷◌, length}
 use Rattle.std.specs.List.{list_any}
+use Rattle.chart.specs.Reports.{AreReports}
 use Rattle.instances.specs.declared.end.End.{End}
 use Rattle.instances.specs.declared.end.End.TheVariants.{TurnsSpent, Memory}
 use Rattle.instances.specs.declared.outcome.Run.{Run}
@@ -15,9 +16,10 @@ pub record RunView : Type 0 where
   pub outcome : OutcomeView
   pub spent : List (List ℕ)
 
--- as many lines, traces and ends as the schedule has instances
+-- as many lines, traces and ends as the schedule has instances, and the reports of its chart's receives
 pub record IsRunOf (plan : Plan) (run : Run) : Type 0 where
   pub lines : length run.gathered.chart ≡ length plan.names
+  pub reports : AreReports run.gathered.chart run.gathered.reports.items
   pub traces : length run.traces.items ≡ length plan.names
   pub ends : length run.ends.items ≡ length plan.names
 

@@ -1,5 +1,8 @@
 //! Runs of schedules.
-ghost use Rattle.std.specs.Prelude.{◌≡◌, IfOk};
+ghost use Rattle.std.specs.Prelude.{IfOk, IfErr, length};
+ghost use Rattle.instances.specs.Driving.{meaning};
+ghost use Rattle.instances.specs.Whole.{DrivenBy, IsUnrun};
+ghost use Rattle.run_outcomes.specs.OwnBoards.{AreRunsOf, AreFitFor, AreUnfitFor};
 ghost use Rattle.run_outcomes.specs.RunOutcomes.{IsRunOf};
 
 use behaviour::Behaviour;
@@ -13,7 +16,7 @@ use std::thread::Threads;
 /// at its place, each in a thread, or one after the other where no thread can be made, for so many turns at most.
 ///
 /// F25: there are more or fewer behaviours than instances, or the turns are none or more than [`instances::MAX_TURNS`].
-/// Nothing was started then, and the behaviours come back. Else F6: a growth was refused.
+/// Nothing was started then, and the behaviours come back. F6: a growth was refused, of the board or of its run.
 #[tactic(auto, using(crate::proofs::Boards::are_of_one_board))]
 pub fn run_schedule<R: Threads + Sync>(
     rt: &R,
@@ -22,7 +25,13 @@ pub fn run_schedule<R: Threads + Sync>(
     behaviours: Vec<Box<dyn Behaviour + Send>>,
     turns: u32,
 ) -> Result<Run, RunError<(), Vec<Box<dyn Behaviour + Send>>>>
-    ensures { IfOk result (IsRunOf schedule.now) }
+    ensures of { IfOk result (IsRunOf schedule.now) }
+    ensures runs { IfOk result (AreRunsOf
+        (DrivenBy (λ b. meaning (Behaviour-box b).act (Behaviour-box b).after) (λ b. b.value) turns behaviours.items)
+        schedule.now) }
+    ensures fit { IfOk result (λ run. AreFitFor schedule.now (length behaviours.items) turns) }
+    ensures err { IfErr result
+        (IsUnrun tt behaviours (Unit {0}) (AreUnfitFor schedule.now (length behaviours.items) turns)) }
 {
     // (no schedule has a count of instances, or a capacity, that a board refuses)
     let instances = schedule.names().len();

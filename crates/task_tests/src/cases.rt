@@ -14,32 +14,43 @@ use std::process::Abort;
 use std::test::Fail;
 use tasks::{Task, perform};
 
-/// What is written for the text, what is said of it, and the status.
-fn performs(
-    rt: &impl Abort,
-    alloc: Global,
-    task: Task,
-    text: &[u8],
-    written: &[u8],
-    said: &[u8],
+/// What the program answers: what is written, what is said, and the status.
+#[derive(Clone, Copy)]
+struct Answer<'a> {
+    written: &'a [u8],
+    said: &'a [u8],
     status: u8,
-) {
+}
+
+/// The program answers so to the text of this name.
+fn performs(rt: &impl Abort, alloc: Global, name: &str, task: Task, text: &[u8], answer: &Answer) {
     let mut out = MemoryOut::new(alloc);
     let mut err = MemoryOut::new(alloc);
-    assert_eq!(rt; perform(alloc, &task, text, &mut out, &mut err), status);
-    assert_eq!(rt; out.as_bytes(), written);
-    assert_eq!(rt; err.as_bytes(), said);
+    let status = perform(alloc, &task, text, &mut out, &mut err);
+    assert_eq!(rt; status, answer.status, "{name}");
+    assert_eq!(rt; out.as_bytes(), answer.written, "{name}");
+    assert_eq!(rt; err.as_bytes(), answer.said, "{name}");
 }
 
 /// The schedule comes to this, and its chart is checked.
-fn replays(rt: &impl Abort, alloc: Global, text: &[u8], written: &[u8], status: u8) {
-    performs(rt, alloc, Task::Replay, text, written, b"", status);
+fn replays(rt: &impl Abort, alloc: Global, name: &str, text: &[u8], written: &[u8], status: u8) {
+    let answer = Answer {
+        written,
+        said: b"",
+        status,
+    };
+    performs(rt, alloc, name, Task::Replay, text, &answer);
     let schedule = Schedule::read(alloc, text).expect(rt, "a schedule");
     is_checked(rt, alloc, &schedule);
 }
 
-fn refuses(rt: &impl Abort, alloc: Global, text: &[u8], said: &[u8]) {
-    performs(rt, alloc, Task::Replay, text, b"", said, 2);
+fn refuses(rt: &impl Abort, alloc: Global, name: &str, text: &[u8], said: &[u8]) {
+    let answer = Answer {
+        written: b"",
+        said,
+        status: 2,
+    };
+    performs(rt, alloc, name, Task::Replay, text, &answer);
 }
 
 /// The piece, so many times, after the front and before the end.
@@ -74,7 +85,14 @@ fn line_full(rt: HostRuntime) -> Result<(), Fail> {
     let receiver = repeated(alloc, b"instance b;\n", b"in m from a;\n", 4096, end)?;
     let mut written = sender;
     written.extend_from_slice(receiver.as_slice())?;
-    replays(&rt, alloc, schedule.as_slice(), written.as_slice(), 0);
+    replays(
+        &rt,
+        alloc,
+        "full lines",
+        schedule.as_slice(),
+        written.as_slice(),
+        0,
+    );
     Ok(())
 }
 
@@ -90,7 +108,7 @@ fn refused_growths(rt: HostRuntime) -> Result<(), Fail> {
         assert_eq!(rt; out.as_bytes(), written.as_slice());
     } else {
         fails_for_memory(&rt, out.as_bytes(), err.as_bytes());
-        replays(&rt, alloc, schedule, written, 0);
+        replays(&rt, alloc, "a message", schedule, written, 0);
     }
     every_growth_was_refused(alloc)
 }

@@ -1,5 +1,5 @@
 -- The line that a refusal prints.
-use Rattle.std.specs.Prelude.{ℕ, List, [], ◌++◌, ◌⊎◌, Option, codes, decimal}
+use Rattle.std.specs.Prelude.{ℕ, List, [], ◌++◌, ◌⊎◌, Option, None, Some, codes, decimal}
 use Rattle.chart.specs.declared.name.NameError.{NameError}
 use Rattle.chart.specs.declared.name.NameError.TheVariants.{Empty, TooLong, BadByte, Reserved}
 use Rattle.msc_text.specs.declared.fault.Cause.{Cause}
@@ -83,6 +83,15 @@ end_text = codes "\n"
 -- the line
 unfoldable pub refusal_text : ProgramError → List ℕ
 refusal_text error = start_text ++ (label error ++ (detail error ++ end_text))
+
+-- a number behind a space, if there is one
+abbrev pub number_detail : Option ℕ → List ℕ
+number_detail None = []
+number_detail (Some n) = behind_space n
+
+-- the line of a refusal with this number and name, and with a number behind them where it has one
+unfoldable pub labelled_text : List ℕ → Option ℕ → List ℕ
+labelled_text name number = start_text ++ (name ++ (number_detail number ++ end_text))
 
 -- a text was written, or a beginning of it where a put failed
 abbrev pub Tried : {S : Type 0} → (S → Option (List ℕ)) → (S → ℕ) → S → S → List ℕ → Type 0

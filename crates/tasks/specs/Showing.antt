@@ -13,19 +13,24 @@ use Rattle.tasks.specs.declared.status.Status.{Status}
 use Rattle.tasks.specs.Refusals.{refusal_text, Tried}
 use Rattle.tasks.specs.Tasks.{status_of, Answers}
 
--- the text of what the run comes to was written; or a beginning of it, where a put failed; or nothing, where memory ran
--- out, as it did where the run lacked memory
-abbrev pub Shows : {S : Type 0} → (S → Option (List ℕ)) → (S → ℕ) → Plan → Run → S → S → Result Status ProgramError → Type 0
-Shows contents failures plan run old new (Ok status) = (o : RunView) × IsRunOutcome plan run o × (status ≡ status_of o.outcome.reports) × Puts contents failures old new (run_text o)
-Shows contents failures plan run old new (Err errors.Memory) = new ≡ old
-Shows contents failures plan run old new (Err errors.Write) = (o : RunView) × IsRunOutcome plan run o × Breaks contents failures old new (run_text o)
-Shows contents failures plan run old new (Err _) = ⊥
+module _ {S : Type 0} (contents : S → Option (List ℕ)) (failures : S → ℕ) where
+  -- the text of what the run comes to was written; or a beginning of it, where a put failed; or nothing, where memory ran
+  -- out, as it did where the run lacked memory
+  abbrev pub Shows : Plan → Run → S → S → Result Status ProgramError → Type 0
+  Shows plan run old new (Ok status) = (o : RunView) × IsRunOutcome plan run o
+      × (status ≡ status_of o.outcome.reports) × Puts contents failures old new (run_text o)
+  Shows plan run old new (Err errors.Memory) = new ≡ old
+  Shows plan run old new (Err errors.Write) = (o : RunView) × IsRunOutcome plan run o
+      × Breaks contents failures old new (run_text o)
+  Shows plan run old new (Err _) = ⊥
 
--- What is answered to a run. One that memory kept from being made is refused so; one that had no fit posts, behaviours or
--- turns leaves nothing anywhere but its status, 2.
-abbrev pub ShowsRun : {S T P B : Type 0} → (S → Option (List ℕ)) → (S → ℕ) → (T → Option (List ℕ)) → (T → ℕ) → Plan → Result Run (RunError P B) → S → S → T → T → ℕ → Type 0
-ShowsRun contents failures err_contents err_failures plan (Ok run) = Answers (Shows contents failures plan run) err_contents err_failures
-ShowsRun contents failures err_contents err_failures plan (Err causes.Memory) = λ old new err_old err_new status.
-    (new ≡ old) × (status ≡ 2) × Tried err_contents err_failures err_old err_new (refusal_text errors.Memory)
-ShowsRun contents failures err_contents err_failures plan (Err (causes.Unfit posts behaviours)) = λ old new err_old err_new status.
-    (new ≡ old) × (status ≡ 2) × (err_new ≡ err_old)
+  -- What is answered to a run. One that memory kept from being made is refused so; one that had no fit posts, behaviours
+  -- or turns leaves nothing anywhere but its status, 2.
+  module _ {T P B : Type 0} (err_contents : T → Option (List ℕ)) (err_failures : T → ℕ) where
+    abbrev pub ShowsRun : Plan → Result Run (RunError P B) → S → S → T → T → ℕ → Type 0
+    ShowsRun plan (Ok run) old new err_old err_new status =
+        Answers (Shows plan run) err_contents err_failures old new err_old err_new status
+    ShowsRun plan (Err causes.Memory) old new err_old err_new status =
+        (new ≡ old) × (status ≡ 2) × Tried err_contents err_failures err_old err_new (refusal_text errors.Memory)
+    ShowsRun plan (Err (causes.Unfit posts behaviours)) old new err_old err_new status =
+        (new ≡ old) × (status ≡ 2) × (err_new ≡ err_old)

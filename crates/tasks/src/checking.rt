@@ -17,8 +17,8 @@ use msc_reader::read;
 use msc_text::{Out, RaceLines, TextBuffer, TextError, WriteError, named};
 use std::alloc::Global;
 
-/// The names and the chart that the text says.
-fn chart_in(alloc: Global, text: &[u8]) -> Result<(Names, Chart), ProgramError>
+/// The names and the chart that the text says. A refusal is the first fault of the text, or F6.
+pub fn chart_in(alloc: Global, text: &[u8]) -> Result<(Names, Chart), ProgramError>
     ensures read { Reads result (chart_of text.now) }
     ensures named { IfOk result (λ read. length read.0 ≡ length read.1) }
 {
@@ -49,7 +49,8 @@ fn add_found<W: Out>(
     names: &Names,
     reporter: Reporter<'_>,
 ) -> Result<bool, WriteError>
-    requires { HaveReported reporter.lines reporter.line reporter.place [] }
+    requires reporter { HaveReported reporter.lines reporter.line reporter.place [] }
+    requires named { length names.now ≡ length reporter.lines }
     ensures { HasAdded W.contents W.failures text.old text.new names.now reporter.entry.lines result }
 {
     let mut reporter = reporter;
@@ -66,7 +67,8 @@ fn add_found<W: Out>(
 /// Writes the line of each race as it is found, and answers whether there is one.
 #[tactic(auto, using(msc_text::proofs::Writes::joining, crate::proofs::FoundRaces::wrote_failed, crate::proofs::FoundRaces::none_told))]
 fn write<W: Out>(names: &Names, reporter: Reporter<'_>, out: &mut W) -> Result<bool, WriteError>
-    requires { HaveReported reporter.lines reporter.line reporter.place [] }
+    requires reporter { HaveReported reporter.lines reporter.line reporter.place [] }
+    requires named { length names.now ≡ length reporter.lines }
     ensures { HasWritten W.contents W.failures out.old out.new names.now reporter.entry.lines result }
 {
     let mut text = TextBuffer::new(out);
@@ -95,8 +97,8 @@ fn refusal(names: &Names, error: ChartError) -> ProgramError
     }
 }
 
-/// The closure of the chart, if it is possible.
-fn closure_of<'a>(
+/// The closure of the chart, if it is possible. Any other is refused by F16, F17 or F18, or F6.
+pub fn closure_of<'a>(
     alloc: Global,
     names: &Names,
     chart: &'a Chart,

@@ -20,8 +20,9 @@ mod showing;
 mod status;
 mod task;
 
+pub use checking::{chart_in, closure_of};
 pub use error::ProgramError;
-pub use refusal::refused;
+pub use refusal::{refused, refused_by};
 pub use replaying::schedule_in;
 pub use run_outcomes::run_schedule;
 pub use schedule_scripts::scripts;

@@ -2,7 +2,7 @@
 ghost use Rattle.std.specs.Prelude.{◌≡◌, IfErr, IfOk};
 ghost use Rattle.msc_text.specs.Writing.{Wrote, Adds};
 ghost use Rattle.tasks.specs.Statuses.{code_of};
-ghost use Rattle.tasks.specs.Refusals.{name_label, cause_label, label, behind_space, cause_detail, event_detail, detail, start_text, end_text, refusal_text, Tried};
+ghost use Rattle.tasks.specs.Refusals.{name_label, cause_label, label, behind_space, cause_detail, event_detail, detail, start_text, end_text, refusal_text, number_detail, labelled_text, Tried};
 
 use crate::error::ProgramError;
 use crate::status::Status;
@@ -158,4 +158,49 @@ pub(crate) fn answered<V: Out>(done: Result<Status, ProgramError>, err: &mut V) 
         Ok(status) => status.code(),
         Err(error) => refused(&error, err),
     }
+}
+
+fn add_number_if<W: Out>(
+    text: &mut TextBuffer<'_, W>,
+    number: Option<u64>,
+) -> Result<(), WriteError>
+    ensures { Adds W.contents W.failures text.old text.new result (number_detail number) }
+{
+    match number {
+        Some(number) => add_number(text, number),
+        None => text.add(b""),
+    }
+}
+
+#[tactic(auto, using(msc_text::proofs::Writes::joining), unfolding(crate::specs::Refusals::labelled_text))]
+fn add_labelled<W: Out>(
+    text: &mut TextBuffer<'_, W>,
+    label: &[u8],
+    number: Option<u64>,
+) -> Result<(), WriteError>
+    ensures { Adds W.contents W.failures text.old text.new result (labelled_text label.now number) }
+{
+    add_start(text)?;
+    text.add(label)?;
+    add_number_if(text, number)?;
+    add_end(text)
+}
+
+#[tactic(auto, using(msc_text::proofs::Writes::joining))]
+fn write_labelled<W: Out>(label: &[u8], number: Option<u64>, out: &mut W) -> Result<(), WriteError>
+    ensures { Wrote W.contents W.failures out.old out.new result (labelled_text label.now number) }
+{
+    let mut text = TextBuffer::new(out);
+    add_labelled(&mut text, label, number)?;
+    text.finish()
+}
+
+/// Prints the line of a refusal that is another program's own, by its number and name, with a number behind them where it
+/// has one, and answers the exit status, which is 2 whether or not the line could be written.
+pub fn refused_by<V: Out>(label: &[u8], number: Option<u64>, err: &mut V) -> u8
+    ensures status { result ≡ 2 }
+    ensures line { Tried V.contents V.failures err.old err.new (labelled_text label.now number) }
+{
+    let _ = write_labelled(label, number, err);
+    2
 }

@@ -31,8 +31,8 @@ fn write_run<W: Out>(
     }
 }
 
-/// Shows what the run of a schedule's scripts ([`crate::scripts`]) came to, whose first post, trace and end are those of
-/// instance 1, and so on: writes the chart, the races, the notes and who spent its turns to `out`, or the line of a
+/// Shows what the run of a schedule's scripts ([`crate::scripts`]) came to, whose first post, trace and end are those
+/// of instance 1, and so on: writes the chart, the races, the notes and who spent its turns to `out`, or the line of a
 /// refusal to `err`, and answers the exit status: 0, 1 where there are races, or 2 after a refusal.
 ///
 /// F6 refuses it where a growth was refused, also where an act of the run was answered so, or an end says so: then
@@ -46,7 +46,8 @@ pub fn show_run<P: Drop, B: Drop, W: Out, V: Out>(
     err: &mut V,
 ) -> u8
     requires { IfOk ran (IsRunOf schedule.now) }
-    ensures { ShowsRun W.contents W.failures V.contents V.failures schedule.now ran out.old out.new err.old err.new result }
+    ensures { ShowsRun W.contents W.failures V.contents V.failures schedule.now ran
+        out.old out.new err.old err.new result }
 {
     match ran {
         Ok(run) => answered(write_run(alloc, schedule, run, out), err),

@@ -1,4 +1,6 @@
 //! The exchange by behaviours: `run` lets each of them act on a thread of its own.
+ghost use Rattle.std.specs.Prelude.{IfOk};
+ghost use Rattle.chart.specs.Reports.{AreReports};
 ghost use Rattle.instances.specs.Whole.{IsGathered};
 
 use crate::client::{Client, ClientStep};
@@ -77,6 +79,7 @@ fn server_at_first(alloc: Global) -> anyhow::Result<Server> {
 /// What a run came to, after an audit of its reports.
 fn audited(alloc: Global, ran: Run) -> anyhow::Result<Gathered>
     requires gathered { IsGathered ran }
+    ensures { IfOk result (λ gathered. AreReports gathered.chart gathered.reports.items) }
 {
     match audit_run(alloc, &ran) {
         Ok(()) => Ok(ran.gathered),
@@ -89,7 +92,9 @@ fn run_three<R: Threads + Sync>(
     rt: &R,
     alloc: Global,
     behaviours: Vec<Box<dyn Behaviour + Send>>,
-) -> anyhow::Result<Gathered> {
+) -> anyhow::Result<Gathered>
+    ensures { IfOk result (λ gathered. AreReports gathered.chart gathered.reports.items) }
+{
     let mut board = Board::new(alloc, 3, PLACES)?;
     let posts = board.posts()?;
     match run(rt, posts, behaviours, MAX_TURNS, &OthersFirst) {
@@ -99,7 +104,9 @@ fn run_three<R: Threads + Sync>(
 }
 
 /// What the three came to. Its reports were audited.
-pub fn exchange<R: Threads + AllocGlobal + Sync>(rt: &R) -> anyhow::Result<Gathered> {
+pub fn exchange<R: Threads + AllocGlobal + Sync>(rt: &R) -> anyhow::Result<Gathered>
+    ensures { IfOk result (λ gathered. AreReports gathered.chart gathered.reports.items) }
+{
     let alloc = rt.alloc();
     let mut behaviours: Vec<Box<dyn Behaviour + Send>> = Vec::new(alloc);
     behaviours.push(Box::new(alloc, client_at_first(alloc)?)?)?;

@@ -1,6 +1,7 @@
 //! The same exchange without behaviours: each holds its post itself, in a job of its own.
-ghost use Rattle.std.specs.Prelude.{◌≡◌};
+ghost use Rattle.std.specs.Prelude.{◌≡◌, IfOk};
 ghost use Rattle.board.specs.Meeting.{AreOfOneBoard};
+ghost use Rattle.chart.specs.Reports.{AreReports};
 
 use crate::parties::{PATIENCE, PLACES, REQUESTS, client, logger, message, server};
 use agreement::audit_gathered;
@@ -108,6 +109,7 @@ fn act<'a>(alloc: Global, mut post: Post<'a>) -> Post<'a>
 /// What their posts came to. Its reports were audited.
 fn audited(alloc: Global, posts: Vec<Post>) -> anyhow::Result<Gathered>
     requires { AreOfOneBoard posts.items }
+    ensures { IfOk result (λ gathered. AreReports gathered.chart gathered.reports.items) }
 {
     match gather(alloc, posts) {
         Ok(gathered) => match audit_gathered(alloc, &gathered) {
@@ -119,7 +121,9 @@ fn audited(alloc: Global, posts: Vec<Post>) -> anyhow::Result<Gathered>
 }
 
 /// What the three came to. Its reports were audited.
-pub fn exchange<R: Threads + AllocGlobal + Sync>(rt: &R) -> anyhow::Result<Gathered> {
+pub fn exchange<R: Threads + AllocGlobal + Sync>(rt: &R) -> anyhow::Result<Gathered>
+    ensures { IfOk result (λ gathered. AreReports gathered.chart gathered.reports.items) }
+{
     let alloc = rt.alloc();
     let mut board = Board::new(alloc, 3, PLACES)?;
     let posts = board.posts()?;

@@ -1,4 +1,6 @@
 //! What the program tells.
+ghost use Rattle.chart.specs.Reports.{AreReports};
+
 use crate::parties::{client, logger, server};
 use anyhow::bail;
 use board::Gathered;
@@ -17,7 +19,9 @@ fn names(alloc: Global) -> anyhow::Result<Names> {
 }
 
 /// Prints the chart, and a line for each race.
-pub fn show<R: Print + AllocGlobal>(rt: &R, gathered: &Gathered) -> anyhow::Result<()> {
+pub fn show<R: Print + AllocGlobal>(rt: &R, gathered: &Gathered) -> anyhow::Result<()>
+    requires { AreReports gathered.now.chart gathered.now.reports.items }
+{
     let names = names(rt.alloc())?;
     if names.len() != gathered.chart.lines().len() {
         bail!("a board of three has three lines");

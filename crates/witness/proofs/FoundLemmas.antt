@@ -23,12 +23,13 @@ use Rattle.witness.specs.declared.turned.Turned.{Turned}
 use Rattle.witness.specs.Steps.{AreTurned, occurrence_of, after, history_of, turn_of, place_after, is_within, with_step, nothing}
 use Rattle.witness.proofs.StepLemmas.{after-append, history-next}
 
-begins-after : (h : List Occurrence) (ys : List Step) → Begins h (after h ys)
+-- a history goes on by steps
+pub begins-after : (h : List Occurrence) (ys : List Step) → Begins h (after h ys)
 begins-after h [] = begins_same h
 begins-after h (y ∷ ys) = begins_onward h (occurrence_of y ∷ h) (after (occurrence_of y ∷ h) ys) (occurrence_of y ∷ [], refl) (begins-after (occurrence_of y ∷ h) ys)
 
 -- a run begins with what it made up to a step
-begins-at : (steps : List Step) (i : ℕ) (x : Step) → slice_get steps i ≡ Some x → Begins (occurrence_of x ∷ history_of (take i steps)) (history_of steps)
+pub begins-at : (steps : List Step) (i : ℕ) (x : Step) → slice_get steps i ≡ Some x → Begins (occurrence_of x ∷ history_of (take i steps)) (history_of steps)
 begins-at steps i x is =
     subst₂ (λ h g. Begins h g) (history-next steps i x is) (sym (after-append [] (take (i + 1) steps) (drop (i + 1) steps)) ∙ ap history_of (take-append-drop (i + 1) steps))
     (begins-after (history_of (take (i + 1) steps)) (drop (i + 1) steps))

@@ -10,8 +10,9 @@ use Rattle.chart.specs.Messages.{Content}
 use Rattle.chart.specs.Histories.{is_lane, sent, received}
 use Rattle.real_races.specs.Walks.{sends_in, raise}
 use Rattle.witness.specs.declared.step.Step.{Step}
+use Rattle.witness.specs.declared.step.Step.TheVariants.{Send, Receive}
 use Rattle.witness.specs.declared.turned.Turned.{Turned}
-use Rattle.witness.specs.Steps.{occurrence_of, after, history_of, turn_of, AreTurned}
+use Rattle.witness.specs.Steps.{occurrence_of, after, history_of, turn_of, AreTurned, outside_regions, IsOutside}
 use Rattle.chart.proofs.Places.{each-push}
 
 -- the first elements, and one more
@@ -48,6 +49,11 @@ after-append h (x ∷ xs) ys = after-append (occurrence_of x ∷ h) xs ys
 -- one step more
 pub history-next : (steps : List Step) (i : ℕ) (x : Step) → slice_get steps i ≡ Some x → history_of (take (i + 1) steps) ≡ occurrence_of x ∷ history_of (take i steps)
 history-next steps i x is = ap history_of (front_next steps i x is) ∙ after-append [] (take i steps) (x ∷ [])
+
+-- a step that was put outside of coregions is
+pub outside_regions-outside : (x : Step) → IsOutside (outside_regions x)
+outside_regions-outside (Send a b name) = refl
+outside_regions-outside (Receive a b region) = refl
 
 -- as many events as steps
 pub after-length : (h : List Occurrence) (xs : List Step) → length (after h xs) ≡ length h + length xs

@@ -2,6 +2,8 @@
 use Rattle.std.specs.Prelude.{◌≡◌, ℕ, ◌+◌, ◌-◌, ◌<◌, ◌^◌, ◌⊎◌, ◌||◌, ◌==◌, nat_le, Bool, false, Option, None, List, [], ◌∷◌, length, take, slice_get, Some}
 use Rattle.chart.specs.declared.history.Occurrence.{Occurrence}
 use Rattle.chart.specs.declared.history.Occurrence.TheVariants as occurrences
+use Rattle.chart.specs.declared.event.Event.{Event}
+use Rattle.chart.specs.declared.event.Event.TheVariants as events
 use Rattle.chart.specs.Histories.{by, sent, received, chart_of}
 use Rattle.chart.specs.Charts.{Place, at}
 use Rattle.witness.specs.declared.step.Step.{Step}
@@ -15,6 +17,11 @@ use Rattle.real_races.specs.OtherRuns.{IsRunWithin, IsOvertaken, BeforeWithin}
 abbrev pub occurrence_of : Step → Occurrence
 occurrence_of (Send a b name) = occurrences.Send a b (record { name = name; body = [] })
 occurrence_of (Receive a b region) = occurrences.Receive a b region
+
+-- the step by which p makes the event
+abbrev pub step_made : ℕ → Event → Step
+step_made p (events.Send q name) = Send p q name
+step_made p (events.Receive q name region) = Receive p q region
 
 -- the history after these steps, behind h
 abbrev pub after : List Occurrence → List Step → List Occurrence
@@ -45,14 +52,22 @@ pub record HavePassed (sends receives : List ℕ) (h : List Occurrence) : Type 0
   pub sent : AreCounts sends (λ q p. length (sent h q p))
   pub received : AreCounts receives (received h)
 
--- what was passed, and fewer events than a number can tell
+-- a number can tell each lane's next turn
+abbrev pub HasTurns : List Occurrence → Type 0
+HasTurns h = (q p : ℕ) → (length (sent h q p) + 1 < 2 ^ 64) × (received h q p + 1 < 2 ^ 64)
+
+-- what was passed, so few that a number can tell the next turn
 abbrev pub HavePassedSome : List ℕ → List ℕ → Type 0
-HavePassedSome sends receives = (h : List Occurrence) × HavePassed sends receives h × (length h + 1 < 2 ^ 64)
+HavePassedSome sends receives = (h : List Occurrence) × HavePassed sends receives h × HasTurns h
 
 -- the step outside of coregions
 abbrev pub outside_regions : Step → Step
 outside_regions (Send a b name) = Send a b name
 outside_regions (Receive a b region) = Receive a b 0
+
+-- it is outside of coregions
+abbrev pub IsOutside : Step → Type 0
+IsOutside x = outside_regions x ≡ x
 
 -- the instance whose step it is
 abbrev pub maker_of : Step → ℕ

@@ -16,5 +16,7 @@ mod parting;
 mod step;
 mod turned;
 
+pub use counts::Counts;
 pub use overtaking::overtake;
 pub use step::Step;
+pub use turned::Passed;

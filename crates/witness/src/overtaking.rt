@@ -1,8 +1,8 @@
 //! Another run in which a receive overtakes an event.
-ghost use Rattle.std.specs.Prelude.{◌≡◌, ◌<◌, ℕ, length, slice_get, Some, IfOk, option_map};
+ghost use Rattle.std.specs.Prelude.{◌≡◌, ◌<◌, ℕ, length, slice_get, Some, IfSome, IfOk, All, option_map};
 ghost use Rattle.chart.specs.Histories.{IsLegal};
 ghost use Rattle.witness.specs.declared.step.Step.{Step};
-ghost use Rattle.witness.specs.Steps.{history_of, place_after, IsReceive, IsFound};
+ghost use Rattle.witness.specs.Steps.{history_of, place_after, IsReceive, IsFound, IsOutside};
 
 use crate::needs::Needs;
 use crate::parting::part;
@@ -13,7 +13,7 @@ use std::alloc::{AllocError, Global};
 /// Of a run whose lanes have so many slots, a receive in it and another step, both by their numbers from 0: a run with
 /// the same events and causes, and with as many slots, in which the receive overtakes the event of the other step.
 /// There is none exactly where the answer is `None`: then the event is the receive, or before it where lanes have so
-/// many slots. Closes and coregions are no part of the answer.
+/// many slots. Its steps are outside of coregions.
 ///
 /// F6: it fails only where there is no memory.
 pub fn overtake(
@@ -25,10 +25,11 @@ pub fn overtake(
 ) -> Result<Option<Vec<Step>>, AllocError>
     requires receive { IsReceive steps.now receive }
     requires earlier { earlier < length steps.now }
-    ensures { IfOk result (λ found. (n : ℕ) (x y : Step) → IsLegal n places (history_of steps.now)
+    ensures found { IfOk result (λ found. (n : ℕ) (x y : Step) → IsLegal n places (history_of steps.now)
         → slice_get steps.now earlier ≡ Some x → slice_get steps.now receive ≡ Some y
         → IsFound n places (history_of steps.now) (place_after steps.now earlier x) (place_after steps.now receive y)
         (option_map (λ run. run.items) found)) }
+    ensures outside { IfOk result (λ found. IfSome found (λ run. All IsOutside run.items)) }
 {
     let turned = with_turns(alloc, steps)?;
     let mut needs = Needs::nothing(alloc)?;

@@ -1,7 +1,7 @@
 //! A run with what has to come put first.
-ghost use Rattle.std.specs.Prelude.{◌≡◌, length, IfOk};
+ghost use Rattle.std.specs.Prelude.{◌≡◌, length, IfOk, All};
 ghost use Rattle.real_races.specs.Walks.{Wanted, parted};
-ghost use Rattle.witness.specs.Steps.{history_of, AreTurned, StandFor};
+ghost use Rattle.witness.specs.Steps.{history_of, AreTurned, StandFor, IsOutside};
 
 use crate::needs::Needs;
 use crate::step::Step;
@@ -18,8 +18,9 @@ pub fn part(
     needs: &Needs,
 ) -> Result<Vec<Step>, AllocError>
     requires { AreTurned steps.now (length steps.now) turned.now }
-    ensures { IfOk result (λ run. (w : Wanted) → StandFor needs.now.sends needs.now.receives needs.now.lines w
+    ensures history { IfOk result (λ run. (w : Wanted) → StandFor needs.now.sends needs.now.receives needs.now.lines w
         → history_of run.items ≡ parted w.sends w.receives (history_of steps.now) (history_of steps.now)) }
+    ensures outside { IfOk result (λ run. All IsOutside run.items) }
 {
     let mut first = Vec::new(alloc);
     let mut others = Vec::new(alloc);

@@ -1,8 +1,8 @@
 //! The steps of a run.
 ghost use Rattle.std.specs.Prelude.{◌≡◌};
-ghost use Rattle.witness.specs.Steps.{outside_regions};
+ghost use Rattle.witness.specs.Steps.{maker_of, step_made, outside_regions};
 
-use chart::{InstanceNo, Name};
+use chart::{Event, InstanceNo, Name};
 
 /// What an instance does in a run: it sends a message of this name, or takes the first message that waits.
 #[derive(Clone, Copy, Debug, PartialEq, Eq)]
@@ -21,6 +21,34 @@ pub enum Step {
 }
 
 impl Step {
+    /// The step by which an instance makes an event.
+    pub fn of(maker: InstanceNo, event: &Event) -> Step
+        ensures { result ≡ step_made maker event.now }
+    {
+        match event {
+            Event::Send { to, name } => Step::Send {
+                from: maker,
+                to: *to,
+                name: *name,
+            },
+            Event::Receive { from, region, .. } => Step::Receive {
+                at: maker,
+                from: *from,
+                region: *region,
+            },
+        }
+    }
+
+    /// The instance whose step it is.
+    pub fn maker(&self) -> InstanceNo
+        ensures { result ≡ maker_of self.now }
+    {
+        match self {
+            Step::Send { from, .. } => *from,
+            Step::Receive { at, .. } => *at,
+        }
+    }
+
     /// The step outside of coregions.
     pub fn outside_regions(&self) -> Step
         ensures { result ≡ outside_regions self.now }

@@ -1,10 +1,12 @@
 //! The steps of a run, each with its turn on its lane.
-ghost use Rattle.std.specs.Prelude.{◌≡◌, ◌∷◌, List, length, IfOk};
+ghost use Rattle.std.specs.Prelude.{◌≡◌, [], ◌∷◌, List, length, IfOk};
 ghost use Rattle.chart.specs.declared.history.Occurrence.{Occurrence};
+ghost use Rattle.chart.specs.Histories.{waiting};
 ghost use Rattle.witness.specs.Steps.{occurrence_of, turn_of, AreTurned, HavePassed, HavePassedSome};
 
 use crate::counts::Counts;
 use crate::step::Step;
+use chart::InstanceNo;
 use std::alloc::{AllocError, Global};
 
 /// A step with its turn: the how-many-th send or receive of its lane it is, from 1.
@@ -16,14 +18,36 @@ pub struct Turned {
 
 /// How many sends and receives each lane had.
 #[derive(Drop)]
-struct Passed {
-    sends: Counts,
-    receives: Counts,
+pub struct Passed {
+    pub sends: Counts,
+    pub receives: Counts,
 }
 
 impl Passed {
+    /// Nothing has passed.
+    ///
+    /// F6: it fails only where there is no memory.
+    pub fn none(alloc: Global) -> Result<Passed, AllocError>
+        ensures { IfOk result (λ passed. HavePassed passed.sends passed.receives []) }
+    {
+        Ok(Passed {
+            sends: Counts::zeros(alloc)?,
+            receives: Counts::zeros(alloc)?,
+        })
+    }
+
+    /// How many messages wait on a lane.
+    pub fn waiting(&self, from: InstanceNo, to: InstanceNo) -> usize
+        ensures { (h : List Occurrence) → HavePassed self.now.sends self.now.receives h
+            → result ≡ length (waiting h from to) }
+    {
+        self.sends
+            .at(from, to)
+            .saturating_sub(self.receives.at(from, to))
+    }
+
     /// The turn of the next step, which is made.
-    fn next(&mut self, step: &Step) -> usize
+    pub fn next(&mut self, step: &Step) -> usize
         requires { HavePassedSome self.old.sends self.old.receives }
         ensures { (h : List Occurrence) → HavePassed self.old.sends self.old.receives h
             → (result ≡ turn_of h step.now)
@@ -50,10 +74,7 @@ impl Passed {
 pub fn with_turns(alloc: Global, steps: &[Step]) -> Result<Vec<Turned>, AllocError>
     ensures { IfOk result (λ turned. AreTurned steps.now (length steps.now) turned.items) }
 {
-    let mut passed = Passed {
-        sends: Counts::zeros(alloc)?,
-        receives: Counts::zeros(alloc)?,
-    };
+    let mut passed = Passed::none(alloc)?;
     let mut turned = Vec::new(alloc);
     for place in 0..steps.len() {
         let step = steps[place];

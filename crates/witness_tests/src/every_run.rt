@@ -195,11 +195,11 @@ fn piece<'a>(pieces: &'a [&'static [u8]], word: u32) -> &'a [u8] {
     }
 }
 
-/// The schedule of eleven commands that a seed draws.
-fn drawn_schedule(alloc: Global, seed: u64) -> Result<Schedule, Fail> {
+/// The schedule of so many commands that a seed draws.
+pub fn drawn_schedule(alloc: Global, seed: u64, commands: usize) -> Result<Schedule, Fail> {
     let mut generator = Lcg64Xsh32::seed_from_u64(seed);
     let mut text = Vec::from_slice(alloc, piece(FRONTS.as_slice(), generator.next_word()))?;
-    for _ in 0..11 {
+    for _ in 0..commands {
         text.extend_from_slice(piece(COMMANDS.as_slice(), generator.next_word()))?;
     }
     Ok(Schedule::read(alloc, text.as_slice())?)
@@ -209,7 +209,7 @@ fn drawn_schedule(alloc: Global, seed: u64) -> Result<Schedule, Fail> {
 fn drawn_schedules(rt: HostRuntime) -> Result<(), Fail> {
     let mut many = 0usize;
     for seed in 0..200 {
-        let schedule = drawn_schedule(rt.alloc(), seed)?;
+        let schedule = drawn_schedule(rt.alloc(), seed, 11)?;
         many = many.saturating_add(finds_all(&rt, rt.alloc(), &schedule)?);
     }
     assert!(rt; many > 300, "{many} pairs");

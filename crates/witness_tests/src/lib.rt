@@ -10,6 +10,8 @@ mod long_run;
 #[cfg(test)]
 mod recorded;
 #[cfg(test)]
+mod replayed;
+#[cfg(test)]
 mod runs;
 #[cfg(test)]
 mod worked;

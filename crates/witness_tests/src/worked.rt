@@ -11,9 +11,9 @@ use std::test::Fail;
 use witness::Step;
 
 /// A schedule, how many races it has, and how many of them another run with as many places turns round.
-type Worked = (&'static [u8], usize, usize);
+pub type Worked = (&'static [u8], usize, usize);
 
-static WORKED: [Worked; 7] = [
+pub static WORKED: [Worked; 7] = [
     (
         b"instances a b c\ncapacity 1\na send b x\nc send b y\nb receive a\nb receive c\n",
         1,

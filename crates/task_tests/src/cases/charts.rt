@@ -1,6 +1,6 @@
 //! Charts that are checked: worked cases, and the charts of what schedules come to.
 
-use super::{every_growth_was_refused, fails_for_memory, performs};
+use super::{Answer, every_growth_was_refused, fails_for_memory, performs};
 use closure::audit;
 use msc_reader::read;
 use msc_text::{MemoryOut, write};
@@ -13,11 +13,21 @@ use std::test::Fail;
 use tasks::{Task, perform};
 
 fn checks(rt: &impl Abort, alloc: Global, text: &[u8], written: &[u8], status: u8) {
-    performs(rt, alloc, Task::Check, text, written, b"", status);
+    let answer = Answer {
+        written,
+        said: b"",
+        status,
+    };
+    performs(rt, alloc, "a chart", Task::Check, text, &answer);
 }
 
-fn refuses(rt: &impl Abort, alloc: Global, text: &[u8], said: &[u8]) {
-    performs(rt, alloc, Task::Check, text, b"", said, 2);
+fn refuses(rt: &impl Abort, alloc: Global, name: &str, text: &[u8], said: &[u8]) {
+    let answer = Answer {
+        written: b"",
+        said,
+        status: 2,
+    };
+    performs(rt, alloc, name, Task::Check, text, &answer);
 }
 
 /// The outcome's text is its chart's, then the races, and then notes or nothing.
@@ -58,18 +68,90 @@ pub(super) fn is_checked(rt: &impl Abort, alloc: Global, schedule: &Schedule) {
     finds_races(rt, alloc, &outcome, text.as_bytes());
 }
 
-#[test]
-fn chart_without_last_line(rt: HostRuntime) {
-    let chart =
-        b"msc run;\ninstance a;\nout ping to b;\nendinstance;\ninstance b;\nin ping from a;\nendinstance;\n";
-    refuses(&rt, rt.alloc(), chart, b"refused: F21 Unfinished\n");
-}
+/// Charts, and what is said of them.
+static REFUSED: [(&str, &[u8], &[u8]); 15] = [
+    (
+        "chart_without_last_line",
+        b"msc run;\ninstance a;\nout ping to b;\nendinstance;\ninstance b;\nin ping from a;\nendinstance;\n",
+        b"refused: F21 Unfinished\n",
+    ),
+    (
+        "chart_without_last_line_feed",
+        b"msc run;\ninstance a;\nout ping to b;\nendinstance;\ninstance b;\nin ping from a;\nendinstance;\nendmsc;",
+        b"refused: F21 Unfinished\n",
+    ),
+    (
+        "cyclic_chart",
+        b"msc run;\ninstance a;\nin p from b;\nout q to b;\nendinstance;\ninstance b;\nin q from a;\nout p to a;\nendinstance;\nendmsc;\n",
+        b"refused: F18 Cyclic\n",
+    ),
+    (
+        "empty_coregion",
+        b"msc run;\ninstance a;\nconcurrent;\nendconcurrent;\nendinstance;\ninstance b;\nendinstance;\nendmsc;\n",
+        b"refused: F20 Syntax 4\n",
+    ),
+    (
+        "hostile_after_the_end",
+        b"msc run;\ninstance a;\nendinstance;\ninstance b;\nendinstance;\nendmsc;\nx",
+        b"refused: F20 Syntax 7\n",
+    ),
+    (
+        "hostile_duplicate_instance",
+        b"msc run;\ninstance a;\nendinstance;\ninstance a;\nendinstance;\nendmsc;\n",
+        b"refused: F22 Duplicate 4\n",
+    ),
+    (
+        "hostile_nested_instance",
+        b"msc run;\ninstance a;\ninstance b;\n",
+        b"refused: F20 Syntax 3\n",
+    ),
+    (
+        "hostile_return_at_end",
+        b"msc run;\ninstance a;\nout ping to b;\r\nendinstance;\ninstance b;\nin ping from a;\nendinstance;\nendmsc;\n",
+        b"refused: F20 Syntax 3\n",
+    ),
+    (
+        "hostile_return_in_name",
+        b"msc run;\ninstance a;\nout ping\r to b;\nendinstance;\ninstance b;\nin ping from a;\nendinstance;\nendmsc;\n",
+        b"refused: F3 NameBadByte 3 5\n",
+    ),
+    (
+        "hostile_to_itself",
+        b"msc run;\ninstance a;\nout ping to a;\nendinstance;\ninstance b;\nin ping from a;\nendinstance;\nendmsc;\n",
+        b"refused: F13 ToItself 3\n",
+    ),
+    (
+        "hostile_two_semicolons",
+        b"msc run;\ninstance a;\nout ping to b;;\nendinstance;\ninstance b;\nin ping from a;\nendinstance;\nendmsc;\n",
+        b"refused: F20 Syntax 3\n",
+    ),
+    (
+        "hostile_unknown_partner",
+        b"msc run;\ninstance a;\nout ping to c;\nendinstance;\ninstance b;\nin ping from a;\nendinstance;\nendmsc;\n",
+        b"refused: F23 UnknownInstance 3\n",
+    ),
+    (
+        "receive_without_send",
+        b"msc run;\ninstance a;\nout p to b;\nendinstance;\ninstance b;\nin p from a;\nin p from a;\nendinstance;\nendmsc;\n",
+        b"refused: F16 ReceiveWithoutSend b 2\n",
+    ),
+    (
+        "second_space",
+        b"msc run;\ninstance a;\nout  ping to b;\nendinstance;\ninstance b;\nin ping from a;\nendinstance;\nendmsc;\n",
+        b"refused: F20 Syntax 3\n",
+    ),
+    (
+        "other_name",
+        b"msc run;\ninstance a;\nout p to b;\nendinstance;\ninstance b;\nin q from a;\nendinstance;\nendmsc;\n",
+        b"refused: F17 NameMismatch b 1\n",
+    ),
+];
 
 #[test]
-fn chart_without_last_line_feed(rt: HostRuntime) {
-    let chart =
-        b"msc run;\ninstance a;\nout ping to b;\nendinstance;\ninstance b;\nin ping from a;\nendinstance;\nendmsc;";
-    refuses(&rt, rt.alloc(), chart, b"refused: F21 Unfinished\n");
+fn refused_charts(rt: HostRuntime) {
+    for (name, text, said) in &REFUSED {
+        refuses(&rt, rt.alloc(), name, text, said);
+    }
 }
 
 #[test]
@@ -77,99 +159,6 @@ fn clock_of_this_message_checked(rt: HostRuntime) {
     let chart =
         b"msc run;\ninstance a;\nout x to b;\nendinstance;\ninstance b;\nout m to c;\nin y from c;\nin x from a;\nendinstance;\ninstance c;\nin m from b;\nout y to b;\nendinstance;\nendmsc;\n";
     checks(&rt, rt.alloc(), chart, b"race b 1 3\nrace b 2 3\n", 1);
-}
-
-#[test]
-fn cyclic_chart(rt: HostRuntime) {
-    let chart =
-        b"msc run;\ninstance a;\nin p from b;\nout q to b;\nendinstance;\ninstance b;\nin q from a;\nout p to a;\nendinstance;\nendmsc;\n";
-    refuses(&rt, rt.alloc(), chart, b"refused: F18 Cyclic\n");
-}
-
-#[test]
-fn empty_coregion(rt: HostRuntime) {
-    let chart =
-        b"msc run;\ninstance a;\nconcurrent;\nendconcurrent;\nendinstance;\ninstance b;\nendinstance;\nendmsc;\n";
-    refuses(&rt, rt.alloc(), chart, b"refused: F20 Syntax 4\n");
-}
-
-#[test]
-fn hostile_after_the_end(rt: HostRuntime) {
-    let chart = b"msc run;\ninstance a;\nendinstance;\ninstance b;\nendinstance;\nendmsc;\nx";
-    refuses(&rt, rt.alloc(), chart, b"refused: F20 Syntax 7\n");
-}
-
-#[test]
-fn hostile_duplicate_instance(rt: HostRuntime) {
-    let chart = b"msc run;\ninstance a;\nendinstance;\ninstance a;\nendinstance;\nendmsc;\n";
-    refuses(&rt, rt.alloc(), chart, b"refused: F22 Duplicate 4\n");
-}
-
-#[test]
-fn hostile_nested_instance(rt: HostRuntime) {
-    let chart = b"msc run;\ninstance a;\ninstance b;\n";
-    refuses(&rt, rt.alloc(), chart, b"refused: F20 Syntax 3\n");
-}
-
-#[test]
-fn hostile_return_at_end(rt: HostRuntime) {
-    let chart =
-        b"msc run;\ninstance a;\nout ping to b;\r\nendinstance;\ninstance b;\nin ping from a;\nendinstance;\nendmsc;\n";
-    refuses(&rt, rt.alloc(), chart, b"refused: F20 Syntax 3\n");
-}
-
-#[test]
-fn hostile_return_in_name(rt: HostRuntime) {
-    let chart =
-        b"msc run;\ninstance a;\nout ping\r to b;\nendinstance;\ninstance b;\nin ping from a;\nendinstance;\nendmsc;\n";
-    refuses(&rt, rt.alloc(), chart, b"refused: F3 NameBadByte 3 5\n");
-}
-
-#[test]
-fn hostile_to_itself(rt: HostRuntime) {
-    let chart =
-        b"msc run;\ninstance a;\nout ping to a;\nendinstance;\ninstance b;\nin ping from a;\nendinstance;\nendmsc;\n";
-    refuses(&rt, rt.alloc(), chart, b"refused: F13 ToItself 3\n");
-}
-
-#[test]
-fn hostile_two_semicolons(rt: HostRuntime) {
-    let chart =
-        b"msc run;\ninstance a;\nout ping to b;;\nendinstance;\ninstance b;\nin ping from a;\nendinstance;\nendmsc;\n";
-    refuses(&rt, rt.alloc(), chart, b"refused: F20 Syntax 3\n");
-}
-
-#[test]
-fn hostile_unknown_partner(rt: HostRuntime) {
-    let chart =
-        b"msc run;\ninstance a;\nout ping to c;\nendinstance;\ninstance b;\nin ping from a;\nendinstance;\nendmsc;\n";
-    refuses(&rt, rt.alloc(), chart, b"refused: F23 UnknownInstance 3\n");
-}
-
-#[test]
-fn receive_without_send(rt: HostRuntime) {
-    let chart =
-        b"msc run;\ninstance a;\nout p to b;\nendinstance;\ninstance b;\nin p from a;\nin p from a;\nendinstance;\nendmsc;\n";
-    refuses(
-        &rt,
-        rt.alloc(),
-        chart,
-        b"refused: F16 ReceiveWithoutSend b 2\n",
-    );
-}
-
-#[test]
-fn second_space(rt: HostRuntime) {
-    let chart =
-        b"msc run;\ninstance a;\nout  ping to b;\nendinstance;\ninstance b;\nin ping from a;\nendinstance;\nendmsc;\n";
-    refuses(&rt, rt.alloc(), chart, b"refused: F20 Syntax 3\n");
-}
-
-#[test]
-fn other_name(rt: HostRuntime) {
-    let chart =
-        b"msc run;\ninstance a;\nout p to b;\nendinstance;\ninstance b;\nin q from a;\nendinstance;\nendmsc;\n";
-    refuses(&rt, rt.alloc(), chart, b"refused: F17 NameMismatch b 1\n");
 }
 
 #[test]

@@ -5,4 +5,4 @@ use Rattle.closure.specs.Searches.{IsSearchAfter, IsKnowledge}
 use Rattle.closure.proofs.knowing.known_on.Given as goal
 
 abbrev pub invariant-loop-place : goal.invariant-loop-place
-invariant-loop-place l = IsSearchAfter (chart_lines l.lines) (length l.lines) l.line l.place l.search.fronts l.search.seen × IsRow (IsKnowledge (chart_lines l.lines)) (suc l.line) l.place l.row
+invariant-loop-place l = IsSearchAfter (chart_lines l.linked) (length l.linked) l.line l.place l.search.fronts l.search.seen × IsRow (IsKnowledge (chart_lines l.linked)) (suc l.line) l.place l.row

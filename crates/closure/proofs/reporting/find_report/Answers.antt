@@ -9,7 +9,7 @@ use Rattle.closure.proofs.reporting.find_report.Goals as goal
 
 pub returns-clause-report : goal.returns-clause-report
 returns-clause-report c =
-    let lines = c.args.lines.now in
+    let lines = c.args.linked.now in
     let receive = c.args.receive.now in
     let sent = c.requires.receive.2 in
     let r = at (suc receive.line) (suc receive.place) in
@@ -19,7 +19,7 @@ returns-clause-report c =
     let xs = map (λ e. e.index) found in
     let in_line = subst (λ (line : List Event). IsRaces (take receive.place line) c.value_at-entry.result c.at_place.result c.region-region.result xs) (ap (λ (l : LineView). l.events) c.as_growing.ensures ∙ c.line_of.ensures.events) c.find_races.ensures.races in
     let races = subst (λ q. IsRaces (take receive.place (chart_lines lines (suc receive.line))) c.value_at-entry.result q c.region-region.result xs) c.at_place.ensures in_line in
-    let own = subst (λ p. All (λ e. e.instance ≡ p) found) (ap (λ (l : LineView). l.instance) c.as_growing.ensures ∙ c.line_of.ensures.numbered c.requires.linked.chart.numbered) c.find_races.ensures.own in
+    let own = subst (λ p. All (λ e. e.instance ≡ p) found) (ap (λ (l : LineView). l.instance) c.as_growing.ensures ∙ c.line_of.ensures.number) c.find_races.ensures.own in
     rw c.at_place-2.ensures (
       (suc receive.sender, sent.1.received),
       ap (λ i. record { instance = suc receive.line; index = i }) (add-one receive.place),

@@ -5,4 +5,4 @@ use Rattle.closure.proofs.reporting.next_on.Given as goal
 
 -- there is no receive between the place where it began and this one
 abbrev pub invariant-loop-place : goal.invariant-loop-place
-invariant-loop-place l = (l.from ≤ l.place) × ((reports : List ReportView) → HaveReported l.lines l.line l.from reports → HaveReported l.lines l.line l.place reports)
+invariant-loop-place l = (l.from ≤ l.place) × ((reports : List ReportView) → HaveReported l.linked l.line l.from reports → HaveReported l.linked l.line l.place reports)

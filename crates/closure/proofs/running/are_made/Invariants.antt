@@ -3,4 +3,4 @@ use Rattle.chart.specs.Charts.{chart_lines}
 use Rattle.closure.proofs.running.are_made.Given as goal
 
 abbrev pub invariant-loop-line : goal.invariant-loop-line
-invariant-loop-line l = (p : ℕ) → p < l.line → length (chart_lines l.lines (suc p)) ≤ slice_index l.made p
+invariant-loop-line l = (p : ℕ) → p < l.line → length (chart_lines l.linked (suc p)) ≤ slice_index l.made p

@@ -4,4 +4,4 @@ use Rattle.closure.specs.Runs.{IsStopped}
 use Rattle.closure.proofs.running.ready_line.Goals as goal
 
 pub loop-line-preserved : goal.loop-line-preserved
-loop-line-preserved c = below_more (λ p. IsStopped (chart_lines c.args.lines.now) (length c.args.lines.now) c.args.made.now p) c.loop-line.line c.loop-line.invariant c.if-is_ready-2.ensures
+loop-line-preserved c = below_more (λ p. IsStopped (chart_lines c.args.linked.now) (length c.args.linked.now) c.args.made.now p) c.loop-line.line c.loop-line.invariant c.if-is_ready-2.ensures

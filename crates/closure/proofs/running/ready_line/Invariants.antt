@@ -4,4 +4,4 @@ use Rattle.closure.specs.Runs.{IsStopped}
 use Rattle.closure.proofs.running.ready_line.Given as goal
 
 abbrev pub invariant-loop-line : goal.invariant-loop-line
-invariant-loop-line l = (p : ℕ) → p < l.line → IsStopped (chart_lines l.lines) (length l.lines) l.made p
+invariant-loop-line l = (p : ℕ) → p < l.line → IsStopped (chart_lines l.linked) (length l.linked) l.made p

@@ -1,4 +1,3 @@
-use Rattle.std.proofs.Common.{refl}
 use Rattle.board.proofs.OneBoard.{one_board-new, one_board-front}
 use Rattle.hostile_tests.proofs.dropped_posts.a_post_goes_with_a_message.Goals as goal
 

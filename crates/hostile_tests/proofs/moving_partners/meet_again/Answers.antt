@@ -1,4 +1,4 @@
-use Rattle.hostile_tests.proofs.AfterMeeting.{one_board-met}
+use Rattle.board.proofs.OneBoard.{one_board-met}
 use Rattle.hostile_tests.proofs.moving_partners.meet_again.Goals as goal
 
 pub returns : goal.returns

@@ -17,8 +17,12 @@ pub new-requires : goal.new-requires
 new-requires c =
     let plan = c.args.schedule.now in
     let n = length plan.names in
-    let lines = c.in_ok-lines.ensures.lines ∙ lines-are n plan.capacity (meaning plan).run c.in_ok-actors.actors.items c.in_ok-actors.ensures.agrees in
-    ap length c.names.ensures.value ∙ sym (length-history_lines n (meaning plan).run.history) ∙ ap length (sym (c.chart.ensures ∙ lines))
+    let agrees = c.in_ok-actors.ensures.agrees in
+    let lines = c.chart.ensures ∙ c.in_ok-lines.ensures.lines ∙ lines-are n plan.capacity (meaning plan).run c.in_ok-actors.actors.items agrees in
+    record {
+      as_many = ap length c.names.ensures.value ∙ sym (length-history_lines n (meaning plan).run.history) ∙ ap length (sym lines);
+      exact = subst (AreReports c.chart.result) (sym c.in_ok-lines.ensures.reports) (rw lines (reports-are n plan.capacity (meaning plan).run c.in_ok-actors.actors.items agrees));
+    }
 
 pub returns : goal.returns
 returns c =

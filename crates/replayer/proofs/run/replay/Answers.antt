@@ -9,7 +9,10 @@ new-requires c =
     let board = c.in_ok-board.board.board in
     let its = c.in_ok-board.ensures in
     let come = c.in_ok-gathered.ensures board (record { sized = rw (its.size, its.capacity) its.sized; new = c.in-Ok.ensures.ok.1 }) in
-    ap length c.names.ensures.value ∙ sym its.size ∙ sym (length-history_lines board.size (after board.size board.capacity c.commands.result.now).run.history) ∙ ap length (sym come.chart)
+    record {
+      as_many = ap length c.names.ensures.value ∙ sym its.size ∙ sym (length-history_lines board.size (after board.size board.capacity c.commands.result.now).run.history) ∙ ap length (sym come.chart);
+      exact = come.reports;
+    }
 
 pub returns : goal.returns
 returns c =

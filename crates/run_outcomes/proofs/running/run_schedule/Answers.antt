@@ -1,10 +1,37 @@
-use Rattle.std.proofs.Common.{◌≡◌, length, ap, ◌∙◌}
-use Rattle.run_outcomes.proofs.Boards.{is_run_of}
+use Rattle.std.proofs.Common.{◌≡◌, length, refl, ap, ◌∙◌}
+use Rattle.run_outcomes.proofs.Boards.{is_run_of, fit_for, unfit_for}
 use Rattle.run_outcomes.proofs.running.run_schedule.Goals as goal
 
 pub returns-in-Ok-run : goal.returns-in-Ok-run
 returns-in-Ok-run g c =
-    let size : c.in-Ok.board.board.size ≡ length c.args.schedule.now.names =
+    let plan = c.args.schedule.now in
+    let board = c.in-Ok.board.board in
+    let posts = c.in-Ok-posts.posts.items in
+    let new = c.in-Ok-posts.ensures.ok.1 in
+    let size : board.size ≡ length plan.names =
     c.in-Ok.ensures.made.size ∙ c.len-instances.ensures.value ∙ ap length c.names.ensures.value in
-    is_run_of c.args.schedule.now c.in-Ok-run.run' _ c.in-Ok-posts.posts.items c.in-Ok.board.board
-    c.in-Ok-run.ensures.ok c.in-Ok-posts.ensures.ok.1 size c.names.ensures.plan
+    record {
+      of = is_run_of plan c.in-Ok-run.run' _ posts board c.in-Ok-run.ensures.ok new size c.names.ensures.plan;
+      runs = record {
+        board = board;
+        size = size;
+        capacity = c.in-Ok.ensures.made.capacity ∙ c.places.ensures.value ∙ c.capacity.ensures;
+        posts = posts;
+        new = new;
+        runs = c.in-Ok-run.ensures.ok;
+      };
+      fit = fit_for plan posts board (length c.args.behaviours.items) c.args.turns new size c.in-Ok-run.ensures.fit;
+      err = tt;
+    }
+
+pub returns-in-Err-Unfit-clause-err : goal.returns-in-Err-Unfit-clause-err
+returns-in-Err-Unfit-clause-err g c =
+    let plan = c.args.schedule.now in
+    let size : c.in-Ok.board.board.size ≡ length plan.names =
+    c.in-Ok.ensures.made.size ∙ c.len-instances.ensures.value ∙ ap length c.names.ensures.value in
+    let unrun = rw c.in-Err-Unfit.field-0-is at c.in-Err-Unfit.ensures.err in (
+      refl,
+      unrun.1,
+      unfit_for plan c.in-Ok-posts.posts.items c.in-Ok.board.board (length c.args.behaviours.items) c.args.turns
+          c.in-Ok-posts.ensures.ok.1 size c.names.ensures.plan unrun.2,
+    )

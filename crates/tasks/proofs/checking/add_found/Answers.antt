@@ -1,4 +1,4 @@
-use Rattle.std.proofs.Common.{◌≡◌, List, [], ◌∷◌, ◌++◌, length, nat_lt, ap, refl, sym, ◌∙◌, subst}
+use Rattle.std.proofs.Common.{◌≡◌, List, [], ◌∷◌, ◌++◌, length, nat_lt, ap, refl, sym, ◌∙◌, subst, arith}
 use Rattle.chart.specs.Charts.{LineView}
 use Rattle.chart.specs.Reports.{ReportView, AreReports, has_races}
 use Rattle.closure.specs.Reported.{HaveReported}
@@ -7,7 +7,11 @@ use Rattle.tasks.proofs.FoundRaces.{adds_one, stops_at_one, has_one_more, none_t
 use Rattle.tasks.proofs.checking.add_found.Goals as goal
 
 pub loop-receive-init : goal.loop-receive-init
-loop-receive-init g c = (refl, ([], c.requires, buffers_nothing c.args.text.now, refl))
+loop-receive-init g c = (refl, ([], c.requires.reporter, buffers_nothing c.args.text.now, refl))
+
+pub add_report-requires-clause-named : goal.add_report-requires-clause-named
+add_report-requires-clause-named g c =
+    let lines = ap length (c.next.ensures.lines ∙ c.loop-receive.invariant.0) in omega (arith, lines, c.in-Some.ensures.instance, c.requires.named)
 
 pub loop-receive-preserved : goal.loop-receive-preserved
 loop-receive-preserved g c =

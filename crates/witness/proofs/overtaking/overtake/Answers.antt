@@ -9,8 +9,8 @@ use Rattle.witness.specs.Steps.{history_of, place_after, with_step, nothing}
 use Rattle.witness.proofs.FoundLemmas.{turned-at, with_step-at, is_within-at, found_none, found_run}
 use Rattle.witness.proofs.overtaking.overtake.Goals as goal
 
-pub returns-then-has : goal.returns-then-has
-returns-then-has c = λ n x y legal is_x is_y.
+pub returns-then-has-clause-found : goal.returns-then-has-clause-found
+returns-then-has-clause-found c = λ n x y legal is_x is_y.
     let steps = c.args.steps.now in
     let k = c.args.places in
     let g = history_of steps in
@@ -26,8 +26,8 @@ returns-then-has c = λ n x y legal is_x is_y.
     subst (λ (z : Step). (place_after steps c.args.earlier x ≡ place_after steps c.args.receive z) ⊎ BeforeWithin k (chart_of g) (place_after steps c.args.earlier x) (place_after steps c.args.receive z)) (same_Some (Receive told.0 told.1 told.2) y (sym told.3 ∙ is_y))
     (found_none n k steps legal c.args.receive told.0 told.1 told.2 told.3 c.args.earlier x is_x within)
 
-pub returns : goal.returns
-returns c = λ n x y legal is_x is_y.
+pub returns-clause-found : goal.returns-clause-found
+returns-clause-found c = λ n x y legal is_x is_y.
     let steps = c.args.steps.now in
     let k = c.args.places in
     let g = history_of steps in
@@ -41,6 +41,6 @@ returns c = λ n x y legal is_x is_y.
     let wants = ap (wanted k g) (with_step-at k r.step (Receive told.0 told.1 told.2) r.turn _ its_r.0 its_r.1) in
     let outside = sym (is_within-at (wanted k g w) _ e.step x e.turn _ wants its_e.0 its_e.1) ∙ sym (c.has.ensures (wanted k g w) stand) ∙ c.if-has.false in
     let run = c.in_ok-part.field-0.items in
-    let made = c.in_ok-part.ensures (wanted k g w) stand ∙ ap (λ (v : Wanted). parted v.sends v.receives g g) wants in
+    let made = c.in_ok-part.ensures.history (wanted k g w) stand ∙ ap (λ (v : Wanted). parted v.sends v.receives g g) wants in
     subst (λ (z : Step). IsRunWithin n k (chart_of g) (history_of run) × IsOvertaken (chart_of g) (history_of run) (place_after steps c.args.earlier x) (place_after steps c.args.receive z)) (same_Some (Receive told.0 told.1 told.2) y (sym told.3 ∙ is_y))
     (found_run n k steps legal c.args.receive told.0 told.1 told.2 told.3 c.args.earlier x is_x outside run made)

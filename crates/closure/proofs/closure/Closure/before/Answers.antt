@@ -7,5 +7,6 @@ use Rattle.closure.proofs.closure.Closure.before.Goals as goal
 
 pub returns : goal.returns
 returns c =
-    subst (λ (x : List LineView). IfOk c.is_before.result (λ before. IsTrue before ↔ Before (chart_lines x) (place_of c.args.earlier) (place_of c.args.later))) c.self.view_is
-    (subst (λ q. IfOk c.is_before.result (λ before. IsTrue before ↔ Before (chart_lines c.self.inside.lines.now) (place_of c.args.earlier) (at q c.args.later.index))) (sym c.place.ensures.value) c.is_before.ensures)
+    let linked = c.linked-linked in
+    subst (λ (x : List LineView). IfOk c.is_before.result (λ before. IsTrue before ↔ Before (chart_lines x) (place_of c.args.earlier) (place_of c.args.later))) linked.ensures.lines
+    (subst (λ q. IfOk c.is_before.result (λ before. IsTrue before ↔ Before (chart_lines linked.result) (place_of c.args.earlier) (at q c.args.later.index))) (sym c.place.ensures.value) c.is_before.ensures)

@@ -9,13 +9,13 @@ find_report-event-requires-clause-known c = rw c.as_slice.ensures.value c.self.i
 
 pub returns-clause-reported : goal.returns-clause-reported
 returns-clause-reported c =
-    rw (← c.self.view_is) (λ reports had. HaveReported-receive c.self.inside.lines.now c.in-Some.receive.line c.in-Some.receive.place reports (record { receive = c.find_report-event.result; earlier = _ }) (c.in-Some.ensures.reported reports had) c.find_report-event.ensures.report)
+    rw (← c.self.view_is) (λ reports had. HaveReported-receive c.self.inside.linked c.in-Some.receive.line c.in-Some.receive.place reports (record { receive = c.find_report-event.result; earlier = _ }) (c.in-Some.ensures.reported reports had) c.find_report-event.ensures.report)
 
 pub returns-clause-whole : goal.returns-clause-whole
 returns-clause-whole c reports had =
-    let lines = c.self.inside.lines.now in
-    let closure = c.self.invariant.0.closure in
-    reports_go_on lines closure.linked.chart.numbered closure.possible c.in-Some.receive.line (c.in-Some.receive.place + 1) reports c.in-Some.ensures.receive.0 (omega (arith, c.in-Some.ensures.receive.1)) had
+    let lines = c.self.inside.linked in
+    let chart = c.self.invariant.0.chart in
+    reports_go_on lines chart.chart.numbered chart.possible c.in-Some.receive.line (c.in-Some.receive.place + 1) reports c.in-Some.ensures.receive.0 (omega (arith, c.in-Some.ensures.receive.1)) had
 
 pub returns-clause-instance : goal.returns-clause-instance
 returns-clause-instance c =

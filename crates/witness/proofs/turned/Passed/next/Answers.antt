@@ -1,7 +1,6 @@
 use Rattle.std.proofs.Common.{◌≡◌, ◌+◌, [], ◌∷◌, sym, subst, arith}
 use Rattle.chart.specs.Histories.{received}
 use Rattle.real_races.specs.Walks.{sends_in, raise}
-use Rattle.real_races.proofs.Counted.{sends_short, receives_short}
 use Rattle.witness.specs.declared.step.Step.{Step}
 use Rattle.witness.specs.declared.step.Step.TheVariants as steps
 use Rattle.witness.specs.Steps.{occurrence_of, turn_of, HavePassed}
@@ -12,12 +11,12 @@ use Rattle.witness.proofs.turned.Passed.next.Goals as goal
 pub overflow_add-turn : goal.overflow_add-turn
 overflow_add-turn c =
     let h = c.requires.0 in
-    omega (arith, c.at-turn.ensures (sends_in h) c.requires.1.sent, sends_short h c.in-Send.from c.in-Send.to, c.requires.2)
+    omega (arith, c.at-turn.ensures (sends_in h) c.requires.1.sent, (c.requires.2 c.in-Send.from c.in-Send.to).0)
 
 pub overflow_add-turn-in-Receive : goal.overflow_add-turn-in-Receive
 overflow_add-turn-in-Receive c =
     let h = c.requires.0 in
-    omega (arith, c.at-turn-in-Receive.ensures (received h) c.requires.1.received, receives_short h c.in-Receive.from c.in-Receive.at, c.requires.2)
+    omega (arith, c.at-turn-in-Receive.ensures (received h) c.requires.1.received, (c.requires.2 c.in-Receive.from c.in-Receive.at).1)
 
 pub returns-in-Send : goal.returns-in-Send
 returns-in-Send c = λ h passed.

@@ -1,0 +1,18 @@
+//! Why an event of a chart comes before a receive, and what else does.
+//!
+//! What is promised, unless an allocation is refused:
+//!
+//! - Of an event and a receive: a shortest chain of direct steps that leads from the one to the other, each with its
+//!   rule. There is none exactly where the event isn't before the receive ([`shortest_chain`]).
+//! - Of a receive: of each line how many first events come before it. All that comes before it is among these, but for
+//!   receives of its own line from the same sender ([`past`]).
+#![tactic(auto)]
+
+mod chaining;
+mod link;
+mod reaching;
+mod receive_past;
+
+pub use chaining::shortest_chain;
+pub use link::{Link, Rule};
+pub use receive_past::past;

@@ -1,0 +1,123 @@
+//! Boards of worked schedules that are gathered, with each growth of memory refused in turn: each refused call is made
+//! once more, and then answers in full.
+ghost use Rattle.std.specs.Prelude.{◌≡◌};
+ghost use Rattle.board.specs.Meeting.{AreOfOneBoard};
+ghost use Rattle.chart.specs.Reports.{AreReports};
+
+use crate::calls::{instance, message};
+use crate::replays::{TEXTS, schedule_of};
+use crate::schedules::{Deed, Worked, worked_schedules};
+use board::{Board, GatherCause, GatherError, Gathered, Post, SendError, gather};
+use chart::Names;
+use msc_text::{StreamOut, TextBuffer, add_chart, add_races};
+use std::alloc::Global;
+use std::process::Abort;
+use std::test::Fail;
+
+/// Sends a message of this name, once more where memory was refused.
+fn sends(rt: &impl Abort, alloc: Global, post: &mut Post, letter: u8, to: usize)
+    ensures { post.new.board ≡ post.old.board }
+{
+    let to = instance(rt, to);
+    if let Err((back, error)) = post.send(to, message(rt, alloc, letter)) {
+        assert_eq!(rt; error, SendError::Memory);
+        assert!(rt; post.send(to, back).is_ok());
+    }
+}
+
+/// Receives a message, once more where memory was refused.
+fn gets(rt: &impl Abort, post: &mut Post, from: usize)
+    ensures { post.new.board ≡ post.old.board }
+{
+    let from = instance(rt, from);
+    if post.receive(from).is_err() {
+        assert!(rt; post.receive(from).is_ok());
+    }
+}
+
+/// The post of this number makes a deed.
+fn makes(rt: &impl Abort, alloc: Global, posts: &mut [Post], by: usize, deed: &Deed)
+    requires { AreOfOneBoard posts.old }
+    ensures { AreOfOneBoard posts.new }
+{
+    assert!(rt; 1 <= by && by <= posts.len());
+    match *deed {
+        Deed::Sends(letter, to) => sends(rt, alloc, &mut posts[by - 1], letter, to),
+        Deed::Gets(_, from, _) | Deed::GetsAny(_, from, _) => gets(rt, &mut posts[by - 1], from),
+    }
+}
+
+/// The posts make these deeds.
+fn make_all(rt: &impl Abort, alloc: Global, posts: &mut [Post], deeds: &[(usize, Deed)])
+    requires { AreOfOneBoard posts.old }
+    ensures { AreOfOneBoard posts.new }
+{
+    for (by, deed) in deeds {
+        makes(rt, alloc, posts, *by, deed);
+    }
+}
+
+/// What the board of these posts came to.
+fn gathers(rt: &impl Abort, alloc: Global, posts: Vec<Post>) -> Gathered
+    requires { AreOfOneBoard posts.items }
+    ensures { AreReports result.chart result.reports.items }
+{
+    match gather(alloc, posts) {
+        Ok(gathered) => gathered,
+        Err(GatherError { posts: _, cause: _ }) => panic!(rt; "a gathered board"),
+    }
+}
+
+/// The same, once more where memory was refused: then the posts came back as they were.
+fn gathers_again(rt: &impl Abort, alloc: Global, posts: Vec<Post>) -> Gathered
+    requires { AreOfOneBoard posts.items }
+    ensures { AreReports result.chart result.reports.items }
+{
+    match gather(alloc, posts) {
+        Ok(gathered) => gathered,
+        Err(GatherError { posts, cause }) => {
+            assert_eq!(rt; cause, GatherCause::Memory);
+            gathers(rt, alloc, posts)
+        }
+    }
+}
+
+/// Its chart and its races have this text, which is written without memory.
+fn has_text(rt: &impl Abort, names: &Names, gathered: &Gathered, text: &[u8])
+    requires { AreReports gathered.now.chart gathered.now.reports.items }
+{
+    let mut place = [0; 512];
+    assert!(rt; text.len() <= 512);
+    assert!(rt; names.len() == gathered.chart.lines().len());
+    let room = &mut place[..text.len()];
+    let mut out = StreamOut::new(room);
+    let mut written = TextBuffer::new(&mut out);
+    assert!(rt; add_chart(&mut written, names, &gathered.chart).is_ok());
+    assert!(rt; add_races(&mut written, names, gathered.reports.as_slice()).is_ok());
+    assert!(rt; written.finish().is_ok());
+    drop(out);
+    assert!(rt; place.starts_with(text));
+}
+
+/// The deeds of a schedule come to this text, unless memory was refused for the board or its posts.
+fn comes_to(rt: &impl Abort, alloc: Global, names: &Names, worked: &Worked, text: &[u8]) {
+    let Ok(mut board) = Board::new(alloc, worked.instances, worked.capacity) else {
+        return;
+    };
+    let Ok(mut posts) = board.posts() else { return };
+    make_all(rt, alloc, posts.as_mut_slice(), worked.deeds);
+    let gathered = gathers_again(rt, alloc, posts);
+    assert!(rt; gathered.left.is_empty());
+    has_text(rt, names, &gathered, text);
+}
+
+#[test]
+fn refused_growths_of_gathered_boards(rt: HostRuntime) -> Result<(), Fail> {
+    let alloc = rt.alloc();
+    for (worked, (text, written)) in worked_schedules().iter().zip(&TEXTS) {
+        let schedule = schedule_of(&rt, alloc, text);
+        comes_to(&rt, alloc, schedule.names(), worked, written);
+    }
+    Vec::<u8>::with_capacity(alloc, 1).map_err(|_| "every growth was refused")?;
+    Ok(())
+}

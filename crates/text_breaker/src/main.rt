@@ -1,0 +1,104 @@
+//! Breaks worked texts and tells what the program answers to each, to be compared with a plain model's answers.
+//!
+//! The words are MODE COUNT SEED FILE..: so many texts are made out of the files, which are charts or schedules, by a
+//! generator that begins with the seed. In the mode `tell` it prints each text with its answer, and in both modes then how
+//! many were read, how many were refused by which refusal, and a digest of all texts and answers (`tally`).
+#![tactic(auto)]
+
+mod answers;
+mod breaking;
+mod tally;
+
+use answers::Worked;
+use anyhow::bail;
+use breaking::below;
+use rand_core::SeedableRng;
+use rand_pcg::Lcg64Xsh32;
+use std::convert::AsStr;
+use std::io::Write;
+use std::rt::{Env, Files};
+use std::{env, fs, io};
+use tally::Tally;
+
+/// What is asked for.
+#[derive(Drop)]
+struct Asked {
+    /// Whether each text and its answer are told.
+    tells: bool,
+    count: u64,
+    seed: u64,
+}
+
+fn tells(mode: &str) -> anyhow::Result<bool> {
+    match mode {
+        "count" => Ok(false),
+        "tell" => Ok(true),
+        _ => bail!("the mode is count or tell"),
+    }
+}
+
+/// What the words ask for, and the names of the files.
+fn asked_by<'a>(words: &'a [String]) -> anyhow::Result<(Asked, &'a [String])> {
+    let [_, mode, count, seed, files @ ..] = words else {
+        bail!("the words are MODE COUNT SEED FILE..");
+    };
+    let asked = Asked {
+        tells: tells(mode.as_str())?,
+        count: count.as_str().parse::<u64>()?,
+        seed: seed.as_str().parse::<u64>()?,
+    };
+    Ok((asked, files))
+}
+
+/// The texts of these files.
+fn worked_in<R: Files + AllocGlobal>(rt: &R, files: &[String]) -> anyhow::Result<Vec<Worked>> {
+    let mut texts = Vec::new(rt.alloc());
+    for file in files {
+        texts.push(Worked::of(fs::read(rt, file.as_str())?))?;
+    }
+    Ok(texts)
+}
+
+/// Breaks one of the texts, has it answered, and adds it to the tally.
+fn answer_one<R: Print + AllocGlobal>(
+    rt: &R,
+    asked: &Asked,
+    generator: &mut Lcg64Xsh32,
+    worked: &Worked,
+    tally: &mut Tally,
+) -> anyhow::Result<()> {
+    let answered = worked.answered(rt.alloc(), generator)?;
+    let record = answered.record(rt.alloc())?;
+    tally.add(answered.said(), record.as_slice());
+    if asked.tells {
+        io::writer(rt).write_all(record.as_slice())?;
+    }
+    Ok(())
+}
+
+/// Breaks so many texts.
+fn answer_all<R: Print + AllocGlobal>(
+    rt: &R,
+    asked: &Asked,
+    texts: &[Worked],
+) -> anyhow::Result<Tally> {
+    if texts.is_empty() {
+        bail!("there is no file");
+    }
+    let mut generator = Lcg64Xsh32::seed_from_u64(asked.seed);
+    let mut tally = Tally::new();
+    for _ in 0..asked.count {
+        let worked = &texts[below(&mut generator, texts.len())];
+        answer_one(rt, asked, &mut generator, worked, &mut tally)?;
+    }
+    Ok(tally)
+}
+
+fn main(rt: HostRuntime) -> anyhow::Result<()> {
+    let words: Vec<String> = env::args(&rt)?.collect(rt.alloc())?;
+    let (asked, files) = asked_by(words.as_slice())?;
+    let texts = worked_in(&rt, files)?;
+    let tally = answer_all(&rt, &asked, texts.as_slice())?;
+    tally.print(&rt)?;
+    Ok(())
+}

@@ -1,0 +1,149 @@
+//! Which messages are passed, among how many instances, on lanes of how many places.
+use anyhow::bail;
+use behaviour::BareAct;
+use chart::{Chart, InstanceNo, MAX_EVENTS, Name};
+use std::alloc::Global;
+use std::fmt;
+
+/// Which way the messages go.
+#[derive(Clone, Copy, Debug, PartialEq, Eq)]
+pub enum Pattern {
+    /// The first of each two instances sends to the second.
+    OneWay,
+    /// Each two instances send to each other by turns.
+    ToAndFro,
+    /// Each instance sends to each other one, and then receives from each.
+    AllToAll,
+}
+
+impl fmt::Display for Pattern {
+    fn fmt<W: fmt::Write>(&self, f: &mut fmt::Formatter<W>) -> fmt::Result {
+        match self {
+            Pattern::OneWay => write!(f, "one way"),
+            Pattern::ToAndFro => write!(f, "to and fro"),
+            Pattern::AllToAll => write!(f, "all to all"),
+        }
+    }
+}
+
+/// A pattern among so many instances, an even number of them, on lanes of so many places, so many rounds at most.
+#[derive(Clone, Copy, Debug)]
+pub struct Load {
+    pub pattern: Pattern,
+    pub instances: usize,
+    pub capacity: usize,
+    pub most: usize,
+}
+
+impl fmt::Display for Load {
+    fn fmt<W: fmt::Write>(&self, f: &mut fmt::Formatter<W>) -> fmt::Result {
+        let messages = self.messages();
+        let events = self.events();
+        write!(
+            f,
+            "{},{},{},{messages},{events}",
+            self.pattern, self.instances, self.capacity
+        )
+    }
+}
+
+/// How many events a chart has.
+pub fn events_of(chart: &Chart) -> usize {
+    let mut events = 0usize;
+    for line in chart.lines() {
+        events = events.saturating_add(line.len());
+    }
+    events
+}
+
+/// The instance at a place, from 0.
+fn instance(place: usize) -> anyhow::Result<InstanceNo> {
+    match InstanceNo::new(place.saturating_add(1)) {
+        Some(instance) => Ok(instance),
+        None => bail!("a board has at most 32 instances"),
+    }
+}
+
+impl Load {
+    /// How many others an instance passes messages to or from.
+    fn others(self) -> usize {
+        match self.pattern {
+            Pattern::OneWay | Pattern::ToAndFro => 1,
+            Pattern::AllToAll => self.instances.saturating_sub(1),
+        }
+    }
+
+    /// How many messages an instance sends and receives in a round.
+    fn in_a_round(self) -> usize {
+        match self.pattern {
+            Pattern::OneWay => 1,
+            Pattern::ToAndFro | Pattern::AllToAll => self.others().saturating_mul(2),
+        }
+    }
+
+    /// How many rounds there are: as many as a line has places for, or as are asked for.
+    fn rounds(self) -> usize {
+        self.most.min(MAX_EVENTS / self.in_a_round().max(1))
+    }
+
+    /// How many events all instances have in the end.
+    pub fn events(self) -> usize {
+        let each = self.in_a_round().saturating_mul(self.rounds());
+        self.instances.saturating_mul(each)
+    }
+
+    /// How many messages are passed.
+    pub fn messages(self) -> usize {
+        self.events() / 2
+    }
+
+    /// The partner of the instance at a place: the other one of the same two.
+    fn partner(place: usize) -> anyhow::Result<InstanceNo> {
+        if place % 2 == 0 {
+            instance(place.saturating_add(1))
+        } else {
+            instance(place - 1)
+        }
+    }
+
+    /// The sends to all others, and then the receives from all of them.
+    fn with_all(self, alloc: Global, place: usize, name: Name) -> anyhow::Result<Vec<BareAct>> {
+        let mut acts = Vec::new(alloc);
+        for other in 0..self.instances {
+            if other != place {
+                acts.push(BareAct::Send(instance(other)?, name))?;
+            }
+        }
+        for other in 0..self.instances {
+            if other != place {
+                acts.push(BareAct::Receive(instance(other)?))?;
+            }
+        }
+        Ok(acts)
+    }
+
+    /// What the instance at a place does in a round.
+    fn round(self, alloc: Global, place: usize) -> anyhow::Result<Vec<BareAct>> {
+        let name = Name::new(b"m")?;
+        let partner = Load::partner(place)?;
+        let send = BareAct::Send(partner, name);
+        let receive = BareAct::Receive(partner);
+        match self.pattern {
+            Pattern::OneWay if place % 2 == 0 => Ok([send].to_vec(alloc)?),
+            Pattern::OneWay => Ok([receive].to_vec(alloc)?),
+            Pattern::ToAndFro if place % 2 == 0 => Ok([send, receive].to_vec(alloc)?),
+            Pattern::ToAndFro => Ok([receive, send].to_vec(alloc)?),
+            Pattern::AllToAll => self.with_all(alloc, place, name),
+        }
+    }
+
+    /// What the instance at a place does.
+    pub fn acts(self, alloc: Global, place: usize) -> anyhow::Result<Vec<BareAct>> {
+        let round = self.round(alloc, place)?;
+        let mut acts = Vec::new(alloc);
+        for _ in 0..self.rounds() {
+            acts.extend_from_slice(round.as_slice())?;
+        }
+        Ok(acts)
+    }
+}

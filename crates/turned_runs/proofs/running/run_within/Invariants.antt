@@ -1,0 +1,19 @@
+use Rattle.std.proofs.Common.{◌≡◌, ◌<◌, length}
+use Rattle.chart.specs.declared.instance.TheConstants.{MAX_INSTANCES}
+use Rattle.chart.specs.Charts.{chart_lines}
+use Rattle.closure.proofs.RunLemmas.{left}
+use Rattle.witness.specs.Steps.{history_of, HavePassed}
+use Rattle.turned_runs.proofs.GoingOn.{IsGoing}
+use Rattle.turned_runs.proofs.running.run_within.Given as goal
+
+abbrev pub invariant-loop-step : goal.invariant-loop-step
+invariant-loop-step l =
+    record {
+      going : IsGoing (length l.lines) l.slots (chart_lines l.lines) (history_of l.steps.items) l.going.made;
+      passed : HavePassed l.going.passed.sends l.going.passed.receives (history_of l.steps.items);
+      whole : length l.going.made ≡ MAX_INSTANCES;
+      hint : l.line < length l.lines;
+    }
+
+abbrev pub decreases-loop-step : goal.decreases-loop-step
+decreases-loop-step l = left (chart_lines l.lines) (length l.lines) l.going.made

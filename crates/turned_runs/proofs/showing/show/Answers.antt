@@ -1,0 +1,20 @@
+use Rattle.std.proofs.Common.{◌≡◌, length, sym, ap, ◌∙◌, subst}
+use Rattle.std.specs.Prelude.{All}
+use Rattle.schedule.specs.Plans.{Plan}
+use Rattle.witness.specs.Steps.{history_of, IsOutside}
+use Rattle.turned_runs.specs.Turns.{IsLeastTurn}
+use Rattle.turned_runs.proofs.TurnLemmas.{shows_turn}
+use Rattle.turned_runs.proofs.showing.show.Goals as goal
+
+pub returns-in_ok-schedule-in-Some : goal.returns-in_ok-schedule-in-Some
+returns-in_ok-schedule-in-Some c = λ first lines e r one found.
+    let n = length c.args.names.now in
+    let w = rw c.in-Run.is at found in
+    let plan = c.in_ok-schedule-in-Some.schedule in
+    let parts = c.in_ok-schedule-in-Some.ensures.parts in
+    let capacity : plan.capacity ≡ c.in-Run.slots = ap (λ (p : Plan). p.capacity) parts ∙ c.in-Some.ensures.1 in
+    let means = c.in_ok-schedule-in-Some.ensures.meaning (subst (All IsOutside) (sym c.as_slice.ensures.value) w.0.outside) in (
+      ap (λ (p : Plan). p.names) parts,
+      shows_turn n c.in-Run.slots lines e r plan c.in-Run.steps.items capacity (means.0 ∙ ap history_of c.as_slice.ensures.value) means.1 w.0,
+      subst (λ k. IsLeastTurn n first k lines e r) (sym capacity) w.1,
+    )

@@ -1,0 +1,37 @@
+-- What is found for a receive and an event that it may overtake (this project's profile).
+use Rattle.std.specs.Prelude.{Bool, true, false, Option, None, Some, ℕ, ◌<◌, ◌≤◌, List, All}
+use Rattle.chart.specs.declared.event.Event.{Event}
+use Rattle.chart.specs.declared.event.Event.TheVariants.{Send, Receive}
+use Rattle.chart.specs.declared.instance.EventNo.{EventNo}
+use Rattle.chart.specs.Charts.{Chart, Place, at}
+use Rattle.real_races.specs.OtherRuns.{IsRunWithin, IsOvertaken, IsPossibleWithin, CanBeOvertaken, CanBeOvertakenWithin}
+use Rattle.witness.specs.declared.step.Step.{Step}
+use Rattle.witness.specs.Steps.{history_of, IsOutside}
+use Rattle.turned_runs.specs.declared.turning.Turned.{Turned}
+use Rattle.turned_runs.specs.declared.turning.Turned.TheVariants.{Run, Enforced}
+
+-- the place that an event's number names
+abbrev pub place_of : EventNo → Place
+place_of e = at e.instance e.index
+
+-- there is an event, and it is a receive
+abbrev pub receives : Option Event → Bool
+receives None = false
+receives (Some (Send to name)) = false
+receives (Some (Receive from name region)) = true
+
+-- the steps are a run of the chart's events over lanes of k slots, outside of coregions, and r overtakes e in it
+pub record TurnsRound (n k : ℕ) (c : Chart) (e r : Place) (steps : List Step) : Type 0 where
+  pub run : IsRunWithin n k c (history_of steps)
+  pub overtaken : IsOvertaken c (history_of steps) e r
+  pub outside : All IsOutside steps
+
+-- k is the least number of slots, of those from `first` on over which the chart is possible, with which r overtakes e
+pub record IsLeastTurn (n first k : ℕ) (c : Chart) (e r : Place) : Type 0 where
+  pub begun : first ≤ k
+  pub least : (l : ℕ) → first ≤ l → l < k → IsPossibleWithin n l c → CanBeOvertakenWithin n l c e r → ⊥
+
+-- what is found: a run with the least number of slots, or that there is none with any number
+abbrev pub IsTurned : ℕ → ℕ → Chart → Place → Place → Turned → Type 0
+IsTurned n first c e r (Run slots steps) = TurnsRound n slots c e r steps.items × IsLeastTurn n first slots c e r
+IsTurned n first c e r Enforced = CanBeOvertaken n c e r → ⊥

@@ -1,0 +1,12 @@
+//! The command line of `mscview`: which command is asked for, and with which words.
+//!
+//! It is a crate of its own because it stands on `clap` alone: it is proved beside the crates that do the work.
+#![tactic(auto)]
+
+mod request;
+
+pub use command_line::CommandLineError;
+pub use request::{Question, Request, requested};
+
+#[cfg(test)]
+mod tests;

@@ -1,0 +1,5 @@
+pub mod Growing
+pub mod PairLemmas
+pub mod RaceLemmas
+pub mod TurningLemmas
+pub mod ViewLemmas

@@ -1,0 +1,26 @@
+-- From whom a receive of a pair is.
+use Rattle.std.proofs.Common.{◌≡◌, ℕ, true, List, Some, sym, ◌∙◌, subst, eqb-true}
+use Rattle.std.proofs.lemmas.Bool.{false≢true}
+use Rattle.std.proofs.lemmas.Option.{same_Some}
+use Rattle.chart.specs.declared.event.Event.{Event}
+use Rattle.chart.specs.declared.event.Event.TheVariants.{Send, Receive}
+use Rattle.chart.specs.Events.{partner_of, is_receive_from}
+use Rattle.chart.specs.Charts.{Chart, chart_event, IsReceiveFrom}
+use Rattle.causes.specs.Pasts.{IsPast}
+use Rattle.closure.specs.Faults.{place_of}
+use Rattle.views.specs.declared.pair.Pair.{Pair}
+use Rattle.views.specs.declared.saying.Saying.{Saying}
+use Rattle.views.specs.Explaining.{AreRaceSayings}
+use Rattle.views.specs.Sayings.{race_sayings}
+
+-- the partner of a receive is its sender
+sender_of : (q : ℕ) (m : Event) → is_receive_from q m ≡ true → partner_of m ≡ q
+sender_of q (Send to name) fails = absurd (false≢true fails)
+sender_of q (Receive from name region) passes = eqb-true from q passes
+
+-- what was made by the partner of the receive explains the race
+pub explained_by : (c : Chart) (pair : Pair) (m : Event) (counts : List ℕ) (sayings : List Saying) (sender : ℕ) → (q : ℕ) × IsReceiveFrom c q (place_of pair.receive) → chart_event c (place_of pair.receive) ≡ Some m → sender ≡ partner_of m → IsPast c (place_of pair.receive) counts
+    → sayings ≡ race_sayings (c pair.receive.instance) pair.receive.instance pair.receive.index sender counts → AreRaceSayings c pair sayings
+explained_by c pair m counts sayings sender (q, (n, at_n, from)) at_m is past made =
+    let same : sender ≡ q = is ∙ sender_of q m (subst (λ x. is_receive_from q x ≡ true) (same_Some n m (sym at_n ∙ at_m)) from) in
+    (q, counts, (n, at_n, from), past, subst (λ x. sayings ≡ race_sayings (c pair.receive.instance) pair.receive.instance pair.receive.index x counts) same made)

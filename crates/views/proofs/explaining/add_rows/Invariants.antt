@@ -1,0 +1,6 @@
+use Rattle.std.proofs.Common.{◌≡◌, ◌++◌}
+use Rattle.views.specs.Sayings.{rows}
+use Rattle.views.proofs.explaining.add_rows.Given as goal
+
+abbrev pub invariant-loop-place : goal.invariant-loop-place
+invariant-loop-place l = l.sayings.items ≡ l.initial.sayings.items ++ rows l.order l.place

@@ -1,0 +1,68 @@
+-- What is written to explain a pair of events of a chart.
+use Rattle.std.specs.Prelude.{◌≡◌, ℕ, Bool, true, false, List, length, Option, Some, Result, Ok, Err}
+use Rattle.std.specs.List.{flat_map}
+use Rattle.chart.specs.declared.event.Event.{Event}
+use Rattle.chart.specs.Events.{is_in}
+use Rattle.chart.specs.Charts.{Chart, chart_event, chart_lines, IsReceiveFrom, IsPossible}
+use Rattle.chart.specs.Order.{IsEarlier, Before, region_of_event}
+use Rattle.closure.specs.Faults.{place_of}
+use Rattle.causes.specs.declared.link.Link.{Link}
+use Rattle.causes.specs.Chains.{IsShortestChain}
+use Rattle.causes.specs.Pasts.{IsPast}
+use Rattle.msc_text.specs.Writing.{Puts, Breaks}
+use Rattle.tasks.specs.declared.error.ProgramError.TheVariants as errors
+use Rattle.tasks.specs.Tasks.{Named, IsRefused}
+use Rattle.views.specs.declared.error.ViewError.{ViewError}
+use Rattle.views.specs.declared.error.ViewError.TheVariants.{Program, ManySlots}
+use Rattle.views.specs.declared.pair.Pair.{Pair}
+use Rattle.views.specs.declared.saying.Saying.{Saying}
+use Rattle.views.specs.declared.verdict.Verdict.{Verdict}
+use Rattle.views.specs.declared.verdict.Verdict.TheVariants.{Enforced, Race, Hidden}
+use Rattle.views.specs.Pairs.{pair_of}
+use Rattle.views.specs.Sayings.{race_sayings, chain_sayings}
+use Rattle.views.specs.SayingText.{saying_text}
+
+-- a receive of the chart, and an earlier event of its line
+pub record IsPair (c : Chart) (pair : Pair) : Type 0 where
+  pub earlier : IsEarlier (place_of pair.earlier) (place_of pair.receive)
+  pub receive : (q : ℕ) × IsReceiveFrom c q (place_of pair.receive)
+
+-- whether both events are in one coregion
+abbrev pub AreInOneRegion : Chart → Pair → Bool → Type 0
+AreInOneRegion c pair are = (m : Event) × (chart_event c (place_of pair.earlier) ≡ Some m)
+    × (is_in (region_of_event (chart_event c (place_of pair.receive))) m ≡ are)
+
+-- what explains that the receive needn't come after the event
+abbrev pub AreRaceSayings : Chart → Pair → List Saying → Type 0
+AreRaceSayings c pair sayings = (q : ℕ) × (counts : List ℕ) × IsReceiveFrom c q (place_of pair.receive)
+    × IsPast c (place_of pair.receive) counts
+    × (sayings ≡ race_sayings (c pair.receive.instance) pair.receive.instance pair.receive.index q counts)
+
+-- what the pair is, and what explains it
+abbrev pub IsExplained : Chart → Pair → Verdict → List Saying → Type 0
+IsExplained c pair Enforced sayings = (links : List Link) × Before c (place_of pair.earlier) (place_of pair.receive)
+    × IsShortestChain c (place_of pair.earlier) (place_of pair.receive) links × (sayings ≡ chain_sayings links)
+IsExplained c pair Race sayings = (Before c (place_of pair.earlier) (place_of pair.receive) → ⊥)
+    × AreInOneRegion c pair false × AreRaceSayings c pair sayings
+IsExplained c pair Hidden sayings = (Before c (place_of pair.earlier) (place_of pair.receive) → ⊥)
+    × AreInOneRegion c pair true × AreRaceSayings c pair sayings
+
+-- the text of these lines, for a pair of the chart
+abbrev pub sayings_text : Named → Pair → List Saying → List ℕ
+sayings_text (names, lines) pair sayings = flat_map (saying_text names (chart_lines lines pair.receive.instance)) sayings
+
+module _ {S : Type 0} (contents : S → Option (List ℕ)) (failures : S → ℕ) where
+  -- the lines that explain the pair were written; or a beginning of them, where a put failed; or nothing, where the chart is
+  -- not possible, where there is no such pair, or where memory ran out
+  abbrev pub Explains : S → S → Result Verdict ViewError → Named → List ℕ → ℕ → ℕ → Type 0
+  Explains old new (Ok verdict) named instance e r = (pair : Pair) × (sayings : List Saying)
+      × (pair_of named.0 named.1 instance e r ≡ Ok pair) × IsPossible (length named.1) (chart_lines named.1)
+      × IsExplained (chart_lines named.1) pair verdict sayings × Puts contents failures old new (sayings_text named pair sayings)
+  Explains old new (Err (Program errors.Memory)) named instance e r = new ≡ old
+  Explains old new (Err (Program errors.Write)) named instance e r = (pair : Pair) × (verdict : Verdict) × (sayings : List Saying)
+      × (pair_of named.0 named.1 instance e r ≡ Ok pair) × IsPossible (length named.1) (chart_lines named.1)
+      × IsExplained (chart_lines named.1) pair verdict sayings × Breaks contents failures old new (sayings_text named pair sayings)
+  Explains old new (Err (Program error)) named instance e r = IsRefused error named × (new ≡ old)
+  Explains old new (Err (ManySlots slots)) named instance e r = ⊥
+  Explains old new (Err error) named instance e r = (pair_of named.0 named.1 instance e r ≡ Err error)
+      × IsPossible (length named.1) (chart_lines named.1) × (new ≡ old)

@@ -1,0 +1,10 @@
+pub mod Answers
+pub mod Explaining
+pub mod Files
+pub mod Pairs
+pub mod Sayings
+pub mod SayingText
+pub mod Turning
+pub mod Verdicts
+pub mod Views
+pub mod Witnessing

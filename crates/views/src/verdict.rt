@@ -1,0 +1,37 @@
+//! What a receive and an earlier event of its line are.
+ghost use Rattle.std.specs.Prelude.{◌≡◌};
+ghost use Rattle.views.specs.Verdicts.{code_of, verdict_in};
+
+/// What a receive and an earlier event of its line are.
+#[derive(Clone, Copy)]
+pub(crate) enum Verdict {
+    /// The enforced order puts the event before the receive.
+    Enforced,
+    /// It doesn't: a race that is reported.
+    Race,
+    /// It doesn't, and both are in one coregion, so that no report has them.
+    Hidden,
+}
+
+impl Verdict {
+    /// The verdict on a pair that isn't enforced, by whether both are in one coregion.
+    pub(crate) fn of(in_one_coregion: bool) -> Verdict
+        ensures { result ≡ verdict_in in_one_coregion }
+    {
+        if in_one_coregion {
+            Verdict::Hidden
+        } else {
+            Verdict::Race
+        }
+    }
+
+    /// The exit status.
+    pub(crate) fn code(self) -> u8
+        ensures { result ≡ code_of self }
+    {
+        match self {
+            Verdict::Enforced => 0,
+            Verdict::Race | Verdict::Hidden => 1,
+        }
+    }
+}

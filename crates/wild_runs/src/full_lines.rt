@@ -1,0 +1,79 @@
+//! A run that fills all lines.
+use crate::fillers::Filler;
+use crate::gates::OthersFirst;
+use crate::passing::{Passed, run_board};
+use anyhow::bail;
+use behaviour::{BareAnswer, Behaviour};
+use board::{Gathered, SendError, TakeError};
+use chart::{InstanceNo, MAX_EVENTS, Name};
+use instances::Trace;
+use std::alloc::Global;
+use std::thread::Threads;
+
+const INSTANCES: usize = 8;
+
+/// How many places a lane has: the most.
+const PLACES: usize = 64;
+
+/// How many messages each instance sends, and how many it receives: a line's events together. As many more are sent to it
+/// as a lane has places, so no lane to it is full for good, and a message waits when its line is full.
+const SENDS: u32 = 2080;
+
+const RECEIVES: u32 = 2016;
+
+/// How many turns an instance has, to look again where a lane is full or nothing waits.
+const TURNS: u32 = 500_000;
+
+/// The instance at this place.
+fn filler(alloc: Global, place: usize) -> anyhow::Result<Filler> {
+    Ok(Filler {
+        alloc,
+        near: InstanceNo::at_place(place.wrapping_add(1) % INSTANCES),
+        far: InstanceNo::at_place(place.wrapping_add(3) % INSTANCES),
+        name: Name::new(b"m")?,
+        sends: SENDS,
+        receives: RECEIVES,
+    })
+}
+
+/// Whether some send and then a receive were refused since the line is full (F7), and it stopped.
+fn ended_with_its_line(trace: &Trace) -> bool {
+    let mut unsent = false;
+    let mut unreceived = false;
+    for stretch in trace.stretches() {
+        match stretch.turn.answer {
+            Some(BareAnswer::Unsent(SendError::LineFull)) => unsent = true,
+            Some(BareAnswer::Unreceived(TakeError::LineFull)) => unreceived = unsent,
+            _ => {}
+        }
+    }
+    unreceived
+}
+
+/// Whether each line is full, and as many messages are left as were sent to full lines.
+fn are_full(gathered: &Gathered) -> bool {
+    for line in gathered.chart.lines() {
+        if line.len() != MAX_EVENTS {
+            return false;
+        }
+    }
+    Passed::of(gathered).left == INSTANCES * PLACES
+}
+
+/// Eight instances fill their lines, and each tries a send and a receive more. How many lines there are is answered.
+pub fn fill_lines<R: Threads + Sync>(rt: &R, alloc: Global) -> anyhow::Result<usize> {
+    let mut behaviours: Vec<Box<dyn Behaviour + Send>> = Vec::new(alloc);
+    for place in 0..INSTANCES {
+        behaviours.push(Box::new(alloc, filler(alloc, place)?)?)?;
+    }
+    let ran = run_board(rt, alloc, PLACES, behaviours, TURNS, &OthersFirst)?;
+    if !are_full(&ran.gathered) {
+        bail!("a line isn't full");
+    }
+    for trace in ran.traces.iter() {
+        if !ended_with_its_line(trace) {
+            bail!("a send or a receive wasn't refused");
+        }
+    }
+    Ok(ran.gathered.chart.lines().len())
+}

@@ -1,0 +1,80 @@
+//! Runs of boards on threads, with their audits.
+ghost use Rattle.instances.specs.Whole.{IsGathered};
+
+use agreement::audit_run;
+use anyhow::bail;
+use behaviour::Behaviour;
+use board::{Board, Gathered};
+use instances::{End, Gate, Run, run};
+use std::alloc::Global;
+use std::thread::Threads;
+
+/// How many messages were passed.
+#[derive(Clone, Copy, Debug)]
+pub struct Passed {
+    pub sent: usize,
+    pub received: usize,
+    pub left: usize,
+}
+
+impl Passed {
+    /// In the run that came to this, by its lines, its reports and what is left on its lanes.
+    pub fn of(gathered: &Gathered) -> Passed {
+        let mut events = 0usize;
+        for line in gathered.chart.lines() {
+            events = events.saturating_add(line.len());
+        }
+        let mut left = 0usize;
+        for lane in gathered.left.iter() {
+            left = left.saturating_add(lane.messages.len());
+        }
+        let received = gathered.reports.len();
+        let sent = events.saturating_sub(received);
+        Passed {
+            sent,
+            received,
+            left,
+        }
+    }
+
+    /// These and those.
+    pub fn joined(self, other: Passed) -> Passed {
+        Passed {
+            sent: self.sent.saturating_add(other.sent),
+            received: self.received.saturating_add(other.received),
+            left: self.left.saturating_add(other.left),
+        }
+    }
+}
+
+/// The run, whose reports are audited. Each instance has stopped in it.
+fn audited(alloc: Global, ran: Run) -> anyhow::Result<Run>
+    requires gathered { IsGathered ran }
+{
+    for end in ran.ends.iter() {
+        if *end != End::Stopped {
+            bail!("an instance didn't stop");
+        }
+    }
+    match audit_run(alloc, &ran) {
+        Ok(()) => Ok(ran),
+        Err(_) => bail!("the audit doesn't accept it"),
+    }
+}
+
+/// Lets these act on a board with lanes of so many places, in so many turns at most.
+pub fn run_board<R: Threads + Sync, G: Gate + Sync>(
+    rt: &R,
+    alloc: Global,
+    places: usize,
+    behaviours: Vec<Box<dyn Behaviour + Send>>,
+    turns: u32,
+    gate: &G,
+) -> anyhow::Result<Run> {
+    let mut board = Board::new(alloc, behaviours.len(), places)?;
+    let posts = board.posts()?;
+    match run(rt, posts, behaviours, turns, gate) {
+        Ok(ran) => audited(alloc, ran),
+        Err(_) => bail!("it wasn't run"),
+    }
+}
