@@ -5,14 +5,14 @@ use Rattle.std.proofs.lemmas.Option.{slice_get_within}
 use Rattle.std.proofs.lemmas.List.{length-append, take-append-le}
 use Rattle.std.proofs.Math.Seq.{take-append_seam}
 use Rattle.chart.specs.declared.event.Event.{Event}
-use Rattle.chart.specs.declared.line.Before.{Before}
+use Rattle.chart.specs.declared.line.Starts.{Starts}
 use Rattle.chart.specs.declared.line.TheConstants.{MAX_EVENTS}
 use Rattle.chart.specs.Events.{partner_of, region_of, MayHaveRegion, HasRegionsInOrder}
 use Rattle.chart.specs.Charts.{IsLine}
-use Rattle.chart.specs.LineLayout.{IsBefore, IsLaidOut}
+use Rattle.chart.specs.LineLayout.{AreStartsAt, IsLaidOut}
 use Rattle.chart.proofs.Places.{each-push}
 use Rattle.chart.proofs.Regions.{greatest_region-push, may_be-small}
-use Rattle.chart.proofs.Runs.{AreBefore-push}
+use Rattle.chart.proofs.Runs.{AreStarts-push}
 
 -- regions stay in order where the new event may have its region
 pub HasRegionsInOrder-push : (line : List Event) (m : Event) → HasRegionsInOrder line → MayHaveRegion line (region_of m) → HasRegionsInOrder (line ++ m ∷ [])
@@ -37,12 +37,12 @@ IsLine-push p line m old other short may = record {
 }
 
 -- and so does what it keeps
-pub IsLaidOut-push : (p : ℕ) (line : List Event) (kept : List Before) (greatest : ℕ) (m : Event) (b : Before) → IsLaidOut p line kept greatest → partner_of m ≢ p → length line < MAX_EVENTS → MayHaveRegion line (region_of m)
-    → IsBefore (line ++ m ∷ []) (length line + 1) b → IsLaidOut p (line ++ m ∷ []) (kept ++ b ∷ []) (max greatest (region_of m))
+pub IsLaidOut-push : (p : ℕ) (line : List Event) (kept : List Starts) (greatest : ℕ) (m : Event) (b : Starts) → IsLaidOut p line kept greatest → partner_of m ≢ p → length line < MAX_EVENTS → MayHaveRegion line (region_of m)
+    → AreStartsAt (line ++ m ∷ []) (length line + 1) b → IsLaidOut p (line ++ m ∷ []) (kept ++ b ∷ []) (max greatest (region_of m))
 IsLaidOut-push p line kept greatest m b old other short may next = record {
   line = IsLine-push p line m old.line other short may;
   same = omega (arith, length-append line (m ∷ []), length-append kept (b ∷ []), old.same);
-  right = AreBefore-push line kept m b old.same old.right next;
+  right = AreStarts-push line kept m b old.same old.right next;
   greatest_is = ap (λ g. max g (region_of m)) old.greatest_is ∙ sym (greatest_region-push line m);
   few_regions = omega (arith, length-append line (m ∷ []), old.greatest_is, old.few_regions, may_be-small line (region_of m) may);
 }

@@ -1,6 +1,7 @@
--- Charts, and which send a receive belongs to (ITU-T Z.120: a message is its output and its input event; lanes are first
--- in, first out, as Alur, Holzmann and Peled 1996 have them).
-use Rattle.std.specs.Prelude.{◌≡◌, ◌≢◌, ℕ, zero, suc, ◌<◌, ◌≤◌, true, List, [], length, slice_index_or, slice_get, Option, Some, count_by, All}
+-- Charts, and which send a receive belongs to (ITU-T Z.120: a message is its output and its input event; lanes are
+-- first in, first out, as Alur, Holzmann and Peled 1996 have them).
+use Rattle.std.specs.Prelude.{◌≡◌, ◌≢◌, ℕ, zero, suc, ◌<◌, ◌≤◌, true, List, [], length, slice_index_or, slice_get}
+use Rattle.std.specs.Prelude.{Option, Some, count_by, All}
 use Rattle.chart.specs.declared.history.Occurrence.{Occurrence}
 use Rattle.chart.specs.declared.event.Event.{Event}
 use Rattle.chart.specs.declared.line.TheConstants.{MAX_EVENTS}
@@ -36,15 +37,18 @@ IsReceiveFrom c q e = (m : Event) × (chart_event c e ≡ Some m) × (is_receive
 pub record BelongsTo (c : Chart) (s r : Place) : Type 0 where
   pub sent : IsSendTo c r.instance s
   pub received : IsReceiveFrom c s.instance r
-  pub turn : tally (is_send_to r.instance) (c s.instance) s.index ≡ tally (is_receive_from s.instance) (c r.instance) r.index
+  pub turn : tally (is_send_to r.instance) (c s.instance) s.index
+      ≡ tally (is_receive_from s.instance) (c r.instance) r.index
 
 -- r is a receive, and fewer messages were sent on its lane than were received up to it
 abbrev pub HasNoSend : Chart → Place → Type 0
-HasNoSend c r = (q : ℕ) × IsReceiveFrom c q r × (count_by (is_send_to r.instance) (c q) < tally (is_receive_from q) (c r.instance) r.index)
+HasNoSend c r = (q : ℕ) × IsReceiveFrom c q r
+    × (count_by (is_send_to r.instance) (c q) < tally (is_receive_from q) (c r.instance) r.index)
 
 -- r is a receive, and its send has another name
 abbrev pub HasOtherName : Chart → Place → Type 0
-HasOtherName c r = (s : Place) × (m : Event) × (n : Event) × BelongsTo c s r × (chart_event c s ≡ Some m) × (chart_event c r ≡ Some n) × (name_of m ≢ name_of n)
+HasOtherName c r = (s : Place) × (m : Event) × (n : Event) × BelongsTo c s r × (chart_event c s ≡ Some m)
+    × (chart_event c r ≡ Some n) × (name_of m ≢ name_of n)
 
 -- the chart of a history that is legal with no bound on waiting messages
 abbrev pub IsPossible : ℕ → Chart → Type 0

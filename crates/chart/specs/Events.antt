@@ -1,5 +1,6 @@
 -- The events of a line (ITU-T Z.120), and the coregions along it (this project's profile, after ITU-T Z.120).
-use Rattle.std.specs.Prelude.{◌≡◌, ℕ, zero, suc, ◌+◌, ◌<◌, max, Bool, false, not, ◌&&◌, ◌==◌, List, [], ◌∷◌, take, slice_get, Option, None, Some, count_by, ◌⊎◌}
+use Rattle.std.specs.Prelude.{◌≡◌, ℕ, zero, suc, ◌+◌, ◌<◌, max, Bool, false, not, ◌&&◌, ◌==◌, List, [], ◌∷◌, take}
+use Rattle.std.specs.Prelude.{slice_get, Option, None, Some, count_by, ◌⊎◌}
 use Rattle.chart.specs.declared.event.Event.{Event}
 use Rattle.chart.specs.declared.event.Event.TheVariants.{Send, Receive}
 
@@ -68,7 +69,8 @@ last_region (m ∷ n ∷ line) = last_region (n ∷ line)
 -- the next event of the line may be in c: outside of a coregion, in one that begins here, or in the one that the
 -- last event is in
 abbrev pub MayHaveRegion : List Event → ℕ → Type 0
-MayHaveRegion line c = (c ≡ 0) ⊎ (c ≡ greatest_region line + 1) ⊎ ((0 < c) × (c ≡ greatest_region line) × (c ≡ last_region line))
+MayHaveRegion line c = (c ≡ 0) ⊎ (c ≡ greatest_region line + 1)
+    ⊎ ((0 < c) × (c ≡ greatest_region line) × (c ≡ last_region line))
 
 -- each event's region is one that it may have
 abbrev pub HasRegionsInOrder : List Event → Type 0

@@ -3,7 +3,8 @@
 --
 -- A history is the list of its events, the newest first. Messages of a lane and events of a line are lists with the
 -- oldest first.
-use Rattle.std.specs.Prelude.{◌≡◌, ◌≢◌, ℕ, ◌+◌, ◌<◌, ◌≤◌, Bool, false, ◌&&◌, ◌||◌, ◌==◌, List, [], ◌∷◌, ◌++◌, length, drop, if◌then◌else◌}
+use Rattle.std.specs.Prelude.{◌≡◌, ◌≢◌, ℕ, ◌+◌, ◌<◌, ◌≤◌, Bool, false, ◌&&◌, ◌||◌, ◌==◌, List, [], ◌∷◌, ◌++◌, length}
+use Rattle.std.specs.Prelude.{drop, if◌then◌else◌}
 use Rattle.chart.specs.declared.history.Occurrence.{Occurrence}
 use Rattle.chart.specs.declared.history.Occurrence.TheVariants.{Send, Receive, Close}
 use Rattle.chart.specs.declared.event.Event.{Event}
@@ -73,8 +74,10 @@ AreTwo n p q = (1 ≤ p) × (p ≤ n) × (1 ≤ q) × (q ≤ n) × (p ≢ q)
 
 -- the event is allowed after the history, among n instances whose lanes have k slots each
 abbrev pub MayFollow : ℕ → ℕ → List Occurrence → Occurrence → Type 0
-MayFollow n k h (Send p q m) = AreTwo n p q × (is_closed h p q ≡ false) × (length (waiting h p q) < k) × (length (chart_of h p) < MAX_EVENTS)
-MayFollow n k h (Receive p q c) = AreTwo n p q × (0 < length (waiting h q p)) × (length (chart_of h p) < MAX_EVENTS) × MayHaveRegion (chart_of h p) c
+MayFollow n k h (Send p q m) = AreTwo n p q × (is_closed h p q ≡ false) × (length (waiting h p q) < k)
+    × (length (chart_of h p) < MAX_EVENTS)
+MayFollow n k h (Receive p q c) = AreTwo n p q × (0 < length (waiting h q p)) × (length (chart_of h p) < MAX_EVENTS)
+    × MayHaveRegion (chart_of h p) c
 MayFollow n k h (Close p q) = AreTwo n p q × (is_closed h p q ≡ false)
 
 -- each event was allowed when it came

@@ -1,8 +1,10 @@
--- The words that a chart's text keeps for itself (this project's profile of the words of ITU-T Z.120), each spelled here and nowhere else.
+-- The words that a chart's text keeps for itself (this project's profile of the words of ITU-T Z.120), each spelled
+-- here and nowhere else.
 use Rattle.std.specs.Prelude.{ℕ, Bool, List, [], ◌∷◌, codes, bytes_eq}
 use Rattle.std.specs.List.{list_any}
 use Rattle.chart.specs.declared.keyword.Keyword.{Keyword}
-use Rattle.chart.specs.declared.keyword.Keyword.TheVariants.{Msc, EndMsc, Instance, EndInstance, Out, To, In, From, Concurrent, EndConcurrent}
+use Rattle.chart.specs.declared.keyword.Keyword.TheVariants.{Msc, EndMsc, Instance, EndInstance, Out, To, In, From}
+use Rattle.chart.specs.declared.keyword.Keyword.TheVariants.{Concurrent, EndConcurrent}
 
 -- how the word is spelled
 unfoldable pub spelled : Keyword → List ℕ

@@ -1,5 +1,5 @@
--- What a list of the instances' names keeps: no name is given twice (ITU-T Z.120), and there are at most as many as this
--- project's profile has.
+-- What a list of the instances' names keeps: no name is given twice (ITU-T Z.120), and there are at most as many as
+-- this project's profile has.
 use Rattle.std.specs.Prelude.{◌≡◌, ℕ, ◌≤◌, List, length, slice_get, Some}
 use Rattle.chart.specs.declared.instance.TheConstants.{MAX_INSTANCES}
 

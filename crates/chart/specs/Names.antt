@@ -1,6 +1,7 @@
 -- What a name is, and the first fault of bytes that are none: this project's profile of the names of ITU-T Z.120, whose
 -- words are reserved.
-use Rattle.std.specs.Prelude.{◌≡◌, ℕ, suc, ◌+◌, Bool, not, ◌||◌, ◌&&◌, List, [], ◌∷◌, length, Option, None, Some, Result, Ok, Err, position, option_map, bytes_eq, nat_lt, nat_le, ◌==◌, if◌then◌else◌}
+use Rattle.std.specs.Prelude.{◌≡◌, ℕ, suc, ◌+◌, Bool, not, ◌||◌, ◌&&◌, List, [], ◌∷◌, length, Option, None, Some}
+use Rattle.std.specs.Prelude.{Result, Ok, Err, position, option_map, bytes_eq, nat_lt, nat_le, ◌==◌, if◌then◌else◌}
 use Rattle.chart.specs.Keywords.{is_reserved}
 use Rattle.chart.specs.declared.name.NameError.{NameError}
 use Rattle.chart.specs.declared.name.NameError.TheVariants.{Empty, TooLong, BadByte, Reserved}
@@ -22,7 +23,8 @@ bad_place (b ∷ bs) = if is_letter b then option_map (λ i. i + 2) (position (�
 -- the bytes as a name, or their first fault
 unfoldable pub name_of : List ℕ → Result (List ℕ) NameError
 name_of w =
-    if length w == 0 then Err Empty else (if nat_lt MAX_NAME (length w) then Err TooLong else (bad_or_reserved (bad_place w)))
+    if length w == 0 then Err Empty
+    else (if nat_lt MAX_NAME (length w) then Err TooLong else (bad_or_reserved (bad_place w)))
   where
     bad_or_reserved : Option ℕ → Result (List ℕ) NameError
     bad_or_reserved (Some place) = Err (BadByte place)

@@ -11,4 +11,5 @@ IsEvent c e = (1 ≤ e.index) × (e.index ≤ length (c e.instance))
 
 -- at j of the line is the send to q that has i earlier sends to q
 abbrev pub IsSendAfter : List Event → ℕ → ℕ → ℕ → Type 0
-IsSendAfter line q i j = ((m : Event) × (ith line j ≡ Some m) × (is_send_to q m ≡ true)) × (tally (is_send_to q) line j ≡ i + 1)
+IsSendAfter line q i j = ((m : Event) × (ith line j ≡ Some m) × (is_send_to q m ≡ true))
+    × (tally (is_send_to q) line j ≡ i + 1)

@@ -1,5 +1,5 @@
--- What a report is to a contract, a receive with its races (after Alur, Holzmann and Peled 1996), and what the reports of a
--- chart are (reports one by one are this project's profile).
+-- What a report is to a contract, a receive with its races (after Alur, Holzmann and Peled 1996), and what the reports
+-- of a chart are (reports one by one are this project's profile).
 use Rattle.std.specs.Prelude.{◌≡◌, ℕ, ◌+◌, Bool, List, [], ◌∷◌, length, map, All, nat_lt}
 use Rattle.std.specs.List.{flat_map, list_any}
 use Rattle.chart.specs.declared.event.Event.{Event}

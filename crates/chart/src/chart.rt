@@ -64,7 +64,8 @@ impl Chart {
         requires { IsNumbered lines.items }
         ensures ok { IfOk result (λ c. c ≡ lines.items) }
         ensures succeeds { IsOk result
-            ↔ ((2 ≤ length lines.items) × (length lines.items ≤ MAX_INSTANCES) × HasPartners (length lines.items) lines.items) }
+            ↔ ((2 ≤ length lines.items) × (length lines.items ≤ MAX_INSTANCES)
+            × HasPartners (length lines.items) lines.items) }
         ensures instances { IfErr result (λ e. (e.1 ≡ LinesError.Instances)
             ↔ ((length lines.items < 2) ⊎ (MAX_INSTANCES < length lines.items))) }
         ensures returned { IfErr result (λ e. e.0 ≡ lines) }

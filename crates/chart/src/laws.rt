@@ -1,9 +1,14 @@
-//! The laws of charts, each the contract of a function that does nothing. Of names: that no word of the chart text's own is
-//! one. Of any chart: what is before a receive on its own
-//! line, what a send knows of each line, and what a receive hears. Of the charts of legal histories: that each receive has
-//! its send and no event is before itself, what one more event adds, what later events leave as it is, and what is there
-//! once.
-ghost use Rattle.chart.specs.Laws.{KeywordLaw, ReportLaw, RacesLaw, OwnKnowledgeLaw, KnowledgeLaw, FirstHearingLaw, ReceiveHearingLaw, SendHearingLaw, NoSendLaw, OtherNameLaw, SendLaw, NoCycleLaw, OtherLineLaw, CloseLineLaw, SendLineLaw, ReceiveLineLaw, NewSendLaw, NewSendOwnLaw, NewSendKnowledgeLaw, NewSendHearingLaw, MessageSendLaw, OneSendLaw, NewReceiveLaw, NewReceiveHearingLaw, NewReportLaw, LegalGrowthLaw, PlaceGrowthLaw, SendGrowthLaw, BelongingGrowthLaw, OrderGrowthLaw, KnowledgeGrowthLaw, ReportGrowthLaw, HearingGrowthLaw, OneKnowledgeLaw, OneHearingLaw, OneReportLaw};
+//! The laws of charts, each the contract of a function that does nothing. Of names: that no word of the chart text's
+//! own is one. Of any chart: what is before a receive on its own line, what a send knows of each line, and what a
+//! receive hears. Of the charts of legal histories: that each receive has its send and no event is before itself, what
+//! one more event adds, what later events leave as it is, and what is there once.
+ghost use Rattle.chart.specs.Laws.{KeywordLaw, ReportLaw, RacesLaw, OwnKnowledgeLaw, KnowledgeLaw, FirstHearingLaw};
+ghost use Rattle.chart.specs.Laws.{ReceiveHearingLaw, SendHearingLaw, NoSendLaw, OtherNameLaw, SendLaw, NoCycleLaw};
+ghost use Rattle.chart.specs.Laws.{OtherLineLaw, CloseLineLaw, SendLineLaw, ReceiveLineLaw, NewSendLaw, NewSendOwnLaw};
+ghost use Rattle.chart.specs.Laws.{NewSendKnowledgeLaw, NewSendHearingLaw, MessageSendLaw, OneSendLaw, NewReceiveLaw};
+ghost use Rattle.chart.specs.Laws.{NewReceiveHearingLaw, NewReportLaw, LegalGrowthLaw, PlaceGrowthLaw, SendGrowthLaw};
+ghost use Rattle.chart.specs.Laws.{BelongingGrowthLaw, OrderGrowthLaw, KnowledgeGrowthLaw, ReportGrowthLaw};
+ghost use Rattle.chart.specs.Laws.{HearingGrowthLaw, OneKnowledgeLaw, OneHearingLaw, OneReportLaw};
 
 /// A word that the chart text keeps for itself is refused as a name, by F4 and not by another fault.
 pub fn keyword_law()

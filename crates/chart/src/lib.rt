@@ -7,8 +7,8 @@
 //!
 //! - A name is 1 to 32 bytes by the stated rules, and anything else gets its first fault ([`Name::new`]).
 //! - A line grows by exactly the event that is pushed. It refuses its own instance (F13), then one event too many (F7),
-//!   then for want of memory (F6), and stays as it was ([`GrowingLine::push`], [`GrowingLine::push_sends`]). So many events
-//!   as it has room for need no memory ([`GrowingLine::reserve`]).
+//!   then for want of memory (F6), and stays as it was ([`GrowingLine::push`], [`GrowingLine::push_sends`]). So many
+//!   events as it has room for need no memory ([`GrowingLine::reserve`]).
 //! - A chart has 2 to 32 lines whose partners exist; other lines come back with their fault ([`Chart::new`]).
 //! - Names are added and looked up as in a list ([`Names::add`], [`Names::instance`], [`Names::name`]).
 //! - [`laws`] has what holds of the definitions, for any number of instances: a receive's report is read off its line

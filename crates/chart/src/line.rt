@@ -1,9 +1,11 @@
 //! Lines: the events of one instance.
-ghost use Rattle.std.specs.Prelude.{◌≡◌, ◌≢◌, ◌≤◌, ◌<◌, ◌+◌, ◌++◌, ◌∷◌, [], ◌↔◌, ◌==◌, length, map, IsOk, OnOk, OnErr, Ok, Err};
-ghost use Rattle.chart.specs.Events.{send_event, partner_of, region_of, is_receive_from, is_in, greatest_region, MayHaveRegion};
+ghost use Rattle.std.specs.Prelude.{◌≡◌, ◌≢◌, ◌≤◌, ◌<◌, ◌+◌, ◌++◌, ◌∷◌, [], ◌↔◌, ◌==◌, length, map, IsOk, OnOk, OnErr};
+ghost use Rattle.std.specs.Prelude.{Ok, Err};
+ghost use Rattle.chart.specs.Events.{send_event, partner_of, region_of, is_receive_from, is_in, greatest_region};
+ghost use Rattle.chart.specs.Events.{MayHaveRegion};
 ghost use Rattle.chart.specs.Charts.{IsLine};
-ghost use Rattle.chart.specs.Runs.{IsBeforeRun, EndsWithRun};
-ghost use Rattle.chart.specs.LineLayout.{AreBefore, IsNext};
+ghost use Rattle.chart.specs.Runs.{IsStartOfRun, EndsWithRun};
+ghost use Rattle.chart.specs.LineLayout.{AreStarts, IsNext};
 ghost use Rattle.chart.specs.declared.line.TheConstants.{MAX_EVENTS};
 ghost use Rattle.chart.specs.declared.line.LineError.TheVariants.{Memory};
 
@@ -47,17 +49,17 @@ impl<T: Drop> From<AllocFailed<T>> for LineError {
     }
 }
 
-/// How many events stand before the runs that an event is in.
+/// Where the runs start that an event is in: how many events the line has ahead of each.
 #[derive(Clone, Copy, Debug)]
-struct Before {
-    /// Before the neighbouring receives from its sender.
+struct Starts {
+    /// Of the neighbouring receives from its sender.
     run: u32,
-    /// Before the receives of its coregion.
+    /// Of the receives of its coregion.
     region: u32,
 }
 
-/// The line of one instance while it grows: its events in their order, and room for more. A contract sees a record of the
-/// line and of the room.
+/// The line of one instance while it grows: its events in their order, and room for more. A contract sees a record of
+/// the line and of the room.
 ///
 /// It has at most [`MAX_EVENTS`] events, none of them names the line's own instance, and their coregions are
 /// numbered along the line. For each event it also keeps where its run of receives from one sender and where
@@ -67,7 +69,7 @@ pub struct GrowingLine {
     instance: InstanceNo,
     events: Vec<Event>,
     /// It has room for as many as `events` has, or more.
-    before: Vec<Before>,
+    starts: Vec<Starts>,
     /// The greatest coregion, or 0.
     greatest: u32,
 }
@@ -81,9 +83,13 @@ impl Model for GrowingLine {
 
     ghost use Rattle.chart.specs.LineLayout.{IsLaidOut};
 
-    ghost view = { λ l. record { line = record { instance = l.instance; events = l.events.items }; room = vec_capacity l.events - vec_len l.events } };
+    ghost view = { λ l. record {
+      line = record { instance = l.instance; events = l.events.items };
+      room = vec_capacity l.events - vec_len l.events;
+    } };
 
-    ghost invariant = { λ l. IsLaidOut l.instance l.events.items l.before.items l.greatest × (vec_capacity l.events ≤ vec_capacity l.before) };
+    ghost invariant = { λ l. IsLaidOut l.instance l.events.items l.starts.items l.greatest
+        × (vec_capacity l.events ≤ vec_capacity l.starts) };
 }
 
 impl GrowingLine {
@@ -94,7 +100,7 @@ impl GrowingLine {
         GrowingLine {
             instance,
             events: Vec::new(alloc),
-            before: Vec::new(alloc),
+            starts: Vec::new(alloc),
             greatest: 0,
         }
     }
@@ -110,7 +116,7 @@ impl GrowingLine {
         ensures value { result.now ≡ self.now.line.events }
         ensures line { IsLine self.now.line }
     {
-        let _ = &self.before;
+        let _ = &self.starts;
         self.events.as_slice()
     }
 
@@ -155,8 +161,8 @@ impl GrowingLine {
         if events <= self.events.capacity() - self.events.len() {
             return Ok(());
         }
-        self.before.reserve(events)?;
-        let room = self.before.capacity() - self.events.len();
+        self.starts.reserve(events)?;
+        let room = self.starts.capacity() - self.events.len();
         self.events.reserve_exact(room)
     }
 
@@ -165,9 +171,9 @@ impl GrowingLine {
     pub fn before_run(&self, index: usize) -> usize
         requires begun { 1 ≤ index }
         requires within { index ≤ length self.now.line.events }
-        ensures { IsBeforeRun is_receive_from self.now.line.events index result }
+        ensures { IsStartOfRun is_receive_from self.now.line.events index result }
     {
-        self.before[index - 1].run as usize
+        self.starts[index - 1].run as usize
     }
 
     /// How many events stand before the part of its coregion that ends with the event of this index. Outside of a
@@ -175,19 +181,20 @@ impl GrowingLine {
     pub fn before_region(&self, index: usize) -> usize
         requires begun { 1 ≤ index }
         requires within { index ≤ length self.now.line.events }
-        ensures { IsBeforeRun is_in self.now.line.events index result }
+        ensures { IsStartOfRun is_in self.now.line.events index result }
     {
-        self.before[index - 1].region as usize
+        self.starts[index - 1].region as usize
     }
 
-    /// Adds an event at the end. A refusal, the first of F13, F7 and F6 that applies, leaves the line as it was. With room
-    /// it takes no memory.
+    /// Adds an event at the end. A refusal, the first of F13, F7 and F6 that applies, leaves the line as it was. With
+    /// room it takes no memory.
     ///
     /// The caller sees to it that the event's coregion may come next: 0, or one above the greatest so far, or
     /// that greatest one where the last event is a receive of it.
     pub fn push(&mut self, event: Event) -> Result<(), LineError>
         requires { MayHaveRegion self.old.line.events (region_of event) }
-        ensures ok { OnOk result (self.new.line ≡ record self.old.line { events = self.old.line.events ++ event ∷ [] }) }
+        ensures ok { OnOk result
+            (self.new.line ≡ record self.old.line { events = self.old.line.events ++ event ∷ [] }) }
         ensures least { self.old.room ≤ self.new.room + 1 }
         ensures itself { (result ≡ Err LineError.ToItself) ↔ (partner_of event ≡ self.old.line.instance) }
         ensures full { (result ≡ Err LineError.LineFull)
@@ -202,8 +209,8 @@ impl GrowingLine {
             return Err(LineError::LineFull);
         }
         self.reserve(1)?;
-        let before = before_next(self.events.as_slice(), self.before.as_slice(), event);
-        self.before.push_reserved(before);
+        let starts = next_starts(self.events.as_slice(), self.starts.as_slice(), event);
+        self.starts.push_reserved(starts);
         self.events.push_reserved(event);
         self.greatest = self.greatest.max(event.region());
         Ok(())
@@ -212,7 +219,8 @@ impl GrowingLine {
     /// Adds a send to this instance for each name, in their order, or none of them: a refusal, the first of F13, F7
     /// and F6 that applies, leaves the line as it was.
     pub fn push_sends(&mut self, to: InstanceNo, names: &[Name]) -> Result<(), LineError>
-        ensures ok { OnOk result (self.new.line ≡ record self.old.line { events = self.old.line.events ++ map (send_event to) names.now }) }
+        ensures ok { OnOk result
+            (self.new.line ≡ record self.old.line { events = self.old.line.events ++ map (send_event to) names.now }) }
         ensures least { self.old.room ≤ self.new.room + length names.now }
         ensures itself { (result ≡ Err LineError.ToItself) ↔ (to ≡ self.old.line.instance) }
         ensures full { (result ≡ Err LineError.LineFull)
@@ -228,7 +236,7 @@ impl GrowingLine {
         self.reserve(names.len())?;
         for name in names {
             let all = self.events.len() as u32;
-            self.before.push_reserved(Before {
+            self.starts.push_reserved(Starts {
                 run: all,
                 region: all,
             });
@@ -238,8 +246,8 @@ impl GrowingLine {
     }
 }
 
-/// The line of one instance, as a chart has it: a [`GrowingLine`] whose room nobody asks for. A contract sees a record of the
-/// instance and of the events.
+/// The line of one instance, as a chart has it: a [`GrowingLine`] whose room nobody asks for. A contract sees a record
+/// of the instance and of the events.
 #[derive(Debug, Drop)]
 pub struct Line {
     growing: GrowingLine,
@@ -326,50 +334,49 @@ impl Line {
     }
 }
 
-/// How many events stand before the receives from this sender that the line ends with.
-fn before_ending_run(events: &[Event], before: &[Before], sender: InstanceNo) -> u32
+/// What is kept for a receive from this sender, in this coregion, that is to come after these events.
+fn receive_starts(events: &[Event], starts: &[Starts], sender: InstanceNo, region: u32) -> Starts
     requires short { length events.now ≤ MAX_EVENTS }
-    requires same { length before.now ≡ length events.now }
-    requires kept { AreBefore events.now before.now }
-    ensures { EndsWithRun (is_receive_from sender) events.now result }
+    requires same { length starts.now ≡ length events.now }
+    requires kept { AreStarts events.now starts.now }
+    ensures run { EndsWithRun (is_receive_from sender) events.now result.run }
+    ensures region { EndsWithRun (is_in region) events.now result.region }
 {
+    let all = events.len() as u32;
     match events.last() {
-        Some(last) if last.is_receive_from(sender) => before[before.len() - 1].run,
-        _ => events.len() as u32,
-    }
-}
-
-/// How many events stand before the receives of this coregion that the line ends with.
-fn before_ending_region(events: &[Event], before: &[Before], region: u32) -> u32
-    requires short { length events.now ≤ MAX_EVENTS }
-    requires same { length before.now ≡ length events.now }
-    requires kept { AreBefore events.now before.now }
-    ensures { EndsWithRun (is_in region) events.now result }
-{
-    match events.last() {
-        Some(last) if last.is_in(region) => before[before.len() - 1].region,
-        _ => events.len() as u32,
+        Some(last) => {
+            let kept = starts[starts.len() - 1];
+            Starts {
+                run: if last.is_receive_from(sender) {
+                    kept.run
+                } else {
+                    all
+                },
+                region: if last.is_in(region) { kept.region } else { all },
+            }
+        }
+        None => Starts {
+            run: all,
+            region: all,
+        },
     }
 }
 
 /// What is kept for an event that is to come after these.
-fn before_next(events: &[Event], before: &[Before], event: Event) -> Before
+fn next_starts(events: &[Event], starts: &[Starts], event: Event) -> Starts
     requires short { length events.now ≤ MAX_EVENTS }
-    requires same { length before.now ≡ length events.now }
-    requires kept { AreBefore events.now before.now }
+    requires same { length starts.now ≡ length events.now }
+    requires kept { AreStarts events.now starts.now }
     ensures { IsNext events.now event result }
 {
     match event {
         Event::Send { .. } => {
             let all = events.len() as u32;
-            Before {
+            Starts {
                 run: all,
                 region: all,
             }
         }
-        Event::Receive { from, region, .. } => Before {
-            run: before_ending_run(events, before, from),
-            region: before_ending_region(events, before, region),
-        },
+        Event::Receive { from, region, .. } => receive_starts(events, starts, from, region),
     }
 }

@@ -51,11 +51,15 @@ impl Model for Name {
 
     ghost view = { λ n. take n.len n.bytes };
 
-    ghost invariant = { λ n. (n.len ≤ MAX_NAME) × IsName (take n.len n.bytes) × (drop n.len n.bytes ≡ replicate (MAX_NAME - n.len) 0) × (length n.bytes ≡ MAX_NAME) };
+    ghost invariant = { λ n. (n.len ≤ MAX_NAME) × IsName (take n.len n.bytes)
+        × (drop n.len n.bytes ≡ replicate (MAX_NAME - n.len) 0) × (length n.bytes ≡ MAX_NAME) };
 
     ghost inverse = { λ w. record { bytes = w ++ replicate (MAX_NAME - length w) 0; len = length w } };
 
-    ghost inverse_ok = { λ n h i. record { bytes = unpadded MAX_NAME n.len n.bytes h.0 h.2 h.3 i; len = length-unpadded MAX_NAME n.len n.bytes h.0 h.3 i } };
+    ghost inverse_ok = { λ n h i. record {
+      bytes = unpadded MAX_NAME n.len n.bytes h.0 h.2 h.3 i;
+      len = length-unpadded MAX_NAME n.len n.bytes h.0 h.3 i;
+    } };
 }
 
 fn is_letter(byte: u8) -> bool

@@ -1,5 +1,6 @@
 //! The names of a chart's instances.
-ghost use Rattle.std.specs.Prelude.{ℕ, ◌≡◌, ◌≤◌, ◌<◌, ◌+◌, ◌++◌, ◌∷◌, [], ◌↔◌, suc, length, IfOk, OnErr, Ok, Err, Some, IsTrue, ◌==◌, Contains, slice_get};
+ghost use Rattle.std.specs.Prelude.{ℕ, ◌≡◌, ◌≤◌, ◌<◌, ◌+◌, ◌++◌, ◌∷◌, [], ◌↔◌, suc, length, IfOk, OnErr, Ok, Err, Some};
+ghost use Rattle.std.specs.Prelude.{IsTrue, ◌==◌, Contains, slice_get};
 ghost use Rattle.chart.specs.Names.{instance_of};
 ghost use Rattle.chart.specs.NameSets.{AreNames};
 ghost use Rattle.chart.specs.declared.instance.TheConstants.{MAX_INSTANCES};

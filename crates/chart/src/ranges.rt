@@ -1,5 +1,6 @@
 //! Lists of events, kept as ranges of neighbours.
-ghost use Rattle.std.specs.Prelude.{◌≡◌, ◌++◌, ◌+◌, ◌==◌, [], length, min, ◌^◌, ◌-◌, ◌<◌, All, IfOk, IsOk, OnErr, OnOk, IsTrue, ◌↔◌};
+ghost use Rattle.std.specs.Prelude.{◌≡◌, ◌++◌, ◌+◌, ◌==◌, [], length, min, ◌^◌, ◌-◌, ◌<◌, All, IfOk, IsOk, OnErr, OnOk};
+ghost use Rattle.std.specs.Prelude.{IsTrue, ◌↔◌};
 ghost use Rattle.std.specs.Iterator.{YieldsFirst, item_count};
 ghost use Rattle.chart.specs.Ranges.{IsRange, events_of, events_in, is_followed_by};
 

@@ -8,7 +8,8 @@ use std::alloc::{AllocError, Global};
 use std::marker::Model;
 
 /// The races of a receive: the earlier events of its line that come before it by luck alone. They are kept as ranges of
-/// neighbours, so a report costs its ranges. A contract sees it as a record of the receive and of the events one by one.
+/// neighbours, so a report costs its ranges. A contract sees it as a record of the receive and of the events one by
+/// one.
 #[derive(Debug, Drop)]
 pub struct Report {
     receive: EventNo,

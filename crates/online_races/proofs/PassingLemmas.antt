@@ -10,7 +10,7 @@ use Rattle.chart.specs.declared.event.Event.TheVariants.{Send, Receive}
 use Rattle.chart.specs.Events.{ith, is_receive_from, is_in, region_of, receive_event}
 use Rattle.chart.specs.declared.ranges.EventRange.{EventRange}
 use Rattle.chart.specs.Ranges.{events_from, events_of, events_in}
-use Rattle.chart.specs.Runs.{IsRun, IsBeforeRun}
+use Rattle.chart.specs.Runs.{IsRun, IsStartOfRun}
 use Rattle.chart.specs.declared.instance.EventNo.{EventNo}
 use Rattle.chart.specs.declared.line.TheConstants.{MAX_EVENTS}
 use Rattle.chart.specs.Charts.{LineView}
@@ -182,7 +182,7 @@ AreRaces-run line before last q from region run within other outside = record {
 
 -- a race that is a receive, and the run of receives from its sender that ends with it
 pub AreRaces-receive : (line : List Event) (before index q region from c : ℕ) (name : List ℕ) (m : Event) → 1 ≤ index → index ≤ length line → m ≡ get_or line (index - 1) m → m ≡ receive_event from name c
-    → IsBeforeRun is_receive_from line index before → IsRace line q region index → region ≡ 0 → AreRaces line before index q region
+    → IsStartOfRun is_receive_from line index before → IsRace line q region index → region ≡ 0 → AreRaces line before index q region
 AreRaces-receive line before index q region from c name m low within read is kept (n, at_n, other, outside) none =
     let here : ith line index ≡ Some m = ith_read line index m low within read in
     let pass : is_receive_from from m ≡ true = ap (is_receive_from from) is ∙ eq-eqb from from refl in

@@ -1,6 +1,7 @@
 -- How the events of a line are passed, from its end on back, in search of races (Alur, Holzmann and Peled 1996; which
 -- events are no races is this project's profile).
-use Rattle.std.specs.Prelude.{◌≡◌, ℕ, ◌<◌, ◌≤◌, ◌↔◌, ◌⊎◌, true, false, List, length, take, map, All, AllPairs, Contains, Some}
+use Rattle.std.specs.Prelude.{◌≡◌, ℕ, ◌<◌, ◌≤◌, ◌↔◌, ◌⊎◌, true, false, List, length, take, map, All, AllPairs, Contains}
+use Rattle.std.specs.Prelude.{Some}
 use Rattle.chart.specs.declared.event.Event.{Event}
 use Rattle.online_races.specs.declared.Stretch.{Stretch}
 use Rattle.online_races.specs.declared.Stretch.TheVariants.{Passed, Races}
@@ -16,7 +17,8 @@ IsRace line q region j = (m : Event) × (ith line j ≡ Some m) × (is_receive_f
 -- each event after the first `before` ones, up to the last, is a receive from q or in the region
 pub record ArePassed (line : List Event) (before last q region : ℕ) : Type 0 where
   pub less : before < last
-  pub each : (j : ℕ) (m : Event) → before < j → j ≤ last → ith line j ≡ Some m → (is_receive_from q m ≡ true) ⊎ (is_in region m ≡ true)
+  pub each : (j : ℕ) (m : Event) → before < j → j ≤ last → ith line j ≡ Some m
+      → (is_receive_from q m ≡ true) ⊎ (is_in region m ≡ true)
 
 -- each event after the first `before` ones, up to the last, is neither
 pub record AreRaces (line : List Event) (before last q region : ℕ) : Type 0 where

@@ -5,7 +5,8 @@
 //! the call isn't refused.
 #![tactic(auto)]
 
-ghost use Rattle.std.specs.Prelude.{◌≡◌, ℕ, ◌-◌, ◌<◌, ◌≤◌, List, [], ◌++◌, length, map, take, vec_capacity, All, IfSome, MatchOption, IsOk, IfOk};
+ghost use Rattle.std.specs.Prelude.{◌≡◌, ℕ, ◌-◌, ◌<◌, ◌≤◌, List, [], ◌++◌, length, map, take, vec_capacity, All};
+ghost use Rattle.std.specs.Prelude.{IfSome, MatchOption, IsOk, IfOk};
 ghost use Rattle.chart.specs.Order.{IsRaces};
 ghost use Rattle.chart.specs.Ranges.{IsRange, events_of, events_in};
 ghost use Rattle.chart.specs.declared.line.TheConstants.{MAX_EVENTS};
@@ -24,12 +25,13 @@ enum Stretch {
     Races { before: usize },
 }
 
-/// How many events stand before a run of races that ends with this event: the neighbouring receives from its sender, where
-/// the receive that comes is in no coregion.
+/// How many events stand before a run of races that ends with this event: the neighbouring receives from its sender,
+/// where the receive that comes is in no coregion.
 fn before_races(line: &GrowingLine, index: usize, region: u32) -> usize
     requires begun { 1 ≤ index }
     requires within { index ≤ length line.now.line.events }
-    ensures { (sender : ℕ) → IsRace line.now.line.events sender region index → AreRaces line.now.line.events result index sender region }
+    ensures { (sender : ℕ) → IsRace line.now.line.events sender region index
+        → AreRaces line.now.line.events result index sender region }
 {
     match &line.events()[index - 1] {
         Event::Receive { .. } if region == 0 => line.before_run(index),
@@ -76,7 +78,8 @@ fn last_races(
     ensures later { IfSome result (λ races. entry < races.first.index) }
     ensures within { IfSome result (λ races. races.first.index ≤ index) }
     ensures found { (end : ℕ) (found : List EventNo) → HasFound line.now.line end index entry sender region found
-        → MatchOption result (IsRaces (take end line.now.line.events) entry sender region (map (λ race. race.index) found))
+        → MatchOption result
+        (IsRaces (take end line.now.line.events) entry sender region (map (λ race. race.index) found))
         (λ races. HasFound line.now.line end (races.first.index - 1) entry sender region (events_of races ++ found)) }
 {
     prove!(index <= line.len());
@@ -101,8 +104,8 @@ fn last_races(
 }
 
 /// Of the first events of the line, as many as `end` says, those later than the entry that are neither receives from
-/// the sender nor, where the region isn't 0, receives of it: the races of a receive that comes next, from this sender and
-/// in this region, if the entry is what its send knows of the line. What comes later on the line doesn't matter.
+/// the sender nor, where the region isn't 0, receives of it: the races of a receive that comes next, from this sender
+/// and in this region, if the entry is what its send knows of the line. What comes later on the line doesn't matter.
 ///
 /// F6: it fails only where there is no memory, and where there are no races it needs none.
 pub fn race_ranges(
@@ -114,7 +117,8 @@ pub fn race_ranges(
     region: u32,
 ) -> Result<EventRanges, AllocError>
     requires { end ≤ length line.now.line.events }
-    ensures races { IfOk result (λ found. IsRaces (take end line.now.line.events) entry sender region (map (λ race. race.index) found)) }
+    ensures races { IfOk result (λ found.
+        IsRaces (take end line.now.line.events) entry sender region (map (λ race. race.index) found)) }
     ensures own { IfOk result (λ found. All (λ race. race.instance ≡ line.now.line.instance) found) }
     ensures none { IsRaces (take end line.now.line.events) entry sender region [] → IsOk result }
 {
@@ -128,8 +132,8 @@ pub fn race_ranges(
     Ok(found.finish())
 }
 
-/// Puts the ranges of the same races in place of those in the list, the first of the line first. Neighbouring races may be in
-/// several ranges.
+/// Puts the ranges of the same races in place of those in the list, the first of the line first. Neighbouring races may
+/// be in several ranges.
 ///
 /// The list has places for as many ranges as a line has events, so no memory is needed.
 pub fn find_races(
@@ -142,7 +146,8 @@ pub fn find_races(
 )
     requires end { end ≤ length line.now.line.events }
     requires places { MAX_EVENTS ≤ vec_capacity found.old }
-    ensures races { IsRaces (take end line.now.line.events) entry sender region (map (λ race. race.index) (events_in found.new.items)) }
+    ensures races { IsRaces (take end line.now.line.events) entry sender region
+        (map (λ race. race.index) (events_in found.new.items)) }
     ensures own { All (λ race. race.instance ≡ line.now.line.instance) (events_in found.new.items) }
     ensures ranges { All IsRange found.new.items }
     ensures places { vec_capacity found.new ≡ vec_capacity found.old }
@@ -168,7 +173,8 @@ pub fn next_races(
     sender: InstanceNo,
     region: u32,
 ) -> Result<EventRanges, AllocError>
-    ensures races { IfOk result (λ found. IsRaces line.now.line.events entry sender region (map (λ race. race.index) found)) }
+    ensures races { IfOk result (λ found.
+        IsRaces line.now.line.events entry sender region (map (λ race. race.index) found)) }
     ensures own { IfOk result (λ found. All (λ race. race.instance ≡ line.now.line.instance) found) }
     ensures none { IsRaces line.now.line.events entry sender region [] → IsOk result }
 {
@@ -185,7 +191,8 @@ pub fn races(
     sender: InstanceNo,
     region: u32,
 ) -> Result<Vec<EventNo>, AllocError>
-    ensures races { IfOk result (λ found. IsRaces line.now.events entry sender region (map (λ race. race.index) found.items)) }
+    ensures races { IfOk result (λ found.
+        IsRaces line.now.events entry sender region (map (λ race. race.index) found.items)) }
     ensures own { IfOk result (λ found. All (λ race. race.instance ≡ line.now.instance) found.items) }
     ensures none { IsRaces line.now.events entry sender region [] → IsOk result }
 {

@@ -11,5 +11,5 @@ loop-name-preserved c =
     let own : inside.instance ≡ c.self.inside.instance = old.same ∙ sym (ap (λ (l : GrowingView). l.line.instance) c.self.view_is) in
     let other : c.args.to ≢ inside.instance = λ e. false≢true (sym (sym c.eq.ensures ∙ c.if-eq.false) ∙ eq-eqb _ _ (e ∙ own)) in
     let all : c.len-all.result ≡ length inside.events.items = c.len-all.ensures ∙ inside.events.ok.0 in
-    let next = HasAdded-next c.args.self.now.line c.args.to c.args.names.now c.loop-name.name-index inside.instance inside.events.items inside.before.items inside.greatest c.name-item.result other c.loop-name-test.true c.name-item.is old in
+    let next = HasAdded-next c.args.self.now.line c.args.to c.args.names.now c.loop-name.name-index inside.instance inside.events.items inside.starts.items inside.greatest c.name-item.result other c.loop-name-test.true c.name-item.is old in
     (rw (c.push_reserved-in-loop-name.ensures.items, c.push_reserved.ensures.items, all) next, omega arith, omega arith, omega arith, omega arith)
