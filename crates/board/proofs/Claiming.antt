@@ -1,4 +1,4 @@
--- Places of a lane, claimed by its sender.
+-- Slots of a lane, claimed by its sender.
 use Rattle.std.proofs.Common.{◌≡◌, ℕ, ◌+◌, ◌-◌, ◌<◌, ◌≤◌, ◌==◌, ◌&&◌, Bool, true, false, cond, List, [], ◌∷◌, ◌++◌, length, refl, sym, ap, ◌∙◌, subst, arith, length-append, append-nil}
 use Rattle.std.proofs.lemmas.List.{length_push}
 use Rattle.chart.specs.declared.history.Occurrence.{Occurrence}
@@ -15,7 +15,7 @@ use Rattle.board_table.specs.Knowing.{Mine, held, Rests, IsPost, Sees}
 use Rattle.board_table.specs.Plays.{PutsBack, Claims, ClaimsAnew}
 use Rattle.board.specs.declared.ends.Outgoing.{Outgoing}
 use Rattle.board.specs.Known.{IsOutgoing}
-use Rattle.board.specs.Parts.{HasPlaces, HasNoPlaces}
+use Rattle.board.specs.Parts.{HasSlots, HasNoSlots}
 use Rattle.board.proofs.EndLemmas.{outgoing_later}
 use Rattle.board.proofs.DidLemmas.{waiting_many}
 
@@ -38,8 +38,8 @@ module _ (l : LaneView) (m w : Mine) (o : Outgoing) (many : ℕ) (legal : IsLega
   pub kept_end : Claims l m w → IsOutgoing l.instances (held w).seen l.sender l.receiver o
   kept_end claims = outgoing_later l.instances (held m).seen (held w).seen l.sender l.receiver o claims.sees.later (same claims.sees) end
 
-  pub places_again : Claims l m w → o.put - o.known_taken + many ≤ l.capacity → HasPlaces l many w
-  places_again claims few =
+  pub slots_again : Claims l m w → o.put - o.known_taken + many ≤ l.capacity → HasSlots l many w
+  slots_again claims few =
       let kept = kept_end claims in
       let waits = waiting_many l.instances l.capacity (held w).seen l.sender l.receiver claims.sees.legal in
       record {
@@ -54,8 +54,8 @@ module _ (l : LaneView) (m w : Mine) (o : Outgoing) (many : ℕ) (legal : IsLega
       let kept = kept_end anew.claims in
       record { put = kept.put; known = omega (arith, anew.found); unsent = kept.unsent; base = kept.base; long = kept.long }
 
-  pub places_anew : (word : ℕ) → ClaimsAnew l m word w → o.put - word + many ≤ l.capacity → HasPlaces l many w
-  places_anew word anew few =
+  pub slots_anew : (word : ℕ) → ClaimsAnew l m word w → o.put - word + many ≤ l.capacity → HasSlots l many w
+  slots_anew word anew few =
       let kept = kept_end anew.claims in
       let waits = waiting_many l.instances l.capacity (held w).seen l.sender l.receiver anew.claims.sees.legal in
       record {
@@ -65,8 +65,8 @@ module _ (l : LaneView) (m w : Mine) (o : Outgoing) (many : ℕ) (legal : IsLega
         fit = omega (arith, waits, kept.put, anew.found);
       }
 
-  pub no_places : (v : Mine) (word : ℕ) → ClaimsAnew l m word w → PutsBack w v → l.capacity < o.put - word + many → HasNoPlaces l many m v
-  no_places v word anew back less =
+  pub no_slots : (v : Mine) (word : ℕ) → ClaimsAnew l m word w → PutsBack w v → l.capacity < o.put - word + many → HasNoSlots l many m v
+  no_slots v word anew back less =
       let kept = kept_end anew.claims in
       let now = waiting_many l.instances l.capacity (held w).seen l.sender l.receiver anew.claims.sees.legal in
       let then_ = waiting_many l.instances l.capacity (held m).seen l.sender l.receiver legal in

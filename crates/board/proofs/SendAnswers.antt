@@ -32,7 +32,7 @@ module _ (key : Shape) (table chair : TableId) (m : Mine) (n k p : ℕ) (r : Rec
   pub closed_made : (to : ℕ) (o : Outgoing) → IsOutgoing n (held m).seen p to o → is_closed (held m).made p to ≡ o.closed
   closed_made to o end = ap (λ h. is_closed h p to) (sym post.made) ∙ closed_own (held m).seen p to ∙ sym end.unsent
 
-  -- nothing but the line, the lane's places and memory stands in the way
+  -- nothing but the line, the lane's slots and memory stands in the way
   pub may_send : (to j : ℕ) (o : Outgoing) → to ≡ suc j → to ≢ p → to ≤ n → o ≡ get_or outgoing j o → region ≡ 0 → o.closed ≡ false → MaySend (view_of table m n k p region r.room) to
   may_send to j o place ne most read outside open_end = record {
     two = (post.least, post.most, omega (arith, place), most, λ e. ne (sym e));

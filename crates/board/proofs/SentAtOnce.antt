@@ -18,7 +18,7 @@ use Rattle.board_table.specs.Plays.{Publishes}
 use Rattle.board.specs.declared.ends.Outgoing.{Outgoing}
 use Rattle.board.specs.Known.{IsOutgoing, Did}
 use Rattle.board.specs.Sending.{sends_of}
-use Rattle.board.specs.Parts.{HasPlaces}
+use Rattle.board.specs.Parts.{HasSlots}
 use Rattle.board.specs.SendingMany.{names_of, packets_of, AreDiffsTo, last_of}
 use Rattle.board.proofs.EndLemmas.{outgoing_later}
 use Rattle.board.proofs.DidLemmas.{did_move}
@@ -39,14 +39,14 @@ pub record Fills (l : LaneView) (m s f : Mine) (r : RecorderView) (u : Outgoing)
 
 -- with these differences
 pub fills_of : (l : LaneView) (m s f : Mine) (r : RecorderView) (u : Outgoing) (ms : List Content) (ds : List (List Change)) → IsLegal l.instances l.capacity (held m).seen → own (held m).seen l.sender ≡ (held m).made → Did l.instances l.capacity l.sender (held m) (held s) (held s).seen [] → IsRecorder l.instances (held m).seen l.sender r → IsOutgoing l.instances (held s).seen l.sender l.receiver u
-    → HasPlaces l (length ms) s → held f ≡ held s → packets_out f ≡ packets_of ms ds → AreDiffsTo u.base ds (send_clocks r l.receiver (names_of ms)) → Fills l m s f r u ms (packets_of ms ds)
-fills_of l m s f r u ms ds legal its did recorder end places kept filled are = record {
+    → HasSlots l (length ms) s → held f ≡ held s → packets_out f ≡ packets_of ms ds → AreDiffsTo u.base ds (send_clocks r l.receiver (names_of ms)) → Fills l m s f r u ms (packets_of ms ds)
+fills_of l m s f r u ms ds legal its did recorder end slots kept filled are = record {
   legal = legal;
   its = its;
   did = did;
   recorder = recorder;
   end = end;
-  number = places.filling.post.number;
+  number = slots.filling.post.number;
   kept = kept;
   filled = filled;
   are = packets_contents ms ds (as_many_diffs u.base r l.receiver ms ds are);

@@ -43,12 +43,12 @@ pub record AreEndsBut (n : ℕ) (h : List Occurrence) (p to_one from_one : ℕ) 
 abbrev pub AreEnds : ℕ → List Occurrence → ℕ → List Outgoing → List Incoming → Type 0
 AreEnds n h p outgoing incoming = AreEndsBut n h p 0 0 outgoing incoming
 
--- a board may have so many instances, and lanes of so many places
+-- a board may have so many instances, and lanes of so many slots
 pub record IsSized (n k : ℕ) : Type 0 where
   pub several : 2 ≤ n
   pub few : n ≤ MAX_INSTANCES
   pub some : 1 ≤ k
-  pub places : k ≤ MAX_CAPACITY
+  pub slots : k ≤ MAX_CAPACITY
 
 -- what a post knows is so in what it has seen, which is legal
 pub record Knows (n k : ℕ) (h : List Occurrence) (p : ℕ) (recorder : RecorderView) (region : ℕ) (outgoing : List Outgoing) (incoming : List Incoming) : Type 0 where

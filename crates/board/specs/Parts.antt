@@ -11,7 +11,7 @@ use Rattle.board.specs.declared.ends.Outgoing.{Outgoing}
 use Rattle.board.specs.Known.{IsOutgoing, Did}
 use Rattle.board_table.specs.Knowing.{Mine, held, packets_out, vacant_out, Rests, IsFilling}
 
--- the sender, with nothing out, may put so many messages on its lane, if they find places there
+-- the sender, with nothing out, may put so many messages on its lane, if they find slots there
 pub record MayPut (l : LaneView) (many : ℕ) (me : Mine) (end : Outgoing) (recorder : RecorderView) : Type 0 where
   pub rests : Rests l.instances l.capacity l.sender me
   pub legal : IsLegal l.instances l.capacity (held me).seen
@@ -22,19 +22,19 @@ pub record MayPut (l : LaneView) (many : ℕ) (me : Mine) (end : Outgoing) (reco
   pub short : length (chart_of (held me).seen l.sender) + many ≤ MAX_EVENTS
   pub two : AreTwo l.instances l.sender l.receiver
 
--- so many messages more find places on the lane
+-- so many messages more find slots on the lane
 abbrev pub Fit : LaneView → ℕ → Mine → Type 0
 Fit l many me = length (waiting (held me).seen l.sender l.receiver) + many ≤ l.capacity
 
--- at least so many empty places of the lane are out with its sender, and none that is filled
-pub record HasPlaces (l : LaneView) (many : ℕ) (me : Mine) : Type 0 where
+-- at least so many empty slots of the lane are out with its sender, and none that is filled
+pub record HasSlots (l : LaneView) (many : ℕ) (me : Mine) : Type 0 where
   pub filling : IsFilling l me
   pub unfilled : packets_out me ≡ []
   pub enough : many ≤ vacant_out me
   pub fit : Fit l many me
 
--- so many find no place on the lane, in what was seen before too, and this comes of a look
-pub record HasNoPlaces (l : LaneView) (many : ℕ) (old new : Mine) : Type 0 where
+-- so many find no slot on the lane, in what was seen before too, and this comes of a look
+pub record HasNoSlots (l : LaneView) (many : ℕ) (old new : Mine) : Type 0 where
   pub rests : Rests l.instances l.capacity l.sender new
   pub waits : l.capacity < length (waiting (held new).seen l.sender l.receiver) + many
   pub before : l.capacity < length (waiting (held old).seen l.sender l.receiver) + many
@@ -48,7 +48,7 @@ IsCause l many old new InCoregion = ⊥
 IsCause l many old new Closed = ⊥
 IsCause l many old new TooMany = ⊥
 IsCause l many old new LineFull = ⊥
-IsCause l many old new Full = HasNoPlaces l many old new
+IsCause l many old new Full = HasNoSlots l many old new
 IsCause l many old new Memory = Fit l many new
 
 -- and no event came of them

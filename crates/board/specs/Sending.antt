@@ -12,13 +12,13 @@ use Rattle.board.specs.declared.error.SendError.{SendError}
 use Rattle.board.specs.declared.error.SendError.TheVariants.{NoSuchInstance, ToItself, InCoregion, Closed, TooMany, LineFull, Full, Memory}
 use Rattle.board.specs.Views.{PostView, line_of, last_event, Makes, Stays, IsPartner}
 
--- no cause stands in the way but those of the line, of the lane's places and of memory
+-- no cause stands in the way but those of the line, of the lane's slots and of memory
 pub record MaySend (old : PostView) (to : ℕ) : Type 0 where
   pub two : IsPartner old to
   pub outside : old.region ≡ 0
   pub opened : is_closed old.made old.number to ≡ false
 
--- so many more messages than one call may send find no place: as many wait as leave too few, in what was seen too, and this
+-- so many more messages than one call may send find no slot: as many wait as leave too few, in what was seen too, and this
 -- comes of a look
 pub record IsFull (old : PostView) (to many : ℕ) (new : PostView) : Type 0 where
   pub waits : new.board.capacity < length (waiting new.seen new.number to) + many
@@ -26,7 +26,7 @@ pub record IsFull (old : PostView) (to many : ℕ) (new : PostView) : Type 0 whe
   pub before : old.board.capacity < length (waiting old.seen old.number to) + many
   pub looked : old.looks < new.looks
 
--- so many messages find places
+-- so many messages find slots
 abbrev pub HasRoom : PostView → ℕ → ℕ → Type 0
 HasRoom post to many = length (waiting post.seen post.number to) + many ≤ post.board.capacity
 
@@ -75,7 +75,7 @@ abbrev pub SendsAll : PostView → ℕ → List Content → Result (Vec Sent) (V
 SendsAll old to messages (Ok sents) new = AreSent old to messages sents.items new
 SendsAll old to messages (Err (back, error)) new = (back.items ≡ messages) × Stays old new × IsUnsent old to (length messages) error new
 
--- nothing but the lane's places and memory stands in the way of so many messages
+-- nothing but the lane's slots and memory stands in the way of so many messages
 pub record MayPass (old : PostView) (to many : ℕ) : Type 0 where
   pub may : MaySend old to
   pub few : many ≤ old.board.capacity

@@ -6,7 +6,7 @@ use Rattle.chart.specs.declared.instance.EventNo.{EventNo}
 use Rattle.chart.specs.declared.event.Event.{Event}
 use Rattle.chart.specs.Histories.{own, chart_of, AreTwo, IsLegal, Begins}
 
--- which board it is, of how many instances, and how many places each lane has
+-- which board it is, of how many instances, and how many slots each lane has
 pub record BoardView : Type 0 where
   pub table : TableId
   pub size : ℕ

@@ -39,7 +39,7 @@ impl Model for Board {
 }
 
 impl Board {
-    /// A board of so many instances, whose lanes have so many places each. The first of F8, F9 and F6 refuses it.
+    /// A board of so many instances, whose lanes have so many slots each. The first of F8, F9 and F6 refuses it.
     pub fn new(alloc: Global, instances: usize, capacity: usize) -> Result<Board, BoardError>
         ensures made { MakesBoard instances capacity result }
     {

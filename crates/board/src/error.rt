@@ -15,8 +15,8 @@ pub enum BoardError {
     /// F8: fewer than 2 instances, or more than [`chart::MAX_INSTANCES`].
     #[error("a board has 2 to 32 instances")]
     Instances,
-    /// F9: lanes of no place, or of more than [`board_table::MAX_CAPACITY`].
-    #[error("a lane has 1 to 64 places")]
+    /// F9: lanes of no slot, or of more than [`board_table::MAX_CAPACITY`].
+    #[error("a lane has 1 to 64 slots")]
     Capacity,
     /// F6: a growth was refused.
     #[error("out of memory")]
@@ -49,13 +49,13 @@ pub enum SendError {
     /// F12: this post closed the lane.
     #[error("the lane is closed")]
     Closed,
-    /// F27: more messages at once than the lane has places. A send of one message never answers it.
-    #[error("more messages than the lane has places")]
+    /// F27: more messages at once than the lane has slots. A send of one message never answers it.
+    #[error("more messages than the lane has slots")]
     TooMany,
     /// F7: the line would get more than [`chart::MAX_EVENTS`] events.
     #[error("the line is full")]
     LineFull,
-    /// F11: so many messages wait that these find no place.
+    /// F11: so many messages wait that these find no slot.
     #[error("the lane is full")]
     Full,
     /// F6: a growth was refused.

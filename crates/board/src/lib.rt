@@ -9,7 +9,7 @@
 //! `Sending`, `Taking`, `TakingMany`, `Closing`, `Meeting` and `Gathering` say what each call answers.
 //!
 //! Messages carry what changed in their sender's clock since the one before on their lane (Singhal and Kshemkalyani 1992).
-//! Each end keeps the number that it loaded last, and looks again only where that leaves too few places, or too few
+//! Each end keeps the number that it loaded last, and looks again only where that leaves too few slots, or too few
 //! messages.
 #![tactic(auto)]
 

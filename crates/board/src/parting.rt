@@ -27,7 +27,7 @@ pub(crate) struct Room {
     pub taken: u64,
     /// How many wait.
     pub many: u64,
-    /// As many places as messages wait.
+    /// As many slots as messages wait.
     pub messages: Vec<Message>,
 }
 

@@ -11,7 +11,7 @@ ghost use Rattle.board_table.specs.declared.lane.TheConstants.{MAX_CAPACITY};
 ghost use Rattle.board_table.specs.Layout.{IsBoard};
 ghost use Rattle.board_table.specs.Knowing.{held, Rests};
 ghost use Rattle.board.specs.Known.{IsOutgoing, Did};
-ghost use Rattle.board.specs.Parts.{MayPut, HasPlaces, HasNoPlaces, IsUnmade};
+ghost use Rattle.board.specs.Parts.{MayPut, HasSlots, HasNoSlots, IsUnmade};
 
 use crate::ends::Outgoing;
 use crate::error::SendError;
@@ -23,9 +23,9 @@ use clock::{Clock, Diff};
 use line_recorder::Recorder;
 use std::alloc::{AllocError, Global};
 
-/// Takes all places of the lane that are free, if there are so many, and else none. It looks at the receiver's word only where
+/// Takes all slots of the lane that are free, if there are so many, and else none. It looks at the receiver's word only where
 /// the number that is known leaves too few.
-pub(crate) fn claim_places(
+pub(crate) fn claim_slots(
     words: &Words,
     seat: &mut Seat,
     lane: &Lane,
@@ -45,8 +45,8 @@ pub(crate) fn claim_places(
     ensures table { seat.new.table_id ≡ seat.old.table_id }
     ensures did { Did lane.now.instances lane.now.capacity lane.now.sender (held seat.old.me) (held seat.new.me) (held seat.new.me).seen [] }
     ensures end { IsOutgoing lane.now.instances (held seat.new.me).seen lane.now.sender lane.now.receiver end.new }
-    ensures yes { result ≡ true → HasPlaces lane.now many seat.new.me }
-    ensures no { result ≡ false → HasNoPlaces lane.now many seat.old.me seat.new.me }
+    ensures yes { result ≡ true → HasSlots lane.now many seat.new.me }
+    ensures no { result ≡ false → HasNoSlots lane.now many seat.old.me seat.new.me }
 {
     if end.put - end.known_taken + many as u64 <= capacity as u64 {
         claim_again(words, seat, lane);
@@ -116,7 +116,7 @@ pub(crate) fn send_one(
     ensures kept { OnErr result (recorder.new.room ≡ recorder.old.room) }
     ensures room { 0 < recorder.old.room → lane.now.instances ≤ INLINE_ENTRIES → IfErr result (λ error. error.1 ≢ SendError.Memory) }
 {
-    if !claim_places(words, seat, lane, end, capacity, 1) {
+    if !claim_slots(words, seat, lane, end, capacity, 1) {
         return Err((message, SendError::Full));
     }
     let Ok(diff) = record(alloc, recorder, &end.base, to, message.name()) else {

@@ -8,14 +8,14 @@ ghost use Rattle.board_table.specs.declared.lane.TheConstants.{MAX_CAPACITY};
 ghost use Rattle.board_table.specs.Layout.{IsBoard};
 ghost use Rattle.board_table.specs.Knowing.{held, packets_out, Rests, IsFilling};
 ghost use Rattle.board.specs.Known.{IsOutgoing};
-ghost use Rattle.board.specs.Parts.{MayPut, HasPlaces, IsUnmade};
+ghost use Rattle.board.specs.Parts.{MayPut, HasSlots, IsUnmade};
 ghost use Rattle.board.specs.Sending.{numbered};
 ghost use Rattle.board.specs.SendingMany.{names_of, packets_of, AreDiffsTo, last_of, IsPrepared, AreMade};
 
 use crate::answer::Sent;
 use crate::ends::Outgoing;
 use crate::error::SendError;
-use crate::sending::claim_places;
+use crate::sending::claim_slots;
 use board_table::{Lane, Packet, Seat, Words, fill, give_back_vacant, publish};
 use chart::{EventNo, GrowingLine, InstanceNo, MAX_EVENTS, Message, Name};
 use clock::{Clock, Diff};
@@ -116,9 +116,9 @@ fn prepare(
     }
 }
 
-/// Fills a place with each message and its difference, in their order, from that on before which `count` messages were put
+/// Fills a slot with each message and its difference, in their order, from that on before which `count` messages were put
 /// on the lane. It answers how many were put with these.
-fn fill_places(
+fn fill_slots(
     words: &Words,
     seat: &mut Seat,
     lane: &Lane,
@@ -128,7 +128,7 @@ fn fill_places(
 ) -> u64
     requires table { seat.old.table_id ≡ words.now.table_id }
     requires board { IsBoard lane.now.instances lane.now.capacity words.now.key words.now.table_id }
-    requires places { HasPlaces lane.now (length messages.items) seat.old.me }
+    requires slots { HasSlots lane.now (length messages.items) seat.old.me }
     requires count { count ≡ length (sent (held seat.old.me).seen lane.now.sender lane.now.receiver) }
     requires few { count + length messages.items ≤ MAX_EVENTS }
     requires as_many { length diffs.items ≡ length messages.items }
@@ -174,7 +174,7 @@ pub(crate) fn send_several(
     ensures left { OnOk result (recorder.new.room ≡ recorder.old.room - length messages.items) }
     ensures kept { OnErr result (recorder.new.room ≡ recorder.old.room) }
 {
-    if !claim_places(words, seat, lane, end, capacity, messages.len()) {
+    if !claim_slots(words, seat, lane, end, capacity, messages.len()) {
         return Err((messages, SendError::Full));
     }
     let Ok(prepared) = prepare(alloc, recorder, &end.base, to, messages.as_slice()) else {
@@ -182,7 +182,7 @@ pub(crate) fn send_several(
         return Err((messages, SendError::Memory));
     };
     let Prepared { diffs, last, sents } = prepared;
-    end.put = fill_places(words, seat, lane, end.put, messages, diffs);
+    end.put = fill_slots(words, seat, lane, end.put, messages, diffs);
     end.base = last;
     publish(words, seat, lane, end.put);
     Ok(sents)

@@ -1,4 +1,4 @@
-//! Bursts of messages on one thread: as many as a lane has places are sent, and then received; and the same messages passed
+//! Bursts of messages on one thread: as many as a lane has slots are sent, and then received; and the same messages passed
 //! by two recorders alone.
 ghost use Rattle.recorder_pair.specs.Partners.{ArePartners};
 

@@ -21,7 +21,7 @@ impl fmt::Display for Calls {
     }
 }
 
-/// Lanes of so many places, messages whose bodies have so many bytes, and by which calls they are passed.
+/// Lanes of so many slots, messages whose bodies have so many bytes, and by which calls they are passed.
 #[derive(Clone, Copy, Debug)]
 pub struct Load {
     pub capacity: usize,

@@ -84,7 +84,7 @@ impl Pattern {
     }
 }
 
-/// How many messages a call passes where so many are left: a quarter of the lane's places, so that both ends can go on.
+/// How many messages a call passes where so many are left: a quarter of the lane's slots, so that both ends can go on.
 fn at_once(load: Load, left: usize) -> usize {
     match load.calls {
         Calls::Single => left.min(1),

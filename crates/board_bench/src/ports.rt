@@ -7,7 +7,7 @@ use std::alloc::Global;
 
 /// What an instance passes messages by. Instances are named by their places, from 0.
 pub trait Port {
-    /// Sends the messages. Those that the lane had no place for come back.
+    /// Sends the messages. Those that the lane had no slot for come back.
     fn send(&mut self, place: usize, parcel: Parcel) -> Result<Option<Parcel>, Stopped>;
 
     /// Receives the first messages that wait, at most so many, or a single one. Answers how many came.

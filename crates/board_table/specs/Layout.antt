@@ -33,7 +33,7 @@ slot_of n k q p c = ((q - 1) * n + (p - 1)) * k + c % k
 abbrev pub slot_count : ℕ → ℕ → ℕ
 slot_count n k = n * n * k
 
--- the table is that of a board of n instances, whose lanes have k places each
+-- the table is that of a board of n instances, whose lanes have k slots each
 pub record IsBoard (n k : ℕ) (key : Shape) (table : TableId) : Type 0 where
   pub instances : key.instances ≡ n
   pub capacity : key.capacity ≡ k

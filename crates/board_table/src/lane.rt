@@ -9,7 +9,7 @@ use crate::Shape;
 use chart::{InstanceNo, MAX_INSTANCES};
 use std::marker::Model;
 
-/// The most places that a lane has.
+/// The most slots that a lane has.
 pub const MAX_CAPACITY: usize = 64;
 
 /// A lane of a board: who sends on it, and who receives.

@@ -69,7 +69,7 @@ fn make_all(rt: &impl Abort, alloc: Global, posts: &mut [Post], calls: &[(usize,
     }
 }
 
-/// After these calls over lanes of so many places the chart has these lines.
+/// After these calls over lanes of so many slots the chart has these lines.
 fn follow(
     rt: &impl Abort,
     alloc: Global,

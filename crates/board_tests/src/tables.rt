@@ -197,7 +197,7 @@ pub struct Turns<'t> {
     pub last: &'t [(usize, Call)],
 }
 
-/// Makes these calls at a board of so many instances, over lanes of so many places.
+/// Makes these calls at a board of so many instances, over lanes of so many slots.
 pub fn play_turns(
     rt: &impl Abort,
     alloc: Global,

@@ -191,7 +191,7 @@ fn hold<R: Threads + Wait + Abort + Sync>(
     assert!(rt; started);
 }
 
-/// Passes so many messages from one thread to another, over a lane of so many places.
+/// Passes so many messages from one thread to another, over a lane of so many slots.
 fn pass<R: Threads + Wait + Abort + Sync>(
     rt: &R,
     alloc: Global,

@@ -47,7 +47,7 @@ fn all_is_given_back(rt: HostRuntime) -> Result<(), Fail> {
     Ok(())
 }
 
-/// How many instances pass messages to each other, over lanes of how many places that they fill, and how many messages each
+/// How many instances pass messages to each other, over lanes of how many slots that they fill, and how many messages each
 /// of them takes of each other one.
 const BOARDS: [(usize, usize, usize); 4] = [(2, 1, 0), (3, 2, 1), (9, 4, 4), (4, 64, 40)];
 
@@ -71,11 +71,11 @@ fn take_of_others(rt: &impl Abort, post: &mut Post, many: usize) {
 #[test]
 fn full_lanes_are_given_back(rt: HostRuntime) -> Result<(), Fail> {
     let alloc = rt.alloc();
-    for (instances, places, many) in BOARDS {
-        let mut board = Board::new(alloc, instances, places)?;
+    for (instances, slots, many) in BOARDS {
+        let mut board = Board::new(alloc, instances, slots)?;
         let mut posts = board.posts()?;
         for post in posts.iter_mut() {
-            send_to_others(&rt, alloc, post, places);
+            send_to_others(&rt, alloc, post, slots);
         }
         for post in posts.iter_mut() {
             take_of_others(&rt, post, many);

@@ -98,7 +98,7 @@ fn lose_third<R: Threads + Wait + Abort + Sync>(
     assert!(rt; started);
 }
 
-/// The same over lanes of so many places.
+/// The same over lanes of so many slots.
 fn lose_third_over<R: Threads + Wait + Abort + Sync>(
     rt: &R,
     alloc: Global,

@@ -6,7 +6,7 @@ use std::alloc::Global;
 use std::process::Abort;
 use std::test::Fail;
 
-/// How many messages are sent: as many as the lane has places.
+/// How many messages are sent: as many as the lane has slots.
 const MESSAGES: usize = 64;
 
 /// Makes room for a whole line, if memory isn't refused, and then sends messages, whatever is refused from then on.

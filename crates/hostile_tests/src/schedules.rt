@@ -11,7 +11,7 @@ pub enum Deed {
     GetsAny(u8, usize, Option<u32>),
 }
 
-/// A schedule: its instances, the places of its lanes, and its deeds, each by an instance.
+/// A schedule: its instances, the slots of its lanes, and its deeds, each by an instance.
 #[derive(Clone, Copy)]
 pub struct Worked<'d> {
     pub instances: usize,

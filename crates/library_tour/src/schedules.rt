@@ -31,7 +31,7 @@ pub fn run_schedule<R: Threads + Print + AllocGlobal + Sync>(
     for script in scripts(alloc, &schedule)? {
         behaviours.push(Box::new(alloc, script)?)?;
     }
-    let mut board = Board::new(alloc, schedule.names().len(), schedule.capacity().places())?;
+    let mut board = Board::new(alloc, schedule.names().len(), schedule.capacity().slots())?;
     let posts = board.posts()?;
     match run(rt, posts, behaviours, MAX_TURNS, &Open) {
         Ok(ran) => tell(rt, &ran),

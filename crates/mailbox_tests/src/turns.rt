@@ -13,7 +13,7 @@ const B: usize = 2;
 
 const C: usize = 3;
 
-/// Makes these calls with the mailboxes of three instances, over lanes of so many places.
+/// Makes these calls with the mailboxes of three instances, over lanes of so many slots.
 fn follow(
     rt: &impl Abort,
     alloc: Global,

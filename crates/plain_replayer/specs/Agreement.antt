@@ -40,7 +40,7 @@ pub record IsActor (n : ℕ) (r : Run) (p : ℕ) (a : ActorView) : Type 0 where
   pub own : IsOwn n r p a
   pub lanes : AreLanes n r.history p a.lanes
 
--- the n instances are as far as the run, which is legal over lanes of k places
+-- the n instances are as far as the run, which is legal over lanes of k slots
 pub record Agrees (n k : ℕ) (r : Run) (actors : List ActorView) : Type 0 where
   pub many : length actors ≡ n
   pub limit : n ≤ MAX_INSTANCES

@@ -9,7 +9,7 @@ use Rattle.plain_replayer.specs.Views.{LaneView, ActorView}
 abbrev pub is_full : ActorView → Bool
 is_full a = nat_le MAX_EVENTS (length a.recorder.line.events)
 
--- of a send to the lane, which has k places
+-- of a send to the lane, which has k slots
 abbrev pub send_word : ℕ → ActorView → LaneView → Option Word
 send_word k a lane =
     if nat_lt 0 a.region then Some words.InCoregion else (

@@ -145,7 +145,7 @@ impl Actor {
         self.recorder.line().len() >= MAX_EVENTS
     }
 
-    /// The note of a send by this instance to a lane of so many places.
+    /// The note of a send by this instance to a lane of so many slots.
     pub fn send_word(&self, lane: &Lane, capacity: usize) -> Option<Word>
         ensures { result ≡ send_word capacity self.now lane.now }
     {

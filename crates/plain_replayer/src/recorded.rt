@@ -68,7 +68,7 @@ fn record(
 pub fn recorded_run(alloc: Global, schedule: &Schedule) -> Result<Vec<Step>, ReplayError>
     ensures { IfOk result (λ steps. IsRecorded schedule.now steps.items) }
 {
-    let capacity = schedule.capacity().places();
+    let capacity = schedule.capacity().slots();
     let mut actors = fresh_actors(alloc, schedule.names().len())?;
     record(alloc, &mut actors, capacity, schedule.commands())
 }

@@ -86,7 +86,7 @@ fn played(alloc: Global, schedule: &Schedule) -> Result<(Vec<Actor>, Vec<Note>),
     ensures agrees { IfOk result (λ played. Agrees (length schedule.now.names) schedule.now.capacity (meaning schedule.now).run played.0.items) }
     ensures notes { IfOk result (λ played. played.1.items ≡ (meaning schedule.now).notes) }
 {
-    let capacity = schedule.capacity().places();
+    let capacity = schedule.capacity().slots();
     let mut actors = fresh_actors(alloc, schedule.names().len())?;
     let notes = perform(alloc, &mut actors, capacity, schedule.commands())?;
     Ok((actors, notes))

@@ -1,4 +1,4 @@
--- A legal history in two parts is legal, where no receive is wanted without its send, nor more sends than places.
+-- A legal history in two parts is legal, where no receive is wanted without its send, nor more sends than slots.
 use Rattle.std.proofs.Common.{◌≡◌, ℕ, ◌+◌, ◌<◌, ◌≤◌, eq-eqb, ◌==◌, nat_lt, Bool, true, false, cond, List, [], ◌∷◌, ◌++◌, length, inl, refl, arith, length-drop}
 use Rattle.std.proofs.lemmas.Bool.{ltb-true, ltb-false}
 use Rattle.chart.specs.declared.history.Occurrence.{Occurrence}
@@ -10,7 +10,7 @@ use Rattle.real_races.specs.Walks.{Turns, inner, outer, parted}
 use Rattle.real_races.proofs.Parts.{inner_sends, inner_received, parted_sends, parted_receives}
 use Rattle.real_races.proofs.Counted.{acts, line_short, acts_legal}
 
--- sends and receives of n instances, outside of coregions: each send has one of k places, and each receive its message
+-- sends and receives of n instances, outside of coregions: each send has one of k slots, and each receive its message
 abbrev pub IsPlain : ℕ → ℕ → List Occurrence → Type 0
 IsPlain n k [] = Unit {0}
 IsPlain n k (Send a b m ∷ h) = AreTwo n a b × (length (sent h a b) < received h a b + k) × IsPlain n k h
@@ -53,7 +53,7 @@ legal_plain n k (Receive a b c ∷ h) plain short =
     )
 legal_plain n k (Close a b ∷ h) plain short = absurd plain
 
-module _ (n k l : ℕ) (s r : Turns) (no_more : k ≤ l) (has_sends : (q p : ℕ) → r q p ≤ s q p) (has_places : (q p : ℕ) → s q p ≤ r q p + l) where
+module _ (n k l : ℕ) (s r : Turns) (no_more : k ≤ l) (has_sends : (q p : ℕ) → r q p ≤ s q p) (has_slots : (q p : ℕ) → s q p ≤ r q p + l) where
   -- the first part
   plain_inner : (h : List Occurrence) → IsLegal n k h → IsPlain n l (inner s r h)
   plain_inner [] legal = tt
@@ -62,7 +62,7 @@ module _ (n k l : ℕ) (s r : Turns) (no_more : k ≤ l) (has_sends : (q p : ℕ
       go : (few : Bool) → nat_lt (length (sent h a b)) (s a b) ≡ few → IsPlain n l (inner s r h) → IsPlain n l (cond few (Send a b m ∷ inner s r h) (inner s r h))
       go true few before = (
         legal.0.0,
-        omega (arith, ltb-true (length (sent h a b)) (s a b) few, legal.0.2, length-drop (received h a b) (sent h a b), inner_sends s r h a b, inner_received s r h a b, has_places a b, no_more),
+        omega (arith, ltb-true (length (sent h a b)) (s a b) few, legal.0.2, length-drop (received h a b) (sent h a b), inner_sends s r h a b, inner_received s r h a b, has_slots a b, no_more),
         before,
       )
       go false few before = before
@@ -131,6 +131,6 @@ acts_parted s r g (Close a b ∷ h) p = acts_parted s r g h p
 
 -- so the whole, in its two parts, is legal
 pub legal_parted : (n k l : ℕ) (s r : Turns) → k ≤ l → ((q p : ℕ) → r q p ≤ s q p) → ((q p : ℕ) → s q p ≤ r q p + l) → (h : List Occurrence) → IsLegal n k h → IsLegal n l (parted s r h h)
-legal_parted n k l s r no_more has_sends has_places h legal =
-    legal_plain n l (parted s r h h) (plain_parted n k l s r no_more has_sends has_places h h legal legal (begins_same h))
+legal_parted n k l s r no_more has_sends has_slots h legal =
+    legal_plain n l (parted s r h h) (plain_parted n k l s r no_more has_sends has_slots h h legal legal (begins_same h))
     (λ p. omega (arith, acts_parted s r (inner s r h) h p, (acts_legal n k h legal p).1))

@@ -123,9 +123,9 @@ module _ (n k : ℕ) (h : List Occurrence) (legal : IsLegal n k h) (s r : Place)
       past_bound : ℕ → ℕ → ℕ
       past_bound q p = bound n k h legal s r belongs q p
 
-  -- and with a place for each event of the history there are places enough
-  has_places : (q p : ℕ) → sends q p ≤ receives q p + (k + length h)
-  has_places q p = omega (arith, tally-le-count_by (is_send_to p) (chart_of h q) (known n k h legal s r belongs q), sent_count h q p, sends_short h q p)
+  -- and with a slot for each event of the history there are slots enough
+  has_slots : (q p : ℕ) → sends q p ≤ receives q p + (k + length h)
+  has_slots q p = omega (arith, tally-le-count_by (is_send_to p) (chart_of h q) (known n k h legal s r belongs q), sent_count h q p, sends_short h q p)
 
   -- the run
   comes_first : (g : List Occurrence) × IsRunOf n (chart_of h) g × ComesFirst (chart_of h) g r
@@ -134,7 +134,7 @@ module _ (n k : ℕ) (h : List Occurrence) (legal : IsLegal n k h) (s r : Place)
     (
       k + length h,
       record {
-        legal = legal_parted n k (k + length h) sends receives (omega arith) has_sends has_places h legal;
+        legal = legal_parted n k (k + length h) sends receives (omega arith) has_sends has_slots h legal;
         events = parted_events n k h legal sends receives (closed n k h legal s r belongs);
         causes = parted_causes n k h legal sends receives (closed n k h legal s r belongs);
       },

@@ -18,7 +18,7 @@ fn board_for(alloc: Global, schedule: &Schedule) -> Result<Board, ReplayError>
     ensures { IfOk result (IsNewBoard (length schedule.now.names) schedule.now.capacity) }
 {
     let instances = schedule.names().len();
-    match Board::new(alloc, instances, schedule.capacity().places()) {
+    match Board::new(alloc, instances, schedule.capacity().slots()) {
         Ok(board) => Ok(board),
         Err(BoardError::Memory) => Err(ReplayError::Memory),
         Err(BoardError::Instances | BoardError::Capacity) => unreachable!(),

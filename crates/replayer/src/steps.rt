@@ -19,7 +19,7 @@ fn send(
 ) -> Result<Option<Word>, ReplayError>
     requires known { to ≤ post.old.board.size }
     requires two { post.old.number ≢ to }
-    requires places { 1 ≤ post.old.board.capacity }
+    requires slots { 1 ≤ post.old.board.capacity }
     ensures goes_on { GoesOn post.old post.new }
     ensures does { (from : Option ℕ) → Does post.old from (Action.Send to name) result post.new from }
 {
@@ -130,7 +130,7 @@ pub fn act(
     last: &mut Option<InstanceNo>,
     action: Action,
 ) -> Result<Option<Word>, ReplayError>
-    requires places { 1 ≤ post.old.board.capacity }
+    requires slots { 1 ≤ post.old.board.capacity }
     requires partner { HasPartner post.old.board.size post.old.number action }
     requires known { unwrap_or last.old 0 ≤ post.old.board.size }
     ensures goes_on { GoesOn post.old post.new }

@@ -35,7 +35,7 @@ pub fn run_schedule<R: Threads + Sync>(
 {
     // (no schedule has a count of instances, or a capacity, that a board refuses)
     let instances = schedule.names().len();
-    let Ok(mut board) = Board::new(alloc, instances, schedule.capacity().places()) else {
+    let Ok(mut board) = Board::new(alloc, instances, schedule.capacity().slots()) else {
         return Err(RunError::Memory);
     };
     let Ok(posts) = board.posts() else {

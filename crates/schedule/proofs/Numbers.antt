@@ -3,7 +3,7 @@ use Rattle.std.proofs.Common.{◌≡◌, ℕ, ◌+◌, ◌-◌, ◌*◌, ◌≤�
 use Rattle.std.specs.List.{list_all}
 use Rattle.std.proofs.lemmas.Bool.{and_parts, or_cases, eqb-true, eqb-false, leb-true, lt-leb, and_right, not-true, cond-false}
 use Rattle.msc_text.specs.declared.fault.Cause.TheVariants.{Capacity}
-use Rattle.schedule.specs.FirstLines.{is_digit, is_number, number_from, places_of}
+use Rattle.schedule.specs.FirstLines.{is_digit, is_number, number_from, slots_of}
 use Rattle.schedule.specs.declared.schedule.TheConstants.{MAX_CAPACITY}
 
 -- more digits give no smaller number
@@ -23,8 +23,8 @@ above_zero a l digit others e is long =
     ]
 
 -- a number of three digits or more is above each capacity
-pub long_number : (digits : List ℕ) → is_number digits ≡ true → 3 ≤ length digits → places_of digits ≡ Err Capacity
-unfolding is_number places_of
+pub long_number : (digits : List ℕ) → is_number digits ≡ true → 3 ≤ length digits → slots_of digits ≡ Err Capacity
+unfolding is_number slots_of
 long_number [] e long = absurd (omega arith)
 long_number (a ∷ []) e long = absurd (omega arith)
 long_number (a ∷ b ∷ []) e long = absurd (omega arith)

@@ -101,7 +101,7 @@ read_spelled bytes plan e =
       record {
         keeps = record { several = names.several; names = names.are; commands = All-from_recursion (IsAmong (length plan.names)) plan.commands commands.among };
         named = names.named;
-        places = (capacity.first, capacity.last);
+        slots = (capacity.first, capacity.last);
         spelled = All-from_recursion CanBeSpelled plan.commands commands.spelled;
         numbered = commands.numbered;
       },
@@ -117,7 +117,7 @@ plan_lines-lack : (plan : Plan) → HasText plan → AllByRecursion (Lacks 10) (
 plan_lines-lack plan text =
     let among = recursion_from_All (IsAmong (length plan.names)) plan.commands text.keeps.commands in
     let spelled = recursion_from_All CanBeSpelled plan.commands text.spelled in
-    (instances_lack plan.names text.named, (capacity_lacks plan.capacity text.places.0 text.places.1, commands_lack plan.names text.keeps.names text.named plan.commands among spelled))
+    (instances_lack plan.names text.named, (capacity_lacks plan.capacity text.slots.0 text.slots.1, commands_lack plan.names text.keeps.names text.named plan.commands among spelled))
 
 pub spelled_read : (plan : Plan) → HasText plan → schedule_of (schedule_text plan) ≡ Ok plan
 unfolding schedule_text
@@ -132,7 +132,7 @@ spelled_read plan text =
       lines = lines_again (plan_lines plan) lack;
       whole = end_again (plan_lines plan) lack;
       names = names_again plan.names text.keeps.several text.keeps.names text.named;
-      capacity = capacity_again plan.capacity text.places.0 text.places.1;
+      capacity = capacity_again plan.capacity text.slots.0 text.slots.1;
       commands = commands_again plan.names text.keeps.names text.named 3 plan.commands among spelled text.numbered;
     })
 

@@ -65,16 +65,16 @@ number_from n [] = n
 number_from n (b ∷ bs) = number_from (10 * n + (b - 48)) bs
 
 -- so many slots, if a lane may have them
-abbrev pub places : ℕ → Result ℕ Cause
-places n = if nat_le 1 n && nat_le n MAX_CAPACITY then Ok n else Err Capacity
+abbrev pub slots : ℕ → Result ℕ Cause
+slots n = if nat_le 1 n && nat_le n MAX_CAPACITY then Ok n else Err Capacity
 
 -- the slots that the digits say
-unfoldable pub places_of : List ℕ → Result ℕ Cause
-places_of digits = places (number_from 0 digits)
+unfoldable pub slots_of : List ℕ → Result ℕ Cause
+slots_of digits = slots (number_from 0 digits)
 
 -- the capacity of line 2, by its words
 abbrev pub capacity_by : List (List ℕ) → Result ℕ Cause
-capacity_by (keyword ∷ digits ∷ []) = if is_written keywords.Capacity keyword && is_number digits then places_of digits else Err Syntax
+capacity_by (keyword ∷ digits ∷ []) = if is_written keywords.Capacity keyword && is_number digits then slots_of digits else Err Syntax
 capacity_by _ = Err Syntax
 
 -- the capacity of line 2

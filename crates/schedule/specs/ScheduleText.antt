@@ -67,7 +67,7 @@ CanBeSpelled command = (1 ≤ command.actor) × CanBeNamed command.action
 pub record HasText (plan : Plan) : Type 0 where
   pub keeps : IsPlan plan
   pub named : All IsName plan.names
-  pub places : (1 ≤ plan.capacity) × (plan.capacity ≤ MAX_CAPACITY)
+  pub slots : (1 ≤ plan.capacity) × (plan.capacity ≤ MAX_CAPACITY)
   pub spelled : All CanBeSpelled plan.commands
   pub numbered : AreNumbered 3 plan.commands
 

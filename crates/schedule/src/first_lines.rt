@@ -3,7 +3,7 @@ ghost use Rattle.std.specs.Prelude.{◌≡◌, IsTrue};
 ghost use Rattle.std.specs.List.{list_all};
 ghost use Rattle.msc_text.specs.Faults.{Gives, in_line};
 ghost use Rattle.msc_text.specs.Lines.{words_of};
-ghost use Rattle.schedule.specs.FirstLines.{is_word, are_words, with_word, with_words, instances_of, names_of, is_digit, is_number, places, places_of, capacity_of};
+ghost use Rattle.schedule.specs.FirstLines.{is_word, are_words, with_word, with_words, instances_of, names_of, is_digit, is_number, slots, slots_of, capacity_of};
 
 use crate::keyword::ScheduleWord;
 use crate::schedule::Capacity;
@@ -107,21 +107,21 @@ fn is_number(word: &[u8]) -> bool
 }
 
 /// So many slots, or F9.
-fn places_in(number: u8) -> Result<Capacity, Cause>
-    ensures { result ≡ places number }
+fn slots_in(number: u8) -> Result<Capacity, Cause>
+    ensures { result ≡ slots number }
 {
     Capacity::new(usize::from(number)).ok_or(Cause::Capacity)
 }
 
 /// The slots that the digits say, or F9. A number of three digits is greater than each capacity.
-#[tactic(auto, unfolding(crate::specs::FirstLines::places_of, crate::specs::FirstLines::is_number))]
-fn places_of(digits: &[u8]) -> Result<Capacity, Cause>
+#[tactic(auto, unfolding(crate::specs::FirstLines::slots_of, crate::specs::FirstLines::is_number))]
+fn slots_of(digits: &[u8]) -> Result<Capacity, Cause>
     requires { IsTrue (is_number digits.now) }
-    ensures { result ≡ places_of digits.now }
+    ensures { result ≡ slots_of digits.now }
 {
     match digits {
-        [ones] => places_in(*ones - b'0'),
-        [tens, ones] => places_in(10 * (*tens - b'0') + (*ones - b'0')),
+        [ones] => slots_in(*ones - b'0'),
+        [tens, ones] => slots_in(10 * (*tens - b'0') + (*ones - b'0')),
         [_, _, _, ..] => Err(Cause::Capacity),
         [] => unreachable!(),
     }
@@ -134,7 +134,7 @@ pub(crate) fn capacity_in(line: &[u8]) -> Result<Capacity, Cause>
 {
     match words_in(line) {
         Words::Two(keyword, digits) if ScheduleWord::Capacity.is(keyword) && is_number(digits) => {
-            places_of(digits)
+            slots_of(digits)
         }
         _ => Err(Cause::Syntax),
     }

@@ -13,7 +13,7 @@ pub const MAX_CAPACITY: usize = 64;
 /// how many slots each lane has, from 1 to [`MAX_CAPACITY`]. A contract sees it as the number.
 #[derive(Clone, Copy, Debug, PartialEq, Eq, PartialOrd, Ord, Hash)]
 pub struct Capacity {
-    places: u8,
+    slots: u8,
 }
 
 impl Model for Capacity {
@@ -22,32 +22,32 @@ impl Model for Capacity {
 
     ghost Value = { ℕ };
 
-    ghost view = { λ c. c.places };
+    ghost view = { λ c. c.slots };
 
-    ghost invariant = { λ c. (1 ≤ c.places) × (c.places ≤ MAX_CAPACITY) };
+    ghost invariant = { λ c. (1 ≤ c.slots) × (c.slots ≤ MAX_CAPACITY) };
 
-    ghost inverse = { λ n. record { places = n } };
+    ghost inverse = { λ n. record { slots = n } };
 }
 
 impl Capacity {
     /// The capacity of so many slots, which are from 1 to [`MAX_CAPACITY`].
-    pub fn new(places: usize) -> Option<Capacity>
-        ensures { SomeIff result ((1 ≤ places) × (places ≤ MAX_CAPACITY)) places }
+    pub fn new(slots: usize) -> Option<Capacity>
+        ensures { SomeIff result ((1 ≤ slots) × (slots ≤ MAX_CAPACITY)) slots }
     {
-        if places < 1 || MAX_CAPACITY < places {
+        if slots < 1 || MAX_CAPACITY < slots {
             return None;
         }
         Some(Capacity {
-            places: places as u8,
+            slots: slots as u8,
         })
     }
 
-    pub fn places(self) -> usize
+    pub fn slots(self) -> usize
         ensures value { result ≡ self }
         ensures first { 1 ≤ result }
         ensures last { result ≤ MAX_CAPACITY }
     {
-        usize::from(self.places)
+        usize::from(self.slots)
     }
 }
 

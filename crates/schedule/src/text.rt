@@ -58,7 +58,7 @@ fn add_capacity<W: Out>(text: &mut TextBuffer<'_, W>, capacity: Capacity) -> Res
     ensures { Adds W.contents W.failures text.old text.new result (capacity_text capacity) }
 {
     let mut buffer = Buffer::new();
-    let number = buffer.format(capacity.places()).as_bytes();
+    let number = buffer.format(capacity.slots()).as_bytes();
     text.add(ScheduleWord::Capacity.as_bytes())?;
     add_word(text, number)?;
     add_line_end(text)

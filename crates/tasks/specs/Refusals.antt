@@ -44,7 +44,7 @@ unfoldable pub behind_space : ℕ → List ℕ
 behind_space n = codes " " ++ decimal n
 
 -- where a line's fault is: its line, and in it the place of a byte that doesn't belong; the counts of instances and of a
--- lane's places have no line
+-- lane's slots have no line
 unfoldable pub cause_detail : ℕ → Cause → List ℕ
 cause_detail n (Name Empty) = behind_space n
 cause_detail n (Name TooLong) = behind_space n

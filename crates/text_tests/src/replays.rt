@@ -108,9 +108,9 @@ fn commands(alloc: Global, deeds: &[(usize, Deed, usize)]) -> Result<Vec<Command
 }
 
 /// A schedule of three instances.
-fn schedule(alloc: Global, places: usize, deeds: &[Command]) -> Result<Schedule, Fail> {
+fn schedule(alloc: Global, slots: usize, deeds: &[Command]) -> Result<Schedule, Fail> {
     let names = three_names(alloc)?;
-    let capacity = Capacity::new(places).ok_or("no such capacity")?;
+    let capacity = Capacity::new(slots).ok_or("no such capacity")?;
     let mut commands = Vec::new(alloc);
     for command in deeds {
         if !is_among(command) {
@@ -124,11 +124,11 @@ fn schedule(alloc: Global, places: usize, deeds: &[Command]) -> Result<Schedule,
 /// The schedule of three instances that do these deeds.
 fn schedule_of(
     alloc: Global,
-    places: usize,
+    slots: usize,
     deeds: &[(usize, Deed, usize)],
 ) -> Result<Schedule, Fail> {
     let commands = commands(alloc, deeds)?;
-    schedule(alloc, places, commands.as_slice())
+    schedule(alloc, slots, commands.as_slice())
 }
 
 /// The outcome over running posts, at the second attempt where the first found no memory.

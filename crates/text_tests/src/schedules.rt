@@ -209,7 +209,7 @@ fn two_senders() -> Result<[Command; 4], Fail> {
 /// The schedule has so many names, the capacity 1, and these commands.
 fn holds(rt: &impl Abort, schedule: &Schedule, names: usize, commands: &[Command]) {
     assert_eq!(rt; schedule.names().len(), names);
-    assert_eq!(rt; schedule.capacity().places(), 1);
+    assert_eq!(rt; schedule.capacity().slots(), 1);
     assert_eq!(rt; schedule.commands(), commands);
 }
 

@@ -1,4 +1,4 @@
-//! Which messages are passed, among how many instances, on lanes of how many places.
+//! Which messages are passed, among how many instances, on lanes of how many slots.
 use anyhow::bail;
 use behaviour::BareAct;
 use chart::{Chart, InstanceNo, MAX_EVENTS, Name};
@@ -26,7 +26,7 @@ impl fmt::Display for Pattern {
     }
 }
 
-/// A pattern among so many instances, an even number of them, on lanes of so many places, so many rounds at most.
+/// A pattern among so many instances, an even number of them, on lanes of so many slots, so many rounds at most.
 #[derive(Clone, Copy, Debug)]
 pub struct Load {
     pub pattern: Pattern,
@@ -81,7 +81,7 @@ impl Load {
         }
     }
 
-    /// How many rounds there are: as many as a line has places for, or as are asked for.
+    /// How many rounds there are: as many as a line has slots for, or as are asked for.
     fn rounds(self) -> usize {
         self.most.min(MAX_EVENTS / self.in_a_round().max(1))
     }

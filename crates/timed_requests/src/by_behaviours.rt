@@ -6,7 +6,7 @@ ghost use Rattle.instances.specs.Whole.{IsGathered};
 use crate::client::{Client, ClientStep};
 use crate::letters::{Letter, Letters};
 use crate::logger::Logger;
-use crate::parties::{PATIENCE, PLACES, REQUESTS, client, logger, message, server};
+use crate::parties::{PATIENCE, SLOTS, REQUESTS, client, logger, message, server};
 use crate::server::{Server, ServerStep};
 use agreement::audit_run;
 use anyhow::bail;
@@ -95,7 +95,7 @@ fn run_three<R: Threads + Sync>(
 ) -> anyhow::Result<Gathered>
     ensures { IfOk result (λ gathered. AreReports gathered.chart gathered.reports.items) }
 {
-    let mut board = Board::new(alloc, 3, PLACES)?;
+    let mut board = Board::new(alloc, 3, SLOTS)?;
     let posts = board.posts()?;
     match run(rt, posts, behaviours, MAX_TURNS, &OthersFirst) {
         Ok(ran) => audited(alloc, ran),

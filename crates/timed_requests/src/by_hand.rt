@@ -3,7 +3,7 @@ ghost use Rattle.std.specs.Prelude.{◌≡◌, IfOk};
 ghost use Rattle.board.specs.Meeting.{AreOfOneBoard};
 ghost use Rattle.chart.specs.Reports.{AreReports};
 
-use crate::parties::{PATIENCE, PLACES, REQUESTS, client, logger, message, server};
+use crate::parties::{PATIENCE, SLOTS, REQUESTS, client, logger, message, server};
 use agreement::audit_gathered;
 use anyhow::bail;
 use board::{Arrival, Board, GatherError, Gathered, Post, Taken, gather};
@@ -125,7 +125,7 @@ pub fn exchange<R: Threads + AllocGlobal + Sync>(rt: &R) -> anyhow::Result<Gathe
     ensures { IfOk result (λ gathered. AreReports gathered.chart gathered.reports.items) }
 {
     let alloc = rt.alloc();
-    let mut board = Board::new(alloc, 3, PLACES)?;
+    let mut board = Board::new(alloc, 3, SLOTS)?;
     let posts = board.posts()?;
     let each = move |post| -> Post
         ensures { result.board ≡ post.entry.board }

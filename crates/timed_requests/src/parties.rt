@@ -11,8 +11,8 @@ pub const REQUESTS: u32 = 3;
 /// How often the server looks for a request at most, and how often anyone looks for a message.
 pub const PATIENCE: u32 = 100_000;
 
-/// How many places a lane has: more than messages are ever on their way, so no lane is full.
-pub const PLACES: usize = 8;
+/// How many slots a lane has: more than messages are ever on their way, so no lane is full.
+pub const SLOTS: usize = 8;
 
 pub fn client() -> InstanceNo
     ensures { result ≡ 1 }

@@ -141,7 +141,7 @@ pub fn overtake_of_schedule(
         (chart_lines (history_lines (length schedule.now.names) (meaning schedule.now).run.history)) (place_of earlier) (place_of receive)) }
 {
     let steps = recorded_run(alloc, schedule)?;
-    let slots = schedule.capacity().places();
+    let slots = schedule.capacity().slots();
     let turned = overtake_in_run(alloc, steps.as_slice(), slots, receive, earlier)?;
     Ok(turned)
 }

@@ -72,7 +72,7 @@ fn witness_schedule<W: Out>(
     let Ok(turned) = overtake_of_schedule(alloc, schedule, pair.receive, pair.earlier) else {
         return Err(ViewError::Program(ProgramError::Memory));
     };
-    prove!(1 <= schedule.capacity().places());
+    prove!(1 <= schedule.capacity().slots());
     write_turned(alloc, outcome.names(), outcome.chart(), &turned, &pair, out)
 }
 

@@ -12,11 +12,11 @@ use std::thread::Threads;
 
 const INSTANCES: usize = 8;
 
-/// How many places a lane has: the most.
-const PLACES: usize = 64;
+/// How many slots a lane has: the most.
+const SLOTS: usize = 64;
 
 /// How many messages each instance sends, and how many it receives: a line's events together. As many more are sent to it
-/// as a lane has places, so no lane to it is full for good, and a message waits when its line is full.
+/// as a lane has slots, so no lane to it is full for good, and a message waits when its line is full.
 const SENDS: u32 = 2080;
 
 const RECEIVES: u32 = 2016;
@@ -57,7 +57,7 @@ fn are_full(gathered: &Gathered) -> bool {
             return false;
         }
     }
-    Passed::of(gathered).left == INSTANCES * PLACES
+    Passed::of(gathered).left == INSTANCES * SLOTS
 }
 
 /// Eight instances fill their lines, and each tries a send and a receive more. How many lines there are is answered.
@@ -66,7 +66,7 @@ pub fn fill_lines<R: Threads + Sync>(rt: &R, alloc: Global) -> anyhow::Result<us
     for place in 0..INSTANCES {
         behaviours.push(Box::new(alloc, filler(alloc, place)?)?)?;
     }
-    let ran = run_board(rt, alloc, PLACES, behaviours, TURNS, &OthersFirst)?;
+    let ran = run_board(rt, alloc, SLOTS, behaviours, TURNS, &OthersFirst)?;
     if !are_full(&ran.gathered) {
         bail!("a line isn't full");
     }

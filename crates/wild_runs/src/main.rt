@@ -2,7 +2,7 @@
 //! on a thread of its own. Each run is audited, and on each lane what was sent is what was received and then left.
 //!
 //! With no word there are runs among 3, 8 and 32 instances, and one that fills the lines of 8; the program tells only what
-//! no schedule changes. With the words INSTANCES PLACES SEED RUNS there are so many runs over lanes of so many places, from
+//! no schedule changes. With the words INSTANCES SLOTS SEED RUNS there are so many runs over lanes of so many slots, from
 //! this seed on, and the program tells how many messages were passed. It stops at the first run that went wrong.
 #![tactic(auto)]
 
@@ -45,7 +45,7 @@ fn tell_all<R: Threads + Print + AllocGlobal + Sync>(rt: &R) -> anyhow::Result<(
             rt,
             Runs {
                 instances,
-                places: 2,
+                slots: 2,
                 seed: 0,
                 many,
             },
@@ -71,15 +71,15 @@ fn main(rt: HostRuntime) -> anyhow::Result<()> {
     let words: Vec<String> = env::args(&rt)?.collect(rt.alloc())?;
     match words.as_slice() {
         [_] => tell_all(&rt),
-        [_, instances, places, seed, many] => {
+        [_, instances, slots, seed, many] => {
             let runs = Runs {
                 instances: instances.as_str().parse::<usize>()?,
-                places: places.as_str().parse::<usize>()?,
+                slots: slots.as_str().parse::<usize>()?,
                 seed: seed.as_str().parse::<u64>()?,
                 many: many.as_str().parse::<u64>()?,
             };
             count(&rt, runs)
         }
-        _ => bail!("the words are none, or INSTANCES PLACES SEED RUNS"),
+        _ => bail!("the words are none, or INSTANCES SLOTS SEED RUNS"),
     }
 }

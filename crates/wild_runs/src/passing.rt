@@ -62,16 +62,16 @@ fn audited(alloc: Global, ran: Run) -> anyhow::Result<Run>
     }
 }
 
-/// Lets these act on a board with lanes of so many places, in so many turns at most.
+/// Lets these act on a board with lanes of so many slots, in so many turns at most.
 pub fn run_board<R: Threads + Sync, G: Gate + Sync>(
     rt: &R,
     alloc: Global,
-    places: usize,
+    slots: usize,
     behaviours: Vec<Box<dyn Behaviour + Send>>,
     turns: u32,
     gate: &G,
 ) -> anyhow::Result<Run> {
-    let mut board = Board::new(alloc, behaviours.len(), places)?;
+    let mut board = Board::new(alloc, behaviours.len(), slots)?;
     let posts = board.posts()?;
     match run(rt, posts, behaviours, turns, gate) {
         Ok(ran) => audited(alloc, ran),

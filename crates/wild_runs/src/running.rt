@@ -12,11 +12,11 @@ use std::alloc::Global;
 use std::sync::Arc;
 use std::thread::Threads;
 
-/// So many runs among so many instances, over lanes of so many places, the first of them of this seed.
+/// So many runs among so many instances, over lanes of so many slots, the first of them of this seed.
 #[derive(Clone, Copy, Debug)]
 pub struct Runs {
     pub instances: usize,
-    pub places: usize,
+    pub slots: usize,
     pub seed: u64,
     pub many: u64,
 }
@@ -48,7 +48,7 @@ fn wild_run<R: Threads + Sync>(
         behaviours.push(Box::new(alloc, wild)?)?;
     }
     let gate = Together::new(behaviours.len());
-    let ran = run_board(rt, alloc, runs.places, behaviours, TURNS, &gate)?;
+    let ran = run_board(rt, alloc, runs.slots, behaviours, TURNS, &gate)?;
     if !are_whole(ledgers.as_slice(), ran.gathered.left.as_slice()) {
         bail!("a lane lost or changed a message");
     }

@@ -56,16 +56,16 @@ impl Needs {
 
     /// The step has to come, where lanes have so many slots: with a send all that is left of its line, and the receive
     /// that frees its slot; with a receive its send.
-    pub fn want(&mut self, turned: &Turned, places: usize)
+    pub fn want(&mut self, turned: &Turned, slots: usize)
         ensures { (w : Wanted) → StandFor self.old.sends self.old.receives self.old.lines w
             → StandFor self.new.sends self.new.receives self.new.lines
-            (with_step places w turned.now.step turned.now.turn) }
+            (with_step slots w turned.now.step turned.now.turn) }
     {
         match &turned.step {
             Step::Send { from, to, .. } => {
                 self.sends.raise(*from, *to, turned.turn);
                 self.receives
-                    .raise(*from, *to, turned.turn.saturating_sub(places));
+                    .raise(*from, *to, turned.turn.saturating_sub(slots));
                 self.lines[from.place()] = true;
             }
             Step::Receive { at, from, .. } => {
@@ -76,16 +76,16 @@ impl Needs {
     }
 
     /// All that has to come with what has to come, from the last step to the first.
-    pub fn complete(&mut self, steps: &[Step], turned: &[Turned], places: usize)
+    pub fn complete(&mut self, steps: &[Step], turned: &[Turned], slots: usize)
         requires { AreTurned steps.now (length steps.now) turned.now }
         ensures { (w : Wanted) → StandFor self.old.sends self.old.receives self.old.lines w
-            → StandFor self.new.sends self.new.receives self.new.lines (wanted places (history_of steps.now) w) }
+            → StandFor self.new.sends self.new.receives self.new.lines (wanted slots (history_of steps.now) w) }
     {
         let many = steps.len();
         for place in 0..many {
             let newest = &turned[many - 1 - place];
             if self.wants(newest) {
-                self.want(newest, places);
+                self.want(newest, slots);
             }
         }
     }

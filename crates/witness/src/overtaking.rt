@@ -19,22 +19,22 @@ use std::alloc::{AllocError, Global};
 pub fn overtake(
     alloc: Global,
     steps: &[Step],
-    places: usize,
+    slots: usize,
     receive: usize,
     earlier: usize,
 ) -> Result<Option<Vec<Step>>, AllocError>
     requires receive { IsReceive steps.now receive }
     requires earlier { earlier < length steps.now }
-    ensures found { IfOk result (λ found. (n : ℕ) (x y : Step) → IsLegal n places (history_of steps.now)
+    ensures found { IfOk result (λ found. (n : ℕ) (x y : Step) → IsLegal n slots (history_of steps.now)
         → slice_get steps.now earlier ≡ Some x → slice_get steps.now receive ≡ Some y
-        → IsFound n places (history_of steps.now) (place_after steps.now earlier x) (place_after steps.now receive y)
+        → IsFound n slots (history_of steps.now) (place_after steps.now earlier x) (place_after steps.now receive y)
         (option_map (λ run. run.items) found)) }
     ensures outside { IfOk result (λ found. IfSome found (λ run. All IsOutside run.items)) }
 {
     let turned = with_turns(alloc, steps)?;
     let mut needs = Needs::nothing(alloc)?;
-    needs.want(&turned[receive], places);
-    needs.complete(steps, turned.as_slice(), places);
+    needs.want(&turned[receive], slots);
+    needs.complete(steps, turned.as_slice(), slots);
     if needs.has(&turned[earlier]) {
         return Ok(None);
     }

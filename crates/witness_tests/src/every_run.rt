@@ -42,16 +42,16 @@ fn ordered(alloc: Global, events: &[Told], order: usize) -> Result<Vec<Told>, Al
     Ok(run)
 }
 
-/// All runs with the same events and causes within so many places.
+/// All runs with the same events and causes within so many slots.
 fn other_runs(
     alloc: Global,
     events: &[Told],
-    places: usize,
+    slots: usize,
 ) -> Result<Vec<Vec<Moved>>, AllocError> {
     let mut runs = Vec::new(alloc);
     for order in 0..orders(events.len()) {
         let run = ordered(alloc, events, order)?;
-        if let Some(all) = as_other_run(alloc, events, run.as_slice(), places)? {
+        if let Some(all) = as_other_run(alloc, events, run.as_slice(), slots)? {
             runs.push(all)?;
         }
     }
@@ -90,25 +90,25 @@ fn share_region(step: &Step, other: &Step) -> bool {
     }
 }
 
-/// For each receive and other step a run is found within so many places exactly where one has the receive first.
+/// For each receive and other step a run is found within so many slots exactly where one has the receive first.
 fn finds_what_runs_do(
     rt: &impl Abort,
     alloc: Global,
     steps: &[Step],
-    places: usize,
+    slots: usize,
 ) -> Result<usize, Fail> {
     let events = events_of(alloc, steps)?;
-    let runs = other_runs(alloc, events.as_slice(), places)?;
+    let runs = other_runs(alloc, events.as_slice(), slots)?;
     let mut many = 0usize;
     for receive in 0..steps.len() {
         if let Step::Receive { .. } = steps[receive] {
             for earlier in 0..steps.len() {
-                let found = found(alloc, steps, places, receive, earlier)?;
+                let found = found(alloc, steps, slots, receive, earlier)?;
                 let overtakes = some_overtakes(runs.as_slice(), receive, earlier);
                 assert_eq!(rt; found.is_some(), overtakes);
                 if let Some(run) = found {
                     let run = run.as_slice();
-                    assert!(rt; is_witness(alloc, steps, run, places, receive, earlier)?);
+                    assert!(rt; is_witness(alloc, steps, run, slots, receive, earlier)?);
                     many = many.saturating_add(1);
                 }
             }
@@ -155,8 +155,8 @@ pub fn finds_all(rt: &impl Abort, alloc: Global, schedule: &Schedule) -> Result<
         return Ok(0);
     }
     finds_what_is_reported(rt, alloc, outcome.chart(), steps)?;
-    let places = schedule.capacity().places();
-    let within = finds_what_runs_do(rt, alloc, steps, places)?;
+    let slots = schedule.capacity().slots();
+    let within = finds_what_runs_do(rt, alloc, steps, slots)?;
     let any = finds_what_runs_do(rt, alloc, steps, MAX_CAPACITY)?;
     assert!(rt; within <= any);
     Ok(any)

@@ -93,7 +93,7 @@ fn hundred_races(rt: HostRuntime) -> Result<(), Fail> {
     witness_each(&rt, rt.alloc(), 1)
 }
 
-/// Each of a hundred races of a drawn run has a witness with as many places.
+/// Each of a hundred races of a drawn run has a witness with as many slots.
 fn witness_each(rt: &impl Abort, alloc: Global, seed: u64) -> Result<(), Fail> {
     let text = drawn_text(alloc, seed)?;
     let schedule = Schedule::read(alloc, text.as_slice())?;

@@ -102,13 +102,13 @@ pub fn event_no(steps: &[Step], number: usize) -> Option<EventNo> {
 pub fn found(
     alloc: Global,
     steps: &[Step],
-    places: usize,
+    slots: usize,
     receive: usize,
     earlier: usize,
 ) -> Result<Option<Vec<Step>>, AllocError> {
     if receive < steps.len() && earlier < steps.len() {
         if let Step::Receive { .. } = steps[receive] {
-            return overtake(alloc, steps, places, receive, earlier);
+            return overtake(alloc, steps, slots, receive, earlier);
         }
     }
     Ok(None)

@@ -74,7 +74,7 @@ fn is_turned(
     let outcome = replay(alloc, &read).expect(rt, "an outcome");
     assert!(rt; outcome.notes().is_empty());
     let run = steps_of(alloc, &read, &outcome)?;
-    let slots = read.capacity().places();
+    let slots = read.capacity().slots();
     Ok(is_witness(alloc, steps, run.as_slice(), slots, receive, earlier)?)
 }
 

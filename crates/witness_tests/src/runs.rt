@@ -118,29 +118,29 @@ fn keep_causes(all: &[Moved]) -> bool {
     true
 }
 
-/// Whether each message is received after it was sent, and no more wait on a lane than there are places.
-fn is_within(run: &[Told], places: usize) -> bool {
+/// Whether each message is received after it was sent, and no more wait on a lane than there are slots.
+fn is_within(run: &[Told], slots: usize) -> bool {
     for place in 0..run.len() {
         let event = &run[place];
         let others = count(&run[..place], event, !event.receives);
         if event.receives && others < event.turn {
             return false;
         }
-        if !event.receives && others.saturating_add(places) < event.turn {
+        if !event.receives && others.saturating_add(slots) < event.turn {
             return false;
         }
     }
     true
 }
 
-/// The recorded events in the other run, where this is one with the same events and causes within so many places.
+/// The recorded events in the other run, where this is one with the same events and causes within so many slots.
 pub fn as_other_run(
     alloc: Global,
     recorded: &[Told],
     run: &[Told],
-    places: usize,
+    slots: usize,
 ) -> Result<Option<Vec<Moved>>, AllocError> {
-    if run.len() != recorded.len() || !is_within(run, places) {
+    if run.len() != recorded.len() || !is_within(run, slots) {
         return Ok(None);
     }
     let Some(all) = events_in(alloc, recorded, run)? else {
@@ -171,19 +171,19 @@ fn has_steps(all: &[Moved], steps: &[Step], run: &[Step]) -> bool {
     true
 }
 
-/// Whether a run has the same events and causes as the recorded one, so many places, and the receive before the event.
+/// Whether a run has the same events and causes as the recorded one, so many slots, and the receive before the event.
 pub fn is_witness(
     alloc: Global,
     steps: &[Step],
     run: &[Step],
-    places: usize,
+    slots: usize,
     receive: usize,
     earlier: usize,
 ) -> Result<bool, AllocError> {
     let recorded = events_of(alloc, steps)?;
     let other = events_of(alloc, run)?;
     Ok(
-        match as_other_run(alloc, recorded.as_slice(), other.as_slice(), places)? {
+        match as_other_run(alloc, recorded.as_slice(), other.as_slice(), slots)? {
             Some(all) => {
                 has_steps(all.as_slice(), steps, run) && overtakes(all.as_slice(), receive, earlier)
             }

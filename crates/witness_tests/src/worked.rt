@@ -10,7 +10,7 @@ use std::process::Abort;
 use std::test::Fail;
 use witness::Step;
 
-/// A schedule, how many races it has, and how many of them another run with as many places turns round.
+/// A schedule, how many races it has, and how many of them another run with as many slots turns round.
 pub type Worked = (&'static [u8], usize, usize);
 
 pub static WORKED: [Worked; 7] = [
@@ -51,23 +51,23 @@ pub static WORKED: [Worked; 7] = [
     ),
 ];
 
-/// Whether a witness within so many places is found, which is then gone over.
+/// Whether a witness within so many slots is found, which is then gone over.
 fn has_witness(
     rt: &impl Abort,
     alloc: Global,
     steps: &[Step],
-    places: usize,
+    slots: usize,
     receive: usize,
     earlier: usize,
 ) -> Result<bool, Fail> {
-    let Some(run) = found(alloc, steps, places, receive, earlier)? else {
+    let Some(run) = found(alloc, steps, slots, receive, earlier)? else {
         return Ok(false);
     };
-    assert!(rt; is_witness(alloc, steps, run.as_slice(), places, receive, earlier)?);
+    assert!(rt; is_witness(alloc, steps, run.as_slice(), slots, receive, earlier)?);
     Ok(true)
 }
 
-/// How many races are reported, and how many of them have a witness with as many places; each has one with the most.
+/// How many races are reported, and how many of them have a witness with as many slots; each has one with the most.
 fn witnessed(rt: &impl Abort, alloc: Global, schedule: &Schedule) -> Result<(usize, usize), Fail> {
     let outcome = plain_replay(alloc, schedule).expect(rt, "an outcome");
     let steps = steps_of(alloc, schedule, &outcome)?;
@@ -80,8 +80,8 @@ fn witnessed(rt: &impl Abort, alloc: Global, schedule: &Schedule) -> Result<(usi
             let earlier = number_of(steps, event).ok_or("no such event")?;
             assert!(rt; has_witness(rt, alloc, steps, MAX_CAPACITY, receive, earlier)?);
             races = races.saturating_add(1);
-            let places = schedule.capacity().places();
-            if has_witness(rt, alloc, steps, places, receive, earlier)? {
+            let slots = schedule.capacity().slots();
+            if has_witness(rt, alloc, steps, slots, receive, earlier)? {
                 within = within.saturating_add(1);
             }
         }

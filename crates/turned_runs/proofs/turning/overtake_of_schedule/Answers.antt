@@ -10,7 +10,7 @@ use Rattle.turned_runs.proofs.turning.overtake_of_schedule.Goals as goal
 pub overtake_in_run-requires-clause-legal : goal.overtake_in_run-requires-clause-legal
 overtake_in_run-requires-clause-legal c =
     let n = length c.args.schedule.now.names in
-    (n, subst₂ (λ k steps. IsLegal n k (history_of steps)) (sym (c.places-slots.ensures.value ∙ c.capacity.ensures)) (sym c.as_slice.ensures.value) c.in_ok-steps.ensures.legal)
+    (n, subst₂ (λ k steps. IsLegal n k (history_of steps)) (sym (c.slots-slots.ensures.value ∙ c.capacity.ensures)) (sym c.as_slice.ensures.value) c.in_ok-steps.ensures.legal)
 
 pub overtake_in_run-requires-clause-receive : goal.overtake_in_run-requires-clause-receive
 overtake_in_run-requires-clause-receive c =
@@ -32,7 +32,7 @@ returns c =
     let e = place_of c.args.earlier in
     let r = place_of c.args.receive in
     let turned = c.in_ok-turned.turned in
-    let slots = c.places-slots.ensures.value ∙ c.capacity.ensures in
+    let slots = c.slots-slots.ensures.value ∙ c.capacity.ensures in
     let legal = subst₂ (λ k steps. IsLegal n k (history_of steps)) (sym slots) (sym c.as_slice.ensures.value) c.in_ok-steps.ensures.legal in
     let found = subst₂ (λ k steps. IsTurned n k (chart_of (history_of steps)) e r turned) slots c.as_slice.ensures.value (c.in_ok-turned.ensures n legal) in
     subst (λ d. IsTurned n plan.capacity d e r turned) (recorded_chart plan c.in_ok-steps.steps.items c.in_ok-steps.ensures) found

@@ -37,7 +37,7 @@ write_turned-requires-clause-turned g c =
     let pair = c.in_ok-pair.pair in
     let capacity = c.args.schedule.now.capacity in (
       capacity,
-      omega (arith, c.places.ensures.first, c.places.ensures.value, c.capacity.ensures),
+      omega (arith, c.slots.ensures.first, c.slots.ensures.value, c.capacity.ensures),
       subst₂ (λ (ns : List (List ℕ)) (ls : List LineView). IsTurned (length ns) capacity (chart_lines ls) (place_of pair.earlier) (place_of pair.receive) c.in-Ok-overtake_of_schedule.turned)
           (sym (c.names-2.ensures ∙ c.in-Ok.ensures.names)) (sym (c.chart-2.ensures.value ∙ c.in-Ok.ensures.chart)) c.in-Ok-overtake_of_schedule.ensures,
     )
@@ -54,7 +54,7 @@ returns g c =
     let turned = subst₂ (λ (ns : List (List ℕ)) (ls : List LineView). IsTurned (length ns) plan.capacity (chart_lines ls) (place_of pair.earlier) (place_of pair.receive) c.in-Ok-overtake_of_schedule.turned)
     (sym (c.names-2.ensures ∙ c.in-Ok.ensures.names)) (sym (c.chart-2.ensures.value ∙ c.in-Ok.ensures.chart)) c.in-Ok-overtake_of_schedule.ensures in
     let shows = subst₂ (λ (ns : List (List ℕ)) (ls : List LineView). Shows contents failures c.args.out.now c.write_turned.new.out done (ns, ls) plan.capacity pair) c.names-2.ensures c.chart-2.ensures.value
-    (c.write_turned.ensures plan.capacity (omega (arith, c.places.ensures.first, c.places.ensures.value, c.capacity.ensures)) turned) in
+    (c.write_turned.ensures plan.capacity (omega (arith, c.slots.ensures.first, c.slots.ensures.value, c.capacity.ensures)) turned) in
     let is_asked = subst₂ (λ (ns : List (List ℕ)) (ls : List LineView). IsAskedFor (ns, ls) asked.instance.now asked.earlier asked.receive (Ok pair)) c.names.ensures c.chart.ensures.value c.in_ok-pair.ensures in
     finds_of contents failures c.args.out.now c.write_turned.new.out plan o asked.instance.now asked.earlier asked.receive done c.in-Ok.ensures
     (finds_from contents failures c.args.out.now c.write_turned.new.out (o.names, o.chart) plan.capacity asked.instance.now asked.earlier asked.receive pair done is_asked shows)

@@ -12,7 +12,7 @@ use Rattle.witness.proofs.overtaking.overtake.Goals as goal
 pub returns-then-has-clause-found : goal.returns-then-has-clause-found
 returns-then-has-clause-found c = λ n x y legal is_x is_y.
     let steps = c.args.steps.now in
-    let k = c.args.places in
+    let k = c.args.slots in
     let g = history_of steps in
     let r = c.index.result.now in
     let e = c.index-2.result.now in
@@ -29,7 +29,7 @@ returns-then-has-clause-found c = λ n x y legal is_x is_y.
 pub returns-clause-found : goal.returns-clause-found
 returns-clause-found c = λ n x y legal is_x is_y.
     let steps = c.args.steps.now in
-    let k = c.args.places in
+    let k = c.args.slots in
     let g = history_of steps in
     let r = c.index.result.now in
     let e = c.index-2.result.now in

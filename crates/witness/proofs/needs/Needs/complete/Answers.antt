@@ -9,7 +9,7 @@ use Rattle.witness.proofs.needs.Needs.complete.Goals.{then-wants, else-wants}
 pub loop-place-preserved : goal.loop-place-preserved
 loop-place-preserved c = λ w stand.
     let steps = c.args.steps.now in
-    let k = c.args.places in
+    let k = c.args.slots in
     let old = c.loop-place.invariant w stand in
     let j = length steps - 1 - c.loop-place.place in
     let t = c.index-turned-many.result in
@@ -37,4 +37,4 @@ returns c = λ w stand.
     let steps = c.args.steps.now in
     let last = c.loop-place.invariant w stand in
     let none : 0 ≡ length steps - c.loop-place.place = omega (arith, c.loop-place-test.false) in
-    subst (λ x. StandFor c.loop-place.self.sends c.loop-place.self.receives c.loop-place.self.lines x) (ap (λ i. wanted c.args.places (history_of (take i steps)) last.0) none ∙ last.2) last.1
+    subst (λ x. StandFor c.loop-place.self.sends c.loop-place.self.receives c.loop-place.self.lines x) (ap (λ i. wanted c.args.slots (history_of (take i steps)) last.0) none ∙ last.2) last.1

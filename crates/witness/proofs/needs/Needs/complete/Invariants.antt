@@ -5,4 +5,4 @@ use Rattle.witness.proofs.needs.Needs.complete.Given as goal
 
 abbrev pub invariant-loop-place : goal.invariant-loop-place
 invariant-loop-place l = (w : Wanted) → StandFor l.initial.self.sends l.initial.self.receives l.initial.self.lines w
-    → (v : Wanted) × StandFor l.self.sends l.self.receives l.self.lines v × (wanted l.places (history_of (take (length l.steps - l.place) l.steps)) v ≡ wanted l.places (history_of l.steps) w)
+    → (v : Wanted) × StandFor l.self.sends l.self.receives l.self.lines v × (wanted l.slots (history_of (take (length l.steps - l.place) l.steps)) v ≡ wanted l.slots (history_of l.steps) w)

@@ -4,7 +4,7 @@ use Rattle.std.specs.Iterator.Adapters.{zip_first, zip_second}
 use Rattle.chart.specs.Histories.{sent}
 use Rattle.board_table.specs.Knowing.{held, packets_out, vacant_out, IsFilling}
 use Rattle.board.specs.SendingMany.{packets_of}
-use Rattle.board.proofs.sending_several.fill_places.Given as goal
+use Rattle.board.proofs.sending_several.fill_slots.Given as goal
 
 abbrev pub invariant-loop-message : goal.invariant-loop-message
 invariant-loop-message l = record {
