@@ -166,9 +166,9 @@ impl GrowingLine {
         self.events.reserve_exact(room)
     }
 
-    /// How many events stand before the run of neighbouring receives from one sender that ends with the event of
+    /// How many events the line has ahead of the run of neighbouring receives from one sender that ends with the event of
     /// this index. For a send, which is in no such run, it is some number below the index.
-    pub fn before_run(&self, index: usize) -> usize
+    pub fn run_start(&self, index: usize) -> usize
         requires begun { 1 ≤ index }
         requires within { index ≤ length self.now.line.events }
         ensures { IsStartOfRun is_receive_from self.now.line.events index result }
@@ -176,9 +176,9 @@ impl GrowingLine {
         self.starts[index - 1].run as usize
     }
 
-    /// How many events stand before the part of its coregion that ends with the event of this index. Outside of a
+    /// How many events the line has ahead of the part of its coregion that ends with the event of this index. Outside of a
     /// coregion it is some number below the index.
-    pub fn before_region(&self, index: usize) -> usize
+    pub fn region_start(&self, index: usize) -> usize
         requires begun { 1 ≤ index }
         requires within { index ≤ length self.now.line.events }
         ensures { IsStartOfRun is_in self.now.line.events index result }

@@ -121,8 +121,8 @@ fn runs(rt: HostRuntime) -> Result<(), Fail> {
     line.push(send_to(2)?)?;
     for (index, run) in [(1, 0), (2, 1), (3, 1), (4, 3), (5, 3), (6, 5)] {
         assert!(rt; index <= line.len() && 1 <= index);
-        assert_eq!(rt; line.before_run(index), run, "the run of event {index}");
-        assert_eq!(rt; line.before_region(index), index - 1);
+        assert_eq!(rt; line.run_start(index), run, "the run of event {index}");
+        assert_eq!(rt; line.region_start(index), index - 1);
     }
     Ok(())
 }

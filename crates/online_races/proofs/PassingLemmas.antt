@@ -42,8 +42,8 @@ AreFound-end line entry q region = record {
 }
 
 -- what is passed adds nothing
-pub AreFound-passed : (line : List Event) (before last entry q region : ℕ) (xs : List ℕ) → ArePassed line before last q region → AreFound line last entry q region xs → AreFound line before entry q region xs
-AreFound-passed line before last entry q region xs passed found = record {
+pub AreFound-passed : (line : List Event) (start last entry q region : ℕ) (xs : List ℕ) → ArePassed line start last q region → AreFound line last entry q region xs → AreFound line start entry q region xs
+AreFound-passed line start last entry q region xs passed found = record {
   rising = found.rising;
   exact = λ j. (
     λ here. let w = (found.exact j).0 here in (omega (arith, passed.less, w.0), w.1, w.2),
@@ -74,8 +74,8 @@ AreFound-race line index entry q region xs above race found = record {
 }
 
 -- where all after the entry is passed, the races are found
-pub IsRaces-found : (line : List Event) (before entry q region : ℕ) (xs : List ℕ) → before ≤ entry → AreFound line before entry q region xs → IsRaces line entry q region xs
-IsRaces-found line before entry q region xs done found = record {
+pub IsRaces-found : (line : List Event) (start entry q region : ℕ) (xs : List ℕ) → start ≤ entry → AreFound line start entry q region xs → IsRaces line entry q region xs
+IsRaces-found line start entry q region xs done found = record {
   rising = found.rising;
   exact = λ j. (
     λ here. let w = (found.exact j).0 here in (w.1, w.2),
@@ -97,52 +97,52 @@ HasFound-end line end entry q region within short = record {
 IsRace-front : (line : List Event) (end q region index : ℕ) → index ≤ end → IsRace line q region index → IsRace (take end line) q region index
 IsRace-front line end q region index within (m, is, other, outside) = (m, ith-take end line index within ∙ is, other, outside)
 
-ArePassed-front : (line : List Event) (end before last q region : ℕ) → ArePassed line before last q region → ArePassed (take end line) before last q region
-ArePassed-front line end before last q region passed = record {
+ArePassed-front : (line : List Event) (end start last q region : ℕ) → ArePassed line start last q region → ArePassed (take end line) start last q region
+ArePassed-front line end start last q region passed = record {
   less = passed.less;
   each = λ j m low high is. passed.each j m low high (ith_from_take end line j m is).1;
 }
 
--- it goes on before what is passed
-pub HasFound-passed : (line : LineView) (end before index entry q region : ℕ) (found : List EventNo) → ArePassed line.events before index q region → HasFound line end index entry q region found → HasFound line end before entry q region found
-HasFound-passed line end before index entry q region found passed old = record {
+-- it goes on ahead of what is passed
+pub HasFound-passed : (line : LineView) (end start index entry q region : ℕ) (found : List EventNo) → ArePassed line.events start index q region → HasFound line end index entry q region found → HasFound line end start entry q region found
+HasFound-passed line end start index entry q region found passed old = record {
   within = omega (arith, passed.less, old.within);
   inside = old.inside;
   short = old.short;
-  races = AreFound-passed (take end line.events) before index entry q region _ (ArePassed-front line.events end before index q region passed) old.races;
+  races = AreFound-passed (take end line.events) start index entry q region _ (ArePassed-front line.events end start index q region passed) old.races;
   own = old.own;
 }
 
-AreRaces-front : (line : List Event) (end before last q region : ℕ) → last ≤ end → AreRaces line before last q region → AreRaces (take end line) before last q region
-AreRaces-front line end before last q region within races = record {
+AreRaces-front : (line : List Event) (end start last q region : ℕ) → last ≤ end → AreRaces line start last q region → AreRaces (take end line) start last q region
+AreRaces-front line end start last q region within races = record {
   less = races.less;
   each = λ j low high. IsRace-front line end q region j (omega (arith, high, within)) (races.each j low high);
 }
 
 -- some races are the first of those that are found
-AreFound-races : (line : List Event) (p entry q region n before : ℕ) (found : List EventNo) → entry ≤ before → ((j : ℕ) → before < j → j ≤ before + n → IsRace line q region j) → AreFound line (before + n) entry q region (map (λ race. race.index) found)
-    → AreFound line before entry q region (map (λ race. race.index) (events_from p (before + 1) n ++ found))
-AreFound-races line p entry q region zero before found after races old =
-    let here : before + zero ≡ before = omega arith in subst (λ k. AreFound line k entry q region (map (λ (race : EventNo). race.index) found)) here old
-AreFound-races line p entry q region (suc n) before found after races old =
-    let behind : before + suc n ≡ before + 1 + n = omega arith in
-    let here : before + 1 - 1 ≡ before = omega arith in
-    let later = AreFound-races line p entry q region n (before + 1) found (omega (arith, after)) (λ j low high. races j (omega (arith, low)) (omega (arith, high)))
+AreFound-races : (line : List Event) (p entry q region n start : ℕ) (found : List EventNo) → entry ≤ start → ((j : ℕ) → start < j → j ≤ start + n → IsRace line q region j) → AreFound line (start + n) entry q region (map (λ race. race.index) found)
+    → AreFound line start entry q region (map (λ race. race.index) (events_from p (start + 1) n ++ found))
+AreFound-races line p entry q region zero start found after races old =
+    let here : start + zero ≡ start = omega arith in subst (λ k. AreFound line k entry q region (map (λ (race : EventNo). race.index) found)) here old
+AreFound-races line p entry q region (suc n) start found after races old =
+    let behind : start + suc n ≡ start + 1 + n = omega arith in
+    let here : start + 1 - 1 ≡ start = omega arith in
+    let later = AreFound-races line p entry q region n (start + 1) found (omega (arith, after)) (λ j low high. races j (omega (arith, low)) (omega (arith, high)))
     (subst (λ k. AreFound line k entry q region (map (λ (race : EventNo). race.index) found)) behind old) in
-    subst (λ k. AreFound line k entry q region (map (λ (race : EventNo). race.index) (events_from p (before + 1) (suc n) ++ found))) here
-    (AreFound-race line (before + 1) entry q region _ (omega (arith, after)) (races (before + 1) (omega arith) (omega arith)) later)
+    subst (λ k. AreFound line k entry q region (map (λ (race : EventNo). race.index) (events_from p (start + 1) (suc n) ++ found))) here
+    (AreFound-race line (start + 1) entry q region _ (omega (arith, after)) (races (start + 1) (omega arith) (omega arith)) later)
 
 -- the events of a range of p's line are p's
 All-events_from : (p i n : ℕ) → All (λ (e : EventNo). e.instance ≡ p) (events_from p i n)
 All-events_from p i zero = All-nil (λ (e : EventNo). e.instance ≡ p)
 All-events_from p i (suc n) = All-cons (λ (e : EventNo). e.instance ≡ p) (record { instance = p; index = i }) (events_from p (i + 1) n) refl (All-events_from p (i + 1) n)
 
--- it goes on before some races, which it keeps as far as they are later than the entry
-pub HasFound-races : (line : LineView) (end before last earlier entry q region : ℕ) (found : List EventNo) → AreRaces line.events before last q region → before ≤ earlier → entry ≤ earlier → earlier < last → HasFound line end last entry q region found
+-- it goes on ahead of some races, which it keeps as far as they are later than the entry
+pub HasFound-races : (line : LineView) (end start last earlier entry q region : ℕ) (found : List EventNo) → AreRaces line.events start last q region → start ≤ earlier → entry ≤ earlier → earlier < last → HasFound line end last entry q region found
     → HasFound line end earlier entry q region (events_from line.instance (earlier + 1) (last - earlier) ++ found)
-HasFound-races line end before last earlier entry q region found races low after less old =
+HasFound-races line end start last earlier entry q region found races low after less old =
     let whole : earlier + (last - earlier) ≡ last = omega arith in
-    let front = AreRaces-front line.events end before last q region old.within races in
+    let front = AreRaces-front line.events end start last q region old.within races in
     record {
       within = omega (arith, old.within);
       inside = old.inside;
@@ -152,7 +152,7 @@ HasFound-races line end before last earlier entry q region found races low after
       own = All-append (λ (e : EventNo). e.instance ≡ line.instance) (events_from line.instance (earlier + 1) (last - earlier)) found (All-events_from line.instance (earlier + 1) (last - earlier)) old.own;
     }
 
--- what was read before an index stands at it
+-- what was read at a place counted from 0 stands at it
 pub ith_read : {X : Type 0} (xs : List X) (j : ℕ) (x : X) → 1 ≤ j → j ≤ length xs → x ≡ get_or xs (j - 1) x → ith xs j ≡ Some x
 ith_read xs zero x low high is = absurd (omega arith)
 ith_read xs (suc i) x low high is =
@@ -160,8 +160,8 @@ ith_read xs (suc i) x low high is =
     slice_get_read xs (length xs) i x refl (omega arith) (subst (λ k. x ≡ get_or xs k x) e is)
 
 -- a run of receives from another one are all races of a receive that is in no coregion
-pub AreRaces-run : (line : List Event) (before last q from region : ℕ) → IsRun (is_receive_from from) line before last → last ≤ length line → (from ≡ q → ⊥) → region ≡ 0 → AreRaces line before last q region
-AreRaces-run line before last q from region run within other outside = record {
+pub AreRaces-run : (line : List Event) (start last q from region : ℕ) → IsRun (is_receive_from from) line start last → last ≤ length line → (from ≡ q → ⊥) → region ≡ 0 → AreRaces line start last q region
+AreRaces-run line start last q from region run within other outside = record {
   less = run.begun;
   each = λ j low high.
       let k = j - 1 in
@@ -181,13 +181,13 @@ AreRaces-run line before last q from region run within other outside = record {
         false≢true (sym (ap not (eq-eqb region 0 outside)) ∙ not_zero))
 
 -- a race that is a receive, and the run of receives from its sender that ends with it
-pub AreRaces-receive : (line : List Event) (before index q region from c : ℕ) (name : List ℕ) (m : Event) → 1 ≤ index → index ≤ length line → m ≡ get_or line (index - 1) m → m ≡ receive_event from name c
-    → IsStartOfRun is_receive_from line index before → IsRace line q region index → region ≡ 0 → AreRaces line before index q region
-AreRaces-receive line before index q region from c name m low within read is kept (n, at_n, other, outside) none =
+pub AreRaces-receive : (line : List Event) (start index q region from c : ℕ) (name : List ℕ) (m : Event) → 1 ≤ index → index ≤ length line → m ≡ get_or line (index - 1) m → m ≡ receive_event from name c
+    → IsStartOfRun is_receive_from line index start → IsRace line q region index → region ≡ 0 → AreRaces line start index q region
+AreRaces-receive line start index q region from c name m low within read is kept (n, at_n, other, outside) none =
     let here : ith line index ≡ Some m = ith_read line index m low within read in
     let pass : is_receive_from from m ≡ true = ap (is_receive_from from) is ∙ eq-eqb from from refl in
     let same : n ≡ m = same_Some n m (sym at_n ∙ here) in
-    AreRaces-run line before index q from region (kept.run from m here pass) within (λ e. false≢true (sym (subst (λ x. is_receive_from q x ≡ false) (same ∙ is) other) ∙ eq-eqb from q e)) none
+    AreRaces-run line start index q from region (kept.run from m here pass) within (λ e. false≢true (sym (subst (λ x. is_receive_from q x ≡ false) (same ∙ is) other) ∙ eq-eqb from q e)) none
 
 -- the search is done
 pub IsRaces-done : (line : LineView) (end index entry q region : ℕ) (found : List EventNo) → index ≤ entry → HasFound line end index entry q region found → IsRaces (take end line.events) entry q region (map (λ race. race.index) found)

@@ -14,26 +14,26 @@ use Rattle.chart.specs.Events.{ith, is_receive_from, is_in}
 abbrev pub IsRace : List Event → ℕ → ℕ → ℕ → Type 0
 IsRace line q region j = (m : Event) × (ith line j ≡ Some m) × (is_receive_from q m ≡ false) × (is_in region m ≡ false)
 
--- each event after the first `before` ones, up to the last, is a receive from q or in the region
-pub record ArePassed (line : List Event) (before last q region : ℕ) : Type 0 where
-  pub less : before < last
-  pub each : (j : ℕ) (m : Event) → before < j → j ≤ last → ith line j ≡ Some m
+-- each event after the first `start` ones, up to the last, is a receive from q or in the region
+pub record ArePassed (line : List Event) (start last q region : ℕ) : Type 0 where
+  pub less : start < last
+  pub each : (j : ℕ) (m : Event) → start < j → j ≤ last → ith line j ≡ Some m
       → (is_receive_from q m ≡ true) ⊎ (is_in region m ≡ true)
 
--- each event after the first `before` ones, up to the last, is neither
-pub record AreRaces (line : List Event) (before last q region : ℕ) : Type 0 where
-  pub less : before < last
-  pub each : (j : ℕ) → before < j → j ≤ last → IsRace line q region j
+-- each event after the first `start` ones, up to the last, is neither
+pub record AreRaces (line : List Event) (start last q region : ℕ) : Type 0 where
+  pub less : start < last
+  pub each : (j : ℕ) → start < j → j ≤ last → IsRace line q region j
 
 -- what is said of the neighbouring events that end at index
 abbrev pub IsStretch : List Event → ℕ → ℕ → ℕ → Stretch → Type 0
-IsStretch line q region index (Passed before) = ArePassed line before index q region
-IsStretch line q region index (Races before) = AreRaces line before index q region
+IsStretch line q region index (Passed start) = ArePassed line start index q region
+IsStretch line q region index (Races start) = AreRaces line start index q region
 
--- rising, the races later than the entry among the events after the first `before` ones
-pub record AreFound (line : List Event) (before entry q region : ℕ) (races : List ℕ) : Type 0 where
+-- rising, the races later than the entry among the events after the first `start` ones
+pub record AreFound (line : List Event) (start entry q region : ℕ) (races : List ℕ) : Type 0 where
   pub rising : AllPairs (λ i j. i < j) races
-  pub exact : (j : ℕ) → Contains races j ↔ ((before < j) × (entry < j) × IsRace line q region j)
+  pub exact : (j : ℕ) → Contains races j ↔ ((start < j) × (entry < j) × IsRace line q region j)
 
 -- what the search among the first events of a line keeps: where it is, and what it found
 pub record HasFound (line : LineView) (end index entry q region : ℕ) (found : List EventNo) : Type 0 where

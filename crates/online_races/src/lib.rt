@@ -20,21 +20,21 @@ use std::alloc::{AllocError, Global};
 /// Neighbouring events of a line that end with one event: all but the first so many, up to it.
 enum Stretch {
     /// Receives of the coregion, or receives from the sender.
-    Passed { before: usize },
+    Passed { start: usize },
     /// Races.
-    Races { before: usize },
+    Races { start: usize },
 }
 
-/// How many events stand before a run of races that ends with this event: the neighbouring receives from its sender,
+/// How many events the line has ahead of a run of races that ends with this event: the neighbouring receives from its sender,
 /// where the receive that comes is in no coregion.
-fn before_races(line: &GrowingLine, index: usize, region: u32) -> usize
+fn races_start(line: &GrowingLine, index: usize, region: u32) -> usize
     requires begun { 1 ≤ index }
     requires within { index ≤ length line.now.line.events }
     ensures { (sender : ℕ) → IsRace line.now.line.events sender region index
         → AreRaces line.now.line.events result index sender region }
 {
     match &line.events()[index - 1] {
-        Event::Receive { .. } if region == 0 => line.before_run(index),
+        Event::Receive { .. } if region == 0 => line.run_start(index),
         _ => index - 1,
     }
 }
@@ -48,15 +48,15 @@ fn stretch_to(line: &GrowingLine, index: usize, sender: InstanceNo, region: u32)
     let event = &line.events()[index - 1];
     if event.is_in(region) {
         Stretch::Passed {
-            before: line.before_region(index),
+            start: line.region_start(index),
         }
     } else if event.is_receive_from(sender) {
         Stretch::Passed {
-            before: line.before_run(index),
+            start: line.run_start(index),
         }
     } else {
         Stretch::Races {
-            before: before_races(line, index, region),
+            start: races_start(line, index, region),
         }
     }
 }
@@ -86,9 +86,9 @@ fn last_races(
     let mut last = index;
     while last > entry as usize {
         match stretch_to(line, last, sender, region) {
-            Stretch::Passed { before } => last = before,
-            Stretch::Races { before } => {
-                let earlier = before.max(entry as usize);
+            Stretch::Passed { start } => last = start,
+            Stretch::Races { start } => {
+                let earlier = start.max(entry as usize);
                 let first = EventNo {
                     instance: line.instance(),
                     index: earlier as u32 + 1,
