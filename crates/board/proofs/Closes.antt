@@ -80,7 +80,7 @@ module _ (key : Shape) (table chair chair_after : TableId) (m w : Mine) (n k p :
         rests = makes.rests;
         knows = record {
           legal = did.legal;
-          own = record { recorder = subst (λ h. IsRecorder n h p r) (sym did.seen) recorder_now; may = subst (λ x. MayHaveRegion x region) (sym line) post.knows.own.may };
+          own = record { recorder = subst (λ h. IsRecorder n h p r) (sym did.seen) recorder_now; region_fits = subst (λ x. MayHaveRegion x region) (sym line) post.knows.own.region_fits };
           ends = with_outgoing n (held w).seen p j (record o { closed = true }) outgoing incoming within now (subst (λ h. IsOutgoing n h p (suc j) (record o { closed = true })) (sym did.seen) its);
         };
         made = did.own;

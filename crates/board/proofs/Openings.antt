@@ -33,7 +33,7 @@ post_at key table chair n k p outgoing incoming sized board same low high ends =
   rests = record { post = record { alone = refl; instances = refl; capacity = refl; number = refl }; hold = refl; slots = refl };
   knows = record {
     legal = tt;
-    own = record { recorder = record { line = refl; knowledge = refl; receives = refl; reports = λ i d lt. absurd (omega (arith, lt)) }; may = inl refl };
+    own = record { recorder = record { line = refl; knowledge = refl; receives = refl; reports = λ i d lt. absurd (omega (arith, lt)) }; region_fits = inl refl };
     ends = record {
       as_many = ends.as_many;
       of_each = ends.of_each;

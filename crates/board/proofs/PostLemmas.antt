@@ -63,7 +63,7 @@ module _ (key : Shape) (table chair chair_after : TableId) (m w : Mine) (n k p :
         rests = rests;
         knows = record {
           legal = did.legal;
-          own = record { recorder = recorder; may = subst (λ l. MayHaveRegion l region) (sym line) post.knows.own.may };
+          own = record { recorder = recorder; region_fits = subst (λ l. MayHaveRegion l region) (sym line) post.knows.own.region_fits };
           ends = with_outgoing n (held w).seen p j e outgoing incoming within others end;
         };
         made = did.own;
@@ -85,7 +85,7 @@ module _ (key : Shape) (table chair chair_after : TableId) (m w : Mine) (n k p :
         rests = rests;
         knows = record {
           legal = did.legal;
-          own = record { recorder = recorder; may = inl outside };
+          own = record { recorder = recorder; region_fits = inl outside };
           ends = with_outgoing n (held w).seen p j e outgoing incoming within now end;
         };
         made = did.own;

@@ -96,7 +96,7 @@ module _ (key : Shape) (table chair : TableId) (m : Mine) (n k p : ℕ) (r : Rec
     recorder_then = recorder_saw n k p (held m) (held s) post.knows.legal post.made did r post.knows.own.recorder
 
     pub region_then : MayHaveRegion (chart_of (held s).seen p) region
-    region_then = subst (λ l. MayHaveRegion l region) (sym (line_saw n k p (held m) (held s) post.knows.legal post.made did)) post.knows.own.may
+    region_then = subst (λ l. MayHaveRegion l region) (sym (line_saw n k p (held m) (held s) post.knows.legal post.made did)) post.knows.own.region_fits
 
     -- it may receive what it found
     pub may_receive : (from : ℕ) (e : Incoming) → IsPartner (view_of table m n k p region r.room) from → HasMessages (record { instances = n; capacity = k; sender = from; receiver = p }) s → IsIncoming n (held s).seen p from e → MayReceive (record { instances = n; capacity = k; sender = from; receiver = p }) region s e r
@@ -118,7 +118,7 @@ module _ (key : Shape) (table chair : TableId) (m : Mine) (n k p : ℕ) (r : Rec
           rests = rests;
           knows = record {
             legal = did.legal;
-            own = record { recorder = recorder; may = subst (λ l. MayHaveRegion l region) (sym line) post.knows.own.may };
+            own = record { recorder = recorder; region_fits = subst (λ l. MayHaveRegion l region) (sym line) post.knows.own.region_fits };
             ends = with_incoming n (held w).seen p j e outgoing incoming within others end;
           };
           made = did.own;
@@ -131,7 +131,7 @@ module _ (key : Shape) (table chair : TableId) (m : Mine) (n k p : ℕ) (r : Rec
         let line : chart_of before p ≡ chart_of (held m).seen p = same_line n (held m).seen before did.later p same in
         let others = ends_later n k (held m).seen before p 0 (suc j) outgoing incoming post.knows.legal did.later same (ends_but n (held m).seen p 0 (suc j) outgoing incoming post.knows.ends) in
         let now : AreEndsBut n (held w).seen p 0 (suc j) outgoing incoming = subst (λ h. AreEndsBut n h p 0 (suc j) outgoing incoming) (sym did.seen) (ends_several n p (suc j) 0 region outgoing incoming (suc many) before others) in
-        let start : MayHaveRegion (chart_of before p) region = subst (λ l. MayHaveRegion l region) (sym line) post.knows.own.may in
+        let start : MayHaveRegion (chart_of before p) region = subst (λ l. MayHaveRegion l region) (sym line) post.knows.own.region_fits in
         let may : MayHaveRegion (chart_of (held w).seen p) region = subst (λ h. MayHaveRegion (chart_of h p) region) (sym did.seen)
         (may_several n k p (suc j) region many before (subst (λ h. IsLegal n k h) did.seen did.legal) start) in
         record {
@@ -143,7 +143,7 @@ module _ (key : Shape) (table chair : TableId) (m : Mine) (n k p : ℕ) (r : Rec
           rests = rests;
           knows = record {
             legal = did.legal;
-            own = record { recorder = recorder; may = may };
+            own = record { recorder = recorder; region_fits = may };
             ends = with_incoming n (held w).seen p j e outgoing incoming within now end;
           };
           made = did.own;

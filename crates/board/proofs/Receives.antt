@@ -278,12 +278,12 @@ module _ (l : LaneView) (region : ℕ) (s : Mine) (u : Incoming) (r : RecorderVi
     ready : IsReady l region v
     ready =
         let h = (held s).seen in
-        let done = receives_at h (waiting_goods l t) may.legal (record { recorder = may.recorded; may = may.coregion }) refl are.took in
+        let done = receives_at h (waiting_goods l t) may.legal (record { recorder = may.recorded; region_fits = may.coregion }) refl are.took in
         let its = done.own.recorder in
         subst (λ (x : RecorderView). IsReady l region x) (sym are.recorder_is) (record {
           its = ap (λ (line : LineView). line.instance) its.line;
           knows = known_many l.instances l.capacity (with_receives h l.receiver l.sender region are.parcels) l.receiver (after_receives r l.sender region are.parcels (reports_of arrivals)) done.legal its;
-          may = subst (λ (line : LineView). MayHaveRegion line.events region) (sym its.line) done.own.may;
+          region_fits = subst (λ (line : LineView). MayHaveRegion line.events region) (sym its.line) done.own.region_fits;
         })
 
     -- one that is known of is still out
@@ -375,7 +375,7 @@ module _ (l : LaneView) (region : ℕ) (s : Mine) (u : Incoming) (r : RecorderVi
 
       done : Received l.instances l.capacity l.sender l.receiver region (length are.parcels) before (with_receives before l.receiver l.sender region are.parcels) (after_receives r l.sender region are.parcels (reports_of arrivals))
       done = receives_at before rest all_did.legal_before
-          (same_instance l.instances (held s).seen before all_did.later l.capacity l.receiver r region may.legal same_before (record { recorder = may.recorded; may = may.coregion }))
+          (same_instance l.instances (held s).seen before all_did.later l.capacity l.receiver r region may.legal same_before (record { recorder = may.recorded; region_fits = may.coregion }))
           (same_line l.instances (held s).seen before all_did.later l.receiver same_before) waits_before
 
       seen_now : (held w).seen ≡ with_receives before l.receiver l.sender region are.parcels

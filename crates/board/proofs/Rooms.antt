@@ -21,7 +21,7 @@ post_roomy key table chair m n k p r region outgoing incoming events post =
       rests = post.rests;
       knows = record {
         legal = knows.legal;
-        own = record { recorder = record { line = recorder.line; knowledge = recorder.knowledge; receives = recorder.receives; reports = recorder.reports }; may = knows.own.may };
+        own = record { recorder = record { line = recorder.line; knowledge = recorder.knowledge; receives = recorder.receives; reports = recorder.reports }; region_fits = knows.own.region_fits };
         ends = knows.ends;
       };
       made = post.made;

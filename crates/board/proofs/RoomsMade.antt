@@ -51,7 +51,7 @@ room_is n k q p theirs mine h o i room legal two sender receiver out into lane f
       many = omega (arith, many, put, heard, waits);
       empty = empty;
       enough = enough;
-      few = omega (arith, taken, many, put, heard, waits, within, short);
+      within_limit = omega (arith, taken, many, put, heard, waits, within, short);
     }
 
 -- Lanes, one more.

@@ -24,7 +24,7 @@ use Rattle.board.proofs.SendAnswers.{did_sound, did_makes, did_stays, unsent}
 -- none is sent where there is none
 pub sent_none : (old : PostView) (to : ℕ) (ms : List Content) (sents : List Sent) → length ms ≡ 0 → sents ≡ [] → MaySend old to → AreSent old to ms sents old
 sent_none old to [] sents none nothing may = subst (λ (xs : List Sent). AreSent old to [] xs old) (sym nothing) (record {
-  may = may;
+  allowed = may;
   makes = (old.seen, record { later = begins_same old.seen; seen = refl; made = refl; region = refl });
   events = refl;
   room = omega arith;
@@ -49,7 +49,7 @@ sound_all table m w n k p region room left to ms (Err (back, error)) made unmade
 pub answer_all : (key : Shape) (table chair : TableId) (m w : Mine) (n k p : ℕ) (r : RecorderView) (region : ℕ) (outgoing : List Outgoing) (incoming : List Incoming) → IsPost key table chair m n k p r region outgoing incoming → (to left : ℕ) (ms : List Content) → MayPass (view_of table m n k p region r.room) to (length ms) → 0 < length ms
     → (result : Answer) → WereMade n k p to ms m w result → WereUnmade n k p to ms m w result → OnOk result (left ≡ r.room - length ms) → OnErr result (left ≡ r.room) → SendsAll (view_of table m n k p region r.room) to ms result (view_of table w n k p region left)
 answer_all key table chair m w n k p r region outgoing incoming post to left ms may some (Ok sents) made unmade taken kept = record {
-  may = may.may;
+  allowed = may.allowed;
   makes = (_, did_makes table m w n k p region r.room _ _ made.did left);
   events = made.events;
   room = taken;

@@ -64,7 +64,7 @@ did_stays table m w n k p region room left did kept = record { made = did.made; 
 module _ (key : Shape) (table chair : TableId) (m w : Mine) (n k p : ℕ) (r : RecorderView) (region : ℕ) (outgoing : List Outgoing) (incoming : List Incoming) (post : IsPost key table chair m n k p r region outgoing incoming) (to many : ℕ) (may : MayPass (view_of table m n k p region r.room) to many) where
   -- the lane is open in what is seen
   unclosed : is_closed (held m).seen p to ≡ false
-  unclosed = sym (closed_own (held m).seen p to) ∙ ap (λ h. is_closed h p to) post.made ∙ may.may.opened
+  unclosed = sym (closed_own (held m).seen p to) ∙ ap (λ h. is_closed h p to) post.made ∙ may.allowed.opened
 
   -- it may put them on the lane
   pub may_put : (end : Outgoing) → IsOutgoing n (held m).seen p to end → MayPut (record { instances = n; capacity = k; sender = p; receiver = to }) many m end r
@@ -76,7 +76,7 @@ module _ (key : Shape) (table chair : TableId) (m w : Mine) (n k p : ℕ) (r : R
     recorded = post.knows.own.recorder;
     unclosed = unclosed;
     short = may.short;
-    two = may.may.two;
+    two = may.allowed.two;
   }
 
   -- why the messages, so many, aren't sent
@@ -94,8 +94,8 @@ module _ (key : Shape) (table chair : TableId) (m w : Mine) (n k p : ℕ) (r : R
       by_cases TooMany never = absurd never
       by_cases LineFull never = absurd never
       by_cases Full none = (
-        may.may,
-        may.few,
+        may.allowed,
+        may.within_capacity,
         short,
         record {
           waits = none.waits;
@@ -104,4 +104,4 @@ module _ (key : Shape) (table chair : TableId) (m w : Mine) (n k p : ℕ) (r : R
           looked = none.looked;
         },
       )
-      by_cases Memory fit = (may.may, some, short, fit)
+      by_cases Memory fit = (may.allowed, some, short, fit)

@@ -57,7 +57,7 @@ module _ (posts : List PostView) (x : PostView) (at : slice_get posts 0 ≡ Some
   pub are_of : AreOf n x.board.capacity posts
   are_of = record {
     size = λ i post there. let same = one i 0 post x there at in (ap (λ b. b.size) same ∙ sym size, ap (λ b. b.capacity) same);
-    one = one;
+    same_board = one;
     all = λ number low high. each_there posts x at all number low (omega (arith, high, size));
   }
 

@@ -15,7 +15,7 @@ pub record HasMessages (l : LaneView) (me : Mine) : Type 0 where
 
 -- the lane's end knows of one message that waits, and of so many or of all
 pub record KnowsOf (l : LaneView) (many : ℕ) (me : Mine) (end : Incoming) : Type 0 where
-  pub one : end.taken < end.known_put
+  pub waits : end.taken < end.known_put
   pub enough : (end.taken + many ≤ end.known_put) ⊎ (end.known_put ≡ length (sent (held me).seen l.sender l.receiver))
 
 -- none waits on the lane, which is closed or not, by a look; none waited in what was seen before

@@ -46,7 +46,7 @@ AreEnds n h p outgoing incoming = AreEndsBut n h p 0 0 outgoing incoming
 -- a board may have so many instances, and lanes of so many slots
 pub record IsSized (n k : ℕ) : Type 0 where
   pub several : 2 ≤ n
-  pub few : n ≤ MAX_INSTANCES
+  pub within_limit : n ≤ MAX_INSTANCES
   pub some : 1 ≤ k
   pub slots : k ≤ MAX_CAPACITY
 

@@ -37,7 +37,7 @@ IsAmong posts post = (i : ℕ) × (slice_get posts i ≡ Some post)
 -- they are posts of boards of this size, and there is one of each number
 pub record AreOf (n k : ℕ) (posts : List PostView) : Type 0 where
   pub size : (i : ℕ) (post : PostView) → slice_get posts i ≡ Some post → (post.board.size ≡ n) × (post.board.capacity ≡ k)
-  pub one : (i j : ℕ) (x y : PostView) → slice_get posts i ≡ Some x → slice_get posts j ≡ Some y → x.board ≡ y.board
+  pub same_board : (i j : ℕ) (x y : PostView) → slice_get posts i ≡ Some x → slice_get posts j ≡ Some y → x.board ≡ y.board
   pub all : (number : ℕ) → 1 ≤ number → number ≤ n → HasPost posts number
 
 abbrev pub room_lane : Room → LaneEnds
@@ -53,7 +53,7 @@ pub record IsRoom (h : List Occurrence) (n k q p : ℕ) (room : Room) : Type 0 w
   pub many : room.many ≡ length (waiting h q p)
   pub empty : room.messages.items ≡ []
   pub enough : room.many ≤ vec_capacity room.messages
-  pub few : room.taken + room.many ≤ MAX_EVENTS
+  pub within_limit : room.taken + room.many ≤ MAX_EVENTS
 
 abbrev pub IsLaneRoom : List Occurrence → ℕ → ℕ → Room → Type 0
 IsLaneRoom h n k room = IsRoom h n k room.sender room.receiver room

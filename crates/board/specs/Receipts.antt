@@ -47,7 +47,7 @@ pub record IsTaking (l : LaneView) (me : Mine) (end : Incoming) : Type 0 where
 pub record IsReady (l : LaneView) (region : ℕ) (recorder : RecorderView) : Type 0 where
   pub its : recorder.line.instance ≡ l.receiver
   pub knows : length recorder.knowledge ≡ l.instances
-  pub may : MayHaveRegion recorder.line.events region
+  pub region_fits : MayHaveRegion recorder.line.events region
 
 -- the receiver may take the next message out in this coregion: one is out with it, and its line has room
 pub record MayTake (l : LaneView) (region : ℕ) (me : Mine) (end : Incoming) (recorder : RecorderView) : Type 0 where

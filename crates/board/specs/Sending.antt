@@ -43,7 +43,7 @@ IsUnsent old to many Memory new = MaySend old to × (0 < many) × (length (line_
 
 -- the message was sent, last of all that was seen; it took a place of the room, if there was one
 pub record IsSent (old : PostView) (to : ℕ) (message : Content) (sent : Sent) (new : PostView) : Type 0 where
-  pub may : MaySend old to
+  pub allowed : MaySend old to
   pub makes : (before : List Occurrence) × Makes old before (Send new.number to message ∷ []) new
   pub event : sent.event ≡ last_event new
   pub room : new.room ≡ old.room - 1
@@ -65,7 +65,7 @@ numbered p index (m ∷ ms) = record { instance = p; index = index } ∷ numbere
 -- the messages were sent, one directly after another, last of all that was seen; each took a place of the room, while there
 -- was one
 pub record AreSent (old : PostView) (to : ℕ) (messages : List Content) (sents : List Sent) (new : PostView) : Type 0 where
-  pub may : MaySend old to
+  pub allowed : MaySend old to
   pub makes : (before : List Occurrence) × Makes old before (sends_of new.number to messages) new
   pub events : map (λ (sent : Sent). sent.event) sents ≡ numbered new.number (length (line_of old) + 1) messages
   pub room : new.room ≡ old.room - length messages
@@ -77,6 +77,6 @@ SendsAll old to messages (Err (back, error)) new = (back.items ≡ messages) × 
 
 -- nothing but the lane's slots and memory stands in the way of so many messages
 pub record MayPass (old : PostView) (to many : ℕ) : Type 0 where
-  pub may : MaySend old to
-  pub few : many ≤ old.board.capacity
+  pub allowed : MaySend old to
+  pub within_capacity : many ≤ old.board.capacity
   pub short : length (line_of old) + many ≤ MAX_EVENTS

@@ -66,7 +66,7 @@ pub(crate) fn draw_all(words: &Words, seat: &mut Seat, room: Room) -> Left
     requires first { (packets : List Packet) × (others : List (ℕ × Option Packet)) × ComeFirst room.lane.instances room.lane.capacity room.lane.sender room.lane.receiver room.taken packets seat.old.me.1 others × (length packets ≡ room.many) }
     requires empty { room.messages.items ≡ [] }
     requires enough { room.many ≤ vec_capacity room.messages }
-    requires few { room.taken + room.many < 2 ^ 64 }
+    requires within_word { room.taken + room.many < 2 ^ 64 }
     ensures table { seat.new.table_id ≡ seat.old.table_id }
     ensures sender { result.sender ≡ room.sender }
     ensures receiver { result.receiver ≡ room.receiver }

@@ -86,7 +86,7 @@ pub(crate) fn receive_one(
 ) -> Result<Arrival, TakeError>
     requires table { seat.old.table_id ≡ words.now.table_id }
     requires board { IsBoard lane.now.instances lane.now.capacity words.now.key words.now.table_id }
-    requires may { MayReceive lane.now region seat.old.me end.old recorder.old }
+    requires may_receive { MayReceive lane.now region seat.old.me end.old recorder.old }
     requires from { from ≡ lane.now.sender }
     ensures table { seat.new.table_id ≡ seat.old.table_id }
     ensures rests { Rests lane.now.instances lane.now.capacity lane.now.receiver seat.new.me }
@@ -124,7 +124,7 @@ pub(crate) fn take_next(
 ) -> Result<Arrival, AllocError>
     requires table { seat.old.table_id ≡ words.now.table_id }
     requires board { IsBoard lane.now.instances lane.now.capacity words.now.key words.now.table_id }
-    requires may { MayTake lane.now region seat.old.me end.old recorder.old }
+    requires may_take { MayTake lane.now region seat.old.me end.old recorder.old }
     requires from { from ≡ lane.now.sender }
     ensures table { seat.new.table_id ≡ seat.old.table_id }
     ensures ok { IfOk result (λ arrival. IsTaken lane.now region seat.old.me end.old recorder.old arrival seat.new.me end.new recorder.new) }
@@ -158,7 +158,7 @@ fn record(
 ) -> Result<(Report, Clock), AllocError>
     requires table { seat.old.table_id ≡ words.now.table_id }
     requires board { IsBoard lane.now.instances lane.now.capacity words.now.key words.now.table_id }
-    requires may { MayTake lane.now region seat.old.me end.now recorder.old }
+    requires may_take { MayTake lane.now region seat.old.me end.now recorder.old }
     requires from { from ≡ lane.now.sender }
     ensures table { seat.new.table_id ≡ seat.old.table_id }
     ensures same { seat.new.me ≡ seat.old.me }

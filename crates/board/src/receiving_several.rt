@@ -33,7 +33,7 @@ pub(crate) fn receive_several(
 ) -> Result<(Vec<Arrival>, Stop), TakeError>
     requires table { seat.old.table_id ≡ words.now.table_id }
     requires board { IsBoard lane.now.instances lane.now.capacity words.now.key words.now.table_id }
-    requires may { MayReceive lane.now region seat.old.me end.old recorder.old }
+    requires may_receive { MayReceive lane.now region seat.old.me end.old recorder.old }
     requires from { from ≡ lane.now.sender }
     requires max { 1 ≤ max }
     requires knows { KnowsOf lane.now max seat.old.me end.old }
@@ -90,7 +90,7 @@ fn take_several(
 ) -> Stop
     requires table { seat.old.table_id ≡ words.now.table_id }
     requires board { IsBoard lane.now.instances lane.now.capacity words.now.key words.now.table_id }
-    requires may { MayReceive lane.now region seat.old.me end.old recorder.old }
+    requires may_receive { MayReceive lane.now region seat.old.me end.old recorder.old }
     requires from { from ≡ lane.now.sender }
     requires some { end.old.taken < end.old.known_put }
     requires none { arrivals.old.items ≡ [] }

@@ -33,7 +33,7 @@ impl<'a> Post<'a> {
     /// Room for the messages that wait on the lane from another post. F6: it fails only where there is no memory.
     fn room_from(&self, alloc: Global, sender: &Post) -> Result<Room, AllocError>
         requires board { sender.now.board ≡ self.now.board }
-        requires other { sender.now.number ≢ self.now.number }
+        requires not_itself { sender.now.number ≢ self.now.number }
         ensures { IfOk result (λ room. (h : List Occurrence) → IsJoint h self.now → IsJoint h sender.now → IsRoom h self.now.board.size self.now.board.capacity sender.now.number self.now.number room) }
     {
         let sent = sender.outgoing[self.number.place()].put;
@@ -52,7 +52,7 @@ impl<'a> Post<'a> {
     /// How many receives it made.
     fn receive_count(&self) -> usize
         ensures value { (h : List Occurrence) → IsJoint h self.now → result ≡ length (receives_of (history_line h self.now.number)) }
-        ensures few { result ≤ MAX_EVENTS }
+        ensures within_limit { result ≤ MAX_EVENTS }
     {
         self.recorder.reports().len()
     }
@@ -100,7 +100,7 @@ pub(crate) fn make_rooms(
 /// How many receives all posts made.
 pub(crate) fn count_receives(posts: &[Post], instances: usize) -> usize
     requires posts { (k : ℕ) × AreOf instances k posts.now }
-    requires few { instances ≤ MAX_INSTANCES }
+    requires within_limit { instances ≤ MAX_INSTANCES }
     ensures { (h : List Occurrence) → AreJoint h posts.now → AreCounted h instances result }
 {
     let mut total = 0;

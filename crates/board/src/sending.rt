@@ -39,7 +39,7 @@ pub(crate) fn claim_slots(
     requires legal { IsLegal lane.now.instances lane.now.capacity (held seat.old.me).seen }
     requires end { IsOutgoing lane.now.instances (held seat.old.me).seen lane.now.sender lane.now.receiver end.old }
     requires own { own (held seat.old.me).seen lane.now.sender ≡ (held seat.old.me).made }
-    requires few { end.old.put ≤ MAX_EVENTS }
+    requires within_limit { end.old.put ≤ MAX_EVENTS }
     requires capacity { capacity ≡ lane.now.capacity }
     requires many { many ≤ MAX_CAPACITY }
     ensures table { seat.new.table_id ≡ seat.old.table_id }
@@ -71,8 +71,8 @@ fn record(
     to: InstanceNo,
     name: Name,
 ) -> Result<Diff, AllocError>
-    requires one { to ≤ length recorder.old.knowledge }
-    requires other { to ≢ recorder.old.line.instance }
+    requires among { to ≤ length recorder.old.knowledge }
+    requires not_itself { to ≢ recorder.old.line.instance }
     requires base { length base.now ≡ length recorder.old.knowledge }
     requires room { length recorder.old.line.events < MAX_EVENTS }
     ensures ok { OnOk result (recorder.new ≡ after_send recorder.old to name) }
@@ -103,7 +103,7 @@ pub(crate) fn send_one(
 ) -> Result<(), (Message, SendError)>
     requires table { seat.old.table_id ≡ words.now.table_id }
     requires board { IsBoard lane.now.instances lane.now.capacity words.now.key words.now.table_id }
-    requires may { MayPut lane.now 1 seat.old.me end.old recorder.old }
+    requires may_put { MayPut lane.now 1 seat.old.me end.old recorder.old }
     requires to { to ≡ lane.now.receiver }
     requires capacity { capacity ≡ lane.now.capacity }
     ensures table { seat.new.table_id ≡ seat.old.table_id }

@@ -100,8 +100,8 @@ fn prepare(
     to: InstanceNo,
     messages: &[Message],
 ) -> Result<Prepared, AllocError>
-    requires one { to ≤ length recorder.old.knowledge }
-    requires other { to ≢ recorder.old.line.instance }
+    requires among { to ≤ length recorder.old.knowledge }
+    requires not_itself { to ≢ recorder.old.line.instance }
     requires base { length base.now ≡ length recorder.old.knowledge }
     requires room { length recorder.old.line.events + length messages.now ≤ MAX_EVENTS }
     ensures ok { IfOk result (λ it. IsPrepared base.now recorder.old to messages.now it recorder.new) }
@@ -130,7 +130,7 @@ fn fill_slots(
     requires board { IsBoard lane.now.instances lane.now.capacity words.now.key words.now.table_id }
     requires slots { HasSlots lane.now (length messages.items) seat.old.me }
     requires count { count ≡ length (sent (held seat.old.me).seen lane.now.sender lane.now.receiver) }
-    requires few { count + length messages.items ≤ MAX_EVENTS }
+    requires within_limit { count + length messages.items ≤ MAX_EVENTS }
     requires as_many { length diffs.items ≡ length messages.items }
     ensures table { seat.new.table_id ≡ seat.old.table_id }
     ensures filling { IsFilling lane.now seat.new.me }
@@ -161,8 +161,8 @@ pub(crate) fn send_several(
 ) -> Result<Vec<Sent>, (Vec<Message>, SendError)>
     requires table { seat.old.table_id ≡ words.now.table_id }
     requires board { IsBoard lane.now.instances lane.now.capacity words.now.key words.now.table_id }
-    requires may { MayPut lane.now (length messages.items) seat.old.me end.old recorder.old }
-    requires few { length messages.items ≤ MAX_CAPACITY }
+    requires may_put { MayPut lane.now (length messages.items) seat.old.me end.old recorder.old }
+    requires within_capacity { length messages.items ≤ MAX_CAPACITY }
     requires to { to ≡ lane.now.receiver }
     requires capacity { capacity ≡ lane.now.capacity }
     ensures table { seat.new.table_id ≡ seat.old.table_id }

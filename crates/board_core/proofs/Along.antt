@@ -60,7 +60,7 @@ stands_published n k w q p stands (may, shut, short) =
         closed = its.closed ∙ sym (done.closed a b);
         clocks = clocks_beside w q new a b (λ same. subst (λ x. filled w x b ≡ []) (sym same) (may.alone.filled_no_other b (other_receiver q p a b other same))) its.clocks;
       });
-      instances = λ s low high. with_at-each (λ a o. 1 ≤ a → a ≤ n → IsInstance n g a o (w.regions a)) w.recorders q new (λ low high. record { recorder = done.recorder; may = inl shut }) (λ a ne low high. done.others a (w.recorders a) (w.regions a) ne (stands.instances a low high)) s low high;
+      instances = λ s low high. with_at-each (λ a o. 1 ≤ a → a ≤ n → IsInstance n g a o (w.regions a)) w.recorders q new (λ low high. record { recorder = done.recorder; region_fits = inl shut }) (λ a ne low high. done.others a (w.recorders a) (w.regions a) ne (stands.instances a low high)) s low high;
     }
 
 -- a close
@@ -128,7 +128,7 @@ stands_region : (n k : ℕ) (w : World) (p region : ℕ) → Stands n k w → (1
 stands_region n k w p region stands may = record {
   legal = stands.legal;
   lanes = stands.lanes;
-  instances = λ s low high. with_at-each (λ a c. 1 ≤ a → a ≤ n → IsInstance n w.history a (w.recorders a) c) w.regions p region (λ low high. record { recorder = (stands.instances p low high).recorder; may = may low high }) (λ a ne low high. stands.instances a low high) s low high;
+  instances = λ s low high. with_at-each (λ a c. 1 ≤ a → a ≤ n → IsInstance n w.history a (w.recorders a) c) w.regions p region (λ low high. record { recorder = (stands.instances p low high).recorder; region_fits = may low high }) (λ a ne low high. stands.instances a low high) s low high;
 }
 
 stands_after : (n k : ℕ) (w : World) (step : Step) → Stands n k w → MayFollow n w step → Stands n k (after w step)

@@ -99,11 +99,11 @@ several_received n k q p region h r (x ∷ xs) rest (report ∷ reports) two leg
     let first : waiting h q p ≡ x.message ∷ messages = waiting_goods n h q p (x ∷ xs ++ rest) next in
     let stamp : waiting_clocks n h q p ≡ x.clock ∷ map (λ (y : Parcel). y.clock) (xs ++ rest) = waiting_goods_clocks n h q p (x ∷ xs ++ rest) next in
     let some : 0 < length (waiting h q p) = omega (arith, ap length first) in
-    let now : IsLegal n k (e ∷ h) = ((two, some, omega arith, its.may), legal) in
+    let now : IsLegal n k (e ∷ h) = ((two, some, omega arith, its.region_fits), legal) in
     let line = line_after_receive h p q region x.message messages first in
     let line_event = receive_event q x.message.name region in
     let recorded = IsRecorder-receive n k h p q region x.message messages x.clock (map (λ (y : Parcel). y.clock) (xs ++ rest)) r report legal two.0 two.1 first stamp answer its.recorder in
-    let own : IsInstance n (e ∷ h) p (after_receive r q x.message.name region x.clock report) region = record { recorder = recorded; may = subst (λ l. MayHaveRegion l region) (sym line) (may-again (chart_of h p) line_event its.may) } in
+    let own : IsInstance n (e ∷ h) p (after_receive r q x.message.name region x.clock report) region = record { recorder = recorded; region_fits = subst (λ l. MayHaveRegion l region) (sym line) (may-again (chart_of h p) line_event its.region_fits) } in
     let one : received (e ∷ h) q p ≡ received h q p + 1 = received_one in
     let onward : drop (received (e ∷ h) q p) (goods n (e ∷ h) q p) ≡ xs ++ rest = ap (λ i. drop i (goods n h q p)) one ∙ sym (drop-drop 1 (received h q p) (goods n h q p)) ∙ ap (drop 1) next in
     let done = several_received n k q p region (e ∷ h) (after_receive r q x.message.name region x.clock report) xs rest reports two now own answers onward (omega (arith, ap length line, length_push (chart_of h p) line_event)) in

@@ -43,7 +43,7 @@ stands_first n k = record {
   lanes = λ q p. record { fits = first k; published = refl; freed = refl; closed = refl; clocks = tt };
   instances = λ p low high. record {
     recorder = record { line = refl; knowledge = refl; receives = refl; reports = All-nil (IsReportIn (chart_of [])) };
-    may = inl refl;
+    region_fits = inl refl;
   };
 }
 
@@ -114,5 +114,5 @@ stands_quiet n k w q p step stands may quiet clocks =
 pub stands_idle : (n k : ℕ) (h g : List Occurrence) (p : ℕ) (r : RecorderView) (region : ℕ) → IsLegal n k h → Begins h g → chart_of g p ≡ chart_of h p → knowledge_of n g p ≡ knowledge_of n h p → IsInstance n h p r region → IsInstance n g p r region
 stands_idle n k h g p r region legal begins line knows old = record {
   recorder = IsRecorder-idle n k h g p r legal begins line knows old.recorder;
-  may = subst (λ l. MayHaveRegion l region) (sym line) old.may;
+  region_fits = subst (λ l. MayHaveRegion l region) (sym line) old.region_fits;
 }

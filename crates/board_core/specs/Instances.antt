@@ -11,7 +11,7 @@ use Rattle.board_core.specs.Parcels.{Parcel}
 -- the recorder of p and its open coregion are as the history has them
 pub record IsInstance (n : ℕ) (h : List Occurrence) (p : ℕ) (r : RecorderView) (region : ℕ) : Type 0 where
   pub recorder : IsRecorder n h p r
-  pub may : MayHaveRegion (chart_of h p) region
+  pub region_fits : MayHaveRegion (chart_of h p) region
 
 -- each of these has the clock that the recorder answers for it, after those before
 abbrev pub HaveClocks : RecorderView → ℕ → List Parcel → Type 0

@@ -84,7 +84,7 @@ pub fn publish(words: &Words, seat: &mut Seat, lane: &Lane, count: u64)
     requires board { IsBoard lane.now.instances lane.now.capacity words.now.key words.now.table_id }
     requires filling { IsFilling lane.now seat.old.me }
     requires count { count ≡ length (sent (held seat.old.me).seen lane.now.sender lane.now.receiver) + length (packets_out seat.old.me) }
-    requires few { count ≤ MAX_EVENTS }
+    requires within_limit { count ≤ MAX_EVENTS }
     requires unclosed { is_closed (held seat.old.me).seen lane.now.sender lane.now.receiver ≡ false }
     requires short { length (chart_of (held seat.old.me).seen lane.now.sender) + length (packets_out seat.old.me) ≤ MAX_EVENTS }
     requires next { AreNext lane.now.instances (sent_base lane.now.instances (held seat.old.me).seen lane.now.sender lane.now.receiver) (held seat.old.me).seen lane.now.sender lane.now.receiver (packets_out seat.old.me) }
@@ -100,7 +100,7 @@ fn publish_at<A: Site>(words: &Words, seat: &mut Seat, lane: &Lane, count: u64)
     requires board { IsBoard lane.now.instances lane.now.capacity words.now.key words.now.table_id }
     requires filling { IsFilling lane.now seat.old.me }
     requires count { count ≡ length (sent (held seat.old.me).seen lane.now.sender lane.now.receiver) + length (packets_out seat.old.me) }
-    requires few { count ≤ MAX_EVENTS }
+    requires within_limit { count ≤ MAX_EVENTS }
     requires unclosed { is_closed (held seat.old.me).seen lane.now.sender lane.now.receiver ≡ false }
     requires short { length (chart_of (held seat.old.me).seen lane.now.sender) + length (packets_out seat.old.me) ≤ MAX_EVENTS }
     requires next { AreNext lane.now.instances (sent_base lane.now.instances (held seat.old.me).seen lane.now.sender lane.now.receiver) (held seat.old.me).seen lane.now.sender lane.now.receiver (packets_out seat.old.me) }
@@ -140,7 +140,7 @@ pub fn close(words: &Words, seat: &mut Seat, lane: &Lane, count: u64)
     requires board { IsBoard lane.now.instances lane.now.capacity words.now.key words.now.table_id }
     requires rests { Rests lane.now.instances lane.now.capacity lane.now.sender seat.old.me }
     requires count { count ≡ length (sent (held seat.old.me).seen lane.now.sender lane.now.receiver) }
-    requires few { count ≤ MAX_EVENTS }
+    requires within_limit { count ≤ MAX_EVENTS }
     requires unclosed { is_closed (held seat.old.me).seen lane.now.sender lane.now.receiver ≡ false }
     ensures table { (seat.new.table_id ≡ seat.old.table_id) × (seat.new.id ≡ seat.old.id) }
     ensures closes { Closes lane.now seat.old.me seat.new.me }
@@ -154,7 +154,7 @@ fn close_at<A: Site>(words: &Words, seat: &mut Seat, lane: &Lane, count: u64)
     requires board { IsBoard lane.now.instances lane.now.capacity words.now.key words.now.table_id }
     requires rests { Rests lane.now.instances lane.now.capacity lane.now.sender seat.old.me }
     requires count { count ≡ length (sent (held seat.old.me).seen lane.now.sender lane.now.receiver) }
-    requires few { count ≤ MAX_EVENTS }
+    requires within_limit { count ≤ MAX_EVENTS }
     requires unclosed { is_closed (held seat.old.me).seen lane.now.sender lane.now.receiver ≡ false }
     ensures table { (seat.new.table_id ≡ seat.old.table_id) × (seat.new.id ≡ seat.old.id) }
     ensures closes { Closes lane.now seat.old.me seat.new.me }

@@ -47,7 +47,7 @@ impl Recorder {
     pub fn new(alloc: Global, p: InstanceNo, n: usize) -> Result<Recorder, AllocError>
         requires at_least_two { 2 ≤ n }
         requires at_most { n ≤ MAX_INSTANCES }
-        requires one { p ≤ n }
+        requires among { p ≤ n }
         ensures value { IfOk result (λ recorder. recorder ≡ new_recorder p n) }
         ensures succeeds { n ≤ INLINE_ENTRIES → IsOk result }
     {
@@ -130,8 +130,8 @@ impl Recorder {
     /// A refusal, the first of F7 and F6 that applies, changes nothing. With room it takes no memory up to
     /// [`INLINE_ENTRIES`] instances.
     pub fn send(&mut self, to: InstanceNo, name: Name) -> Result<Clock, RecordError>
-        requires one { to ≤ length self.old.knowledge }
-        requires other { to ≢ self.old.line.instance }
+        requires among { to ≤ length self.old.knowledge }
+        requires not_itself { to ≢ self.old.line.instance }
         ensures ok { OnOk result (self.new ≡ after_send self.old to name) }
         ensures clock { IfOk result (λ clock. clock ≡ send_clock self.old) }
         ensures room { 0 < self.old.room → length self.old.knowledge ≤ INLINE_ENTRIES → result ≢ Err RecordError.Memory }
@@ -157,8 +157,8 @@ impl Recorder {
     /// All are recorded or none: a refusal, the first of F7 and F6 that applies, changes nothing. F7: the line has not
     /// as much room. All memory is there before anything changes.
     pub fn send_many(&mut self, to: InstanceNo, names: &[Name]) -> Result<Vec<Clock>, RecordError>
-        requires one { to ≤ length self.old.knowledge }
-        requires other { to ≢ self.old.line.instance }
+        requires among { to ≤ length self.old.knowledge }
+        requires not_itself { to ≢ self.old.line.instance }
         ensures ok { OnOk result (self.new ≡ after_sends self.old to names.now) }
         ensures clocks { IfOk result (λ clocks. clocks.items ≡ send_clocks self.old to names.now) }
         ensures full { (result ≡ Err RecordError.LineFull)
@@ -220,8 +220,8 @@ impl Recorder {
         clock: &Clock,
         region: u32,
     ) -> Result<Report, RecordError>
-        requires one { from ≤ length self.old.knowledge }
-        requires other { from ≢ self.old.line.instance }
+        requires among { from ≤ length self.old.knowledge }
+        requires not_itself { from ≢ self.old.line.instance }
         requires entries { length clock.now ≡ length self.old.knowledge }
         requires coregion { MayHaveRegion self.old.line.events region }
         ensures ok { IfOk result (λ report. self.new ≡ after_receive self.old from name region clock.now report) }

@@ -51,8 +51,8 @@ fn one_of(rt: &impl Abort, alloc: Global, p: usize, n: usize) -> Recorder {
 
 /// Another of the recorder's instances.
 fn other(rt: &impl Abort, recorder: &Recorder, number: usize) -> InstanceNo
-    ensures one { result ≤ length recorder.now.knowledge }
-    ensures other { result ≢ recorder.now.line.instance }
+    ensures among { result ≤ length recorder.now.knowledge }
+    ensures not_itself { result ≢ recorder.now.line.instance }
 {
     let to = InstanceNo::new(number).expect(rt, "an instance");
     assert!(rt; to.number() <= recorder.knowledge().len());

@@ -35,7 +35,7 @@ IsOwn-idle n k r s p a lanes legal idle own = record {
   last = own.last ∙ sym idle.last;
   known = rw idle.last own.known;
   region = own.region ∙ sym idle.region;
-  may = rw (idle.line, idle.region) own.may;
+  region_fits = rw (idle.line, idle.region) own.region_fits;
 }
 
 -- and so are lanes to which nothing was done
@@ -68,11 +68,11 @@ AreLanes-set n h g p j lanes lane idle new old = record {
 pub IsOwn-push : (n : ℕ) (r s : Run) (p : ℕ) (a b : ActorView) (m : Event) → IsOwn n r p a → IsRecorder n s.history p b.recorder → chart_of s.history p ≡ chart_of r.history p ++ m ∷ [] → s.region p ≡ r.region p → region_of m ≡ r.region p → b.last ≡ s.last p → s.last p ≤ n → b.region ≡ a.region → IsOwn n s p b
 IsOwn-push n r s p a b m own recorder grown same its last known region =
     let chart : List Event = chart_of r.history p in
-    let may : MayHaveRegion chart (region_of m) = rw its own.may in
+    let may : MayHaveRegion chart (region_of m) = rw its own.region_fits in
     record {
       recorder = recorder;
       last = last;
       known = known;
       region = region ∙ own.region ∙ sym same;
-      may = rw (grown, same, ← its) (may-again chart m may);
+      region_fits = rw (grown, same, ← its) (may-again chart m may);
     }

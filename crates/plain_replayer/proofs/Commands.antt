@@ -66,7 +66,7 @@ clocks-long n k r actors i j a lane agrees at_a at_lane l d inside =
 pub may-now : (n k : ℕ) (r : Run) (actors : List ActorView) (i : ℕ) (a : ActorView) → Agrees n k r actors → slice_get actors i ≡ Some a → MayHaveRegion a.recorder.line.events a.region
 may-now n k r actors i a agrees at_a =
     let mine = (agrees.each i a at_a).own in
-    rw (mine.recorder.line, mine.region) mine.may
+    rw (mine.recorder.line, mine.region) mine.region_fits
 
 -- a word in place of a run
 refused-by : (n k : ℕ) (actors : List ActorView) (word : Word) (o : Option Word) (s : Run) → o ≡ Some word → HasActed n k actors actors (Ok (Some word)) (by_word o s)

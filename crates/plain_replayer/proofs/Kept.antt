@@ -146,7 +146,7 @@ module _ (n k : ℕ) (r : Run) (actors : List ActorView) (agrees : Agrees n k r 
       let last : q ≡ s.last p = sym (changed-same r.last p q) in
       let known : s.last p ≤ n = subst (λ x. x ≤ n) last (omega arith) in
       Agrees-set n k r s actors i _ agrees
-      ((two-places n i j i_within j_within ne, some, few, mine.own.may), agrees.legal)
+      ((two-places n i j i_within j_within ne, some, few, mine.own.region_fits), agrees.legal)
       (λ l x past old. record {
         own = other-idle n k r s e (suc l) x x.lanes agrees.legal refl (λ same. past (omega arith)) (changed-other r.last p q (suc l) (λ same. past (omega arith))) refl old.own;
         lanes = AreLanes-idle n h s.history (suc l) x.lanes (record {
@@ -210,7 +210,7 @@ reopened n k r actors i c a agrees at_a may =
         last = mine.own.last;
         known = mine.own.known;
         region = sym now;
-        may = subst (MayHaveRegion (chart_of r.history p)) (sym now) may;
+        region_fits = subst (MayHaveRegion (chart_of r.history p)) (sym now) may;
       };
       lanes = mine.lanes;
     })

@@ -20,7 +20,7 @@ replicated n x y j e =
 -- a fresh instance is as far as the start
 IsActor-start : (n p : ℕ) → IsActor n start.run p (fresh_actor n p)
 IsActor-start n p = record {
-  own = record { recorder = record { line = refl; knowledge = refl; receives = refl; reports = All-nil (IsReportIn (chart_of [])) }; last = refl; known = omega arith; region = refl; may = inl refl };
+  own = record { recorder = record { line = refl; knowledge = refl; receives = refl; reports = All-nil (IsReportIn (chart_of [])) }; last = refl; known = omega arith; region = refl; region_fits = inl refl };
   lanes = record {
     many = length-replicate n empty_lane;
     each = λ j lane e. subst (λ l. IsLane n [] (suc j) p l) (replicated n empty_lane lane j e) (record { names = refl; clocks = refl; closed = refl });

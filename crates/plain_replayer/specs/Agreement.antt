@@ -33,7 +33,7 @@ pub record IsOwn (n : ℕ) (r : Run) (p : ℕ) (a : ActorView) : Type 0 where
   pub last : a.last ≡ r.last p
   pub known : r.last p ≤ n
   pub region : a.region ≡ r.region p
-  pub may : MayHaveRegion (chart_of r.history p) (r.region p)
+  pub region_fits : MayHaveRegion (chart_of r.history p) (r.region p)
 
 -- the instance p of n is as far as the run
 pub record IsActor (n : ℕ) (r : Run) (p : ℕ) (a : ActorView) : Type 0 where

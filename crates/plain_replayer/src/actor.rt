@@ -50,8 +50,8 @@ fn open_lanes(alloc: Global, instances: usize) -> Result<Vec<Lane>, ReplayError>
 
 /// Records a send on a line that has room for it, and answers its clock.
 fn send(recorder: &mut Recorder, to: InstanceNo, name: Name) -> Result<Clock, ReplayError>
-    requires one { to ≤ length recorder.old.knowledge }
-    requires other { to ≢ recorder.old.line.instance }
+    requires among { to ≤ length recorder.old.knowledge }
+    requires not_itself { to ≢ recorder.old.line.instance }
     requires room { length recorder.old.line.events < MAX_EVENTS }
     ensures done { OnOk result (recorder.new ≡ after_send recorder.old to name) }
     ensures clock { IfOk result (λ clock. clock ≡ send_clock recorder.old) }
@@ -71,10 +71,10 @@ fn receive(
     clock: &Clock,
     region: u32,
 ) -> Result<(), ReplayError>
-    requires one { from ≤ length recorder.old.knowledge }
-    requires other { from ≢ recorder.old.line.instance }
+    requires among { from ≤ length recorder.old.knowledge }
+    requires not_itself { from ≢ recorder.old.line.instance }
     requires entries { length clock.now ≡ length recorder.old.knowledge }
-    requires may { MayHaveRegion recorder.old.line.events region }
+    requires region_fits { MayHaveRegion recorder.old.line.events region }
     requires room { length recorder.old.line.events < MAX_EVENTS }
     ensures { OnOk result ((report : ReportView) × (recorder.new ≡ after_receive recorder.old from name region clock.now report) × IsReportOf recorder.old from region clock.now report) }
 {
@@ -90,7 +90,7 @@ impl Actor {
     pub fn new(alloc: Global, instance: InstanceNo, instances: usize) -> Result<Actor, ReplayError>
         requires several { 2 ≤ instances }
         requires limit { instances ≤ MAX_INSTANCES }
-        requires one { instance ≤ instances }
+        requires among { instance ≤ instances }
         ensures { IfOk result (λ a. a ≡ fresh_actor instances instance) }
     {
         Ok(Actor {
@@ -181,8 +181,8 @@ impl Actor {
 
     /// Sends a message of this name, and answers what its send knows.
     pub fn send(&mut self, to: InstanceNo, name: Name) -> Result<Clock, ReplayError>
-        requires one { to ≤ length self.old.recorder.knowledge }
-        requires other { to ≢ self.old.recorder.line.instance }
+        requires among { to ≤ length self.old.recorder.knowledge }
+        requires not_itself { to ≢ self.old.recorder.line.instance }
         requires room { length self.old.recorder.line.events < MAX_EVENTS }
         ensures done { OnOk result (self.new ≡ record self.old { recorder = after_send self.old.recorder to name }) }
         ensures clock { IfOk result (λ clock. clock ≡ send_clock self.old.recorder) }
@@ -213,12 +213,12 @@ impl Actor {
     /// Receives the first message on the lane from an instance, where one waits.
     pub fn take(&mut self, from: InstanceNo) -> Result<(), ReplayError>
         requires within { from ≤ length self.old.lanes }
-        requires one { from ≤ length self.old.recorder.knowledge }
-        requires other { from ≢ self.old.recorder.line.instance }
+        requires among { from ≤ length self.old.recorder.knowledge }
+        requires not_itself { from ≢ self.old.recorder.line.instance }
         requires entries { (j : ℕ) (lane : LaneView) → from ≡ suc j → slice_get self.old.lanes j ≡ Some lane
             → All (λ clock. length clock ≡ length self.old.recorder.knowledge) lane.clocks }
         requires waits { (j : ℕ) (lane : LaneView) → from ≡ suc j → slice_get self.old.lanes j ≡ Some lane → 0 < length lane.names }
-        requires may { MayHaveRegion self.old.recorder.line.events self.old.region }
+        requires region_fits { MayHaveRegion self.old.recorder.line.events self.old.region }
         requires room { length self.old.recorder.line.events < MAX_EVENTS }
         ensures { (j : ℕ) (lane : LaneView) (name clock : List ℕ) (names clocks : List (List ℕ)) → from ≡ suc j
             → slice_get self.old.lanes j ≡ Some lane → lane.names ≡ name ∷ names → lane.clocks ≡ clock ∷ clocks
@@ -233,10 +233,10 @@ impl Actor {
 
     /// Records the receive of a message that was on its way.
     fn receive(&mut self, from: InstanceNo, parcel: &Parcel) -> Result<(), ReplayError>
-        requires one { from ≤ length self.old.recorder.knowledge }
-        requires other { from ≢ self.old.recorder.line.instance }
+        requires among { from ≤ length self.old.recorder.knowledge }
+        requires not_itself { from ≢ self.old.recorder.line.instance }
         requires entries { length parcel.now.clock ≡ length self.old.recorder.knowledge }
-        requires may { MayHaveRegion self.old.recorder.line.events self.old.region }
+        requires region_fits { MayHaveRegion self.old.recorder.line.events self.old.region }
         requires room { length self.old.recorder.line.events < MAX_EVENTS }
         ensures { OnOk result ((report : ReportView) × (self.new ≡ after_receipt self.old from parcel.now.name parcel.now.clock report) × IsReportOf self.old.recorder from self.old.region parcel.now.clock report) }
     {

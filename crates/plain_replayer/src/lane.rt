@@ -90,7 +90,7 @@ impl Lane {
 fn waiting_among(lanes: &[Lane], p: InstanceNo, from: usize, to: usize) -> Option<InstanceNo>
     requires order { from ≤ to }
     requires within { to ≤ length lanes.now }
-    requires few { length lanes.now ≤ MAX_INSTANCES }
+    requires within_limit { length lanes.now ≤ MAX_INSTANCES }
     ensures { result ≡ find (lane_waits lanes.now) (filter (λ q. not (q == p)) (range_with_len (from + 1) (to - from))) }
 {
     for place in from..to {
@@ -105,7 +105,7 @@ fn waiting_among(lanes: &[Lane], p: InstanceNo, from: usize, to: usize) -> Optio
 /// The first instance but p in scan order, which begins after `last`, from which a message waits.
 pub fn first_waiting(lanes: &[Lane], p: InstanceNo, last: usize) -> Option<InstanceNo>
     requires within { last ≤ length lanes.now }
-    requires few { length lanes.now ≤ MAX_INSTANCES }
+    requires within_limit { length lanes.now ≤ MAX_INSTANCES }
     ensures { result ≡ find (lane_waits lanes.now) (scan (length lanes.now) p last) }
 {
     match waiting_among(lanes, p, last, lanes.len()) {
@@ -116,7 +116,7 @@ pub fn first_waiting(lanes: &[Lane], p: InstanceNo, last: usize) -> Option<Insta
 
 /// Whether the lane from each instance but p is closed.
 pub fn are_closed(lanes: &[Lane], p: InstanceNo) -> bool
-    requires few { length lanes.now ≤ MAX_INSTANCES }
+    requires within_limit { length lanes.now ≤ MAX_INSTANCES }
     ensures { result ≡ list_all (lane_is_closed lanes.now) (scan (length lanes.now) p 0) }
 {
     for place in 0..lanes.len() {

@@ -115,7 +115,7 @@ module _ (r : Run) (from : Option ℕ) (old new : PostView) (far : IsAsFar r fro
       let is : e ≡ events.Send old.number q (message name) = ap (λ x. events.Send x q m) on.same.number ∙ ap (events.Send old.number q) same in
       let one = met_one r from old new far on met its it.makes.0 e refl it.makes.1 ∙ ap (λ x. x ∷ r.history) is in
       let may = may_follow (events.Send old.number q (message name)) one in
-      let acted = sends_by q name false false false false (outside it.may.outside) may.1 (lt-leb MAX_EVENTS (length (chart_of r.history old.number)) may.3) (lt-leb old.board.capacity (length (waiting r.history old.number q)) may.2) in
+      let acted = sends_by q name false false false false (outside it.allowed.outside) may.1 (lt-leb MAX_EVENTS (length (chart_of r.history old.number)) may.3) (lt-leb old.board.capacity (length (waiting r.history old.number q)) may.2) in
       subst (λ a. HasCalled r old.number met from new (Ok None) a) (sym acted) (gone it.makes.1.region (events.Send old.number q (message name) ∷ r.history) (sym one))
 
   pub send_in_coregion : (q : ℕ) (name : List ℕ) → Stays old new → IsUnsent old q 1 unsent.InCoregion new → HasCalled r old.number met from new (Ok (Some words.InCoregion)) (sends old.board.capacity r old.number q name)

@@ -15,15 +15,15 @@ loop-init c =
     let r = c.args.recorder.now in
     record {
       table = c.requires.table;
-      taken = subst (λ (xs : List Arrival). AreTaken l c.args.region s u r xs s u r) (sym c.requires.none) (none_taken l c.args.region s u r c.requires.may);
+      taken = subst (λ (xs : List Arrival). AreTaken l c.args.region s u r xs s u r) (sym c.requires.none) (none_taken l c.args.region s u r c.requires.may_receive);
       as_many = ap length c.requires.none;
     }
 
-pub take_next-requires-clause-may : goal.take_next-requires-clause-may
-take_next-requires-clause-may c =
+pub take_next-requires-clause-may_take : goal.take_next-requires-clause-may_take
+take_next-requires-clause-may_take c =
     let some : 0 < length (packets_out c.loop.seat.me) = search rules in
     let short : length c.loop.recorder.line.events < MAX_EVENTS = omega (arith, ap (λ (line : LineView). length line.events) c.line.ensures, c.len.ensures.value, c.if-len-ge-MAX_EVENTS.false) in
-    may_take c.args.lane.now c.args.region c.args.seat.now.me c.args.end.now c.args.recorder.now c.requires.may c.loop.arrivals.items c.loop.seat.me c.loop.end c.loop.recorder c.loop.invariant.taken some short
+    may_take c.args.lane.now c.args.region c.args.seat.now.me c.args.end.now c.args.recorder.now c.requires.may_receive c.loop.arrivals.items c.loop.seat.me c.loop.end c.loop.recorder c.loop.invariant.taken some short
 
 pub loop-preserved : goal.loop-preserved
 loop-preserved c =
@@ -40,6 +40,6 @@ loop-preserved c =
       table = c.take_next.ensures.table ∙ c.loop.invariant.table;
       taken = subst (λ (xs : List Arrival). AreTaken l c.args.region s u r xs t o v) (sym c.push_reserved.ensures.items)
           (subst (λ (xs : List Arrival). AreTaken l c.args.region s u r (xs ++ c.in-Ok.arrival ∷ []) t o v) (sym c.reserve.ensures.items)
-          (one_more l c.args.region s u r c.requires.may c.loop.arrivals.items c.loop.seat.me c.loop.end c.loop.recorder c.loop.invariant.taken t o v c.in-Ok.arrival short c.in-Ok.ensures.ok));
+          (one_more l c.args.region s u r c.requires.may_receive c.loop.arrivals.items c.loop.seat.me c.loop.end c.loop.recorder c.loop.invariant.taken t o v c.in-Ok.arrival short c.in-Ok.ensures.ok));
       as_many = search rules;
     }

@@ -35,8 +35,8 @@ take-requires-clause-within c =
     let within = lane-within reached.1.0 reached.0 reached.1.1 actors c.place-from.result i a reached.1.2 (omega arith) at_a in
     rw (get_or_from_slice_get actors i a c.index-actors-to-2.result at_a) (omega arith)
 
-pub take-requires-clause-one : goal.take-requires-clause-one
-take-requires-clause-one c =
+pub take-requires-clause-among : goal.take-requires-clause-among
+take-requires-clause-among c =
     let actors = c.args.actors.now in
     let i = c.place-to.result in
     let a = get_or actors i c.index-actors-to.result in
@@ -70,8 +70,8 @@ take-requires-clause-waits c =
     let same : other ≡ lane = same_Some other lane (sym at_other ∙ ap (slice_get a.lanes) place ∙ at_lane) in
     subst (λ (l : LaneView). 0 < length l.names) (sym same) waits)
 
-pub take-requires-clause-may : goal.take-requires-clause-may
-take-requires-clause-may c =
+pub take-requires-clause-region_fits : goal.take-requires-clause-region_fits
+take-requires-clause-region_fits c =
     let actors = c.args.actors.now in
     let i = c.place-to.result in
     let a = get_or actors i c.index-actors-to.result in
@@ -79,8 +79,8 @@ take-requires-clause-may c =
     let at_a = slice_get-get_or actors i c.index-actors-to.result (omega arith) in
     rw (get_or_from_slice_get actors i a c.index-actors-to-2.result at_a) (may-now reached.1.0 reached.0 reached.1.1 actors i a reached.1.2 at_a)
 
-pub take-requires-clause-other : goal.take-requires-clause-other
-take-requires-clause-other c =
+pub take-requires-clause-not_itself : goal.take-requires-clause-not_itself
+take-requires-clause-not_itself c =
     let actors = c.args.actors.now in
     let i = c.place-to.result in
     let a = get_or actors i c.index-actors-to.result in

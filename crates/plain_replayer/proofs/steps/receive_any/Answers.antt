@@ -10,7 +10,7 @@ first_waiting-requires c =
     let reached = c.requires.reached in
     let at_a = slice_get-get_or actors i c.index-actors-place.result (omega arith) in
     let bounds = bounds-any reached.1.0 reached.0 reached.1.1 actors c.args.receiver i _ reached.1.2 c.place-place.ensures.value at_a c.lanes-lanes.result.now c.last.result c.lanes-lanes.ensures c.last.ensures in
-    record { within = bounds.0; few = bounds.1 }
+    record { within = bounds.0; within_limit = bounds.1 }
 
 pub receive-requires-clause-sender : goal.receive-requires-clause-sender
 receive-requires-clause-sender c =
@@ -38,7 +38,7 @@ are_closed-requires c =
     let reached = c.requires.reached in
     let at_a = slice_get-get_or actors i c.index-actors-place.result (omega arith) in
     let bounds = bounds-any reached.1.0 reached.0 reached.1.1 actors c.args.receiver i _ reached.1.2 c.place-place.ensures.value at_a c.lanes-lanes.result.now c.last.result c.lanes-lanes.ensures c.last.ensures in
-    record { few = bounds.1 }
+    record { within_limit = bounds.1 }
 
 pub returns-in-Some : goal.returns-in-Some
 returns-in-Some c n k r agrees =

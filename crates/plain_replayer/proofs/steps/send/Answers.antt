@@ -26,16 +26,16 @@ returns-in-Some c n r agrees =
     let at_lane = slice_get-read_in c.lanes.result.now b.lanes i lane c.lanes.ensures within c.index-lanes-from.is in
     send-refused n c.args.capacity r actors c.args.sender c.args.receiver i j a b lane c.args.name c.in-Some.word agrees c.place-from.ensures.value c.place-to.ensures.value at_a at_b at_lane (sym c.send_word.ensures ∙ c.in-Some.is)
 
-pub send-requires-clause-one : goal.send-requires-clause-one
-send-requires-clause-one c =
+pub send-requires-clause-among : goal.send-requires-clause-among
+send-requires-clause-among c =
     let actors = c.args.actors.now in
     let reached = c.requires.reached in
     let at_a = slice_get-read actors c.place-from.result c.index-actors-from-2.result (omega arith) c.index-actors-from-2.is in
     let many = known-many reached.0 c.args.capacity reached.1 actors c.place-from.result c.index-actors-from-2.result reached.2 at_a in
     rw (← c.index-actors-from-2.is) (omega (arith, many, c.requires.receiver))
 
-pub send-requires-clause-other : goal.send-requires-clause-other
-send-requires-clause-other c =
+pub send-requires-clause-not_itself : goal.send-requires-clause-not_itself
+send-requires-clause-not_itself c =
     let actors = c.args.actors.now in
     let reached = c.requires.reached in
     let at_a = slice_get-read actors c.place-from.result c.index-actors-from-2.result (omega arith) c.index-actors-from-2.is in

@@ -17,8 +17,8 @@ close-requires-clause-count c =
     let end = outgoing_at _ _ _ _ _ _ _ _ _ _ _ c.self.invariant c.args.to c.place.result c.index_mut-end.result.now c.place.ensures.value ne (omega arith) c.index_mut-end.ensures.value in
     rw c.new-lane.ensures end.put
 
-pub close-requires-clause-few : goal.close-requires-clause-few
-close-requires-clause-few c =
+pub close-requires-clause-within_limit : goal.close-requires-clause-within_limit
+close-requires-clause-within_limit c =
     let ne : c.args.to ≢ c.self.inside.number = eqb-false _ _ (sym c.if-eq.ensures) in
     let end = outgoing_at _ _ _ _ _ _ _ _ _ _ _ c.self.invariant c.args.to c.place.result c.index_mut-end.result.now c.place.ensures.value ne (omega arith) c.index_mut-end.ensures.value in
     put_few _ _ _ _ _ _ c.self.invariant.knows.legal end

@@ -17,8 +17,8 @@ returns-clause-value c = λ h joint.
     let later = same_recorder inside.shape.instances seen h same.later inside.shape.capacity inside.number inside.recorder its.knows.legal (same.own ∙ sym its.made) its.knows.own.recorder in
     ap length c.reports.ensures ∙ count_is inside.shape.instances h inside.number inside.recorder later ∙ ap (λ (post : PostView). length (receives_of (history_line h post.number))) c.self.view_is
 
-pub returns-clause-few : goal.returns-clause-few
-returns-clause-few c =
+pub returns-clause-within_limit : goal.returns-clause-within_limit
+returns-clause-within_limit c =
     let its = c.self.invariant in
     let inside = c.self.inside in
     let few = count_few inside.shape.instances inside.shape.capacity (held inside.seat.me).seen inside.number inside.recorder its.knows.legal its.knows.own.recorder in

@@ -31,8 +31,8 @@ invariant_of-self-in-Ended c =
     let rests = rw its.is at c.in-Ended.ensures.found.rests in
     post_looked _ _ _ _ _ _ _ _ _ _ _ post _ _ _ c.find_messages.ensures.table rests (recorder_then _ _ _ _ _ _ _ _ _ _ _ post c.find_messages.new.seat.me did) c.place.result _ within end did
 
-pub receive_several-requires-clause-may : goal.receive_several-requires-clause-may
-receive_several-requires-clause-may c =
+pub receive_several-requires-clause-may_receive : goal.receive_several-requires-clause-may_receive
+receive_several-requires-clause-may_receive c =
     let its = rw (← c.self.view_is) at c.in_ok-lane.ensures.ok in
     let post = c.self.invariant in
     let did = rw its.is at c.find_messages.ensures.did in

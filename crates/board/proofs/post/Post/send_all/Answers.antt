@@ -7,13 +7,13 @@ pub returns-then-is_empty-clause-answer : goal.returns-then-is_empty-clause-answ
 returns-then-is_empty-clause-answer c =
     let may = c.in_default.ensures.none in
     let none : length c.args.messages.items ≡ 0 = search rules in
-    sent_none _ _ c.args.messages.items c.new.result.items none c.new.ensures.items may.may
+    sent_none _ _ c.args.messages.items c.new.result.items none c.new.ensures.items may.allowed
 
-pub send_several-requires-clause-may : goal.send_several-requires-clause-may
-send_several-requires-clause-may c =
+pub send_several-requires-clause-may_put : goal.send_several-requires-clause-may_put
+send_several-requires-clause-may_put c =
     let many : c.len.result ≡ length c.args.messages.items = search rules in
     let may = rw (← c.self.view_is, many) at c.in_default.ensures.none in
-    let end = outgoing_at _ _ _ _ _ _ _ _ _ _ _ c.self.invariant c.args.to c.place.result c.index_mut-end.result.now c.place.ensures.value (λ e. may.may.two.4 (sym e)) may.may.two.3 c.index_mut-end.ensures.value in
+    let end = outgoing_at _ _ _ _ _ _ _ _ _ _ _ c.self.invariant c.args.to c.place.result c.index_mut-end.result.now c.place.ensures.value (λ e. may.allowed.two.4 (sym e)) may.allowed.two.3 c.index_mut-end.ensures.value in
     rw c.new-lane.ensures (may_put _ _ _ _ c.self.inside.seat.me _ _ _ _ _ _ _ c.self.invariant c.args.to _ may _ end)
 
 pub invariant_of-self : goal.invariant_of-self
@@ -24,8 +24,8 @@ invariant_of-self c =
     let end = rw (c.new-lane.ensures, c.place.ensures.value) at c.send_several.ensures.end in
     let made = rw (c.new-lane.ensures, c.place.ensures.value) at c.send_several.ensures.ok in
     let unmade = rw (c.new-lane.ensures, c.place.ensures.value) at c.send_several.ensures.err in
-    let within : c.place.result < length c.self.inside.outgoing.items = omega (arith, c.self.invariant.knows.ends.as_many, c.place.ensures.value, may.may.two.3) in
-    post_all _ _ _ _ _ _ _ _ _ _ _ _ _ _ c.self.invariant c.send_several.ensures.table rests recorder c.place.result _ within end may.may.outside c.args.messages.items c.send_several.result made unmade
+    let within : c.place.result < length c.self.inside.outgoing.items = omega (arith, c.self.invariant.knows.ends.as_many, c.place.ensures.value, may.allowed.two.3) in
+    post_all _ _ _ _ _ _ _ _ _ _ _ _ _ _ c.self.invariant c.send_several.ensures.table rests recorder c.place.result _ within end may.allowed.outside c.args.messages.items c.send_several.result made unmade
 
 pub returns-clause-sound : goal.returns-clause-sound
 returns-clause-sound c =

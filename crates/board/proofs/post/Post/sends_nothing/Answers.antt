@@ -31,4 +31,4 @@ returns-clause-none c =
     let ne : c.args.to ≢ c.self.inside.number = eqb-false _ _ (sym c.if-eq.ensures) in
     let may = may_send _ _ _ _ _ _ _ _ _ _ _ post c.args.to c.place.result c.index.result.now c.place.ensures.value ne (omega arith) c.index.ensures (omega arith) c.if-index.false in
     let line = line_is _ _ _ _ _ _ _ _ _ _ _ post in
-    rw (← c.self.view_is) (record { may = may; few = omega arith; short = omega (arith, ap length line, ap (λ l. length l.events) c.line.ensures) })
+    rw (← c.self.view_is) (record { allowed = may; within_capacity = omega arith; short = omega (arith, ap length line, ap (λ l. length l.events) c.line.ensures) })
