@@ -166,8 +166,8 @@ impl GrowingLine {
         self.events.reserve_exact(room)
     }
 
-    /// How many events the line has ahead of the run of neighbouring receives from one sender that ends with the event of
-    /// this index. For a send, which is in no such run, it is some number below the index.
+    /// How many events the line has ahead of the run of neighbouring receives from one sender that ends with the event
+    /// of this index. For a send, which is in no such run, it is some number below the index.
     pub fn run_start(&self, index: usize) -> usize
         requires begun { 1 ≤ index }
         requires within { index ≤ length self.now.line.events }
@@ -176,8 +176,8 @@ impl GrowingLine {
         self.starts[index - 1].run as usize
     }
 
-    /// How many events the line has ahead of the part of its coregion that ends with the event of this index. Outside of a
-    /// coregion it is some number below the index.
+    /// How many events the line has ahead of the part of its coregion that ends with the event of this index. Outside
+    /// of a coregion it is some number below the index.
     pub fn region_start(&self, index: usize) -> usize
         requires begun { 1 ≤ index }
         requires within { index ≤ length self.now.line.events }

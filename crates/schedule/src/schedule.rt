@@ -37,9 +37,7 @@ impl Capacity {
         if slots < 1 || MAX_CAPACITY < slots {
             return None;
         }
-        Some(Capacity {
-            slots: slots as u8,
-        })
+        Some(Capacity { slots: slots as u8 })
     }
 
     pub fn slots(self) -> usize

@@ -6,7 +6,7 @@ ghost use Rattle.instances.specs.Whole.{IsGathered};
 use crate::client::{Client, ClientStep};
 use crate::letters::{Letter, Letters};
 use crate::logger::Logger;
-use crate::parties::{PATIENCE, SLOTS, REQUESTS, client, logger, message, server};
+use crate::parties::{PATIENCE, REQUESTS, SLOTS, client, logger, message, server};
 use crate::server::{Server, ServerStep};
 use agreement::audit_run;
 use anyhow::bail;

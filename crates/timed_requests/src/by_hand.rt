@@ -3,7 +3,7 @@ ghost use Rattle.std.specs.Prelude.{◌≡◌, IfOk};
 ghost use Rattle.board.specs.Meeting.{AreOfOneBoard};
 ghost use Rattle.chart.specs.Reports.{AreReports};
 
-use crate::parties::{PATIENCE, SLOTS, REQUESTS, client, logger, message, server};
+use crate::parties::{PATIENCE, REQUESTS, SLOTS, client, logger, message, server};
 use agreement::audit_gathered;
 use anyhow::bail;
 use board::{Arrival, Board, GatherError, Gathered, Post, Taken, gather};

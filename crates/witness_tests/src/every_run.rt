@@ -43,11 +43,7 @@ fn ordered(alloc: Global, events: &[Told], order: usize) -> Result<Vec<Told>, Al
 }
 
 /// All runs with the same events and causes within so many slots.
-fn other_runs(
-    alloc: Global,
-    events: &[Told],
-    slots: usize,
-) -> Result<Vec<Vec<Moved>>, AllocError> {
+fn other_runs(alloc: Global, events: &[Told], slots: usize) -> Result<Vec<Vec<Moved>>, AllocError> {
     let mut runs = Vec::new(alloc);
     for order in 0..orders(events.len()) {
         let run = ordered(alloc, events, order)?;
