@@ -51,7 +51,7 @@ fn offer(rt: &impl Abort, alloc: Global, post: &mut Post, to: InstanceNo, number
     }
 }
 
-/// Sends the messages of these numbers at once, unless they find no place. Answers the number of the next one to send.
+/// Sends the messages of these numbers at once, unless they find no slot. Answers the number of the next one to send.
 fn offer_several(
     rt: &impl Abort,
     alloc: Global,
