@@ -10,7 +10,7 @@ loop-place-preserved c =
     let more = c.receive_count-total.ensures in
     let post = c.post_of.ensures in
     record {
-      few = omega (arith, its.few, more.few);
+      within_limit = omega (arith, its.within_limit, more.within_limit);
       counted = λ h joint. counted_next h c.loop-place.place c.loop-place.total c.receive_count-total.result (its.counted h joint)
           (more.value h (joint post.among.0 _ post.among.1) ∙ ap (λ p. length (receives_of (history_line h p))) post.number);
     }

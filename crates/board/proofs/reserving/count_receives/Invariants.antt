@@ -7,6 +7,6 @@ use Rattle.board.proofs.reserving.count_receives.Given as goal
 
 abbrev pub invariant-loop-place : goal.invariant-loop-place
 invariant-loop-place l = record {
-  few : l.total ≤ l.place * MAX_EVENTS;
+  within_limit : l.total ≤ l.place * MAX_EVENTS;
   counted : (h : List Occurrence) → AreJoint h l.posts → AreCounted h l.place l.total;
 }
