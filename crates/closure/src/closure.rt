@@ -102,14 +102,6 @@ impl<'a> Closure<'a> {
         self.lines
     }
 
-    /// How many lines the chart has.
-    pub fn len(&self) -> usize
-        ensures value { result ≡ length self.now }
-        ensures possible { IsPossibleChart self.now }
-    {
-        self.lines.len()
-    }
-
     /// The send that a receive belongs to. There is none exactly where the event is no receive of the chart.
     pub fn send_of(&self, receive: &EventNo) -> Option<EventNo>
         ensures { MatchOption result
