@@ -12,9 +12,8 @@ use std::process::Abort;
 use std::thread::Threads;
 use tasks::{run_schedule, scripts, show_run};
 
-/// The most turns of a run: more than any instance needs that waits for what comes, also where a busy machine lets its
-/// partner wait for a processor meanwhile.
-pub const ENOUGH: u32 = 10_000_000;
+/// The most turns of a run: more than any instance needs that waits for what comes.
+pub const ENOUGH: u32 = 1_000_000;
 
 /// What a run comes to, or why there is none.
 pub type Ran = Result<Run, RunError<(), ()>>;
