@@ -1,5 +1,5 @@
-//! The search and the clocks agree: what running posts report by their clocks is what the offline checker finds, which reads
-//! no clock.
+//! The search and the clocks agree: what running posts report by their clocks is what the offline checker finds,
+//! which reads no clock.
 //!
 //! What is promised: an audit accepts what a whole board came to, unless an allocation is refused: what it was gathered
 //! to ([`audit_gathered`]), and what a run of it on threads came to ([`audit_run`]).

@@ -1,6 +1,6 @@
-//! Runs whose growth is refused: the trace is then a beginning of the whole one, and the line has as many events as it says.
-//! A test ends with a growth of its own, whose refusal tells that each one before it was refused in an earlier run of the
-//! test.
+//! Runs whose growth is refused: the trace is then a beginning of the whole one, and the line has as many events as
+//! it says. A test ends with a growth of its own, whose refusal tells that each one before it was refused in an
+//! earlier run of the test.
 use crate::calls::{instance, name, stop};
 use behaviour::{BareAct, BareAnswer, Behaviour, Script};
 use board::{Board, SendError};
@@ -97,7 +97,8 @@ fn run_scripts<R: Threads + Abort + Sync>(rt: &R, alloc: Global) -> Option<Run> 
     run_two(rt, alloc, behaviours)
 }
 
-/// Whether an instance did all its acts. Else it tells that a growth was refused, and its line has just what its trace says.
+/// Whether an instance did all its acts. Else it tells that a growth was refused, and its line has just what its
+/// trace says.
 fn is_whole(rt: &impl Abort, line: &Line, trace: &Trace, end: End) -> bool {
     let sends = sent(rt, trace);
     assert_eq!(rt; line.len(), sends);
@@ -111,8 +112,8 @@ fn is_whole(rt: &impl Abort, line: &Line, trace: &Trace, end: End) -> bool {
     is_whole
 }
 
-/// At most one growth is refused in each run of the test: so F6 refuses it, or one instance tells of F6 while the other one
-/// did all its acts, or both did.
+/// At most one growth is refused in each run of the test: so F6 refuses it, or one instance tells of F6 while the
+/// other one did all its acts, or both did.
 #[test]
 fn refused_growths_on_threads(rt: HostRuntime) -> Result<(), Fail> {
     let alloc = rt.alloc();

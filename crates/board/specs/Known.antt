@@ -1,5 +1,5 @@
--- What a post keeps of the lanes to and from another instance (differences between clocks as Singhal and Kshemkalyani 1992
--- have them; kept numbers are this project's profile).
+-- What a post keeps of the lanes to and from another instance (differences between clocks as Singhal and Kshemkalyani
+-- 1992 have them; kept numbers are this project's profile).
 use Rattle.std.specs.Prelude.{◌≡◌, ◌≢◌, ℕ, suc, ◌≤◌, List, ◌++◌, length, slice_get, Some}
 use Rattle.chart.specs.declared.history.Occurrence.{Occurrence}
 use Rattle.chart.specs.Histories.{own, sent, received, is_closed, IsLegal, Begins}
@@ -33,11 +33,14 @@ pub record IsIncoming (n : ℕ) (h : List Occurrence) (p q : ℕ) (i : Incoming)
   pub long : length i.base ≡ n
 
 -- p's ends of its lanes, each at the other instance's place, but for the ends to one instance and from one, 0 for none
-pub record AreEndsBut (n : ℕ) (h : List Occurrence) (p to_one from_one : ℕ) (outgoing : List Outgoing) (incoming : List Incoming) : Type 0 where
+pub record AreEndsBut (n : ℕ) (h : List Occurrence) (p to_one from_one : ℕ) (outgoing : List Outgoing)
+    (incoming : List Incoming) : Type 0 where
   pub as_many : length outgoing ≡ n
   pub of_each : length incoming ≡ n
-  pub sends : (j : ℕ) (o : Outgoing) → suc j ≢ p → suc j ≢ to_one → slice_get outgoing j ≡ Some o → IsOutgoing n h p (suc j) o
-  pub takes : (j : ℕ) (i : Incoming) → suc j ≢ p → suc j ≢ from_one → slice_get incoming j ≡ Some i → IsIncoming n h p (suc j) i
+  pub sends : (j : ℕ) (o : Outgoing) → suc j ≢ p → suc j ≢ to_one → slice_get outgoing j ≡ Some o
+      → IsOutgoing n h p (suc j) o
+  pub takes : (j : ℕ) (i : Incoming) → suc j ≢ p → suc j ≢ from_one → slice_get incoming j ≡ Some i
+      → IsIncoming n h p (suc j) i
 
 -- all of p's ends
 abbrev pub AreEnds : ℕ → List Occurrence → ℕ → List Outgoing → List Incoming → Type 0
@@ -51,13 +54,15 @@ pub record IsSized (n k : ℕ) : Type 0 where
   pub slots : k ≤ MAX_CAPACITY
 
 -- what a post knows is so in what it has seen, which is legal
-pub record Knows (n k : ℕ) (h : List Occurrence) (p : ℕ) (recorder : RecorderView) (region : ℕ) (outgoing : List Outgoing) (incoming : List Incoming) : Type 0 where
+pub record Knows (n k : ℕ) (h : List Occurrence) (p : ℕ) (recorder : RecorderView) (region : ℕ)
+    (outgoing : List Outgoing) (incoming : List Incoming) : Type 0 where
   pub legal : IsLegal n k h
   pub own : IsInstance n h p recorder region
   pub ends : AreEnds n h p outgoing incoming
 
 -- a post between two calls: its table, its seat, its number, and what it knows
-pub record IsPost (key : Shape) (table chair : TableId) (me : Mine) (n k p : ℕ) (recorder : RecorderView) (region : ℕ) (outgoing : List Outgoing) (incoming : List Incoming) : Type 0 where
+pub record IsPost (key : Shape) (table chair : TableId) (me : Mine) (n k p : ℕ) (recorder : RecorderView) (region : ℕ)
+    (outgoing : List Outgoing) (incoming : List Incoming) : Type 0 where
   pub chair_is : chair ≡ table
   pub board : IsBoard n k key table
   pub sized : IsSized n k
@@ -67,8 +72,8 @@ pub record IsPost (key : Shape) (table chair : TableId) (me : Mine) (n k p : ℕ
   pub knows : Knows n k (held me).seen p recorder region outgoing incoming
   pub made : own (held me).seen p ≡ (held me).made
 
--- what a call of p makes of what its seat knows: these events, the newest first, one directly after another and after all that
--- it saw; none where it saw and made nothing
+-- what a call of p makes of what its seat knows: these events, the newest first, one directly after another and after
+-- all that it saw; none where it saw and made nothing
 pub record Did (n k p : ℕ) (e f : Held) (before events : List Occurrence) : Type 0 where
   pub later : Begins e.seen before
   pub legal_before : IsLegal n k before

@@ -10,7 +10,8 @@ use Rattle.board.specs.Views.{PostView}
 
 -- the posts are all of one board
 abbrev pub AreOfOneBoard : List PostView → Type 0
-AreOfOneBoard posts = (i j : ℕ) (x y : PostView) → slice_get posts i ≡ Some x → slice_get posts j ≡ Some y → x.board ≡ y.board
+AreOfOneBoard posts = (i j : ℕ) (x y : PostView) → slice_get posts i ≡ Some x → slice_get posts j ≡ Some y
+    → x.board ≡ y.board
 
 -- the history is legal, begins with what the post had seen, and has of its own events just those that its calls made
 pub record IsJoint (history : List Occurrence) (post : PostView) : Type 0 where
@@ -76,9 +77,12 @@ pub record HasHeard (now : List Occurrence) (old new : PostView) : Type 0 where
   pub told : Begins new.seen now
 
 -- the first so many posts have met the note, which told one history at first and tells another now
-pub record HaveHeard (many : ℕ) (old : List PostView) (first : List Occurrence) (new : List PostView) (told : List Occurrence) : Type 0 where
+pub record HaveHeard (many : ℕ) (old : List PostView) (first : List Occurrence) (new : List PostView)
+    (told : List Occurrence) : Type 0 where
   pub as_many : length new ≡ length old
-  pub heard : (i : ℕ) (x y : PostView) → i < many → slice_get old i ≡ Some x → slice_get new i ≡ Some y → HasHeard told x y
+  pub heard : (i : ℕ) (x y : PostView) → i < many → slice_get old i ≡ Some x → slice_get new i ≡ Some y
+      → HasHeard told x y
   pub others : (i : ℕ) → many ≤ i → slice_get new i ≡ slice_get old i
   -- the note that told of all that they had seen tells it still, and they have all seen it
-  pub settled : ((i : ℕ) (x : PostView) → slice_get old i ≡ Some x → Begins x.seen first) → (told ≡ first) × ((i : ℕ) (y : PostView) → i < many → slice_get new i ≡ Some y → y.seen ≡ first)
+  pub settled : ((i : ℕ) (x : PostView) → slice_get old i ≡ Some x → Begins x.seen first)
+      → (told ≡ first) × ((i : ℕ) (y : PostView) → i < many → slice_get new i ≡ Some y → y.seen ≡ first)

@@ -1,5 +1,6 @@
 -- What the parts of a gathering tell each other (this project's profile).
-use Rattle.std.specs.Prelude.{◌≡◌, ℕ, suc, ◌+◌, ◌<◌, ◌≤◌, ◌==◌, List, [], ◌∷◌, ◌++◌, length, map, filter, take, drop, All, slice_get, vec_capacity, Option, Some}
+use Rattle.std.specs.Prelude.{◌≡◌, ℕ, suc, ◌+◌, ◌<◌, ◌≤◌, ◌==◌, List, [], ◌∷◌, ◌++◌, length, map, filter, take, drop}
+use Rattle.std.specs.Prelude.{All, slice_get, vec_capacity, Option, Some}
 use Rattle.std.specs.List.{flat_map}
 use Rattle.chart.specs.declared.history.Occurrence.{Occurrence}
 use Rattle.chart.specs.declared.instance.EventNo.{EventNo}
@@ -25,10 +26,13 @@ Slots = List (ℕ × Option Packet)
 abbrev pub messages_in : List Packet → List Content
 messages_in packets = map (λ (x : Packet). x.message) packets
 
--- of the packets of a lane that came first, so many, the first ones have been drawn, and their slots are behind the others
+-- of the packets of a lane that came first, so many, the first ones have been drawn, and their slots are behind the
+-- others
 pub record HasDrawn (l : LaneView) (taken many place : ℕ) (first now : Slots) (messages : List Content) : Type 0 where
-  pub drawn : (packets : List Packet) (others : Slots) → ComeFirst l.instances l.capacity l.sender l.receiver taken packets first others → length packets ≡ many
-      → (messages ≡ take place (messages_in packets)) × (more : Slots) × ComeFirst l.instances l.capacity l.sender l.receiver (taken + place) (drop place packets) now (others ++ more)
+  pub drawn : (packets : List Packet) (others : Slots)
+      → ComeFirst l.instances l.capacity l.sender l.receiver taken packets first others → length packets ≡ many
+      → (messages ≡ take place (messages_in packets)) × (more : Slots)
+      × ComeFirst l.instances l.capacity l.sender l.receiver (taken + place) (drop place packets) now (others ++ more)
 
 -- the post is one of these
 abbrev pub IsAmong : List PostView → PostView → Type 0
@@ -36,8 +40,10 @@ IsAmong posts post = (i : ℕ) × (slice_get posts i ≡ Some post)
 
 -- they are posts of boards of this size, and there is one of each number
 pub record AreOf (n k : ℕ) (posts : List PostView) : Type 0 where
-  pub size : (i : ℕ) (post : PostView) → slice_get posts i ≡ Some post → (post.board.size ≡ n) × (post.board.capacity ≡ k)
-  pub same_board : (i j : ℕ) (x y : PostView) → slice_get posts i ≡ Some x → slice_get posts j ≡ Some y → x.board ≡ y.board
+  pub size : (i : ℕ) (post : PostView) → slice_get posts i ≡ Some post
+      → (post.board.size ≡ n) × (post.board.capacity ≡ k)
+  pub same_board : (i j : ℕ) (x y : PostView) → slice_get posts i ≡ Some x → slice_get posts j ≡ Some y
+      → x.board ≡ y.board
   pub all : (number : ℕ) → 1 ≤ number → number ≤ n → HasPost posts number
 
 abbrev pub room_lane : Room → LaneEnds
@@ -83,7 +89,8 @@ pub record HaveSeen (n k : ℕ) (table : TableId) (h : List Occurrence) (from : 
   pub all : (number : ℕ) → from < number → number ≤ n → HasPost posts number
 
 -- the lines and reports of so many posts, which have left with the messages that wait for them
-pub record HaveParted (n k : ℕ) (table : TableId) (h : List Occurrence) (many : ℕ) (lines : List LineView) (reports : List ReportView) (leavers : List Leaver) : Type 0 where
+pub record HaveParted (n k : ℕ) (table : TableId) (h : List Occurrence) (many : ℕ) (lines : List LineView)
+    (reports : List ReportView) (leavers : List Leaver) : Type 0 where
   pub lined : lines ≡ history_lines many h
   pub reported : AreReportsOf (chart_of h) (history_lines many h) reports
   pub as_many : length leavers ≡ many
@@ -99,9 +106,13 @@ senders_to p lanes = map (λ (lane : LaneEnds). lane.sender) (filter (λ (lane :
 -- for each of these senders come slots with what waits for p, and then others
 abbrev pub AreNext : ℕ → ℕ → ℕ → List Occurrence → List ℕ → Slots → Type 0
 AreNext n k p h [] slots = Unit {0}
-AreNext n k p h (q ∷ qs) slots = (packets : List Packet) × (others : Slots) × ComeFirst n k q p (received h q p) packets slots others × (messages_in packets ≡ waiting h q p) × AreNext n k p h qs others
+AreNext n k p h (q ∷ qs) slots = (packets : List Packet) × (others : Slots)
+    × ComeFirst n k q p (received h q p) packets slots others × (messages_in packets ≡ waiting h q p)
+    × AreNext n k p h qs others
 
-pub record AreReady (n k : ℕ) (table : TableId) (h : List Occurrence) (lanes : List LaneEnds) (leavers : List Leaver) : Type 0 where
+pub record AreReady (n k : ℕ) (table : TableId) (h : List Occurrence) (lanes : List LaneEnds)
+    (leavers : List Leaver) : Type 0 where
   pub as_many : length leavers ≡ n
   pub seated : (i : ℕ) (leaver : Leaver) → slice_get leavers i ≡ Some leaver → leaver.seat.table_id ≡ table
-  pub next : (i : ℕ) (leaver : Leaver) → slice_get leavers i ≡ Some leaver → AreNext n k (suc i) h (senders_to (suc i) lanes) leaver.seat.me.1
+  pub next : (i : ℕ) (leaver : Leaver) → slice_get leavers i ≡ Some leaver
+      → AreNext n k (suc i) h (senders_to (suc i) lanes) leaver.seat.me.1

@@ -6,8 +6,8 @@ use Rattle.board.specs.Views.{PostView}
 use Rattle.board.specs.Gathering.{AreJoint, all_lanes}
 use Rattle.board.specs.Parting.{AreOf, HaveRooms, receives_until}
 
--- there is room for the lines and the reports of n instances, by whatever history their posts have in common, and for what
--- waits on each of their lanes
+-- there is room for the lines and the reports of n instances, by whatever history their posts have in common, and for
+-- what waits on each of their lanes
 pub record IsProvision (n : ℕ) (posts : List PostView) (it : Provision) : Type 0 where
   pub lines : it.lines.items ≡ []
   pub reports : it.reports.items ≡ []

@@ -58,14 +58,18 @@ pub record MayTake (l : LaneView) (region : ℕ) (me : Mine) (end : Incoming) (r
   pub short : length recorder.line.events < MAX_EVENTS
   pub two : AreTwo l.instances l.receiver l.sender
 
--- the recorder has recorded the receive of the first of these packets over the base, with this report, and this is its clock
-pub record IsRecorded (packets : List Packet) (base : List ℕ) (from region : ℕ) (old : RecorderView) (report : ReportView) (clock : List ℕ) (new : RecorderView) : Type 0 where
+-- the recorder has recorded the receive of the first of these packets over the base, with this report, and this is
+-- its clock
+pub record IsRecorded (packets : List Packet) (base : List ℕ) (from region : ℕ) (old : RecorderView)
+    (report : ReportView) (clock : List ℕ) (new : RecorderView) : Type 0 where
   pub clock_is : (x : Packet) (xs : List Packet) → packets ≡ x ∷ xs → apply_diff base x.diff ≡ clock
-  pub recorded : (x : Packet) (xs : List Packet) → packets ≡ x ∷ xs → new ≡ after_receive old from x.message.name region clock report
+  pub recorded : (x : Packet) (xs : List Packet) → packets ≡ x ∷ xs
+      → new ≡ after_receive old from x.message.name region clock report
   pub report_is : IsReportOf old from region clock report
 
 -- the first message that was out was taken out of its slot, and its receive recorded: its parcel, with this arrival
-pub record IsTaken (l : LaneView) (region : ℕ) (old : Mine) (before : Incoming) (recorder : RecorderView) (arrival : Arrival) (new : Mine) (after : Incoming) (recorded : RecorderView) : Type 0 where
+pub record IsTaken (l : LaneView) (region : ℕ) (old : Mine) (before : Incoming) (recorder : RecorderView)
+    (arrival : Arrival) (new : Mine) (after : Incoming) (recorded : RecorderView) : Type 0 where
   pub taking : IsTaking l new after
   pub kept : held new ≡ held old
   pub parcel : Parcel
@@ -81,11 +85,13 @@ abbrev pub reports_of : List Arrival → List ReportView
 reports_of arrivals = map (λ (arrival : Arrival). arrival.report) arrivals
 
 -- so were the first ones that waited, one after another: these parcels, with these arrivals
-pub record AreTaken (l : LaneView) (region : ℕ) (old : Mine) (before : Incoming) (recorder : RecorderView) (arrivals : List Arrival) (new : Mine) (after : Incoming) (recorded : RecorderView) : Type 0 where
+pub record AreTaken (l : LaneView) (region : ℕ) (old : Mine) (before : Incoming) (recorder : RecorderView)
+    (arrivals : List Arrival) (new : Mine) (after : Incoming) (recorded : RecorderView) : Type 0 where
   pub taking : IsTaking l new after
   pub kept : held new ≡ held old
   pub parcels : List Parcel
-  pub took : drop (received (held old).seen l.sender l.receiver) (goods l.instances (held old).seen l.sender l.receiver) ≡ parcels ++ waiting_goods l new
+  pub took : drop (received (held old).seen l.sender l.receiver) (goods l.instances (held old).seen l.sender l.receiver)
+      ≡ parcels ++ waiting_goods l new
   pub out : vacant_out new ≡ length arrivals
   pub senders : All (λ (arrival : Arrival). arrival.from ≡ l.sender) arrivals
   pub messages : messages_of arrivals ≡ map (λ (x : Parcel). x.message) parcels
@@ -103,18 +109,25 @@ IsUnrecorded events Memory = events < MAX_EVENTS
 
 -- the first message that waited was received, in this coregion and with its report
 pub record IsReceived (l : LaneView) (region : ℕ) (old : Mine) (arrival : Arrival) (new : Mine) : Type 0 where
-  pub did : Did l.instances l.capacity l.receiver (held old) (held new) (drop 1 (held new).seen) (Receive l.receiver l.sender region ∷ [])
+  pub did : Did l.instances l.capacity l.receiver (held old) (held new) (drop 1 (held new).seen)
+      (Receive l.receiver l.sender region ∷ [])
   pub first : (rest : List Content) × (waiting (drop 1 (held new).seen) l.sender l.receiver ≡ arrival.message ∷ rest)
   pub sender : arrival.from ≡ l.sender
-  pub receive : arrival.report.receive ≡ record { instance = l.receiver; index = length (chart_of (held new).seen l.receiver) }
+  pub receive : arrival.report.receive ≡ record {
+    instance = l.receiver;
+    index = length (chart_of (held new).seen l.receiver);
+  }
   pub report : IsReportIn (chart_of (held new).seen) arrival.report
 
 -- the first messages that waited were received, one directly after another, in this coregion and each with its report
 pub record AreReceived (l : LaneView) (region : ℕ) (old : Mine) (arrivals : List Arrival) (new : Mine) : Type 0 where
-  pub did : Did l.instances l.capacity l.receiver (held old) (held new) (drop (length arrivals) (held new).seen) (replicate (length arrivals) (Receive l.receiver l.sender region))
-  pub first : (rest : List Content) × (waiting (drop (length arrivals) (held new).seen) l.sender l.receiver ≡ messages_of arrivals ++ rest)
+  pub did : Did l.instances l.capacity l.receiver (held old) (held new) (drop (length arrivals) (held new).seen)
+      (replicate (length arrivals) (Receive l.receiver l.sender region))
+  pub first : (rest : List Content) × (waiting (drop (length arrivals) (held new).seen) l.sender l.receiver
+      ≡ messages_of arrivals ++ rest)
   pub senders : All (λ (arrival : Arrival). arrival.from ≡ l.sender) arrivals
-  pub receives : map (λ (arrival : Arrival). arrival.report.receive) arrivals ≡ numbered l.receiver (length (chart_of (held old).seen l.receiver) + 1) (messages_of arrivals)
+  pub receives : map (λ (arrival : Arrival). arrival.report.receive) arrivals
+      ≡ numbered l.receiver (length (chart_of (held old).seen l.receiver) + 1) (messages_of arrivals)
   pub reports : All (λ (arrival : Arrival). IsReportIn (chart_of (held new).seen) arrival.report) arrivals
 
 -- no message was received, for this cause, and one waits
@@ -126,10 +139,14 @@ pub record IsUnreceived (l : LaneView) (old new : Mine) (error : TakeError) : Ty
 -- why no more than these were received, of most so many
 abbrev pub IsStopped : LaneView → ℕ → Mine → List Arrival → Mine → Stop → Type 0
 IsStopped l most old arrivals new Asked = length arrivals ≡ most
-IsStopped l most old arrivals new NoMore = (length arrivals < most) × (waiting (held old).seen l.sender l.receiver ≡ messages_of arrivals)
-IsStopped l most old arrivals new (Refused error) = (length arrivals < most) × (0 < length (waiting (held new).seen l.sender l.receiver)) × IsUnrecorded (length (chart_of (held new).seen l.receiver)) error
+IsStopped l most old arrivals new NoMore = (length arrivals < most)
+    × (waiting (held old).seen l.sender l.receiver ≡ messages_of arrivals)
+IsStopped l most old arrivals new (Refused error) = (length arrivals < most)
+    × (0 < length (waiting (held new).seen l.sender l.receiver))
+    × IsUnrecorded (length (chart_of (held new).seen l.receiver)) error
 
--- why no more than so many were taken out, of most so many and of as many as are known, where the line has so many events
+-- why no more than so many were taken out, of most so many and of as many as are known, where the line has so many
+-- events
 abbrev pub IsHalted : ℕ → ℕ → ℕ → ℕ → Stop → Type 0
 IsHalted most known many events Asked = many ≡ most
 IsHalted most known many events NoMore = (many < most) × (many ≡ known)

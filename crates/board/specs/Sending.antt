@@ -1,5 +1,6 @@
 -- What a send answers (this project's profile, after ITU-T Z.120).
-use Rattle.std.specs.Prelude.{◌≡◌, ℕ, ◌+◌, ◌-◌, ◌<◌, ◌≤◌, true, false, List, [], ◌∷◌, length, map, reverse, Result, Ok, Err}
+use Rattle.std.specs.Prelude.{◌≡◌, ℕ, ◌+◌, ◌-◌, ◌<◌, ◌≤◌, true, false, List, [], ◌∷◌, length, map, reverse, Result, Ok}
+use Rattle.std.specs.Prelude.{Err}
 use Rattle.std.specs.Global.{Vec}
 use Rattle.chart.specs.declared.history.Occurrence.{Occurrence}
 use Rattle.chart.specs.declared.history.Occurrence.TheVariants.{Send}
@@ -9,7 +10,8 @@ use Rattle.chart.specs.Messages.{Content}
 use Rattle.chart.specs.Histories.{waiting, is_closed}
 use Rattle.board.specs.declared.answer.Sent.{Sent}
 use Rattle.board.specs.declared.error.SendError.{SendError}
-use Rattle.board.specs.declared.error.SendError.TheVariants.{NoSuchInstance, ToItself, InCoregion, Closed, TooMany, LineFull, Full, Memory}
+use Rattle.board.specs.declared.error.SendError.TheVariants.{NoSuchInstance, ToItself, InCoregion, Closed, TooMany}
+use Rattle.board.specs.declared.error.SendError.TheVariants.{LineFull, Full, Memory}
 use Rattle.board.specs.Views.{PostView, line_of, last_event, Makes, Stays, IsPartner}
 
 -- no cause stands in the way but those of the line, of the lane's slots and of memory
@@ -18,8 +20,8 @@ pub record MaySend (old : PostView) (to : ℕ) : Type 0 where
   pub outside : old.region ≡ 0
   pub opened : is_closed old.made old.number to ≡ false
 
--- so many more messages than one call may send find no slot: as many wait as leave too few, in what was seen too, and this
--- comes of a look
+-- so many more messages than one call may send find no slot: as many wait as leave too few, in what was seen too, and
+-- this comes of a look
 pub record IsFull (old : PostView) (to many : ℕ) (new : PostView) : Type 0 where
   pub waits : new.board.capacity < length (waiting new.seen new.number to) + many
   pub opened : is_closed new.seen new.number to ≡ false
@@ -37,9 +39,12 @@ IsUnsent old to many ToItself new = to ≡ old.number
 IsUnsent old to many InCoregion new = IsPartner old to × (0 < old.region)
 IsUnsent old to many Closed new = IsPartner old to × (old.region ≡ 0) × (is_closed old.made old.number to ≡ true)
 IsUnsent old to many TooMany new = MaySend old to × (old.board.capacity < many)
-IsUnsent old to many LineFull new = MaySend old to × (many ≤ old.board.capacity) × (MAX_EVENTS < length (line_of new) + many)
-IsUnsent old to many Full new = MaySend old to × (many ≤ old.board.capacity) × (length (line_of new) + many ≤ MAX_EVENTS) × IsFull old to many new
-IsUnsent old to many Memory new = MaySend old to × (0 < many) × (length (line_of new) + many ≤ MAX_EVENTS) × HasRoom new to many
+IsUnsent old to many LineFull new = MaySend old to × (many ≤ old.board.capacity)
+    × (MAX_EVENTS < length (line_of new) + many)
+IsUnsent old to many Full new = MaySend old to × (many ≤ old.board.capacity)
+    × (length (line_of new) + many ≤ MAX_EVENTS) × IsFull old to many new
+IsUnsent old to many Memory new = MaySend old to × (0 < many) × (length (line_of new) + many ≤ MAX_EVENTS)
+    × HasRoom new to many
 
 -- the message was sent, last of all that was seen; it took a place of the room, if there was one
 pub record IsSent (old : PostView) (to : ℕ) (message : Content) (sent : Sent) (new : PostView) : Type 0 where
@@ -62,9 +67,10 @@ abbrev pub numbered : ℕ → ℕ → List Content → List EventNo
 numbered p index [] = []
 numbered p index (m ∷ ms) = record { instance = p; index = index } ∷ numbered p (index + 1) ms
 
--- the messages were sent, one directly after another, last of all that was seen; each took a place of the room, while there
--- was one
-pub record AreSent (old : PostView) (to : ℕ) (messages : List Content) (sents : List Sent) (new : PostView) : Type 0 where
+-- the messages were sent, one directly after another, last of all that was seen; each took a place of the room, while
+-- there was one
+pub record AreSent (old : PostView) (to : ℕ) (messages : List Content) (sents : List Sent)
+    (new : PostView) : Type 0 where
   pub allowed : MaySend old to
   pub makes : (before : List Occurrence) × Makes old before (sends_of new.number to messages) new
   pub events : map (λ (sent : Sent). sent.event) sents ≡ numbered new.number (length (line_of old) + 1) messages
@@ -73,7 +79,8 @@ pub record AreSent (old : PostView) (to : ℕ) (messages : List Content) (sents 
 -- what a send of several messages at once answers
 abbrev pub SendsAll : PostView → ℕ → List Content → Result (Vec Sent) (Vec Content × SendError) → PostView → Type 0
 SendsAll old to messages (Ok sents) new = AreSent old to messages sents.items new
-SendsAll old to messages (Err (back, error)) new = (back.items ≡ messages) × Stays old new × IsUnsent old to (length messages) error new
+SendsAll old to messages (Err (back, error)) new = (back.items ≡ messages) × Stays old new
+    × IsUnsent old to (length messages) error new
 
 -- nothing but the lane's slots and memory stands in the way of so many messages
 pub record MayPass (old : PostView) (to many : ℕ) : Type 0 where

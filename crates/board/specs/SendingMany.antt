@@ -1,5 +1,5 @@
--- What the parts of a send of several messages tell each other (differences between clocks as Singhal and Kshemkalyani 1992
--- have them; several sends at once are this project's profile).
+-- What the parts of a send of several messages tell each other (differences between clocks as Singhal and
+-- Kshemkalyani 1992 have them; several sends at once are this project's profile).
 use Rattle.std.specs.Prelude.{◌≡◌, ℕ, ◌+◌, ◌≤◌, List, [], ◌∷◌, length, map, drop, All}
 use Rattle.chart.specs.Messages.{Content}
 use Rattle.chart.specs.Histories.{chart_of}
@@ -42,13 +42,17 @@ last_of base [] = base
 last_of base (clock ∷ clocks) = last_of clock clocks
 
 -- what the sends of these messages need is there, and the recorder has recorded them
-pub record IsPrepared (base : List ℕ) (old : RecorderView) (to : ℕ) (messages : List Content) (it : Prepared) (new : RecorderView) : Type 0 where
+pub record IsPrepared (base : List ℕ) (old : RecorderView) (to : ℕ) (messages : List Content) (it : Prepared)
+    (new : RecorderView) : Type 0 where
   pub diffs : AreDiffsTo base it.diffs.items (send_clocks old to (names_of messages))
   pub last : it.last ≡ last_of base (send_clocks old to (names_of messages))
-  pub sents : map (λ (sent : Sent). sent.event) it.sents.items ≡ numbered old.line.instance (length old.line.events + 1) messages
+  pub sents : map (λ (sent : Sent). sent.event) it.sents.items
+      ≡ numbered old.line.instance (length old.line.events + 1) messages
   pub recorded : new ≡ after_sends old to (names_of messages)
 
 -- the messages were sent, one directly after another, each with its event
 pub record AreMade (l : LaneView) (messages : List Content) (sents : List Sent) (old new : Mine) : Type 0 where
-  pub did : Did l.instances l.capacity l.sender (held old) (held new) (drop (length messages) (held new).seen) (sends_of l.sender l.receiver messages)
-  pub events : map (λ (sent : Sent). sent.event) sents ≡ numbered l.sender (length (chart_of (held old).seen l.sender) + 1) messages
+  pub did : Did l.instances l.capacity l.sender (held old) (held new) (drop (length messages) (held new).seen)
+      (sends_of l.sender l.receiver messages)
+  pub events : map (λ (sent : Sent). sent.event) sents ≡ numbered l.sender
+      (length (chart_of (held old).seen l.sender) + 1) messages

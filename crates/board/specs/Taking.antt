@@ -17,13 +17,20 @@ use Rattle.board.specs.Views.{PostView, line_of, last_event, Makes, Stays, IsPar
 -- the lane is that from another instance to the post
 pub record IsLaneFrom (post : PostView) (from : ℕ) (lane : LaneView) : Type 0 where
   pub two : IsPartner post from
-  pub is : lane ≡ record { instances = post.board.size; capacity = post.board.capacity; sender = from; receiver = post.number }
+  pub is : lane ≡ record {
+    instances = post.board.size;
+    capacity = post.board.capacity;
+    sender = from;
+    receiver = post.number;
+  }
 
--- the first message that waited was received, last of all that was seen, in the open coregion and with its report; it took
--- a place of the room, if there was one
+-- the first message that waited was received, last of all that was seen, in the open coregion and with its report; it
+-- took a place of the room, if there was one
 pub record IsGot (old : PostView) (from : ℕ) (arrival : Arrival) (new : PostView) : Type 0 where
   pub two : IsPartner old from
-  pub makes : (before : List Occurrence) × (rest : List Content) × Makes old before (Receive new.number from old.region ∷ []) new × (waiting before from new.number ≡ arrival.message ∷ rest)
+  pub makes : (before : List Occurrence) × (rest : List Content)
+      × Makes old before (Receive new.number from old.region ∷ []) new
+      × (waiting before from new.number ≡ arrival.message ∷ rest)
   pub sender : arrival.from ≡ from
   pub receive : arrival.report.receive ≡ last_event new
   pub report : IsReportIn (chart_of new.seen) arrival.report

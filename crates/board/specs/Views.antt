@@ -35,8 +35,8 @@ pub record IsSamePost (old new : PostView) : Type 0 where
   pub board : new.board ≡ old.board
   pub number : new.number ≡ old.number
 
--- what every call leaves: a legal history that begins with what was seen, in which the post's own events are those that its
--- calls made
+-- what every call leaves: a legal history that begins with what was seen, in which the post's own events are those
+-- that its calls made
 pub record Sound (old new : PostView) : Type 0 where
   pub same : IsSamePost old new
   pub later : Begins old.seen new.seen

@@ -33,9 +33,19 @@ impl Model for Board {
 
     ghost Value = { BoardState };
 
-    ghost view = { λ board. record { board = record { table = board.table.shared.table_id; size = board.shape.instances; capacity = board.shape.capacity }; asked = is_gone board.seat } };
+    ghost view = { λ board. record {
+      board = record {
+        table = board.table.shared.table_id;
+        size = board.shape.instances;
+        capacity = board.shape.capacity;
+      };
+      asked = is_gone board.seat;
+    } };
 
-    ghost invariant = { λ board. IsSized board.shape.instances board.shape.capacity × IsBoard board.shape.instances board.shape.capacity board.table.shared.key board.table.shared.table_id × IfSome board.seat (λ seat. IsWholeSeat board.shape.instances board.shape.capacity board.table.shared.table_id seat.table_id seat.me) };
+    ghost invariant = { λ board. IsSized board.shape.instances board.shape.capacity
+        × IsBoard board.shape.instances board.shape.capacity board.table.shared.key board.table.shared.table_id
+        × IfSome board.seat (λ seat. IsWholeSeat board.shape.instances board.shape.capacity board.table.shared.table_id
+        seat.table_id seat.me) };
 }
 
 impl Board {
@@ -62,8 +72,8 @@ impl Board {
         })
     }
 
-    /// The posts, in order of their instances. F10: they were asked for before. F6: a growth was refused, and from then on
-    /// every call is answered F10.
+    /// The posts, in order of their instances. F10: they were asked for before. F6: a growth was refused, and from
+    /// then on every call is answered F10.
     pub fn posts(&mut self) -> Result<Vec<Post<'_>>, PostsError>
         ensures ok { IfOk result (λ posts. (self.old.asked ≡ false) × AreNewPosts self.old.board posts.items) }
         ensures err { IfErr result (λ error. IsUngiven self.old error) }
@@ -80,7 +90,8 @@ impl Board {
     /// The seat of all posts, if it is still there.
     fn take_seat(&mut self) -> Option<Seat>
         ensures asked { self.new ≡ record self.old { asked = true } }
-        ensures some { IfSome result (λ seat. (self.old.asked ≡ false) × IsWholeSeat self.old.board.size self.old.board.capacity self.old.board.table seat.table_id seat.me) }
+        ensures some { IfSome result (λ seat. (self.old.asked ≡ false)
+            × IsWholeSeat self.old.board.size self.old.board.capacity self.old.board.table seat.table_id seat.me) }
         ensures none { IfNone result (self.old.asked ≡ true) }
     {
         self.seat.take()

@@ -8,8 +8,8 @@ use board_table::{Lane, close};
 use chart::InstanceNo;
 
 impl<'a> Post<'a> {
-    /// Closes the lane to an instance, be it full or not: nothing more is sent on it. It is the first of F14, F13 and F12 that
-    /// refuses it, and then nothing has changed. It takes no memory.
+    /// Closes the lane to an instance, be it full or not: nothing more is sent on it. It is the first of F14, F13 and
+    /// F12 that refuses it, and then nothing has changed. It takes no memory.
     pub fn close(&mut self, to: InstanceNo) -> Result<(), CloseError>
         ensures sound { Sound self.old self.new }
         ensures answer { Closes self.old to result self.new }

@@ -127,8 +127,8 @@ fn gather_all(posts: Vec<Post>, provision: Provision) -> Gathered
 /// Gathers a whole board: the chart of one history that begins with all that its posts had seen and has just their own
 /// events, the report of each receive, and the messages that wait on each lane.
 ///
-/// The posts may come in any order. The first of F15 and F6 refuses it, and then they come back as they were: all memory
-/// is there before the first of them meets another.
+/// The posts may come in any order. The first of F15 and F6 refuses it, and then they come back as they were: all
+/// memory is there before the first of them meets another.
 pub fn gather<'a>(alloc: Global, posts: Vec<Post<'a>>) -> Result<Gathered, GatherError<'a>>
     requires board { AreOfOneBoard posts.items }
     ensures { Gathers posts.entry.items result }

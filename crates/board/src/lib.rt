@@ -1,16 +1,17 @@
 //! A board on running threads: instances pass messages over lanes without a lock, and each receive reports its races.
 //!
-//! A [`Board`] gives each instance its [`Post`], which can be moved to a thread. What each call of a post answers stands in a
-//! legal history that begins with all that this post had seen, and has of its own just what its calls made. A receive gets
-//! the first message that waited, or the first of several, and each report is exactly that of the chart of this history.
-//! Several messages are sent by one store, all of them or none ([`Post::send_all`]), and received by one
-//! ([`Post::receive_up_to`]). Posts that [`meet`] have then seen one history. At the end [`gather`] takes all posts of a board
-//! and answers its chart, its reports, and what waits on each lane. `specs/Views.antt` says what a contract sees of a post;
-//! `Sending`, `Taking`, `TakingMany`, `Closing`, `Meeting` and `Gathering` say what each call answers.
+//! A [`Board`] gives each instance its [`Post`], which can be moved to a thread. What each call of a post answers
+//! stands in a legal history that begins with all that this post had seen, and has of its own just what its calls
+//! made. A receive gets the first message that waited, or the first of several, and each report is exactly that of
+//! the chart of this history. Several messages are sent by one store, all of them or none ([`Post::send_all`]), and
+//! received by one ([`Post::receive_up_to`]). Posts that [`meet`] have then seen one history. At the end [`gather`]
+//! takes all posts of a board and answers its chart, its reports, and what waits on each lane. `specs/Views.antt`
+//! says what a contract sees of a post; `Sending`, `Taking`, `TakingMany`, `Closing`, `Meeting` and `Gathering` say
+//! what each call answers.
 //!
-//! Messages carry what changed in their sender's clock since the one before on their lane (Singhal and Kshemkalyani 1992).
-//! Each end keeps the number that it loaded last, and looks again only where that leaves too few slots, or too few
-//! messages.
+//! Messages carry what changed in their sender's clock since the one before on their lane (Singhal and Kshemkalyani
+//! 1992). Each end keeps the number that it loaded last, and looks again only where that leaves too few slots, or too
+//! few messages.
 #![tactic(auto)]
 
 mod answer;

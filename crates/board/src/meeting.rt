@@ -3,7 +3,8 @@ ghost use Rattle.std.specs.Prelude.{◌≡◌, ◌<◌, ◌≤◌, ℕ, length, 
 ghost use Rattle.chart.specs.declared.instance.TheConstants.{MAX_INSTANCES};
 ghost use Rattle.board_table.specs.Knowing.{held};
 ghost use Rattle.board.specs.Views.{PostView};
-ghost use Rattle.board.specs.Meeting.{AreOfOneBoard, HaveMet, HaveHeard, HasNoPost, AreAll, AreNotAll, IsAt, Hears, IsNoteOf, MeetsAll};
+ghost use Rattle.board.specs.Meeting.{AreOfOneBoard, HaveMet, HaveHeard, HasNoPost, AreAll, AreNotAll, IsAt, Hears};
+ghost use Rattle.board.specs.Meeting.{IsNoteOf, MeetsAll};
 
 use crate::error::MeetError;
 use crate::post::Post;
@@ -32,9 +33,11 @@ impl<'a> Post<'a> {
 
 /// Brings the note to each post in turn, and hands it on.
 fn hear_each(posts: &mut [Post], note: Seat) -> Seat
-    requires note { (i : ℕ) → (post : PostView) → slice_get posts.old i ≡ Some post → IsNoteOf note.table_id note.me post }
+    requires note { (i : ℕ) → (post : PostView) → slice_get posts.old i ≡ Some post
+        → IsNoteOf note.table_id note.me post }
     ensures heard { HaveHeard (length posts.old) posts.old (held note.me).seen posts.new (held result.me).seen }
-    ensures note { (i : ℕ) → (post : PostView) → slice_get posts.old i ≡ Some post → IsNoteOf result.table_id result.me post }
+    ensures note { (i : ℕ) → (post : PostView) → slice_get posts.old i ≡ Some post
+        → IsNoteOf result.table_id result.me post }
 {
     let mut note = note;
     for post in posts.iter_mut() {
@@ -73,7 +76,8 @@ pub(crate) fn place_of(posts: &[Post], number: usize) -> Option<usize>
     None
 }
 
-/// Whether they are all posts of their board. It takes a time that depends on their number alone, if they come in order.
+/// Whether they are all posts of their board. It takes a time that depends on their number alone, if they come in
+/// order.
 pub fn are_all(posts: &[Post]) -> bool
     ensures yes { result ≡ true → AreAll posts.now }
     ensures no { result ≡ false → AreNotAll posts.now }
@@ -89,8 +93,8 @@ pub fn are_all(posts: &[Post]) -> bool
     true
 }
 
-/// All posts of a board meet: they have then all seen one history. F15: these are none, or not all, and then nothing has
-/// changed. It takes no memory.
+/// All posts of a board meet: they have then all seen one history. F15: these are none, or not all, and then nothing
+/// has changed. It takes no memory.
 pub fn meet_all(posts: &mut [Post]) -> Result<(), MeetError>
     requires board { AreOfOneBoard posts.old }
     ensures met { MeetsAll posts.old result posts.new }

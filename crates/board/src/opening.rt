@@ -23,7 +23,9 @@ pub(crate) fn deal_posts<'a>(
     requires sized { IsSized shape.instances shape.capacity }
     requires board { IsBoard shape.instances shape.capacity words.now.key words.now.table_id }
     requires seat { IsWholeSeat shape.instances shape.capacity words.now.table_id seat.table_id seat.me }
-    ensures { IfOk result (λ posts. AreNewPosts (record { table = words.now.table_id; size = shape.instances; capacity = shape.capacity }) posts.items) }
+    ensures { IfOk result
+        (λ posts. AreNewPosts (record { table = words.now.table_id; size = shape.instances; capacity = shape.capacity })
+        posts.items) }
 {
     let mut seat = seat;
     let mut posts = Vec::with_capacity(alloc, shape.instances)?;
@@ -48,7 +50,12 @@ fn make_post<'a>(
     requires board { IsBoard shape.instances shape.capacity words.now.key words.now.table_id }
     requires seat { IsNewSeat shape.instances shape.capacity number words.now.table_id seat.table_id seat.me }
     requires number { (1 ≤ number) × (number ≤ shape.instances) }
-    ensures { IfOk result (λ post. post ≡ new_post (record { table = words.now.table_id; size = shape.instances; capacity = shape.capacity }) number) }
+    ensures { IfOk result
+        (λ post. post ≡ new_post (record {
+          table = words.now.table_id;
+          size = shape.instances;
+          capacity = shape.capacity;
+        }) number) }
 {
     let recorder = Recorder::new(alloc, number, shape.instances)?;
     let (outgoing, incoming) = make_ends(alloc, shape.instances)?;

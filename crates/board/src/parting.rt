@@ -1,5 +1,6 @@
 //! How posts leave their board, and what they leave.
-ghost use Rattle.std.specs.Prelude.{◌≡◌, ◌≢◌, ◌+◌, ◌≤◌, ◌<◌, ◌^◌, ℕ, List, [], ◌++◌, length, map, slice_get, vec_capacity, Option, Some, All};
+ghost use Rattle.std.specs.Prelude.{◌≡◌, ◌≢◌, ◌+◌, ◌≤◌, ◌<◌, ◌^◌, ℕ, List, [], ◌++◌, length, map, slice_get};
+ghost use Rattle.std.specs.Prelude.{vec_capacity, Option, Some, All};
 ghost use Rattle.atomic_table.specs.Seated.{TableId};
 ghost use Rattle.chart.specs.declared.history.Occurrence.{Occurrence};
 ghost use Rattle.chart.specs.Histories.{chart_of};
@@ -42,10 +43,12 @@ impl<'a> Post<'a> {
     /// Leaves its board, with the messages that wait for it. It takes no memory.
     pub(crate) fn part(self) -> (Line, Vec<Report>, Leaver)
         ensures line { result.0 ≡ record { instance = self.entry.number; events = line_of self.entry } }
-        ensures receives { map (λ report. report.receive) result.1.items ≡ receives_of (record { instance = self.entry.number; events = line_of self.entry }) }
+        ensures receives { map (λ report. report.receive) result.1.items
+            ≡ receives_of (record { instance = self.entry.number; events = line_of self.entry }) }
         ensures reports { All (IsReportIn (chart_of self.entry.seen)) result.1.items }
         ensures table { result.2.seat.table_id ≡ self.entry.board.table }
-        ensures left { HaveLeft self.entry.board.size self.entry.board.capacity self.entry.number self.entry.seen 1 self.entry.board.size result.2.seat.me.1 }
+        ensures left { HaveLeft self.entry.board.size self.entry.board.capacity self.entry.number self.entry.seen 1
+            self.entry.board.size result.2.seat.me.1 }
     {
         let Post {
             words,
@@ -63,15 +66,20 @@ impl<'a> Post<'a> {
 /// Draws the messages that have room, which come first of those that left with the seat.
 pub(crate) fn draw_all(words: &Words, seat: &mut Seat, room: Room) -> Left
     requires table { seat.old.table_id ≡ words.now.table_id }
-    requires first { (packets : List Packet) × (others : List (ℕ × Option Packet)) × ComeFirst room.lane.instances room.lane.capacity room.lane.sender room.lane.receiver room.taken packets seat.old.me.1 others × (length packets ≡ room.many) }
+    requires first { (packets : List Packet) × (others : List (ℕ × Option Packet))
+        × ComeFirst room.lane.instances room.lane.capacity room.lane.sender room.lane.receiver room.taken packets
+        seat.old.me.1 others × (length packets ≡ room.many) }
     requires empty { room.messages.items ≡ [] }
     requires enough { room.many ≤ vec_capacity room.messages }
     requires within_word { room.taken + room.many < 2 ^ 64 }
     ensures table { seat.new.table_id ≡ seat.old.table_id }
     ensures sender { result.sender ≡ room.sender }
     ensures receiver { result.receiver ≡ room.receiver }
-    ensures drawn { (packets : List Packet) (others : List (ℕ × Option Packet)) → ComeFirst room.lane.instances room.lane.capacity room.lane.sender room.lane.receiver room.taken packets seat.old.me.1 others → length packets ≡ room.many
-        → (result.messages.items ≡ map (λ x. x.message) packets) × ((more : List (ℕ × Option Packet)) × (seat.new.me.1 ≡ others ++ more)) }
+    ensures drawn { (packets : List Packet) (others : List (ℕ × Option Packet))
+        → ComeFirst room.lane.instances room.lane.capacity room.lane.sender room.lane.receiver room.taken packets
+        seat.old.me.1 others → length packets ≡ room.many
+        → (result.messages.items ≡ map (λ x. x.message) packets)
+        × ((more : List (ℕ × Option Packet)) × (seat.new.me.1 ≡ others ++ more)) }
 {
     let Room {
         lane,
@@ -107,8 +115,8 @@ fn take_post<'a>(posts: &mut Vec<Post<'a>>, number: usize) -> Post<'a>
     posts.remove(place)
 }
 
-/// All posts of a board, which have met, leave it, by their numbers. There is room for their lines and their reports, and for
-/// themselves.
+/// All posts of a board, which have met, leave it, by their numbers. There is room for their lines and their reports,
+/// and for themselves.
 pub(crate) fn part_all(
     posts: Vec<Post>,
     instances: usize,
@@ -116,10 +124,12 @@ pub(crate) fn part_all(
     reports: &mut Vec<Report>,
     leavers: &mut Vec<Leaver>,
 )
-    requires seen { (k : ℕ) × (table : TableId) × (h : List Occurrence) × HaveSeen instances k table h 0 posts.items × (length (receives_until h instances) ≤ vec_capacity reports.old) }
+    requires seen { (k : ℕ) × (table : TableId) × (h : List Occurrence) × HaveSeen instances k table h 0 posts.items
+        × (length (receives_until h instances) ≤ vec_capacity reports.old) }
     requires empty { (lines.old.items ≡ []) × (reports.old.items ≡ []) × (leavers.old.items ≡ []) }
     requires enough { (instances ≤ vec_capacity lines.old) × (instances ≤ vec_capacity leavers.old) }
-    ensures { (k : ℕ) (table : TableId) (h : List Occurrence) → HaveSeen instances k table h 0 posts.entry.items → HaveParted instances k table h instances lines.new.items reports.new.items leavers.new.items }
+    ensures { (k : ℕ) (table : TableId) (h : List Occurrence) → HaveSeen instances k table h 0 posts.entry.items
+        → HaveParted instances k table h instances lines.new.items reports.new.items leavers.new.items }
 {
     let mut posts = posts;
     for place in 0..instances {
@@ -139,10 +149,13 @@ pub(crate) fn draw_lanes(
     rooms: Vec<Room>,
     left: &mut Vec<Left>,
 )
-    requires ready { (n k : ℕ) × (h : List Occurrence) × AreReady n k words.now.table_id h (map room_lane rooms.items) leavers.old × All (IsLaneRoom h n k) rooms.items }
+    requires ready { (n k : ℕ) × (h : List Occurrence) × AreReady n k words.now.table_id h
+        (map room_lane rooms.items) leavers.old × All (IsLaneRoom h n k) rooms.items }
     requires empty { left.old.items ≡ [] }
     requires enough { length rooms.items ≤ vec_capacity left.old }
-    ensures { (n k : ℕ) (h : List Occurrence) → AreReady n k words.now.table_id h (map room_lane rooms.items) leavers.old → All (IsLaneRoom h n k) rooms.items → map left_view left.new.items ≡ map (left_on h) (map room_lane rooms.items) }
+    ensures { (n k : ℕ) (h : List Occurrence)
+        → AreReady n k words.now.table_id h (map room_lane rooms.items) leavers.old → All (IsLaneRoom h n k) rooms.items
+        → map left_view left.new.items ≡ map (left_on h) (map room_lane rooms.items) }
 {
     for room in rooms {
         let leaver = &mut leavers[room.receiver.place()];

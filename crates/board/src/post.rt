@@ -15,10 +15,10 @@ use std::marker::Model;
 
 /// What an instance of a board acts by: it sends, receives and closes lanes. It can be moved to a thread.
 ///
-/// A contract sees its board, its number, the history that it has seen and the events that its own calls made, how often
-/// it looked at what others wrote, its open coregion, and the room that was made on its line. After each call what is
-/// seen is a legal history that begins with what was seen before, and the post's own events in it are those that its
-/// calls made.
+/// A contract sees its board, its number, the history that it has seen and the events that its own calls made, how
+/// often it looked at what others wrote, its open coregion, and the room that was made on its line. After each call
+/// what is seen is a legal history that begins with what was seen before, and the post's own events in it are those
+/// that its calls made.
 #[derive(Drop)]
 pub struct Post<'a> {
     pub(crate) words: &'a Words,
@@ -40,9 +40,12 @@ impl<'a> Model for Post<'a> {
 
     ghost Value = { PostView };
 
-    ghost view = { λ post. view_of post.words.now.table_id post.seat.me post.shape.instances post.shape.capacity post.number post.region post.recorder.room };
+    ghost view = { λ post. view_of post.words.now.table_id post.seat.me post.shape.instances post.shape.capacity
+        post.number post.region post.recorder.room };
 
-    ghost invariant = { λ post. IsPost post.words.now.key post.words.now.table_id post.seat.table_id post.seat.me post.shape.instances post.shape.capacity post.number post.recorder post.region post.outgoing.items post.incoming.items };
+    ghost invariant = { λ post. IsPost post.words.now.key post.words.now.table_id post.seat.table_id post.seat.me
+        post.shape.instances post.shape.capacity post.number post.recorder post.region post.outgoing.items
+        post.incoming.items };
 }
 
 impl<'a> Post<'a> {
@@ -70,7 +73,8 @@ impl<'a> Post<'a> {
         self.recorder.line()
     }
 
-    /// Opens a coregion, which its receives are in from now on. F28: one is open. It takes no memory and looks at nothing.
+    /// Opens a coregion, which its receives are in from now on. F28: one is open. It takes no memory and looks at
+    /// nothing.
     pub fn open_coregion(&mut self) -> Result<(), RegionError>
         ensures ok { OnOk result (self.new ≡ record self.old { region = greatest_region (line_of self.old) + 1 }) }
         ensures open { (result ≡ Err RegionError.CoregionOpen) ↔ (0 < self.old.region) }

@@ -11,9 +11,9 @@ use board_table::Lane;
 use chart::InstanceNo;
 
 impl<'a> Post<'a> {
-    /// Receives the first message that waits on the lane from an instance. F14 and F13 refuse it; then it is nothing, or the
-    /// end, where no message waits, and this comes only after a look; then F7 and F6 refuse it, and the message is still the
-    /// first of its lane.
+    /// Receives the first message that waits on the lane from an instance. F14 and F13 refuse it; then it is nothing,
+    /// or the end, where no message waits, and this comes only after a look; then F7 and F6 refuse it, and the
+    /// message is still the first of its lane.
     pub fn receive(&mut self, from: InstanceNo) -> Result<Taken, TakeError>
         ensures sound { Sound self.old self.new }
         ensures answer { Takes self.old from result self.new }

@@ -11,10 +11,10 @@ use crate::receiving_several::receive_several;
 use chart::InstanceNo;
 
 impl<'a> Post<'a> {
-    /// Receives the first messages that wait on the lane from an instance, at most so many, and frees their slots at once. F14
-    /// and F13 refuse it; then it is nothing, or the end, where no message waits, and this comes only after a look; then F7 and
-    /// F6 refuse it, both only where not even one message could be received. The message that stops it is still the first of
-    /// its lane.
+    /// Receives the first messages that wait on the lane from an instance, at most so many, and frees their slots at
+    /// once. F14 and F13 refuse it; then it is nothing, or the end, where no message waits, and this comes only after
+    /// a look; then F7 and F6 refuse it, both only where not even one message could be received. The message that
+    /// stops it is still the first of its lane.
     ///
     /// It looks at what was sent only where it knows of fewer messages than it was asked for.
     pub fn receive_up_to(&mut self, from: InstanceNo, max: usize) -> Result<TakenMany, TakeError>

@@ -32,8 +32,8 @@ pub(crate) enum Found {
     Ended,
 }
 
-/// Takes the slots of all messages that wait on the lane. It looks at the sender's word only where it knows of fewer than so
-/// many.
+/// Takes the slots of all messages that wait on the lane. It looks at the sender's word only where it knows of fewer
+/// than so many.
 pub(crate) fn find_messages(
     words: &Words,
     seat: &mut Seat,
@@ -49,7 +49,8 @@ pub(crate) fn find_messages(
     requires end { IsIncoming lane.now.instances (held seat.old.me).seen lane.now.receiver lane.now.sender end.old }
     requires some { 1 ≤ many }
     ensures table { seat.new.table_id ≡ seat.old.table_id }
-    ensures did { Did lane.now.instances lane.now.capacity lane.now.receiver (held seat.old.me) (held seat.new.me) (held seat.new.me).seen [] }
+    ensures did { Did lane.now.instances lane.now.capacity lane.now.receiver (held seat.old.me) (held seat.new.me)
+        (held seat.new.me).seen [] }
     ensures end { IsIncoming lane.now.instances (held seat.new.me).seen lane.now.receiver lane.now.sender end.new }
     ensures found { IsFound lane.now seat.old.me seat.new.me result }
     ensures knows { result ≡ Messages → KnowsOf lane.now many seat.new.me end.new }
@@ -127,7 +128,8 @@ pub(crate) fn take_next(
     requires may_take { MayTake lane.now region seat.old.me end.old recorder.old }
     requires from { from ≡ lane.now.sender }
     ensures table { seat.new.table_id ≡ seat.old.table_id }
-    ensures ok { IfOk result (λ arrival. IsTaken lane.now region seat.old.me end.old recorder.old arrival seat.new.me end.new recorder.new) }
+    ensures ok { IfOk result (λ arrival. IsTaken lane.now region seat.old.me end.old recorder.old arrival seat.new.me
+        end.new recorder.new) }
     ensures seat { OnErr result (seat.new.me ≡ seat.old.me) }
     ensures end { OnErr result (end.new ≡ end.old) }
     ensures recorder { OnErr result (recorder.new ≡ recorder.old) }
@@ -162,7 +164,8 @@ fn record(
     requires from { from ≡ lane.now.sender }
     ensures table { seat.new.table_id ≡ seat.old.table_id }
     ensures same { seat.new.me ≡ seat.old.me }
-    ensures ok { IfOk result (λ told. IsRecorded (packets_out seat.old.me) end.now.base lane.now.sender region recorder.old told.0 told.1 recorder.new) }
+    ensures ok { IfOk result (λ told. IsRecorded (packets_out seat.old.me) end.now.base lane.now.sender region
+        recorder.old told.0 told.1 recorder.new) }
     ensures err { OnErr result (recorder.new ≡ recorder.old) }
 {
     let (name, clock) = front(words, seat, lane, end.taken, alloc, &end.base)?;

@@ -16,10 +16,11 @@ use chart::{InstanceNo, MAX_EVENTS};
 use line_recorder::Recorder;
 use std::alloc::Global;
 
-/// Receives the first of the messages that were found, at most so many, in this coregion, and answers why no more. They are
-/// freed at once.
+/// Receives the first of the messages that were found, at most so many, in this coregion, and answers why no more.
+/// They are freed at once.
 ///
-/// The first of F7 and F6 refuses it, if it stands in the way of the first message: then that is still the first of its lane.
+/// The first of F7 and F6 refuses it, if it stands in the way of the first message: then that is still the first of
+/// its lane.
 pub(crate) fn receive_several(
     words: &Words,
     seat: &mut Seat,
@@ -74,8 +75,8 @@ pub(crate) fn receive_several(
     }
 }
 
-/// Takes the first of the messages that are known of out of their slots, at most so many, and records their receives. It
-/// answers why no more: then the next message is still in its slot.
+/// Takes the first of the messages that are known of out of their slots, at most so many, and records their receives.
+/// It answers why no more: then the next message is still in its slot.
 fn take_several(
     words: &Words,
     seat: &mut Seat,
@@ -95,9 +96,11 @@ fn take_several(
     requires some { end.old.taken < end.old.known_put }
     requires none { arrivals.old.items ≡ [] }
     ensures table { seat.new.table_id ≡ seat.old.table_id }
-    ensures taken { AreTaken lane.now region seat.old.me end.old recorder.old arrivals.new.items seat.new.me end.new recorder.new }
+    ensures taken { AreTaken lane.now region seat.old.me end.old recorder.old arrivals.new.items seat.new.me end.new
+        recorder.new }
     ensures most { length arrivals.new.items ≤ max }
-    ensures stop { IsHalted max (end.old.known_put - end.old.taken) (length arrivals.new.items) (length recorder.new.line.events) result }
+    ensures stop { IsHalted max (end.old.known_put - end.old.taken) (length arrivals.new.items)
+        (length recorder.new.line.events) result }
 {
     let many = max.min(end.known_put - end.taken);
     for _ in 0..many {

@@ -1,5 +1,6 @@
 //! Room for all that a board comes to. It is there before its posts meet.
-ghost use Rattle.std.specs.Prelude.{◌≡◌, ◌≢◌, ◌+◌, ◌≤◌, ℕ, [], ◌++◌, List, length, map, vec_capacity, IfOk, OnOk, IfSome};
+ghost use Rattle.std.specs.Prelude.{◌≡◌, ◌≢◌, ◌+◌, ◌≤◌, ℕ, [], ◌++◌, List, length, map, vec_capacity, IfOk, OnOk};
+ghost use Rattle.std.specs.Prelude.{IfSome};
 ghost use Rattle.chart.specs.declared.history.Occurrence.{Occurrence};
 ghost use Rattle.chart.specs.declared.line.TheConstants.{MAX_EVENTS};
 ghost use Rattle.chart.specs.declared.instance.TheConstants.{MAX_INSTANCES};
@@ -34,7 +35,8 @@ impl<'a> Post<'a> {
     fn room_from(&self, alloc: Global, sender: &Post) -> Result<Room, AllocError>
         requires board { sender.now.board ≡ self.now.board }
         requires not_itself { sender.now.number ≢ self.now.number }
-        ensures { IfOk result (λ room. (h : List Occurrence) → IsJoint h self.now → IsJoint h sender.now → IsRoom h self.now.board.size self.now.board.capacity sender.now.number self.now.number room) }
+        ensures { IfOk result (λ room. (h : List Occurrence) → IsJoint h self.now → IsJoint h sender.now
+            → IsRoom h self.now.board.size self.now.board.capacity sender.now.number self.now.number room) }
     {
         let sent = sender.outgoing[self.number.place()].put;
         let taken = self.incoming[sender.number.place()].taken;
@@ -51,7 +53,8 @@ impl<'a> Post<'a> {
 
     /// How many receives it made.
     fn receive_count(&self) -> usize
-        ensures value { (h : List Occurrence) → IsJoint h self.now → result ≡ length (receives_of (history_line h self.now.number)) }
+        ensures value { (h : List Occurrence) → IsJoint h self.now
+            → result ≡ length (receives_of (history_line h self.now.number)) }
         ensures within_limit { result ≤ MAX_EVENTS }
     {
         self.recorder.reports().len()
@@ -68,7 +71,9 @@ fn make_rooms_from(
 ) -> Result<(), AllocError>
     requires posts { (k : ℕ) × AreOf instances k posts.now }
     requires sender { (1 ≤ sender) × (sender ≤ instances) }
-    ensures { OnOk result ((k : ℕ) (lanes : List LaneEnds) → AreOf instances k posts.now → HaveRooms instances k posts.now lanes rooms.old.items → HaveRooms instances k posts.now (lanes ++ lanes_of instances sender) rooms.new.items) }
+    ensures { OnOk result ((k : ℕ) (lanes : List LaneEnds) → AreOf instances k posts.now
+        → HaveRooms instances k posts.now lanes rooms.old.items
+        → HaveRooms instances k posts.now (lanes ++ lanes_of instances sender) rooms.new.items) }
 {
     for place in 0..instances {
         if place + 1 != sender {
@@ -88,7 +93,8 @@ pub(crate) fn make_rooms(
     instances: usize,
 ) -> Result<Vec<Room>, AllocError>
     requires posts { (k : ℕ) × AreOf instances k posts.now }
-    ensures { IfOk result (λ rooms. (k : ℕ) → AreOf instances k posts.now → HaveRooms instances k posts.now (all_lanes instances) rooms.items) }
+    ensures { IfOk result (λ rooms. (k : ℕ) → AreOf instances k posts.now
+        → HaveRooms instances k posts.now (all_lanes instances) rooms.items) }
 {
     let mut rooms = Vec::new(alloc);
     for place in 0..instances {

@@ -13,15 +13,16 @@ use board_table::Lane;
 use chart::{EventNo, InstanceNo, MAX_EVENTS, Message};
 
 impl<'a> Post<'a> {
-    /// Sends a message. It is the first of F14, F13, F30, F12, F7, F11 and F6 that refuses it: then it comes back, and nothing
-    /// has changed but that more may be seen.
+    /// Sends a message. It is the first of F14, F13, F30, F12, F7, F11 and F6 that refuses it: then it comes back,
+    /// and nothing has changed but that more may be seen.
     ///
-    /// F11 comes only after a look at what the receiver has received, and F6 not while there is room, on boards of up to
-    /// [`clock::INLINE_ENTRIES`] instances.
+    /// F11 comes only after a look at what the receiver has received, and F6 not while there is room, on boards of up
+    /// to [`clock::INLINE_ENTRIES`] instances.
     pub fn send(&mut self, to: InstanceNo, message: Message) -> Result<Sent, (Message, SendError)>
         ensures sound { Sound self.old self.new }
         ensures answer { Sends self.old to message result self.new }
-        ensures room { 0 < self.old.room → self.old.board.size ≤ INLINE_ENTRIES → IfErr result (λ refused. refused.1 ≢ SendError.Memory) }
+        ensures room { 0 < self.old.room → self.old.board.size ≤ INLINE_ENTRIES
+            → IfErr result (λ refused. refused.1 ≢ SendError.Memory) }
     {
         if let Some(error) = self.sends_nothing(to, 1) {
             return Err((message, error));

@@ -1,5 +1,6 @@
 //! Sends.
-ghost use Rattle.std.specs.Prelude.{◌≡◌, ◌≢◌, ◌+◌, ◌-◌, ◌<◌, ◌≤◌, true, false, [], ◌∷◌, length, drop, All, Ok, Err, OnOk, OnErr, IfOk, IfErr, IsOk};
+ghost use Rattle.std.specs.Prelude.{◌≡◌, ◌≢◌, ◌+◌, ◌-◌, ◌<◌, ◌≤◌, true, false, [], ◌∷◌, length, drop, All, Ok, Err};
+ghost use Rattle.std.specs.Prelude.{OnOk, OnErr, IfOk, IfErr, IsOk};
 ghost use Rattle.chart.specs.Histories.{own, IsLegal};
 ghost use Rattle.chart.specs.declared.history.Occurrence.TheVariants as occurrence;
 ghost use Rattle.chart.specs.declared.line.TheConstants.{MAX_EVENTS};
@@ -23,8 +24,8 @@ use clock::{Clock, Diff};
 use line_recorder::Recorder;
 use std::alloc::{AllocError, Global};
 
-/// Takes all slots of the lane that are free, if there are so many, and else none. It looks at the receiver's word only where
-/// the number that is known leaves too few.
+/// Takes all slots of the lane that are free, if there are so many, and else none. It looks at the receiver's word
+/// only where the number that is known leaves too few.
 pub(crate) fn claim_slots(
     words: &Words,
     seat: &mut Seat,
@@ -43,7 +44,8 @@ pub(crate) fn claim_slots(
     requires capacity { capacity ≡ lane.now.capacity }
     requires many { many ≤ MAX_CAPACITY }
     ensures table { seat.new.table_id ≡ seat.old.table_id }
-    ensures did { Did lane.now.instances lane.now.capacity lane.now.sender (held seat.old.me) (held seat.new.me) (held seat.new.me).seen [] }
+    ensures did { Did lane.now.instances lane.now.capacity lane.now.sender (held seat.old.me) (held seat.new.me)
+        (held seat.new.me).seen [] }
     ensures end { IsOutgoing lane.now.instances (held seat.new.me).seen lane.now.sender lane.now.receiver end.new }
     ensures yes { result ≡ true → HasSlots lane.now many seat.new.me }
     ensures no { result ≡ false → HasNoSlots lane.now many seat.old.me seat.new.me }
@@ -110,11 +112,14 @@ pub(crate) fn send_one(
     ensures rests { Rests lane.now.instances lane.now.capacity lane.now.sender seat.new.me }
     ensures recorder { IsRecorder lane.now.instances (held seat.new.me).seen lane.now.sender recorder.new }
     ensures end { IsOutgoing lane.now.instances (held seat.new.me).seen lane.now.sender lane.now.receiver end.new }
-    ensures ok { OnOk result (Did lane.now.instances lane.now.capacity lane.now.sender (held seat.old.me) (held seat.new.me) (drop 1 (held seat.new.me).seen) (occurrence.Send lane.now.sender lane.now.receiver message ∷ [])) }
+    ensures ok { OnOk result (Did lane.now.instances lane.now.capacity lane.now.sender (held seat.old.me)
+        (held seat.new.me) (drop 1 (held seat.new.me).seen)
+        (occurrence.Send lane.now.sender lane.now.receiver message ∷ [])) }
     ensures err { IfErr result (λ error. (error.0 ≡ message) × IsUnmade lane.now 1 seat.old.me seat.new.me error.1) }
     ensures left { OnOk result (recorder.new.room ≡ recorder.old.room - 1) }
     ensures kept { OnErr result (recorder.new.room ≡ recorder.old.room) }
-    ensures room { 0 < recorder.old.room → lane.now.instances ≤ INLINE_ENTRIES → IfErr result (λ error. error.1 ≢ SendError.Memory) }
+    ensures room { 0 < recorder.old.room → lane.now.instances ≤ INLINE_ENTRIES
+        → IfErr result (λ error. error.1 ≢ SendError.Memory) }
 {
     if !claim_slots(words, seat, lane, end, capacity, 1) {
         return Err((message, SendError::Full));

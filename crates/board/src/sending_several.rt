@@ -51,7 +51,8 @@ fn next_sents(
     messages: &[Message],
 ) -> Result<Vec<Sent>, AllocError>
     requires { length line.now.line.events + length messages.now ≤ MAX_EVENTS }
-    ensures { IfOk result (λ sents. map (λ sent. sent.event) sents.items ≡ numbered line.now.line.instance (length line.now.line.events + 1) messages.now) }
+    ensures { IfOk result (λ sents. map (λ sent. sent.event) sents.items
+        ≡ numbered line.now.line.instance (length line.now.line.events + 1) messages.now) }
 {
     let mut sents = Vec::with_capacity(alloc, messages.len())?;
     for place in 0..messages.len() {
@@ -64,8 +65,8 @@ fn next_sents(
     Ok(sents)
 }
 
-/// What changes in the clock with each of the next events, if so many are sends, over this base with the first one; and the
-/// clock of the last. F6: it fails only where there is no memory.
+/// What changes in the clock with each of the next events, if so many are sends, over this base with the first one;
+/// and the clock of the last. F6: it fails only where there is no memory.
 fn next_diffs(
     alloc: Global,
     recorder: &Recorder,
@@ -116,8 +117,8 @@ fn prepare(
     }
 }
 
-/// Fills a slot with each message and its difference, in their order, from that on before which `count` messages were put
-/// on the lane. It answers how many were put with these.
+/// Fills a slot with each message and its difference, in their order, from that on before which `count` messages were
+/// put on the lane. It answers how many were put with these.
 fn fill_slots(
     words: &Words,
     seat: &mut Seat,
@@ -146,8 +147,8 @@ fn fill_slots(
     put
 }
 
-/// Sends these messages by one store, on an open lane, whose sender's line has room for them. F11 or F6 refuses them, and then
-/// they come back.
+/// Sends these messages by one store, on an open lane, whose sender's line has room for them. F11 or F6 refuses them,
+/// and then they come back.
 pub(crate) fn send_several(
     words: &Words,
     seat: &mut Seat,
@@ -170,7 +171,8 @@ pub(crate) fn send_several(
     ensures recorder { IsRecorder lane.now.instances (held seat.new.me).seen lane.now.sender recorder.new }
     ensures end { IsOutgoing lane.now.instances (held seat.new.me).seen lane.now.sender lane.now.receiver end.new }
     ensures ok { IfOk result (λ sents. AreMade lane.now messages.items sents.items seat.old.me seat.new.me) }
-    ensures err { IfErr result (λ error. (error.0.items ≡ messages.items) × IsUnmade lane.now (length messages.items) seat.old.me seat.new.me error.1) }
+    ensures err { IfErr result (λ error. (error.0.items ≡ messages.items)
+        × IsUnmade lane.now (length messages.items) seat.old.me seat.new.me error.1) }
     ensures left { OnOk result (recorder.new.room ≡ recorder.old.room - length messages.items) }
     ensures kept { OnErr result (recorder.new.room ≡ recorder.old.room) }
 {

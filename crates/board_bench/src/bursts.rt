@@ -1,5 +1,5 @@
-//! Bursts of messages on one thread: as many as a lane has slots are sent, and then received; and the same messages passed
-//! by two recorders alone.
+//! Bursts of messages on one thread: as many as a lane has slots are sent, and then received; and the same messages
+//! passed by two recorders alone.
 ghost use Rattle.recorder_pair.specs.Partners.{ArePartners};
 
 use crate::load::{Calls, Load, Stopped};

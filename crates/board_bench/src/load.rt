@@ -29,7 +29,8 @@ pub struct Load {
     pub calls: Calls,
 }
 
-/// A message could not be made, or not be passed. (A result with `anyhow`'s error has some 300 bytes, which would be timed.)
+/// A message could not be made, or not be passed. (A result with `anyhow`'s error has some 300 bytes, which would be
+/// timed.)
 #[derive(Clone, Copy, Debug)]
 pub struct Stopped;
 

@@ -13,7 +13,8 @@ struct Ends {
 }
 
 impl Ends {
-    /// A call that sends so many. Answers how often it looks: where the number that the sender knows leaves too few slots.
+    /// A call that sends so many. Answers how often it looks: where the number that the sender knows leaves too few
+    /// slots.
     fn send(&mut self, many: usize) -> u64 {
         let used = self.put.saturating_sub(self.known_taken);
         let looks = self.capacity.saturating_sub(used) < many;

@@ -1,6 +1,6 @@
-//! What a message costs over a board's lanes, beside the kit's rings: on threads that pass messages at once, and in bursts on
-//! one thread, where two recorders pass the same messages too. With the word `time` it tells the times, and else only which
-//! messages it would time.
+//! What a message costs over a board's lanes, beside the kit's rings: on threads that pass messages at once, and in
+//! bursts on one thread, where two recorders pass the same messages too. With the word `time` it tells the times, and
+//! else only which messages it would time.
 #![tactic(auto)]
 
 mod bursts;

@@ -26,7 +26,8 @@ struct Instance<P> {
 /// How often a thread looks whether the others are there.
 const LOOKS: u64 = 1 << 32;
 
-/// Waits until all threads are there, and then passes the messages of an instance. Answers how many nanoseconds it took.
+/// Waits until all threads are there, and then passes the messages of an instance. Answers how many nanoseconds it
+/// took.
 fn run_instance<R: Clock, P: Port + Drop>(
     rt: &R,
     alloc: Global,

@@ -1,5 +1,5 @@
--- The clocks of a lane's sends as differences: each send tells what changed in its clock since the send before it on the
--- lane, the first one since zeros (Singhal and Kshemkalyani 1992).
+-- The clocks of a lane's sends as differences: each send tells what changed in its clock since the send before it on
+-- the lane, the first one since zeros (Singhal and Kshemkalyani 1992).
 use Rattle.std.specs.Prelude.{ℕ, List, [], ◌∷◌, replicate}
 use Rattle.clock.specs.declared.diff.Change.{Change}
 use Rattle.clock.specs.Diffs.{apply_diff, IsDiff}

@@ -1,5 +1,5 @@
--- An instance of a board by the history: its recorder, its coregion, and the clocks of what it is about to send (vector time
--- as Fidge 1988 and Mattern 1989 have it; coregions are this project's profile).
+-- An instance of a board by the history: its recorder, its coregion, and the clocks of what it is about to send
+-- (vector time as Fidge 1988 and Mattern 1989 have it; coregions are this project's profile).
 use Rattle.std.specs.Prelude.{◌≡◌, ℕ, List, [], ◌∷◌}
 use Rattle.chart.specs.declared.history.Occurrence.{Occurrence}
 use Rattle.chart.specs.Events.{MayHaveRegion}

@@ -28,15 +28,17 @@ traffic_of n k steps q p = ((world_after n k steps).lanes q p).traffic
 abbrev pub LegalLaw : Type 0
 LegalLaw = (n k : ℕ) (steps : List Step) → IsRun n k steps → IsLegal n k (history_of n k steps)
 
--- each lane has passed on what the history says: what was published, the first of these received, and whether it is closed
+-- each lane has passed on what the history says: what was published, the first of these received, and whether it is
+-- closed
 abbrev pub LaneLaw : Type 0
 LaneLaw = (n k : ℕ) (steps : List Step) → IsRun n k steps → (q p : ℕ)
     → ((traffic_of n k steps q p).published ≡ goods n (history_of n k steps) q p)
-    × ((traffic_of n k steps q p).freed ≡ take (received (history_of n k steps) q p) (goods n (history_of n k steps) q p))
+    × ((traffic_of n k steps q p).freed ≡ take (received (history_of n k steps) q p)
+    (goods n (history_of n k steps) q p))
     × ((traffic_of n k steps q p).closed ≡ is_closed (history_of n k steps) q p)
 
--- the send at this place is the i-th of the lane, of this parcel's message, and the parcel's clock is what it knows of each
--- of n instances
+-- the send at this place is the i-th of the lane, of this parcel's message, and the parcel's clock is what it knows
+-- of each of n instances
 pub record IsSendOf (n : ℕ) (h : List Occurrence) (q p i j : ℕ) (x : Parcel) : Type 0 where
   pub send : IsSendAfter (chart_of h q) p i j
   pub name : chart_event (chart_of h) (at q j) ≡ Some (send_event p x.message.name)

@@ -1,5 +1,5 @@
--- What passes through the lanes of a board: messages, each with the clock of its send (vector time as Fidge 1988 and Mattern
--- 1989 have it). What the lanes carry is a function of the history (this project's profile).
+-- What passes through the lanes of a board: messages, each with the clock of its send (vector time as Fidge 1988 and
+-- Mattern 1989 have it). What the lanes carry is a function of the history (this project's profile).
 use Rattle.std.specs.Prelude.{ℕ, ◌+◌, List, [], ◌∷◌, ◌++◌, length, map, if◌then◌else◌}
 use Rattle.chart.specs.declared.history.Occurrence.{Occurrence}
 use Rattle.chart.specs.declared.history.Occurrence.TheVariants.{Send, Receive, Close}

@@ -9,7 +9,8 @@ use Rattle.lane_core.specs.Steps as lane
 use Rattle.lane_core.specs.IndexWords.{MayFollow as MayBeOnLane}
 use Rattle.line_recorder.specs.Recorders.{RecorderView, after_receive, IsReportOf}
 use Rattle.board_core.specs.Parcels.{Parcel}
-use Rattle.board_core.specs.Steps.{Step, Sender_loads, Fills, Publishes, Closes, Receiver_loads, Takes, Puts_back, Frees, Opens, Shuts}
+use Rattle.board_core.specs.Steps.{Step, Sender_loads, Fills, Publishes, Closes, Receiver_loads, Takes, Puts_back}
+use Rattle.board_core.specs.Steps.{Frees, Opens, Shuts}
 use Rattle.board_core.specs.World.{World, new_world, after, filled, taken, parcel_of}
 
 -- An instance that has parcels in its hands is in the midst of a call, on their lane. It makes one call at a time.
@@ -65,7 +66,8 @@ MayFollow n w (Receiver_loads q p) = MayReceive n w q p lane.Receiver_loads
 MayFollow n w (Takes q p) = MayReceive n w q p lane.Takes
 MayFollow n w (Puts_back q p) = MayReceive n w q p lane.Puts_back
 MayFollow n w (Frees q p reports) =
-    MayReceive n w q p lane.Frees × HasRoom (w.recorders p) (taken w q p) × AreAnswers (w.recorders p) q (w.regions p) (taken w q p) reports
+    MayReceive n w q p lane.Frees × HasRoom (w.recorders p) (taken w q p)
+    × AreAnswers (w.recorders p) q (w.regions p) (taken w q p) reports
 MayFollow n w (Opens p) = (1 ≤ p) × (p ≤ n) × IsIdle w p × (w.regions p ≡ 0)
 MayFollow n w (Shuts p) = (1 ≤ p) × (p ≤ n) × IsIdle w p × (0 < w.regions p)
 

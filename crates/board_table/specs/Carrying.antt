@@ -1,5 +1,5 @@
--- What the slots of a lane carry: messages, each with what changed in the sender's clock since the message before it on the
--- lane, the first one since zeros (Singhal and Kshemkalyani 1992).
+-- What the slots of a lane carry: messages, each with what changed in the sender's clock since the message before it
+-- on the lane, the first one since zeros (Singhal and Kshemkalyani 1992).
 use Rattle.std.specs.Prelude.{◌≡◌, ℕ, zero, suc, ◌≤◌, List, [], ◌∷◌, length, take, All, Option, Some, None}
 use Rattle.chart.specs.declared.history.Occurrence.{Occurrence}
 use Rattle.chart.specs.declared.history.Occurrence.TheVariants.{Send, Receive}
@@ -40,7 +40,8 @@ received_base n h q p = last_clock (zeros n) (take (received h q p) (goods n h q
 -- these packets are q's next sends to p after the history, over this base: each has the clock that its send has
 abbrev pub AreNext : ℕ → List ℕ → List Occurrence → ℕ → ℕ → List Packet → Type 0
 AreNext n base h q p [] = Unit {0}
-AreNext n base h q p (x ∷ xs) = Carries base x (record { message = x.message; clock = next_clock n h q }) × AreNext n (next_clock n h q) (Send q p x.message ∷ h) q p xs
+AreNext n base h q p (x ∷ xs) = Carries base x (record { message = x.message; clock = next_clock n h q })
+    × AreNext n (next_clock n h q) (Send q p x.message ∷ h) q p xs
 
 -- the history after q's sends of these to p, one directly after another
 abbrev pub with_sent : ℕ → ℕ → List Packet → List Occurrence → List Occurrence

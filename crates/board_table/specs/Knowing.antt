@@ -1,5 +1,6 @@
 -- What a seat at a board's table knows, and how that grows (this project's profile).
-use Rattle.std.specs.Prelude.{◌≡◌, ℕ, ◌+◌, ◌==◌, List, [], ◌∷◌, ◌++◌, length, take, drop, Option, cond, leb, if◌then◌else◌}
+use Rattle.std.specs.Prelude.{◌≡◌, ℕ, ◌+◌, ◌==◌, List, [], ◌∷◌, ◌++◌, length, take, drop, Option, cond, leb}
+use Rattle.std.specs.Prelude.{if◌then◌else◌}
 use Rattle.atomic_table.specs.Table.{Me}
 use Rattle.chart.specs.declared.history.Occurrence.{Occurrence}
 use Rattle.chart.specs.Histories.{own, sent, received, IsLegal, Begins}
@@ -36,7 +37,15 @@ emptying_from (Emptying from many) q = if from == q then many else 0
 
 -- before the first step
 abbrev pub new_held : ℕ → ℕ → ℕ → Held
-new_held n k number = record { instances = n; capacity = k; number = number; seen = []; made = []; looks = 0; hold = Nothing }
+new_held n k number = record {
+  instances = n;
+  capacity = k;
+  number = number;
+  seen = [];
+  made = [];
+  looks = 0;
+  hold = Nothing;
+}
 
 -- what a view knows of its first post
 abbrev pub first_of : List Held → Held
@@ -77,30 +86,38 @@ pub record Rests (n k p : ℕ) (me : Mine) : Type 0 where
   pub hold : many_out (held me).hold ≡ 0
   pub slots : me.1 ≡ []
 
--- slots of the lane are out with its sender: first the empty ones, and then those that it has filled, from the place of its
--- next message on
+-- slots of the lane are out with its sender: first the empty ones, and then those that it has filled, from the place
+-- of its next message on
 pub record IsFilling (l : LaneView) (me : Mine) : Type 0 where
   pub post : IsPost l.instances l.capacity l.sender me
   pub hold : (held me).hold ≡ Filling l.receiver (length me.1)
-  pub slots : me.1 ≡ vacant_slots l.instances l.capacity l.sender l.receiver (length (sent (held me).seen l.sender l.receiver) + length (packets_out me)) (vacant_out me)
-      ++ full_slots l.instances l.capacity l.sender l.receiver (length (sent (held me).seen l.sender l.receiver)) (packets_out me)
+  pub slots : me.1 ≡ vacant_slots l.instances l.capacity l.sender l.receiver
+      (length (sent (held me).seen l.sender l.receiver) + length (packets_out me)) (vacant_out me)
+      ++ full_slots l.instances l.capacity l.sender l.receiver (length (sent (held me).seen l.sender l.receiver))
+      (packets_out me)
 
 -- the goods that wait, without those that the receiver has taken out
 abbrev pub waiting_goods : LaneView → Mine → List Parcel
-waiting_goods l me = drop (received (held me).seen l.sender l.receiver + vacant_out me) (goods l.instances (held me).seen l.sender l.receiver)
+waiting_goods l me = drop (received (held me).seen l.sender l.receiver + vacant_out me)
+    (goods l.instances (held me).seen l.sender l.receiver)
 
 -- the clock of the last one that it has taken out, or received
 abbrev pub emptied_base : LaneView → Mine → List ℕ
-emptied_base l me = last_clock (zeros l.instances) (take (received (held me).seen l.sender l.receiver + vacant_out me) (goods l.instances (held me).seen l.sender l.receiver))
+emptied_base l me =
+    last_clock (zeros l.instances) (take (received (held me).seen l.sender l.receiver + vacant_out me)
+    (goods l.instances (held me).seen l.sender l.receiver))
 
--- slots of the lane are out with its receiver: first those that it has not emptied, with what waits, and then those that it
--- has, from the place of the first message that waits on
+-- slots of the lane are out with its receiver: first those that it has not emptied, with what waits, and then those
+-- that it has, from the place of the first message that waits on
 pub record IsEmptying (l : LaneView) (me : Mine) : Type 0 where
   pub post : IsPost l.instances l.capacity l.receiver me
   pub hold : (held me).hold ≡ Emptying l.sender (length me.1)
-  pub slots : me.1 ≡ full_slots l.instances l.capacity l.sender l.receiver (received (held me).seen l.sender l.receiver + vacant_out me) (packets_out me)
-      ++ vacant_slots l.instances l.capacity l.sender l.receiver (received (held me).seen l.sender l.receiver) (vacant_out me)
-  pub waiting : received (held me).seen l.sender l.receiver + vacant_out me + length (packets_out me) ≡ length (sent (held me).seen l.sender l.receiver)
+  pub slots : me.1 ≡ full_slots l.instances l.capacity l.sender l.receiver
+      (received (held me).seen l.sender l.receiver + vacant_out me) (packets_out me)
+      ++ vacant_slots l.instances l.capacity l.sender l.receiver (received (held me).seen l.sender l.receiver)
+      (vacant_out me)
+  pub waiting : received (held me).seen l.sender l.receiver + vacant_out me + length (packets_out me)
+      ≡ length (sent (held me).seen l.sender l.receiver)
   pub carried : AreCarried (emptied_base l me) (packets_out me) (waiting_goods l me)
 
 -- How what is known grows.
@@ -111,8 +128,8 @@ pub record IsSamePost (e f : Held) : Type 0 where
   pub capacity : f.capacity ≡ e.capacity
   pub number : f.number ≡ e.number
 
--- f has seen all that e has seen, and maybe more, and has made nothing more. What it has seen is legal, and has just what it
--- made of its own
+-- f has seen all that e has seen, and maybe more, and has made nothing more. What it has seen is legal, and has just
+-- what it made of its own
 pub record Sees (n k : ℕ) (e f : Held) : Type 0 where
   pub same : IsSamePost e f
   pub later : Begins e.seen f.seen
@@ -121,7 +138,8 @@ pub record Sees (n k : ℕ) (e f : Held) : Type 0 where
   pub own : own f.seen f.number ≡ f.made
 
 -- f has made these events, directly after a history that it has seen by then
-pub record Moves (n k : ℕ) (e f : Held) (before : List Occurrence) (events : List Occurrence → List Occurrence) : Type 0 where
+pub record Moves (n k : ℕ) (e f : Held) (before : List Occurrence) (events : List Occurrence
+    → List Occurrence) : Type 0 where
   pub same : IsSamePost e f
   pub later : Begins e.seen before
   pub legal_before : IsLegal n k before

@@ -1,5 +1,5 @@
--- Where the words and slots of a board lie (this project's profile). The words are grouped by who writes them, and between
--- two groups lie seven words that nobody uses, so that no cache line has words of two writers.
+-- Where the words and slots of a board lie (this project's profile). The words are grouped by who writes them, and
+-- between two groups lie seven words that nobody uses, so that no cache line has words of two writers.
 use Rattle.std.specs.Prelude.{◌≡◌, ℕ, ◌+◌, ◌-◌, ◌*◌, ◌%◌}
 use Rattle.atomic_table.specs.Seated.{TableId}
 use Rattle.board_table.specs.declared.shape.Shape.{Shape}

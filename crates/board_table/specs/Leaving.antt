@@ -1,5 +1,5 @@
--- What leaves a board with a post: the messages that wait for it, in the slots that are out with its seat (this project's
--- profile).
+-- What leaves a board with a post: the messages that wait for it, in the slots that are out with its seat (this
+-- project's profile).
 use Rattle.std.specs.Prelude.{◌≡◌, ℕ, zero, suc, List, ◌++◌, map, Option}
 use Rattle.chart.specs.declared.history.Occurrence.{Occurrence}
 use Rattle.chart.specs.Histories.{received, waiting}
@@ -14,7 +14,8 @@ pub record ComeFirst (n k q p c : ℕ) (packets : List Packet) (slots others : L
 -- for each of so many senders from q on come slots with the messages that wait for p, and then others
 abbrev pub HaveLeft : ℕ → ℕ → ℕ → List Occurrence → ℕ → ℕ → List (ℕ × Option Packet) → Type 0
 HaveLeft n k p h q zero slots = Unit {0}
-HaveLeft n k p h q (suc many) slots = (packets : List Packet) × (others : List (ℕ × Option Packet)) × ComeFirst n k q p (received h q p) packets slots others
+HaveLeft n k p h q (suc many) slots = (packets : List Packet) × (others : List (ℕ × Option Packet))
+    × ComeFirst n k q p (received h q p) packets slots others
     × (map (λ (x : Packet). x.message) packets ≡ waiting h q p) × HaveLeft n k p h (suc q) many others
 
 -- all messages that wait for the post, in what it has seen, have left with it, by sender

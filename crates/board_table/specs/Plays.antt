@@ -6,15 +6,18 @@ use Rattle.chart.specs.Histories.{own, sent, received, is_closed, IsLegal, Begin
 use Rattle.board_table.specs.declared.held.Held.{Held}
 use Rattle.board_table.specs.Layout.{LaneView}
 use Rattle.board_table.specs.Carrying.{with_sent, with_received}
-use Rattle.board_table.specs.Knowing.{Mine, many_out, held, packets_out, vacant_out, IsPost, Rests, IsFilling, IsEmptying, Sees, Moves, at_rest, first_of, later_of, longer, met}
+use Rattle.board_table.specs.Knowing.{Mine, many_out, held, packets_out, vacant_out, IsPost, Rests, IsFilling}
+use Rattle.board_table.specs.Knowing.{IsEmptying, Sees, Moves, at_rest, first_of, later_of, longer, met}
 use Rattle.board_table.specs.Rule.{closed_bit}
 
--- The sender has taken all slots of the lane that are free: as many as the capacity leaves beside the messages that wait.
+-- The sender has taken all slots of the lane that are free: as many as the capacity leaves beside the messages that
+-- wait.
 pub record Claims (l : LaneView) (m w : Mine) : Type 0 where
   pub sees : Sees l.instances l.capacity (held m) (held w)
   pub filling : IsFilling l w
   pub nothing_filled : packets_out w ≡ []
-  pub all_free : length (sent (held w).seen l.sender l.receiver) + vacant_out w ≡ received (held w).seen l.sender l.receiver + l.capacity
+  pub all_free : length (sent (held w).seen l.sender l.receiver) + vacant_out w
+      ≡ received (held w).seen l.sender l.receiver + l.capacity
 
 -- it found what the receiver has received, by a look at the receiver's word
 pub record ClaimsAnew (l : LaneView) (m : Mine) (word : ℕ) (w : Mine) : Type 0 where
@@ -32,12 +35,14 @@ pub record Finds (l : LaneView) (m w : Mine) : Type 0 where
   pub sees : Sees l.instances l.capacity (held m) (held w)
   pub emptying : IsEmptying l w
   pub nothing_emptied : vacant_out w ≡ 0
-  pub all_waiting : received (held w).seen l.sender l.receiver + length (packets_out w) ≡ length (sent (held w).seen l.sender l.receiver)
+  pub all_waiting : received (held w).seen l.sender l.receiver + length (packets_out w)
+      ≡ length (sent (held w).seen l.sender l.receiver)
 
 -- it found how many were sent, and whether the lane is closed, by a look at the sender's word
 pub record FindsAnew (l : LaneView) (m : Mine) (word : ℕ) (w : Mine) : Type 0 where
   pub finds : Finds l m w
-  pub found : word ≡ 2 * length (sent (held w).seen l.sender l.receiver) + closed_bit (is_closed (held w).seen l.sender l.receiver)
+  pub found : word ≡ 2 * length (sent (held w).seen l.sender l.receiver)
+      + closed_bit (is_closed (held w).seen l.sender l.receiver)
   pub looks : (held w).looks ≡ (held m).looks + 1
 
 -- by its own word, which is no look
@@ -75,7 +80,8 @@ pub record IsNote (n k : ℕ) (me : Mine) : Type 0 where
   pub rests : many_out (held me).hold ≡ 0
   pub slots : me.1 ≡ []
 
--- a post has met a note: both have seen the longer of what they had seen, which begins with both, and nothing else changed
+-- a post has met a note: both have seen the longer of what they had seen, which begins with both, and nothing else
+-- changed
 pub record Meets (n k : ℕ) (e note f : Held) : Type 0 where
   pub seen : f.seen ≡ longer e.seen note.seen
   pub later : Begins e.seen f.seen
@@ -86,5 +92,11 @@ pub record Meets (n k : ℕ) (e note f : Held) : Type 0 where
 
 -- the post that stands first has met the note behind it, and the note the post
 abbrev pub MeetsBeside : Mine → Mine → Type 0
-MeetsBeside m w = Meets (held m).instances (held m).capacity (held m) (first_of (later_of m.0)) (met (held m) (first_of (later_of m.0)))
-    × (w ≡ (met (held m) (first_of (later_of m.0)) ∷ record (first_of (later_of m.0)) { seen = longer (held m).seen (first_of (later_of m.0)).seen } ∷ [], m.1))
+MeetsBeside m w = Meets (held m).instances (held m).capacity (held m) (first_of (later_of m.0))
+    (met (held m) (first_of (later_of m.0)))
+    × (w ≡ (
+      met (held m) (first_of (later_of m.0)) ∷ record (first_of (later_of m.0)) {
+        seen = longer (held m).seen (first_of (later_of m.0)).seen;
+      } ∷ [],
+      m.1,
+    ))

@@ -14,8 +14,8 @@ pub enum Hold {
     Emptying(InstanceNo, usize),
 }
 
-/// What a seat knows of a post: the board's size, the post's number, the history that it has seen and the events of its own,
-/// the newest first, how often it has looked at a word of a partner's, and what it holds.
+/// What a seat knows of a post: the board's size, the post's number, the history that it has seen and the events of
+/// its own, the newest first, how often it has looked at a word of a partner's, and what it holds.
 #[derive(Drop)]
 pub struct Held {
     pub instances: usize,

@@ -29,18 +29,30 @@ impl Model for Lane {
 
     ghost Value = { LaneView };
 
-    ghost view = { λ l. record { instances = l.shape.instances; capacity = l.shape.capacity; sender = l.sender; receiver = l.receiver } };
+    ghost view = { λ l. record {
+      instances = l.shape.instances;
+      capacity = l.shape.capacity;
+      sender = l.sender;
+      receiver = l.receiver;
+    } };
 
-    ghost invariant = { λ l. AreTwo l.shape.instances l.sender l.receiver × (l.shape.instances ≤ MAX_INSTANCES) × (1 ≤ l.shape.capacity) × (l.shape.capacity ≤ MAX_CAPACITY) };
+    ghost invariant = { λ l. AreTwo l.shape.instances l.sender l.receiver × (l.shape.instances ≤ MAX_INSTANCES)
+        × (1 ≤ l.shape.capacity) × (l.shape.capacity ≤ MAX_CAPACITY) };
 }
 
 impl Lane {
     /// The lane between these two instances.
     pub fn new(shape: &Shape, sender: InstanceNo, receiver: InstanceNo) -> Lane
-        requires sized { (shape.now.instances ≤ MAX_INSTANCES) × (1 ≤ shape.now.capacity) × (shape.now.capacity ≤ MAX_CAPACITY) }
+        requires sized { (shape.now.instances ≤ MAX_INSTANCES) × (1 ≤ shape.now.capacity)
+            × (shape.now.capacity ≤ MAX_CAPACITY) }
         requires within { (sender ≤ shape.now.instances) × (receiver ≤ shape.now.instances) }
         requires two { sender ≢ receiver }
-        ensures { result ≡ record { instances = shape.now.instances; capacity = shape.now.capacity; sender = sender; receiver = receiver } }
+        ensures { result ≡ record {
+          instances = shape.now.instances;
+          capacity = shape.now.capacity;
+          sender = sender;
+          receiver = receiver;
+        } }
     {
         Lane {
             shape: *shape,

@@ -9,28 +9,38 @@ use crate::rule::Leave;
 use crate::{Lane, Packet, Seat, Words};
 use chart::Message;
 
-/// A post leaves its board, and makes no step any more: the slots of all messages that wait for it, in what it has seen, go
-/// with its seat, by sender. It takes no memory.
+/// A post leaves its board, and makes no step any more: the slots of all messages that wait for it, in what it has
+/// seen, go with its seat, by sender. It takes no memory.
 pub fn leave(words: &Words, seat: &mut Seat)
     requires table { seat.old.table_id ≡ words.now.table_id }
     requires board { IsBoard (held seat.old.me).instances (held seat.old.me).capacity words.now.key words.now.table_id }
     requires capacity { 1 ≤ (held seat.old.me).capacity }
     requires number { (1 ≤ (held seat.old.me).number) × ((held seat.old.me).number ≤ (held seat.old.me).instances) }
-    requires rests { Rests (held seat.old.me).instances (held seat.old.me).capacity (held seat.old.me).number seat.old.me }
+    requires rests { Rests (held seat.old.me).instances (held seat.old.me).capacity
+        (held seat.old.me).number seat.old.me }
     ensures table { seat.new.table_id ≡ seat.old.table_id }
     ensures leaves { Leaves seat.old.me seat.new.me }
 {
     words.load::<Leave>(seat, 0);
 }
 
-/// Takes the message out of the first slot that went with the seat: that of the lane's message before which `count` were
-/// sent. The slot goes behind the others.
+/// Takes the message out of the first slot that went with the seat: that of the lane's message before which `count`
+/// were sent. The slot goes behind the others.
 pub fn draw(words: &Words, seat: &mut Seat, lane: &Lane, count: u64) -> Message
     requires table { seat.old.table_id ≡ words.now.table_id }
-    requires first { (x : Packet) × (seat.old.me.1 ≡ (slot_of lane.now.instances lane.now.capacity lane.now.sender lane.now.receiver count, Some x) ∷ rest seat.old.me.1) }
+    requires first { (x : Packet)
+        × (seat.old.me.1 ≡ (
+          slot_of lane.now.instances lane.now.capacity lane.now.sender lane.now.receiver count,
+          Some x,
+        ) ∷ rest seat.old.me.1) }
     ensures table { seat.new.table_id ≡ seat.old.table_id }
-    ensures drawn { (x : Packet) × (seat.old.me.1 ≡ (slot_of lane.now.instances lane.now.capacity lane.now.sender lane.now.receiver count, Some x) ∷ rest seat.old.me.1) × (result ≡ x.message) }
-    ensures turned { seat.new.me.1 ≡ rest seat.old.me.1 ++ (slot_of lane.now.instances lane.now.capacity lane.now.sender lane.now.receiver count, None) ∷ [] }
+    ensures drawn { (x : Packet)
+        × (seat.old.me.1 ≡ (
+          slot_of lane.now.instances lane.now.capacity lane.now.sender lane.now.receiver count,
+          Some x,
+        ) ∷ rest seat.old.me.1) × (result ≡ x.message) }
+    ensures turned { seat.new.me.1 ≡ rest seat.old.me.1
+        ++ (slot_of lane.now.instances lane.now.capacity lane.now.sender lane.now.receiver count, None) ∷ [] }
 {
     let Some(packet) = words.exchange(seat, lane.slot(count), None) else {
         unreachable!()

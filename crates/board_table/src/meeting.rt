@@ -11,9 +11,11 @@ use crate::{Seat, Words};
 pub fn note(words: &Words, seat: &mut Seat) -> Seat
     requires table { seat.old.table_id ≡ words.now.table_id }
     requires board { IsBoard (held seat.old.me).instances (held seat.old.me).capacity words.now.key words.now.table_id }
-    requires post { IsPost (held seat.old.me).instances (held seat.old.me).capacity (held seat.old.me).number seat.old.me }
+    requires post { IsPost (held seat.old.me).instances (held seat.old.me).capacity
+        (held seat.old.me).number seat.old.me }
     requires number { (1 ≤ (held seat.old.me).number) × ((held seat.old.me).number ≤ (held seat.old.me).instances) }
-    ensures table { (seat.new.table_id ≡ seat.old.table_id) × (seat.new.id ≡ seat.old.id) × (result.table_id ≡ seat.old.table_id) }
+    ensures table { (seat.new.table_id ≡ seat.old.table_id) × (seat.new.id ≡ seat.old.id)
+        × (result.table_id ≡ seat.old.table_id) }
     ensures same { seat.new.me ≡ seat.old.me }
     ensures note { IsNote (held seat.old.me).instances (held seat.old.me).capacity result.me }
     ensures seen { (held result.me).seen ≡ (held seat.old.me).seen }
@@ -25,13 +27,17 @@ pub fn note(words: &Words, seat: &mut Seat) -> Seat
 pub fn meet_note(words: &Words, seat: &mut Seat, note: Seat) -> Seat
     requires table { (seat.old.table_id ≡ words.now.table_id) × (note.table_id ≡ words.now.table_id) }
     requires board { IsBoard (held seat.old.me).instances (held seat.old.me).capacity words.now.key words.now.table_id }
-    requires post { IsPost (held seat.old.me).instances (held seat.old.me).capacity (held seat.old.me).number seat.old.me }
+    requires post { IsPost (held seat.old.me).instances (held seat.old.me).capacity
+        (held seat.old.me).number seat.old.me }
     requires number { (1 ≤ (held seat.old.me).number) × ((held seat.old.me).number ≤ (held seat.old.me).instances) }
     requires note { IsNote (held seat.old.me).instances (held seat.old.me).capacity note.me }
-    ensures table { (seat.new.table_id ≡ seat.old.table_id) × (seat.new.id ≡ seat.old.id) × (result.table_id ≡ seat.old.table_id) }
-    ensures post { IsPost (held seat.old.me).instances (held seat.old.me).capacity (held seat.old.me).number seat.new.me }
+    ensures table { (seat.new.table_id ≡ seat.old.table_id) × (seat.new.id ≡ seat.old.id)
+        × (result.table_id ≡ seat.old.table_id) }
+    ensures post { IsPost (held seat.old.me).instances (held seat.old.me).capacity
+        (held seat.old.me).number seat.new.me }
     ensures slots { seat.new.me.1 ≡ seat.old.me.1 }
-    ensures meets { Meets (held seat.old.me).instances (held seat.old.me).capacity (held seat.old.me) (held note.me) (held seat.new.me) }
+    ensures meets { Meets (held seat.old.me).instances (held seat.old.me).capacity (held seat.old.me) (held note.me)
+        (held seat.new.me) }
     ensures note { IsNote (held seat.old.me).instances (held seat.old.me).capacity result.me }
     ensures seen { (held result.me).seen ≡ (held seat.new.me).seen }
 {

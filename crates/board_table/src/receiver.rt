@@ -61,10 +61,11 @@ fn find_again_at<A: Site>(words: &Words, seat: &mut Seat, lane: &Lane)
     words.load::<FindAgain<A>>(seat, lane.taken_word());
 }
 
-/// The name of the first message that is in the slots, and the clock of its send, if the base is the clock of the one before
-/// it. It stands behind `count` messages, and stays where it is.
+/// The name of the first message that is in the slots, and the clock of its send, if the base is the clock of the one
+/// before it. It stands behind `count` messages, and stays where it is.
 ///
-/// F6: it fails only where there is no memory, and up to [`INLINE_ENTRIES`](clock::INLINE_ENTRIES) instances it takes none.
+/// F6: it fails only where there is no memory, and up to [`INLINE_ENTRIES`](clock::INLINE_ENTRIES) instances it takes
+/// none.
 pub fn front(
     words: &Words,
     seat: &mut Seat,
@@ -77,12 +78,14 @@ pub fn front(
     requires board { IsBoard lane.now.instances lane.now.capacity words.now.key words.now.table_id }
     requires emptying { IsEmptying lane.now seat.old.me }
     requires some { 0 < length (packets_out seat.old.me) }
-    requires count { count ≡ received (held seat.old.me).seen lane.now.sender lane.now.receiver + vacant_out seat.old.me }
+    requires count { count ≡ received (held seat.old.me).seen lane.now.sender lane.now.receiver
+        + vacant_out seat.old.me }
     requires base { base.now ≡ emptied_base lane.now seat.old.me }
     ensures table { (seat.new.table_id ≡ seat.old.table_id) × (seat.new.id ≡ seat.old.id) }
     ensures same { seat.new.me ≡ seat.old.me }
     ensures name { IfOk result (λ front. map (λ x. x.message.name) (take 1 (packets_out seat.old.me)) ≡ front.0 ∷ []) }
-    ensures clock { IfOk result (λ front. map (λ x. apply_diff base.now x.diff) (take 1 (packets_out seat.old.me)) ≡ front.1 ∷ []) }
+    ensures clock { IfOk result (λ front. map (λ x. apply_diff base.now x.diff) (take 1 (packets_out seat.old.me))
+        ≡ front.1 ∷ []) }
     ensures succeeds { length base.now ≤ INLINE_ENTRIES → IsOk result }
 {
     let slot: &Option<Packet> = seat.slot_mut(words, lane.slot(count));
@@ -98,7 +101,8 @@ pub fn take(words: &Words, seat: &mut Seat, lane: &Lane, count: u64) -> Packet
     requires board { IsBoard lane.now.instances lane.now.capacity words.now.key words.now.table_id }
     requires emptying { IsEmptying lane.now seat.old.me }
     requires some { 0 < length (packets_out seat.old.me) }
-    requires count { count ≡ received (held seat.old.me).seen lane.now.sender lane.now.receiver + vacant_out seat.old.me }
+    requires count { count ≡ received (held seat.old.me).seen lane.now.sender lane.now.receiver
+        + vacant_out seat.old.me }
     ensures table { (seat.new.table_id ≡ seat.old.table_id) × (seat.new.id ≡ seat.old.id) }
     ensures emptying { IsEmptying lane.now seat.new.me }
     ensures held { held seat.new.me ≡ held seat.old.me }
@@ -112,13 +116,14 @@ pub fn take(words: &Words, seat: &mut Seat, lane: &Lane, count: u64) -> Packet
     packet
 }
 
-/// Receives the messages that were taken out, one directly after another, in this coregion (0 outside of one), and gives all
-/// slots back. The others wait again. With these, `count` messages were received on the lane.
+/// Receives the messages that were taken out, one directly after another, in this coregion (0 outside of one), and
+/// gives all slots back. The others wait again. With these, `count` messages were received on the lane.
 pub fn free(words: &Words, seat: &mut Seat, lane: &Lane, count: u64, region: u32)
     requires table { seat.old.table_id ≡ words.now.table_id }
     requires board { IsBoard lane.now.instances lane.now.capacity words.now.key words.now.table_id }
     requires emptying { IsEmptying lane.now seat.old.me }
-    requires count { count ≡ received (held seat.old.me).seen lane.now.sender lane.now.receiver + vacant_out seat.old.me }
+    requires count { count ≡ received (held seat.old.me).seen lane.now.sender lane.now.receiver
+        + vacant_out seat.old.me }
     requires short { length (chart_of (held seat.old.me).seen lane.now.receiver) + vacant_out seat.old.me ≤ MAX_EVENTS }
     requires coregion { MayHaveRegion (chart_of (held seat.old.me).seen lane.now.receiver) region }
     ensures table { (seat.new.table_id ≡ seat.old.table_id) × (seat.new.id ≡ seat.old.id) }
@@ -132,7 +137,8 @@ fn free_at<A: Site>(words: &Words, seat: &mut Seat, lane: &Lane, count: u64, reg
     requires table { seat.old.table_id ≡ words.now.table_id }
     requires board { IsBoard lane.now.instances lane.now.capacity words.now.key words.now.table_id }
     requires emptying { IsEmptying lane.now seat.old.me }
-    requires count { count ≡ received (held seat.old.me).seen lane.now.sender lane.now.receiver + vacant_out seat.old.me }
+    requires count { count ≡ received (held seat.old.me).seen lane.now.sender lane.now.receiver
+        + vacant_out seat.old.me }
     requires short { length (chart_of (held seat.old.me).seen lane.now.receiver) + vacant_out seat.old.me ≤ MAX_EVENTS }
     requires coregion { MayHaveRegion (chart_of (held seat.old.me).seen lane.now.receiver) region }
     ensures table { (seat.new.table_id ≡ seat.old.table_id) × (seat.new.id ≡ seat.old.id) }

@@ -2,7 +2,8 @@
 ghost use Rattle.std.specs.Prelude.{ℕ, [], ◌∷◌};
 ghost use Rattle.board_table.specs.Layout.{LaneView};
 ghost use Rattle.board_table.specs.Knowing.{first_of, later_of, note_of};
-ghost use Rattle.board_table.specs.Plays.{ClaimsAnew, ClaimsAgain, FindsAnew, FindsAgain, Publishes, Closes, Frees, PutsBack, MeetsBeside};
+ghost use Rattle.board_table.specs.Plays.{ClaimsAnew, ClaimsAgain, FindsAnew, FindsAgain, Publishes, Closes, Frees};
+ghost use Rattle.board_table.specs.Plays.{PutsBack, MeetsBeside};
 ghost use Rattle.board_table.specs.Leaving.{Leaves};
 ghost use Rattle.board_table.specs.Rule.{Kept, new_helds};
 

@@ -61,7 +61,8 @@ pub fn fill(words: &Words, seat: &mut Seat, lane: &Lane, count: u64, packet: Pac
     requires board { IsBoard lane.now.instances lane.now.capacity words.now.key words.now.table_id }
     requires filling { IsFilling lane.now seat.old.me }
     requires room { 0 < vacant_out seat.old.me }
-    requires count { count ≡ length (sent (held seat.old.me).seen lane.now.sender lane.now.receiver) + length (packets_out seat.old.me) }
+    requires count { count ≡ length (sent (held seat.old.me).seen lane.now.sender lane.now.receiver)
+        + length (packets_out seat.old.me) }
     ensures table { (seat.new.table_id ≡ seat.old.table_id) × (seat.new.id ≡ seat.old.id) }
     ensures filling { IsFilling lane.now seat.new.me }
     ensures held { held seat.new.me ≡ held seat.old.me }
@@ -77,17 +78,21 @@ pub fn fill(words: &Words, seat: &mut Seat, lane: &Lane, count: u64, packet: Pac
     seat.turn();
 }
 
-/// Sends what is in the slots, one message directly after another, and gives all slots back. With these, `count` messages
-/// were sent on the lane.
+/// Sends what is in the slots, one message directly after another, and gives all slots back. With these, `count`
+/// messages were sent on the lane.
 pub fn publish(words: &Words, seat: &mut Seat, lane: &Lane, count: u64)
     requires table { seat.old.table_id ≡ words.now.table_id }
     requires board { IsBoard lane.now.instances lane.now.capacity words.now.key words.now.table_id }
     requires filling { IsFilling lane.now seat.old.me }
-    requires count { count ≡ length (sent (held seat.old.me).seen lane.now.sender lane.now.receiver) + length (packets_out seat.old.me) }
+    requires count { count ≡ length (sent (held seat.old.me).seen lane.now.sender lane.now.receiver)
+        + length (packets_out seat.old.me) }
     requires within_limit { count ≤ MAX_EVENTS }
     requires unclosed { is_closed (held seat.old.me).seen lane.now.sender lane.now.receiver ≡ false }
-    requires short { length (chart_of (held seat.old.me).seen lane.now.sender) + length (packets_out seat.old.me) ≤ MAX_EVENTS }
-    requires next { AreNext lane.now.instances (sent_base lane.now.instances (held seat.old.me).seen lane.now.sender lane.now.receiver) (held seat.old.me).seen lane.now.sender lane.now.receiver (packets_out seat.old.me) }
+    requires short { length (chart_of (held seat.old.me).seen lane.now.sender) + length (packets_out seat.old.me)
+        ≤ MAX_EVENTS }
+    requires next { AreNext lane.now.instances (sent_base lane.now.instances
+        (held seat.old.me).seen lane.now.sender lane.now.receiver)
+        (held seat.old.me).seen lane.now.sender lane.now.receiver (packets_out seat.old.me) }
     ensures table { (seat.new.table_id ≡ seat.old.table_id) × (seat.new.id ≡ seat.old.id) }
     ensures publishes { Publishes lane.now seat.old.me seat.new.me }
 {
@@ -99,11 +104,15 @@ fn publish_at<A: Site>(words: &Words, seat: &mut Seat, lane: &Lane, count: u64)
     requires table { seat.old.table_id ≡ words.now.table_id }
     requires board { IsBoard lane.now.instances lane.now.capacity words.now.key words.now.table_id }
     requires filling { IsFilling lane.now seat.old.me }
-    requires count { count ≡ length (sent (held seat.old.me).seen lane.now.sender lane.now.receiver) + length (packets_out seat.old.me) }
+    requires count { count ≡ length (sent (held seat.old.me).seen lane.now.sender lane.now.receiver)
+        + length (packets_out seat.old.me) }
     requires within_limit { count ≤ MAX_EVENTS }
     requires unclosed { is_closed (held seat.old.me).seen lane.now.sender lane.now.receiver ≡ false }
-    requires short { length (chart_of (held seat.old.me).seen lane.now.sender) + length (packets_out seat.old.me) ≤ MAX_EVENTS }
-    requires next { AreNext lane.now.instances (sent_base lane.now.instances (held seat.old.me).seen lane.now.sender lane.now.receiver) (held seat.old.me).seen lane.now.sender lane.now.receiver (packets_out seat.old.me) }
+    requires short { length (chart_of (held seat.old.me).seen lane.now.sender) + length (packets_out seat.old.me)
+        ≤ MAX_EVENTS }
+    requires next { AreNext lane.now.instances (sent_base lane.now.instances
+        (held seat.old.me).seen lane.now.sender lane.now.receiver)
+        (held seat.old.me).seen lane.now.sender lane.now.receiver (packets_out seat.old.me) }
     ensures table { (seat.new.table_id ≡ seat.old.table_id) × (seat.new.id ≡ seat.old.id) }
     ensures publishes { Publishes lane.now seat.old.me seat.new.me }
 {

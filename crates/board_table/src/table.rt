@@ -21,8 +21,10 @@ pub type BoardTable = Table<Option<Packet>, LinkedList<Held>, Shape, BoardRule, 
 pub fn open(alloc: Global, shape: &Shape) -> Result<(BoardTable, Seat), AllocError>
     requires instances { (2 ≤ shape.now.instances) × (shape.now.instances ≤ MAX_INSTANCES) }
     requires capacity { (1 ≤ shape.now.capacity) × (shape.now.capacity ≤ MAX_CAPACITY) }
-    ensures board { IfOk result (λ made. IsBoard shape.now.instances shape.now.capacity made.0.shared.key made.0.shared.table_id) }
-    ensures seat { IfOk result (λ made. (made.1.table_id ≡ made.0.shared.table_id) × (made.1.me ≡ (new_helds shape.now.instances shape.now.capacity 1 shape.now.instances, []))) }
+    ensures board { IfOk result (λ made. IsBoard shape.now.instances shape.now.capacity made.0.shared.key
+        made.0.shared.table_id) }
+    ensures seat { IfOk result (λ made. (made.1.table_id ≡ made.0.shared.table_id)
+        × (made.1.me ≡ (new_helds shape.now.instances shape.now.capacity 1 shape.now.instances, []))) }
 {
     let n = shape.instances;
     let words = vec![in alloc; 0; n * (2 * n + 7)]?;
@@ -35,7 +37,8 @@ pub fn deal(words: &Words, seat: &mut Seat) -> Seat
     requires board { IsBoard (held seat.old.me).instances (held seat.old.me).capacity words.now.key words.now.table_id }
     requires size { 1 ≤ (held seat.old.me).instances }
     requires some { seat.old.me.0 ≡ held seat.old.me ∷ later_helds seat.old.me }
-    ensures table { (seat.new.table_id ≡ seat.old.table_id) × (seat.new.id ≡ seat.old.id) × (result.table_id ≡ seat.old.table_id) }
+    ensures table { (seat.new.table_id ≡ seat.old.table_id) × (seat.new.id ≡ seat.old.id)
+        × (result.table_id ≡ seat.old.table_id) }
     ensures first { result.me ≡ (held seat.old.me ∷ [], []) }
     ensures others { seat.new.me ≡ (later_helds seat.old.me, seat.old.me.1) }
 {

@@ -147,8 +147,8 @@ fn sends_several(rt: &impl Abort, alloc: Global, post: &mut Post, to: InstanceNo
     assert_eq!(rt; sents.len(), letters.len());
 }
 
-/// Receives messages of the first of these names by one call, each with so many races. Answers how many came, and why no
-/// more.
+/// Receives messages of the first of these names by one call, each with so many races. Answers how many came, and why
+/// no more.
 fn takes_several(
     rt: &impl Abort,
     post: &mut Post,

@@ -17,7 +17,8 @@ IsStepBy c SameSender e f = IsEarlier e f × ((q : ℕ) × IsReceiveFrom c q e �
 -- the links lead from e to r, each by a direct step
 abbrev pub Lead : Chart → Place → Place → List Link → Type 0
 Lead c e r [] = e ≡ r
-Lead c e r (link ∷ links) = (place_of link.earlier ≡ e) × IsStepBy c link.rule (place_of link.earlier) (place_of link.later) × Lead c (place_of link.later) r links
+Lead c e r (link ∷ links) = (place_of link.earlier ≡ e)
+    × IsStepBy c link.rule (place_of link.earlier) (place_of link.later) × Lead c (place_of link.later) r links
 
 -- they lead there by one step at least, and no chain with a step is shorter
 pub record IsShortestChain (c : Chart) (e r : Place) (links : List Link) : Type 0 where

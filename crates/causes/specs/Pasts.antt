@@ -1,5 +1,5 @@
--- What comes before a receive, as a number for each line (over the order of Alur, Holzmann and Peled 1996, in this project's
--- profile).
+-- What comes before a receive, as a number for each line (over the order of Alur, Holzmann and Peled 1996, in this
+-- project's profile).
 use Rattle.std.specs.Prelude.{ℕ, ◌≤◌, ◌↔◌, ◌⊎◌, List}
 use Rattle.chart.specs.Charts.{Chart, Place, IsReceiveFrom}
 use Rattle.chart.specs.Order.{Before}

@@ -1,6 +1,7 @@
--- Searching backwards from a receive r: the sends that come before it, each with how it leads on to r (over the order of
--- Alur, Holzmann and Peled 1996, in this project's profile).
-use Rattle.std.specs.Prelude.{◌≡◌, ℕ, ◌+◌, ◌*◌, ◌<◌, ◌≤◌, ◌⊎◌, List, [], ◌∷◌, ◌++◌, length, slice_get, Option, None, Some}
+-- Searching backwards from a receive r: the sends that come before it, each with how it leads on to r (over the order
+-- of Alur, Holzmann and Peled 1996, in this project's profile).
+use Rattle.std.specs.Prelude.{◌≡◌, ℕ, ◌+◌, ◌*◌, ◌<◌, ◌≤◌, ◌⊎◌, List, [], ◌∷◌, ◌++◌, length, slice_get, Option, None}
+use Rattle.std.specs.Prelude.{Some}
 use Rattle.chart.specs.Charts.{Chart, Place, IsReceiveFrom, BelongsTo}
 use Rattle.chart.specs.Order.{IsEarlier}
 use Rattle.chart.specs.declared.instance.EventNo.{EventNo}
@@ -17,7 +18,9 @@ IsAt found i x = slice_get found i ≡ Some x
 -- how the i-th leads to r: its message is received at r itself, or above one that was found before it
 pub record IsOnTheWay (c : Chart) (r : Place) (found : List Reached) (i : ℕ) (x : Reached) : Type 0 where
   pub belongs : BelongsTo c (place_of x.send) (place_of x.receive)
-  pub onward : ((i ≡ 0) × (place_of x.receive ≡ r) × (x.depth ≡ 0)) ⊎ ((y : Reached) × (x.next < i) × IsAt found x.next y × IsEarlier (place_of x.receive) (place_of y.send) × (x.depth ≡ y.depth + 1))
+  pub onward : ((i ≡ 0) × (place_of x.receive ≡ r) × (x.depth ≡ 0))
+      ⊎ ((y : Reached) × (x.next < i) × IsAt found x.next y × IsEarlier (place_of x.receive) (place_of y.send)
+      × (x.depth ≡ y.depth + 1))
   pub low : x.depth ≤ i
 
 -- each leads to r, and those with fewer messages on their way were found sooner
@@ -38,10 +41,12 @@ IsFound found s d = (i : ℕ) × (x : Reached) × IsAt found i x × (place_of x.
 abbrev pub IsFollowed : Chart → List Reached → Reached → Type 0
 IsFollowed c found x = (e s : Place) → BelongsTo c s e → IsEarlier e (place_of x.send) → IsFound found s (x.depth + 1)
 
--- of each line so many events were seen, and the sends of the receives among them found; all before the head were followed
+-- of each line so many events were seen, and the sends of the receives among them found; all before the head were
+-- followed
 pub record IsSearching (c : Chart) (r : Place) (found : List Reached) (seen : List ℕ) (head : ℕ) : Type 0 where
   pub trail : IsTrail c r found
-  pub marked : (e s : Place) → BelongsTo c s e → e.index ≤ entry seen e.instance → (i : ℕ) × (x : Reached) × IsAt found i x × (place_of x.send ≡ s)
+  pub marked : (e s : Place) → BelongsTo c s e → e.index ≤ entry seen e.instance
+      → (i : ℕ) × (x : Reached) × IsAt found i x × (place_of x.send ≡ s)
   pub near : (i j : ℕ) (x y : Reached) → head ≤ i → IsAt found i x → IsAt found j y → y.depth ≤ x.depth + 1
   pub done : (i : ℕ) (x : Reached) → i < head → IsAt found i x → IsFollowed c found x
 
@@ -78,6 +83,7 @@ IsNearest found e many (Some best) = (x : Reached) × IsAt found best.0 x × IsU
     × ((i : ℕ) (y : Reached) (k : ℕ) → i < many → IsAt found i y → IsUnder y e → AreSteps y e k → best.1 ≤ k)
 
 -- links that lead from e to r by the one of this number, as many as it has steps
-pub record IsChainBy (c : Chart) (r : Place) (found : List Reached) (number : ℕ) (e : Place) (links : List Link) : Type 0 where
+pub record IsChainBy (c : Chart) (r : Place) (found : List Reached) (number : ℕ) (e : Place)
+    (links : List Link) : Type 0 where
   pub lead : Lead c e r links
   pub steps : (x : Reached) (k : ℕ) → IsAt found number x → AreSteps x e k → length links ≡ k

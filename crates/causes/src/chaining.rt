@@ -1,5 +1,6 @@
 //! Shortest chains of direct steps.
-ghost use Rattle.std.specs.Prelude.{◌≡◌, ◌<◌, ◌+◌, ◌^◌, ◌*◌, ◌∷◌, ◌↔◌, ℕ, List, [], length, slice_get, Option, Some, IsTrue, IfOk, MatchOption};
+ghost use Rattle.std.specs.Prelude.{◌≡◌, ◌<◌, ◌+◌, ◌^◌, ◌*◌, ◌∷◌, ◌↔◌, ℕ, List, [], length, slice_get, Option, Some};
+ghost use Rattle.std.specs.Prelude.{IsTrue, IfOk, MatchOption};
 ghost use Rattle.chart.specs.Charts.{Chart, Place, chart_lines, IsSendTo, IsReceiveFrom};
 ghost use Rattle.chart.specs.Order.{Before};
 ghost use Rattle.closure.specs.Faults.{place_of};
@@ -14,7 +15,8 @@ use chart::{EventNo, InstanceNo};
 use closure::Closure;
 use std::alloc::{AllocError, Global};
 
-/// How many direct steps lead on from an event by a send that was reached, if the event is this send or stands above it.
+/// How many direct steps lead on from an event by a send that was reached, if the event is this send or stands above
+/// it.
 fn steps_by(reached: &Reached, event: &EventNo) -> Option<usize>
     requires { reached.now.depth + 1 < 2 ^ 63 }
     ensures { TellsSteps reached.now (place_of event.now) result }
@@ -75,8 +77,10 @@ fn nearest(found: &[Reached], event: &EventNo) -> Option<(usize, usize)>
 /// The link between the event and the send that was reached, where they are two.
 fn first_links(alloc: Global, reached: &Reached, event: &EventNo) -> Result<Vec<Link>, AllocError>
     requires { IsUnder reached.now (place_of event.now) }
-    ensures { IfOk result (λ links. (c : Chart) (q k : ℕ) → IsSendTo c q (place_of reached.now.send) → AreSteps reached.now (place_of event.now) k
-        → Lead c (place_of event.now) (place_of reached.now.send) links.items × (length links.items + 2 * reached.now.depth + 1 ≡ k)) }
+    ensures { IfOk result (λ links. (c : Chart) (q k : ℕ) → IsSendTo c q (place_of reached.now.send)
+        → AreSteps reached.now (place_of event.now) k
+        → Lead c (place_of event.now) (place_of reached.now.send) links.items
+        × (length links.items + 2 * reached.now.depth + 1 ≡ k)) }
 {
     let mut links = Vec::new(alloc);
     if event.index != reached.send.index {
@@ -134,7 +138,8 @@ fn is_earlier_receive(
     receive: &EventNo,
     sender: InstanceNo,
 ) -> bool
-    ensures { IsTrue result ↔ IsEarlierReceive (chart_lines closure.now) sender (place_of event.now) (place_of receive.now) }
+    ensures { IsTrue result ↔ IsEarlierReceive (chart_lines closure.now) sender (place_of event.now)
+        (place_of receive.now) }
 {
     if event.instance != receive.instance {
         return false;
@@ -150,7 +155,11 @@ fn is_earlier_receive(
 
 /// The one link between two receives of a line from the same sender.
 fn one_link(alloc: Global, earlier: &EventNo, receive: &EventNo) -> Result<Vec<Link>, AllocError>
-    ensures { IfOk result (λ links. links.items ≡ record { earlier = earlier.now; later = receive.now; rule = Rule.SameSender } ∷ []) }
+    ensures { IfOk result (λ links. links.items ≡ record {
+      earlier = earlier.now;
+      later = receive.now;
+      rule = Rule.SameSender;
+    } ∷ []) }
 {
     let mut links = Vec::new(alloc);
     links.push(Link {
@@ -161,8 +170,8 @@ fn one_link(alloc: Global, earlier: &EventNo, receive: &EventNo) -> Result<Vec<L
     Ok(links)
 }
 
-/// A shortest chain of direct steps that leads from an event to a receive, in its order. There is none exactly where the
-/// enforced order doesn't put the event before the receive.
+/// A shortest chain of direct steps that leads from an event to a receive, in its order. There is none exactly where
+/// the enforced order doesn't put the event before the receive.
 ///
 /// It looks at each event of the chart once at most. F6: it fails only where there is no memory.
 pub fn shortest_chain(

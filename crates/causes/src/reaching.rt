@@ -1,8 +1,8 @@
 //! The sends that come before a receive, found from it backwards, with how they lead to it.
 //!
 //! All that stands above a send comes directly before it, and a receive comes directly after its send. So what comes
-//! before a receive is found by going from its send to the receives above it, from these to their sends, and so on, each
-//! event of a line once. Sends with fewer messages on their way are found sooner.
+//! before a receive is found by going from its send to the receives above it, from these to their sends, and so on,
+//! each event of a line once. Sends with fewer messages on their way are found sooner.
 ghost use Rattle.std.specs.Prelude.{◌≡◌, ◌<◌, ◌≤◌, length, IfOk, OnOk};
 ghost use Rattle.std.specs.Prelude.{slice_get, Some};
 ghost use Rattle.chart.specs.Charts.{chart_lines, BelongsTo};

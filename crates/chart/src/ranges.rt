@@ -2,7 +2,7 @@
 ghost use Rattle.std.specs.Prelude.{◌≡◌, ◌++◌, ◌+◌, ◌==◌, [], length, min, ◌^◌, ◌-◌, ◌<◌, All, IfOk, IsOk, OnErr, OnOk};
 ghost use Rattle.std.specs.Prelude.{IsTrue, ◌↔◌};
 ghost use Rattle.std.specs.Iterator.{YieldsFirst, item_count};
-ghost use Rattle.chart.specs.Ranges.{IsRange, events_of, events_in, is_followed_by};
+ghost use Rattle.chart.specs.Ranges.{IsRange, events_of, events_in, is_followed_by, ranges_of};
 
 use crate::instance::EventNo;
 use std::alloc::{AllocError, Global};
@@ -86,6 +86,7 @@ impl EventRanges {
     /// The ranges, those of the first events first. Each has an event, and their numbers are within 32 bits.
     pub fn as_slice(&self) -> &[EventRange]
         ensures events { events_in result.now ≡ self.now }
+        ensures fewest { result.now ≡ ranges_of self.now }
         ensures each { All IsRange result.now }
     {
         self.ranges.as_slice()

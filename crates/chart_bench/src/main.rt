@@ -1,6 +1,7 @@
-//! What it costs to read the text of a chart, to search it and to write it again. With the word `time` behind the file's
-//! name it tells the times on standard error and writes the text to standard output, and else it tells what it would time.
-//! With the words `make` and `token`, `mixed` or `bursts` it writes the text of a large chart with such traffic.
+//! What it costs to read the text of a chart, to search it and to write it again. With the word `time` behind the
+//! file's name it tells the times on standard error and writes the text to standard output, and else it tells what it
+//! would time. With the words `make` and `token`, `mixed` or `bursts` it writes the text of a large chart with such
+//! traffic.
 #![tactic(auto)]
 
 ghost use Rattle.std.specs.Prelude.{◌≡◌, length, IfOk};

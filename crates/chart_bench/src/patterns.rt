@@ -20,8 +20,8 @@ pub enum Pattern {
     Token,
     /// In each turn every instance sends to one, and receives from one: some races.
     Mixed,
-    /// Half of the instances send bursts to the other half, from where nothing comes back: nearly every pair of receives
-    /// of a line is a race.
+    /// Half of the instances send bursts to the other half, from where nothing comes back: nearly every pair of
+    /// receives of a line is a race.
     Bursts,
 }
 

@@ -76,7 +76,8 @@ impl PartialEq for Diff {
     ghost use Rattle.std.proofs.Common.{rules};
     ghost use Rattle.clock.specs.declared.diff.Change.{Change};
 
-    ghost eq = { pointwise (eq_of_both (on (λ (change : Change). change.instance) nat_eq) (on (λ (change : Change). change.entry) nat_eq)) };
+    ghost eq = { pointwise (eq_of_both (on (λ (change : Change). change.instance) nat_eq)
+        (on (λ (change : Change). change.entry) nat_eq)) };
 
     ghost laws = { Prim.search (comparing, rules) };
 

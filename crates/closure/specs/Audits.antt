@@ -23,4 +23,5 @@ pub record IsFirstWrong (right given : List ReportView) (r : EventNo) : Type 0 w
 -- what a refusal says: that the chart is refused, or that it is possible and the reports aren't its own
 abbrev pub RefusesReports : List LineView → List ReportView → AuditError → Type 0
 RefusesReports lines given (Chart e) = Refuses (chart_lines lines) e
-RefusesReports lines given (WrongReport r) = IsPossible (length lines) (chart_lines lines) × ((right : List ReportView) × AreReports lines right × IsFirstWrong right given r)
+RefusesReports lines given (WrongReport r) = IsPossible (length lines) (chart_lines lines)
+    × ((right : List ReportView) × AreReports lines right × IsFirstWrong right given r)

@@ -20,13 +20,16 @@ pub record HaveReported (lines : List LineView) (p k : ℕ) (reports : List Repo
 
 -- a receive that was found: an event of a line, which is of the send that it says
 abbrev pub IsFound : List LineView → Receive → Type 0
-IsFound lines r = (r.line < length lines) × (r.place < length (chart_lines lines (suc r.line))) × IsPartner lines (at (suc r.line) (suc r.place)) (Sender r.sender r.index)
+IsFound lines r = (r.line < length lines) × (r.place < length (chart_lines lines (suc r.line)))
+    × IsPartner lines (at (suc r.line) (suc r.place)) (Sender r.sender r.index)
 
 -- the event at r is a receive, and this is its report
 abbrev pub IsReportAt : Chart → Place → ReportView → Type 0
-IsReportAt c r report = ((q : ℕ) × IsReceiveFrom c q r) × (report.receive ≡ record { instance = r.instance; index = r.index }) × IsReportIn c report
+IsReportAt c r report = ((q : ℕ) × IsReceiveFrom c q r)
+    × (report.receive ≡ record { instance = r.instance; index = r.index }) × IsReportIn c report
 
--- a reporter: the chart's lines, the line of the next event and its place, both from 0, and the races that it found last
+-- a reporter: the chart's lines, the line of the next event and its place, both from 0, and the races that it found
+-- last
 pub record ReporterView : Type 0 where
   pub lines : List LineView
   pub line : ℕ
@@ -37,7 +40,8 @@ pub record ReporterView : Type 0 where
 abbrev pub reports_left : ReporterView → ℕ
 reports_left r = (length r.lines - r.line) * (MAX_EVENTS + 1) - r.place
 
--- what a reporter keeps: that the chart is possible, what its sends know, and that it is at an event or the end of a line
+-- what a reporter keeps: that the chart is possible, what its sends know, and that it is at an event or the end of a
+-- line
 pub record IsReporting (lines : List LineView) (known : List (List ℕ)) (line place : ℕ) : Type 0 where
   pub chart : IsPossibleChart lines
   pub knows : HasKnowledge lines known

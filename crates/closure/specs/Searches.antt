@@ -1,5 +1,5 @@
--- Searching backwards from a send: for each line the greatest send that is this send or before it (over the order of Alur,
--- Holzmann and Peled 1996, in this project's profile).
+-- Searching backwards from a send: for each line the greatest send that is this send or before it (over the order of
+-- Alur, Holzmann and Peled 1996, in this project's profile).
 use Rattle.std.specs.Prelude.{◌≡◌, ℕ, suc, ◌+◌, ◌<◌, ◌≤◌, ◌↔◌, ◌⊎◌, List, length, slice_index}
 use Rattle.chart.specs.Charts.{Chart, Place, at, LineView, IsSendTo, IsReceiveFrom, BelongsTo, chart_lines}
 use Rattle.chart.specs.Order.{IsEarlier}
@@ -14,8 +14,8 @@ IsSend c s = (q : ℕ) × IsSendTo c q s
 abbrev pub IsReached : Chart → Place → List ℕ → Type 0
 IsReached c s fronts = (e : Place) → 1 ≤ e.index → IsUpTo c s e ↔ (e.index ≤ entry fronts e.instance)
 
--- each front is 0, or a send that is s or before it; of each line so many events were seen, and the sends of the receives
--- among these are within the fronts
+-- each front is 0, or a send that is s or before it; of each line so many events were seen, and the sends of the
+-- receives among these are within the fronts
 pub record IsSearch (c : Chart) (n : ℕ) (s : Place) (fronts seen : List ℕ) : Type 0 where
   pub fronts_whole : length fronts ≡ n
   pub seen_whole : length seen ≡ n
@@ -37,7 +37,8 @@ IsEarlierReceive c q e r = IsEarlier e r × IsReceiveFrom c q e
 
 -- for each send of the line at p, after its first k events, the search goes on
 abbrev pub IsSearchAfter : Chart → ℕ → ℕ → ℕ → List ℕ → List ℕ → Type 0
-IsSearchAfter c n p k fronts seen = (i : ℕ) → k ≤ i → IsSend c (at (suc p) (suc i)) → IsSearch c n (at (suc p) (suc i)) fronts seen
+IsSearchAfter c n p k fronts seen = (i : ℕ) → k ≤ i → IsSend c (at (suc p) (suc i))
+    → IsSearch c n (at (suc p) (suc i)) fronts seen
 
 -- where s is a send, it knows so many events of its receiver's line
 abbrev pub IsKnowledge : Chart → Place → ℕ → Type 0

@@ -43,9 +43,9 @@ impl<'a> Model for Closure<'a> {
 }
 
 impl<'a> Closure<'a> {
-    /// The closure of a possible chart, and of no other: one that is the chart of a history which is legal with no bound
-    /// on waiting messages. Any other is refused, by the first of F16, F17 and F18 that applies. The receives are
-    /// looked at by instance and index, and of F16 and F17 the first one's counts.
+    /// The closure of a possible chart, and of no other: one that is the chart of a history which is legal with no
+    /// bound on waiting messages. Any other is refused, by the first of F16, F17 and F18 that applies. The receives
+    /// are looked at by instance and index, and of F16 and F17 the first one's counts.
     ///
     /// F6 may come at any point.
     pub fn of(alloc: Global, chart: &'a Chart) -> Result<Closure<'a>, ChartError>
@@ -78,7 +78,16 @@ impl<'a> Closure<'a> {
         Linked::new(self.lines, self.partners.as_slice())
     }
 
-    /// Whether the enforced order puts the one event before the other. It doesn't where either is no event of the chart.
+    /// How many lines there are.
+    pub fn len(&self) -> usize
+        ensures value { result ≡ length self.now }
+        ensures possible { IsPossibleChart self.now }
+    {
+        self.lines.len()
+    }
+
+    /// Whether the enforced order puts the one event before the other. It doesn't where either is no event of the
+    /// chart.
     ///
     /// F6: it fails only where there is no memory.
     pub fn before(&self, earlier: EventNo, later: EventNo) -> Result<bool, AllocError>

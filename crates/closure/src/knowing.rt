@@ -10,7 +10,8 @@ use crate::row::Row;
 use crate::search::{Search, reach};
 use std::alloc::{AllocError, Global};
 
-/// What the event at a place knows of its receiver's line, if it is a send. The search was for earlier sends of the line.
+/// What the event at a place knows of its receiver's line, if it is a send. The search was for earlier sends of the
+/// line.
 fn known_at(linked: &Linked<'_>, search: &mut Search, line: usize, place: usize) -> u32
     requires line { line < length linked.now }
     requires place { place < length (chart_lines linked.now (suc line)) }

@@ -47,8 +47,8 @@ fn is_earlier_receive(
 
 /// Whether the enforced order puts an event before that of this index of a line.
 ///
-/// Before a send is what it is or is after. Before a receive are the earlier receives from its sender, and its send with
-/// all before that.
+/// Before a send is what it is or is after. Before a receive are the earlier receives from its sender, and its send
+/// with all before that.
 pub fn is_before(
     alloc: Global,
     linked: &Linked<'_>,

@@ -1,5 +1,6 @@
 //! The reports of the receives, one after another.
-ghost use Rattle.std.specs.Prelude.{◌≡◌, ◌<◌, ◌≤◌, ◌⊎◌, ◌++◌, ◌∷◌, [], suc, length, List, All, vec_capacity, IfOk, IfSome, OnSome, MatchOption};
+ghost use Rattle.std.specs.Prelude.{◌≡◌, ◌<◌, ◌≤◌, ◌⊎◌, ◌++◌, ◌∷◌, [], suc, length, List, All, vec_capacity, IfOk};
+ghost use Rattle.std.specs.Prelude.{IfSome, OnSome, MatchOption};
 ghost use Rattle.chart.specs.declared.line.TheConstants.{MAX_EVENTS};
 ghost use Rattle.chart.specs.Charts.{at, chart_lines};
 ghost use Rattle.chart.specs.Ranges.{IsRange, events_in};
@@ -77,8 +78,8 @@ fn next_receive(linked: &Linked<'_>, line: usize, place: usize) -> Option<Receiv
     None
 }
 
-/// Puts the ranges of a receive's races in place of those in the list: of the races of its line before it, past what its
-/// send knows of the line. It answers the receive.
+/// Puts the ranges of a receive's races in place of those in the list: of the races of its line before it, past what
+/// its send knows of the line. It answers the receive.
 fn find_report(
     linked: &Linked<'_>,
     known: &[Row<u32>],
@@ -110,9 +111,9 @@ fn find_report(
     }
 }
 
-/// Goes over the receives of a chart, by instance and index, and finds the races of each. It keeps those of the last one
-/// alone, so no receive needs memory. A contract sees the chart's lines, how far it has come, and the races that it found
-/// last.
+/// Goes over the receives of a chart, by instance and index, and finds the races of each. It keeps those of the last
+/// one alone, so no receive needs memory. A contract sees the chart's lines, how far it has come, and the races that
+/// it found last.
 #[derive(Drop)]
 pub struct Reporter<'a> {
     linked: Linked<'a>,
@@ -132,9 +133,15 @@ impl<'a> Model for Reporter<'a> {
 
     ghost Value = { ReporterView };
 
-    ghost view = { λ r. record { lines = r.linked; line = r.line; place = r.place; earlier = events_in r.found.items } };
+    ghost view = { λ r. record {
+      lines = r.linked;
+      line = r.line;
+      place = r.place;
+      earlier = events_in r.found.items;
+    } };
 
-    ghost invariant = { λ r. IsReporting r.linked r.known.items r.line r.place × All IsRange r.found.items × (MAX_EVENTS ≤ vec_capacity r.found) };
+    ghost invariant = { λ r. IsReporting r.linked r.known.items r.line r.place × All IsRange r.found.items
+        × (MAX_EVENTS ≤ vec_capacity r.found) };
 }
 
 /// A reporter that begins with the first event of a chart.
@@ -157,7 +164,8 @@ impl<'a> Reporter<'a> {
     /// Goes on to the next receive and finds its races, or answers that there is none left. It takes no memory.
     pub fn next(&mut self) -> Option<EventNo>
         ensures lines { self.new.lines ≡ self.old.lines }
-        ensures reported { (reports : List ReportView) → HaveReported self.old.lines self.old.line self.old.place reports
+        ensures reported { (reports : List ReportView)
+            → HaveReported self.old.lines self.old.line self.old.place reports
             → MatchOption result (AreReports self.old.lines reports)
             (λ receive. HaveReported self.old.lines self.new.line self.new.place
             (reports ++ record { receive = receive; earlier = self.new.earlier } ∷ [])) }
@@ -181,7 +189,8 @@ impl<'a> Reporter<'a> {
         Some(event)
     }
 
-    /// The races of the receive that [`Reporter::next`] answered last: ranges of earlier events, the first of the line first.
+    /// The races of the receive that [`Reporter::next`] answered last: ranges of earlier events, the first of the
+    /// line first.
     pub fn earlier(&self) -> &[EventRange]
         ensures events { events_in result.now ≡ self.now.earlier }
         ensures each { All IsRange result.now }

@@ -1,5 +1,6 @@
 //! Whether a chart can be run: each send is made as it comes, and each receive once its send was made.
-ghost use Rattle.std.specs.Prelude.{◌≡◌, ◌<◌, ◌≤◌, ℕ, suc, true, false, length, slice_index, MatchBool, MatchOption, IfSome, IfOk};
+ghost use Rattle.std.specs.Prelude.{◌≡◌, ◌<◌, ◌≤◌, ℕ, suc, true, false, length, slice_index, MatchBool, MatchOption};
+ghost use Rattle.std.specs.Prelude.{IfSome, IfOk};
 ghost use Rattle.chart.specs.Charts.{chart_lines, IsPossible};
 ghost use Rattle.chart.specs.Order.{IsCyclic};
 ghost use Rattle.closure.specs.Runs.{IsReady, IsStopped, AreStopped};
@@ -62,8 +63,8 @@ fn are_made(linked: &Linked<'_>, made: &Numbers) -> bool
 
 /// Whether the chart is possible. If it isn't, the enforced order puts an event before itself.
 ///
-/// Only what can come is made, so where all was made the chart is that of a history. Where no line can go on, each waits
-/// for a later send of a line that waits too.
+/// Only what can come is made, so where all was made the chart is that of a history. Where no line can go on, each
+/// waits for a later send of a line that waits too.
 pub fn runs(alloc: Global, linked: &Linked<'_>) -> Result<bool, AllocError>
     ensures { IfOk result (λ runs. MatchBool runs
         (IsPossible (length linked.now) (chart_lines linked.now)) (IsCyclic (chart_lines linked.now))) }

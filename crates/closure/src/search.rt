@@ -1,9 +1,10 @@
 //! Searching backwards over the pairs that are enforced directly.
 //!
-//! What is a send or before it is, of each line, the events up to some send, its front: all that is earlier than a send on
-//! its line is before it. So the pairs to be followed are those from a receive to its send, and each event is seen once. Of a later
-//! send of the same line the fronts are no smaller, and the search goes on from where it is.
-ghost use Rattle.std.specs.Prelude.{ℕ, ◌≡◌, ◌<◌, ◌≤◌, ◌+◌, ◌↔◌, suc, max, length, replicate, slice_index, slice_set, IsTrue, IfOk, IfSome, MatchBool, MatchOption};
+//! What is a send or before it is, of each line, the events up to some send, its front: all that is earlier than a
+//! send on its line is before it. So the pairs to be followed are those from a receive to its send, and each event is
+//! seen once. Of a later send of the same line the fronts are no smaller, and the search goes on from where it is.
+ghost use Rattle.std.specs.Prelude.{ℕ, ◌≡◌, ◌<◌, ◌≤◌, ◌+◌, ◌↔◌, suc, max, length, replicate, slice_index, slice_set};
+ghost use Rattle.std.specs.Prelude.{IsTrue, IfOk, IfSome, MatchBool, MatchOption};
 ghost use Rattle.chart.specs.declared.line.TheConstants.{MAX_EVENTS};
 ghost use Rattle.chart.specs.Charts.{Place, at, chart_lines};
 ghost use Rattle.chart.specs.Knowing.{IsUpTo};
@@ -108,8 +109,8 @@ fn follow(linked: &Linked<'_>, search: &mut Search, line: usize) -> usize
     }
 }
 
-/// Goes on to the send of this index of a line, and all that is before it. What was reached before is it or before it, as
-/// where it was searched for earlier sends of this line.
+/// Goes on to the send of this index of a line, and all that is before it. What was reached before is it or before
+/// it, as where it was searched for earlier sends of this line.
 pub fn reach(linked: &Linked<'_>, search: &mut Search, line: usize, index: usize)
     requires line { line < length linked.now }
     requires send { IsSend (chart_lines linked.now) (at (suc line) index) }

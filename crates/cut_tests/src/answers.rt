@@ -12,8 +12,8 @@ const WRITE_REFUSED: &[u8] = b"refused: F24 Write\n";
 /// The greatest length of a refusal's line here.
 const LONGEST_LINE: usize = 40;
 
-/// The text is performed with writers that take so many bytes each. Where not all could be written, F24 is said; of what
-/// is said as many bytes as standard error takes, and the status doesn't tell of that.
+/// The text is performed with writers that take so many bytes each. Where not all could be written, F24 is said; of
+/// what is said as many bytes as standard error takes, and the status doesn't tell of that.
 fn is_performed(
     rt: &impl Abort,
     alloc: Global,

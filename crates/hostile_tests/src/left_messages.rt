@@ -47,8 +47,8 @@ fn all_is_given_back(rt: HostRuntime) -> Result<(), Fail> {
     Ok(())
 }
 
-/// How many instances pass messages to each other, over lanes of how many slots that they fill, and how many messages each
-/// of them takes of each other one.
+/// How many instances pass messages to each other, over lanes of how many slots that they fill, and how many messages
+/// each of them takes of each other one.
 const BOARDS: [(usize, usize, usize); 4] = [(2, 1, 0), (3, 2, 1), (9, 4, 4), (4, 64, 40)];
 
 /// Takes so many messages of each other instance.

@@ -1,5 +1,5 @@
-//! The charts of worked schedules, searched and audited with each growth of memory refused in turn: each refused call is
-//! made once more, and then answers in full.
+//! The charts of worked schedules, searched and audited with each growth of memory refused in turn: each refused call
+//! is made once more, and then answers in full.
 use crate::replays::{TEXTS, outcome_of, schedule_of};
 use chart::{Chart, EventNo, Report};
 use closure::{AuditError, ChartError, Closure, audit};

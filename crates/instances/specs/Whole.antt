@@ -25,15 +25,15 @@ IsUnfit posts behaviours turns = AreNotAll posts ⊎ ((behaviours ≢ length pos
 abbrev pub Drives : Type 1
 Drives = ℕ → PostView → List Turn → End → PostView → Type 0
 
--- The behaviour at the place, of these, drives the post: each of them means this and begins in this state, and has so many
--- turns at most.
+-- The behaviour at the place, of these, drives the post: each of them means this and begins in this state, and has so
+-- many turns at most.
 abbrev pub DrivenBy : {B : Type 0} {S : B → Type 0} → ((b : B) → Meaning (S b)) → ((b : B) → S b) → ℕ → List B
     → ℕ → PostView → List Turn → End → PostView → Type 0
 DrivenBy means state turns behaviours k old trace end new = (b : _) → IsRunOfPost
     (means (slice_index_or behaviours k b)) turns (state (slice_index_or behaviours k b)) old trace end new
 
--- Each post was driven so, to the post that was left, with its trace and its end; and this is what the posts that were left
--- came to, all of one board, whose chart has a line for each instance.
+-- Each post was driven so, to the post that was left, with its trace and its end; and this is what the posts that
+-- were left came to, all of one board, whose chart has a line for each instance.
 pub record AreRuns (does : Drives) (posts : List PostView) (run : Run) : Type 0 where
   pub left : List PostView
   pub as_many : (length left ≡ length posts) × (length run.traces.items ≡ length posts)

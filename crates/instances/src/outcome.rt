@@ -15,8 +15,8 @@ pub struct Run {
 /// Why a board isn't run, with posts `P` and behaviours `B`: the first of these that applies.
 #[derive(Drop)]
 pub enum RunError<P, B> {
-    /// F25: the posts are not all of their board, there are more or fewer behaviours than posts, or the turns are none or
-    /// more than [`crate::MAX_TURNS`]. Nothing was started, and posts and behaviours come back.
+    /// F25: the posts are not all of their board, there are more or fewer behaviours than posts, or the turns are
+    /// none or more than [`crate::MAX_TURNS`]. Nothing was started, and posts and behaviours come back.
     Unfit(P, B),
     /// F6: a growth was refused.
     Memory,

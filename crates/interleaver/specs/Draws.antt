@@ -17,8 +17,8 @@ AreOf n commands = All (IsOf n) commands
 abbrev pub queues_of : ℕ → List Command → List (List Command)
 queues_of n commands = map (own commands) (with_some n commands)
 
--- a draw where these commands are left: nothing where there are none; or else the first command of the instance whose turn
--- the generator's next word draws, and the queues and the generator after it
+-- a draw where these commands are left: nothing where there are none; or else the first command of the instance whose
+-- turn the generator's next word draws, and the queues and the generator after it
 abbrev pub Draws : ℕ → List Command → Lcg → Option Command → List (List Command) → Lcg → Type 0
 Draws n left g None queues next = left ≡ []
 Draws n left g (Some c) queues next =

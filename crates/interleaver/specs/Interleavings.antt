@@ -1,6 +1,7 @@
--- Drawn interleavings: each instance makes its commands in order, and the words of a generator draw whose turn it is (this
--- project's profile; the generator is of M. O'Neill, PCG, 2014).
-use Rattle.std.specs.Prelude.{ℕ, ◌%◌, ◌==◌, Bool, true, false, List, [], ◌∷◌, ◌++◌, length, filter, take, slice_index, if◌then◌else◌}
+-- Drawn interleavings: each instance makes its commands in order, and the words of a generator draw whose turn it is
+-- (this project's profile; the generator is of M. O'Neill, PCG, 2014).
+use Rattle.std.specs.Prelude.{ℕ, ◌%◌, ◌==◌, Bool, true, false, List, [], ◌∷◌, ◌++◌, length, filter, take, slice_index}
+use Rattle.std.specs.Prelude.{if◌then◌else◌}
 use Rattle.std.specs.List.{range_with_len}
 use Rattle.rand_core.specs.Pcg32Seed.{pcg32_seed}
 use Rattle.rand_core.specs.Steps.{first_words}
@@ -22,7 +23,8 @@ are_some (c ∷ cs) = true
 abbrev pub with_some : ℕ → List Command → List ℕ
 with_some n commands = filter (λ p. are_some (own commands p)) (range_with_len 1 n)
 
--- whose turn the word w draws: of the m instances that have commands left, the one with number w mod m among them, from 0
+-- whose turn the word w draws: of the m instances that have commands left, the one with number w mod m among them,
+-- from 0
 abbrev pub turn : ℕ → List Command → ℕ → ℕ
 turn n left w = slice_index (with_some n left) (w % length (with_some n left))
 
@@ -34,7 +36,8 @@ without_next (c ∷ cs) p = if c.actor == p then cs else c ∷ without_next cs p
 -- the commands in the order that these words draw: each time one instance makes the first of its own that are left
 unfoldable pub interleaved : ℕ → List ℕ → List Command → List Command
 interleaved n [] left = []
-interleaved n (w ∷ words) left = take 1 (own left (turn n left w)) ++ interleaved n words (without_next left (turn n left w))
+interleaved n (w ∷ words) left = take 1 (own left (turn n left w)) ++ interleaved n words
+    (without_next left (turn n left w))
 
 -- the generator of a seed
 abbrev pub generator : ℕ → Lcg

@@ -41,8 +41,8 @@ fn queues_of(alloc: Global, instances: usize, commands: &[Command]) -> Result<Ve
     Ok(queues)
 }
 
-/// The next command of the instance whose turn the generator's next word draws, or nothing where no commands are left. A
-/// queue with nothing left in it goes.
+/// The next command of the instance whose turn the generator's next word draws, or nothing where no commands are
+/// left. A queue with nothing left in it goes.
 fn next_command(queues: &mut Vec<Queue>, generator: &mut Lcg64Xsh32) -> Option<Command>
     ensures { (n : ℕ) (left : List Command) → AreOf n left → queues.old.items ≡ queues_of n left
         → Draws n left generator.old result queues.new.items generator.new }
@@ -66,7 +66,8 @@ fn drawn_commands(
     seed: u64,
 ) -> Result<Vec<Command>, Memory>
     requires { All (IsAmong instances) commands.now }
-    ensures order { IfOk result (λ drawn. drawn.items ≡ interleaved instances (first_words pcg32 (length commands.now) (generator seed)) commands.now) }
+    ensures order { IfOk result (λ drawn. drawn.items ≡ interleaved instances
+        (first_words pcg32 (length commands.now) (generator seed)) commands.now) }
     ensures numbers { IfOk result (λ _. AreOf instances commands.now) }
 {
     let mut queues = queues_of(alloc, instances, commands)?;

@@ -1,5 +1,6 @@
 -- What an end does that goes on alone: calls, one after another (this project's profile).
-use Rattle.std.specs.Prelude.{◌≡◌, ℕ, ◌-◌, ◌<◌, ◌≤◌, Bool, false, ◌&&◌, List, [], ◌∷◌, ◌++◌, length, take, if◌then◌else◌}
+use Rattle.std.specs.Prelude.{◌≡◌, ℕ, ◌-◌, ◌<◌, ◌≤◌, Bool, false, ◌&&◌, List, [], ◌∷◌, ◌++◌, length, take}
+use Rattle.std.specs.Prelude.{if◌then◌else◌}
 use Rattle.lane_core.specs.declared.answers.Room.{Room}
 use Rattle.lane_core.specs.declared.answers.Room.TheVariants.{Vacant, Full}
 use Rattle.lane_core.specs.declared.answers.Found.{Found}
@@ -14,12 +15,13 @@ receive_call Message h = Frees ∷ Takes ∷ Receiver_loads ∷ h
 receive_call Nothing h = Receiver_loads ∷ h
 receive_call Ended h = Receiver_loads ∷ h
 
--- the run with receives after it. For each it is given whether it may go by what was loaded earlier: it then makes no load
--- where its end claims a message by that
+-- the run with receives after it. For each it is given whether it may go by what was loaded earlier: it then makes no
+-- load where its end claims a message by that
 abbrev pub receives : {M : Type 0} → Form M → ℕ → List Bool → List (Step M) → List (Step M)
 receives form k [] h = h
 receives form k (keeps ∷ calls) h =
-    receives form k calls (if keeps && receiver_keeps form k h then Frees ∷ Takes ∷ h else receive_call (receiver_finds form k h) h)
+    receives form k calls (if keeps && receiver_keeps form k h then Frees ∷ Takes ∷ h else receive_call
+    (receiver_finds form k h) h)
 
 -- the steps of a send of this message that finds this, the newest first
 abbrev pub send_call : {M : Type 0} → Room → M → List (Step M) → List (Step M)
@@ -36,21 +38,25 @@ abbrev pub messages : {M : Type 0} → List (SendCall M) → List M
 messages [] = []
 messages (call ∷ calls) = call.message ∷ messages calls
 
--- the run with sends after it. One that may go by what was loaded earlier makes no load where its end claims a slot by that
+-- the run with sends after it. One that may go by what was loaded earlier makes no load where its end claims a slot
+-- by that
 abbrev pub sends : {M : Type 0} → Form M → ℕ → List (SendCall M) → List (Step M) → List (Step M)
 sends form k [] h = h
 sends form k (call ∷ calls) h =
     sends form k calls (
-    if call.keeps && sender_keeps form k h then Publishes ∷ Fills call.message ∷ h else send_call (sender_finds form k h) call.message h)
+    if call.keeps && sender_keeps form k h then Publishes ∷ Fills call.message
+    ∷ h else send_call (sender_finds form k h) call.message h)
 
--- what so many receives after the run h come to, from a traffic t: they are steps that may be made, and free the first of
--- those that waited; then a load finds a message while one of these is left, and else that the lane has ended, or nothing
+-- what so many receives after the run h come to, from a traffic t: they are steps that may be made, and free the
+-- first of those that waited; then a load finds a message while one of these is left, and else that the lane has
+-- ended, or nothing
 abbrev pub AreReceived : {M : Type 0} → Form M → ℕ → Traffic M → ℕ → List (Step M) → Type 0
 AreReceived form k t many h =
     IsRun form k h
     × ((traffic_of form k h).freed ≡ t.freed ++ take many (waiting t))
     × (many < length (waiting t) → receiver_finds form k h ≡ Message)
-    × (length (waiting t) ≤ many → (receiver_finds form k h ≡ (if t.closed then Ended else Nothing)) × (receiver_keeps form k h ≡ false))
+    × (length (waiting t) ≤ many → (receiver_finds form k h ≡ (if t.closed then Ended else Nothing))
+    × (receiver_keeps form k h ≡ false))
 
 -- of a receiver between two calls that goes on alone
 abbrev pub ReceiverAlone : {M : Type 0} → Form M → Type 0
@@ -69,4 +75,5 @@ AreSent form k t calls h =
 -- of a sender between two calls that goes on alone, on an open lane
 abbrev pub SenderAlone : {M : Type 0} → Form M → Type 0
 SenderAlone {M} form = (k : ℕ) (h : List (Step M)) → 1 ≤ k → IsRun form k h
-    → (traffic_of form k h).filling ≡ [] → (traffic_of form k h).closed ≡ false → (calls : List (SendCall M)) → AreSent form k (traffic_of form k h) calls (sends form k calls h)
+    → (traffic_of form k h).filling ≡ [] → (traffic_of form k h).closed ≡ false → (calls : List (SendCall M))
+    → AreSent form k (traffic_of form k h) calls (sends form k calls h)

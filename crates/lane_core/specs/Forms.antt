@@ -5,7 +5,8 @@ use Rattle.lane_core.specs.declared.answers.Found.{Found}
 use Rattle.lane_core.specs.Steps.{Step}
 use Rattle.lane_core.specs.Traffic.{Traffic}
 
--- a form of the lanes whose messages are of the type M: what a lane is, what a step makes of it, and what its ends go by
+-- a form of the lanes whose messages are of the type M: what a lane is, what a step makes of it, and what its ends go
+-- by
 pub record Form (M : Type 0) : Type 1 where
   pub Lane : Type 0
   -- with so many slots

@@ -12,7 +12,8 @@ use Rattle.lane_core.specs.declared.answers.ReceiverStep.{ReceiverStep}
 use Rattle.lane_core.specs.declared.answers.ReceiverStep.TheVariants.{Look, Take, Free}
 use Rattle.lane_core.specs.Steps.{Step, Sender_loads, Fills, Publishes, Closes, Receiver_loads, Takes, Puts_back, Frees}
 use Rattle.lane_core.specs.Forms.{Form}
-use Rattle.lane_core.specs.Traffic.{Traffic, no_traffic, put_in, published_all, closed_off, taken_out, back_in, freed_all}
+use Rattle.lane_core.specs.Traffic.{Traffic, no_traffic, put_in, published_all, closed_off, taken_out, back_in}
+use Rattle.lane_core.specs.Traffic.{freed_all}
 
 -- The sender.
 
@@ -78,7 +79,8 @@ sender_closed s = record s { filled = 0; closed = true }
 
 -- what comes next in a send
 abbrev pub next_sender_step : SenderEnd → SenderStep
-next_sender_step s = if nat_lt 0 s.filled then Publish else (if nat_lt (fill_count s) (s.freed + s.capacity) then Fill else Load)
+next_sender_step s =
+    if nat_lt 0 s.filled then Publish else (if nat_lt (fill_count s) (s.freed + s.capacity) then Fill else Load)
 
 -- the sender may make this step
 abbrev pub MaySend : SenderEnd → SenderStep → Type 0

@@ -3,7 +3,8 @@
 use Rattle.std.specs.Prelude.{◌≡◌, ℕ, ◌%◌, ◌≤◌, ◌<◌, ◌↔◌, true, false, List, [], ◌∷◌, ◌++◌, length, None, Some}
 use Rattle.lane_core.specs.declared.answers.Room.TheVariants.{Full}
 use Rattle.lane_core.specs.declared.answers.Found.TheVariants.{Message, Ended}
-use Rattle.lane_core.specs.Forms.{Form, IsRun, traffic_of, sender_finds, receiver_finds, SenderHas, ReceiverHas, fills_next, takes_next, puts_back_next}
+use Rattle.lane_core.specs.Forms.{Form, IsRun, traffic_of, sender_finds, receiver_finds, SenderHas, ReceiverHas}
+use Rattle.lane_core.specs.Forms.{fills_next, takes_next, puts_back_next}
 use Rattle.lane_core.specs.Steps.{Step, Fills, Takes, Puts_back}
 use Rattle.lane_core.specs.Traffic.{waiting}
 
@@ -14,7 +15,8 @@ FreedInOrder {M} form = (k : ℕ) (h : List (Step M)) → 1 ≤ k → IsRun form
 
 -- at most as many messages wait as there are slots
 abbrev pub AtMostCapacity : {M : Type 0} → Form M → Type 0
-AtMostCapacity {M} form = (k : ℕ) (h : List (Step M)) → 1 ≤ k → IsRun form k h → length (waiting (traffic_of form k h)) ≤ k
+AtMostCapacity {M} form = (k : ℕ) (h : List (Step M)) → 1 ≤ k → IsRun form k h
+    → length (waiting (traffic_of form k h)) ≤ k
 
 -- no slot is claimed by both ends
 abbrev pub NoSlotOfBoth : {M : Type 0} → Form M → Type 0

@@ -13,7 +13,8 @@ use Rattle.lane_core.specs.declared.answers.ReceiverStep.{ReceiverStep}
 use Rattle.lane_core.specs.declared.answers.ReceiverStep.TheVariants.{Look, Take, Free}
 use Rattle.lane_core.specs.Steps.{Step, Sender_loads, Fills, Publishes, Closes, Receiver_loads, Takes, Puts_back, Frees}
 use Rattle.lane_core.specs.Forms.{Form}
-use Rattle.lane_core.specs.Traffic.{Traffic, no_traffic, with_at, put_in, published_all, closed_off, taken_out, back_in, freed_all}
+use Rattle.lane_core.specs.Traffic.{Traffic, no_traffic, with_at, put_in, published_all, closed_off, taken_out, back_in}
+use Rattle.lane_core.specs.Traffic.{freed_all}
 
 -- the word of a slot of a new lane
 abbrev pub new_word : Word
@@ -188,7 +189,8 @@ after l Closes = record l {
   traffic = closed_off l.traffic;
 }
 after l Receiver_loads = record l { receiver = receiver_loaded l.receiver (receiver_word l) }
-after l Takes = record l { receiver = receiver_took l.receiver; traffic = taken_out l.traffic (receiver_slot l.receiver) }
+after l Takes =
+    record l { receiver = receiver_took l.receiver; traffic = taken_out l.traffic (receiver_slot l.receiver) }
 after l Puts_back = record l {
   receiver = receiver_put_back l.receiver;
   traffic = back_in l.traffic l.traffic.emptying (receiver_slot l.receiver);

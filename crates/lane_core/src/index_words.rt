@@ -1,8 +1,13 @@
-//! The two ends over index words. The sender stores the word `put`: twice the count of the messages that it published, and
-//! one more when it has closed the lane. The receiver stores the word `taken`: the count of the messages that it freed.
-//! Each end loads the other's word, keeps what it loaded, and may go on by it.
+//! The two ends over index words. The sender stores the word `put`: twice the count of the messages that it
+//! published, and one more when it has closed the lane. The receiver stores the word `taken`: the count of the
+//! messages that it freed. Each end loads the other's word, keeps what it loaded, and may go on by it.
 ghost use Rattle.std.specs.Prelude.{IsTrue, ◌↔◌, ◌≡◌, ◌+◌, ◌*◌, ◌<◌, ◌≤◌, ◌^◌, false};
-ghost use Rattle.lane_core.specs.IndexWords.{new_sender, sender_loaded, room_of, fill_slot, sender_filled, publish_word, sender_published, close_word, sender_closed, next_sender_step, MayFill, MayPublish, MayClose, MaySend, new_receiver, receiver_loaded, found_by, take_slot, receiver_took, back_slot, receiver_put_back, free_word, receiver_freed, next_receiver_step, MayTake, MayPutBack, MayFree, MayReceive, SenderFits, ReceiverFits};
+ghost use Rattle.lane_core.specs.IndexWords.{new_sender, sender_loaded, room_of, fill_slot, sender_filled};
+ghost use Rattle.lane_core.specs.IndexWords.{publish_word, sender_published, close_word, sender_closed};
+ghost use Rattle.lane_core.specs.IndexWords.{next_sender_step, MayFill, MayPublish, MayClose, MaySend, new_receiver};
+ghost use Rattle.lane_core.specs.IndexWords.{receiver_loaded, found_by, take_slot, receiver_took, back_slot};
+ghost use Rattle.lane_core.specs.IndexWords.{receiver_put_back, free_word, receiver_freed, next_receiver_step, MayTake};
+ghost use Rattle.lane_core.specs.IndexWords.{MayPutBack, MayFree, MayReceive, SenderFits, ReceiverFits};
 
 use crate::answers::{Found, ReceiverStep, Room, SenderStep};
 

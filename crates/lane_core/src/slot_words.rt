@@ -1,7 +1,12 @@
 //! The two ends over slot words: each slot has a word of two bits beside it. The sender sets them, the receiver
 //! clears the first; an end loads the word of its own next slot alone.
 ghost use Rattle.std.specs.Prelude.{IsTrue, ◌↔◌, ◌≡◌, ◌+◌, ◌<◌, ◌^◌, true, false};
-ghost use Rattle.lane_core.specs.SlotWords.{new_word, new_sender, sender_slot, sender_loaded, room_in, sender_filled, full_word, sender_published, end_word, sender_closed, next_sender_step, MayFill, MayPublish, MayClose, MaySend, SenderFits, new_receiver, receiver_slot, receiver_loaded, found_in, receiver_took, receiver_put_back, free_word, receiver_freed, next_receiver_step, MayTake, MayPutBack, MayFree, MayReceive, ReceiverFits};
+ghost use Rattle.lane_core.specs.SlotWords.{new_word, new_sender, sender_slot, sender_loaded, room_in, sender_filled};
+ghost use Rattle.lane_core.specs.SlotWords.{full_word, sender_published, end_word, sender_closed, next_sender_step};
+ghost use Rattle.lane_core.specs.SlotWords.{MayFill, MayPublish, MayClose, MaySend, SenderFits, new_receiver};
+ghost use Rattle.lane_core.specs.SlotWords.{receiver_slot, receiver_loaded, found_in, receiver_took, receiver_put_back};
+ghost use Rattle.lane_core.specs.SlotWords.{free_word, receiver_freed, next_receiver_step, MayTake, MayPutBack};
+ghost use Rattle.lane_core.specs.SlotWords.{MayFree, MayReceive, ReceiverFits};
 
 use crate::answers::{Found, ReceiverStep, Room, SenderStep};
 use crate::index_words::LIMIT;
@@ -231,8 +236,8 @@ impl ReceiverEnd {
         }
     }
 
-    /// What the word of its next slot tells: it claims a full slot; and the lane has ended where the slot isn't full and
-    /// has the end bit.
+    /// What the word of its next slot tells: it claims a full slot; and the lane has ended where the slot isn't full
+    /// and has the end bit.
     pub fn load(&mut self, word: Word) -> Found
         ensures after { self.new ≡ receiver_loaded self.old word }
         ensures found { result ≡ found_in word }

@@ -69,8 +69,8 @@ fn reached<M: Machine>(
     Ok(pairs)
 }
 
-/// Every run of up to ten steps on words shows what the queue shows; and in some of them a lane is filled, closed while it
-/// is full, drained, and found ended.
+/// Every run of up to ten steps on words shows what the queue shows; and in some of them a lane is filled, closed
+/// while it is full, drained, and found ended.
 fn agrees_with_a_queue<M: Machine>(
     rt: &impl Abort,
     alloc: Global,

@@ -1,5 +1,5 @@
--- What the recorders of several instances know after a history, and the clocks that the messages of its lanes carry: vector
--- time (Fidge 1988, Mattern 1989) along a history of this project's profile.
+-- What the recorders of several instances know after a history, and the clocks that the messages of its lanes carry:
+-- vector time (Fidge 1988, Mattern 1989) along a history of this project's profile.
 use Rattle.std.specs.Prelude.{ℕ, ◌+◌, ◌==◌, List, [], ◌∷◌, ◌++◌, length, drop, replicate, if◌then◌else◌}
 use Rattle.chart.specs.declared.history.Occurrence.{Occurrence}
 use Rattle.chart.specs.declared.history.Occurrence.TheVariants.{Send, Receive, Close}
@@ -38,7 +38,8 @@ carried_by_receive w p clock = record {
 abbrev pub carried : ℕ → List Occurrence → Carried
 carried n [] = nothing_carried n
 carried n (Send p q m ∷ h) = carried_by_send (carried n h) p q (length (chart_of h p) + 1)
-carried n (Receive p q c ∷ h) = carried_by_receive (carried n h) p (first_clock (drop (received h q p) ((carried n h).clocks q p)))
+carried n (Receive p q c ∷ h) =
+    carried_by_receive (carried n h) p (first_clock (drop (received h q p) ((carried n h).clocks q p)))
 carried n (Close p q ∷ h) = carried n h
 
 -- what p knows

@@ -1,5 +1,5 @@
--- What a recorder is to a contract, and what it is after each event (vector time as Fidge 1988 and Mattern 1989 have it;
--- races as this project's profile has them).
+-- What a recorder is to a contract, and what it is after each event (vector time as Fidge 1988 and Mattern 1989 have
+-- it; races as this project's profile has them).
 use Rattle.std.specs.Prelude.{◌≡◌, ℕ, ◌+◌, ◌-◌, List, [], ◌∷◌, ◌++◌, length, map, max, replicate, All}
 use Rattle.chart.specs.declared.event.Event.{Event}
 use Rattle.chart.specs.Events.{send_event, receive_event}
@@ -8,8 +8,8 @@ use Rattle.chart.specs.Order.{IsRaces}
 use Rattle.chart.specs.Reports.{ReportView}
 use Rattle.clock.specs.Clocks.{entry_of, with_entry, merged}
 
--- an instance's line, how many events it knows of each instance, the reports of its receives, and for how many events room was
--- made on the line
+-- an instance's line, how many events it knows of each instance, the reports of its receives, and for how many events
+-- room was made on the line
 pub record RecorderView : Type 0 where
   pub line : LineView
   pub knowledge : List ℕ
@@ -18,7 +18,12 @@ pub record RecorderView : Type 0 where
 
 -- instance p of n, before its first event
 abbrev pub new_recorder : ℕ → ℕ → RecorderView
-new_recorder p n = record { line = record { instance = p; events = [] }; knowledge = replicate n 0; reports = []; room = 0 }
+new_recorder p n = record {
+  line = record { instance = p; events = [] };
+  knowledge = replicate n 0;
+  reports = [];
+  room = 0;
+}
 
 -- the line with one more event
 abbrev pub with_event : LineView → Event → LineView
@@ -30,17 +35,28 @@ send_clock r = with_entry r.knowledge r.line.instance (length r.line.events + 1)
 
 -- after a send, which is known from then on
 abbrev pub after_send : RecorderView → ℕ → List ℕ → RecorderView
-after_send r to name = record { line = with_event r.line (send_event to name); knowledge = send_clock r; reports = r.reports; room = r.room - 1 }
+after_send r to name = record {
+  line = with_event r.line (send_event to name);
+  knowledge = send_clock r;
+  reports = r.reports;
+  room = r.room - 1;
+}
 
 -- after a receive of a message with this clock, of which there is this report
 abbrev pub after_receive : RecorderView → ℕ → List ℕ → ℕ → List ℕ → ReportView → RecorderView
-after_receive r from name region clock report = record { line = with_event r.line (receive_event from name region); knowledge = merged r.knowledge clock; reports = r.reports ++ report ∷ []; room = r.room - 1 }
+after_receive r from name region clock report = record {
+  line = with_event r.line (receive_event from name region);
+  knowledge = merged r.knowledge clock;
+  reports = r.reports ++ report ∷ [];
+  room = r.room - 1;
+}
 
--- the report of the next event, if it is a receive of a message with this clock: the races above the clock's own entry for
--- this line
+-- the report of the next event, if it is a receive of a message with this clock: the races above the clock's own
+-- entry for this line
 pub record IsReportOf (r : RecorderView) (from region : ℕ) (clock : List ℕ) (report : ReportView) : Type 0 where
   pub receive : report.receive ≡ record { instance = r.line.instance; index = length r.line.events + 1 }
-  pub races : IsRaces r.line.events (entry_of clock r.line.instance) from region (map (λ race. race.index) report.earlier)
+  pub races : IsRaces r.line.events (entry_of clock r.line.instance) from region
+      (map (λ race. race.index) report.earlier)
   pub own : All (λ race. race.instance ≡ r.line.instance) report.earlier
 
 -- after a send of each name, one after another

@@ -1,6 +1,8 @@
-//! The laws of recorders, each the contract of a function that does nothing: that a recorder's clocks are what its sends
-//! know, and its reports those of its receives, in every chart that has its line.
-ghost use Rattle.line_recorder.specs.Laws.{NewRecorderLaw, SendClockLaw, SendKnowledgeLaw, ReceiveKnowledgeLaw, ReceiveReportLaw, CarriedKnowledgeLaw, CarriedManyLaw, CarriedEntriesLaw, CarriedClockLaw, CarriedReportLaw};
+//! The laws of recorders, each the contract of a function that does nothing: that a recorder's clocks are what its
+//! sends know, and its reports those of its receives, in every chart that has its line.
+ghost use Rattle.line_recorder.specs.Laws.{NewRecorderLaw, SendClockLaw, SendKnowledgeLaw, ReceiveKnowledgeLaw};
+ghost use Rattle.line_recorder.specs.Laws.{ReceiveReportLaw, CarriedKnowledgeLaw, CarriedManyLaw, CarriedEntriesLaw};
+ghost use Rattle.line_recorder.specs.Laws.{CarriedClockLaw, CarriedReportLaw};
 
 /// What a recorder knows of the other instances is the greatest heard on its line: at first, after a send, and after a
 /// receive of a message whose clock is what its send knows.
@@ -22,8 +24,8 @@ pub fn report_law()
 {}
 
 /// Along a legal history: of each other instance an instance knows the greatest heard of it; each message carries a
-/// clock with an entry for each instance, and it is what its send knows; and the report that is made by the clock of the
-/// first message that waits is the report of its receive.
+/// clock with an entry for each instance, and it is what its send knows; and the report that is made by the clock of
+/// the first message that waits is the report of its receive.
 pub fn history_law()
     ensures knowledge { CarriedKnowledgeLaw }
     ensures many { CarriedManyLaw }

@@ -9,8 +9,8 @@
 //! - A receive's report is made by its message's clock alone; the report is kept, and the clock is merged
 //!   ([`Recorder::receive`]).
 //! - A full line (F7), and then a refused allocation (F6), leave all as it was.
-//! - After [`Recorder::reserve`] there is room for so many events, and each event takes one place of it. With room, a send
-//!   among up to eight instances isn't refused for want of memory.
+//! - After [`Recorder::reserve`] there is room for so many events, and each event takes one place of it. With room, a
+//!   send among up to eight instances isn't refused for want of memory.
 //! - Where a recorder knows what its line has heard, the clock of its next send is what that send knows in the chart,
 //!   if it is the line's last or the chart has no cycle ([`laws::knowledge_law`], [`laws::clock_law`]). Where a
 //!   message's clock is what its send knows, the report is the receive's ([`laws::report_law`]).

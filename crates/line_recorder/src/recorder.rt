@@ -3,7 +3,8 @@ ghost use Rattle.std.specs.Prelude.{◌≡◌, ◌≢◌, ◌≤◌, ◌<◌, �
 ghost use Rattle.chart.specs.Events.{MayHaveRegion};
 ghost use Rattle.clock.specs.declared.clock.TheConstants.{INLINE_ENTRIES};
 ghost use Rattle.line_recorder.specs.Sends.{next_clocks, known_after};
-ghost use Rattle.line_recorder.specs.Recorders.{new_recorder, with_room, send_clock, after_send, after_sends, send_clocks, after_receive, IsReportOf};
+ghost use Rattle.line_recorder.specs.Recorders.{new_recorder, with_room, send_clock, after_send, after_sends};
+ghost use Rattle.line_recorder.specs.Recorders.{send_clocks, after_receive, IsReportOf};
 
 use crate::error::RecordError;
 use chart::{
@@ -35,7 +36,12 @@ impl Model for Recorder {
 
     ghost Value = { RecorderView };
 
-    ghost view = { λ r. record { line = r.line.line; knowledge = r.knowledge; reports = r.reports.items; room = r.room } };
+    ghost view = { λ r. record {
+      line = r.line.line;
+      knowledge = r.knowledge;
+      reports = r.reports.items;
+      room = r.room;
+    } };
 
     ghost invariant = { λ r. (r.line.line.instance ≤ length r.knowledge) × (r.room ≤ r.line.room) };
 }
@@ -67,8 +73,8 @@ impl Recorder {
         &self.line
     }
 
-    /// For so many events room was made on the line, and not used yet: they need no memory there. An event takes one place
-    /// of it.
+    /// For so many events room was made on the line, and not used yet: they need no memory there. An event takes one
+    /// place of it.
     pub fn room(&self) -> usize
         ensures { result ≡ self.now.room }
     {
@@ -134,7 +140,8 @@ impl Recorder {
         requires not_itself { to ≢ self.old.line.instance }
         ensures ok { OnOk result (self.new ≡ after_send self.old to name) }
         ensures clock { IfOk result (λ clock. clock ≡ send_clock self.old) }
-        ensures room { 0 < self.old.room → length self.old.knowledge ≤ INLINE_ENTRIES → result ≢ Err RecordError.Memory }
+        ensures room { 0 < self.old.room → length self.old.knowledge ≤ INLINE_ENTRIES
+            → result ≢ Err RecordError.Memory }
         ensures full { (result ≡ Err RecordError.LineFull) ↔ (length self.old.line.events ≡ MAX_EVENTS) }
         ensures err { OnErr result (self.new ≡ self.old) }
     {

@@ -1,5 +1,6 @@
 -- What a receive from any instance answers (this project's profile).
-use Rattle.std.specs.Prelude.{◌≡◌, ℕ, ◌+◌, ◌-◌, ◌≤◌, ◌⊎◌, ◌==◌, not, Bool, true, false, List, [], ◌∷◌, ◌++◌, map, drop, filter, All, Result, Ok, Err}
+use Rattle.std.specs.Prelude.{◌≡◌, ℕ, ◌+◌, ◌-◌, ◌≤◌, ◌⊎◌, ◌==◌, not, Bool, true, false, List, [], ◌∷◌, ◌++◌, map, drop}
+use Rattle.std.specs.Prelude.{filter, All, Result, Ok, Err}
 use Rattle.std.specs.List.{range_with_len}
 use Rattle.chart.specs.declared.history.Occurrence.{Occurrence}
 use Rattle.chart.specs.Histories.{waiting, is_closed, Begins}
@@ -23,16 +24,18 @@ pub record Look : Type 0 where
 abbrev pub lanes_of : List Look → List ℕ
 lanes_of looks = map (λ (look : Look). look.from) looks
 
--- At each of these looks no message waits for p. The history of each begins with that of the look before it, of the first
--- with what was seen; that after them begins with that of the last.
+-- At each of these looks no message waits for p. The history of each begins with that of the look before it, of the
+-- first with what was seen; that after them begins with that of the last.
 abbrev pub NoneWaits : ℕ → List Occurrence → List Look → List Occurrence → Type 0
 NoneWaits p seen [] after = Begins seen after
-NoneWaits p seen (look ∷ looks) after = Begins seen look.front × (waiting look.front look.from p ≡ []) × NoneWaits p look.front looks after
+NoneWaits p seen (look ∷ looks) after = Begins seen look.front × (waiting look.front look.from p ≡ [])
+    × NoneWaits p look.front looks after
 
--- the lane from this instance is the first in this order on which a message was found: at a look at each lane before it none
--- waited, and the history in which it was found comes after these looks
+-- the lane from this instance is the first in this order on which a message was found: at a look at each lane before
+-- it none waited, and the history in which it was found comes after these looks
 abbrev pub IsFirst : PostView → List ℕ → ℕ → List Occurrence → Type 0
-IsFirst old order from found = (looks : List Look) × (rest : List ℕ) × (order ≡ lanes_of looks ++ from ∷ rest) × NoneWaits old.number old.seen looks found
+IsFirst old order from found = (looks : List Look) × (rest : List ℕ) × (order ≡ lanes_of looks ++ from ∷ rest)
+    × NoneWaits old.number old.seen looks found
 
 -- at one of these looks the lane was open
 abbrev pub IsOneOpen : ℕ → List Look → Type 0
@@ -50,7 +53,8 @@ IsEnd false p looks new = IsOneOpen p looks
 
 -- a look at each lane, in this order, found that no message waits, be it the end or not; none waited in what was seen
 pub record AreFoundEmpty (old : PostView) (order : List ℕ) (its_end : Bool) (new : PostView) : Type 0 where
-  pub found : (looks : List Look) × (order ≡ lanes_of looks) × NoneWaits old.number old.seen looks new.seen × IsEnd its_end old.number looks new
+  pub found : (looks : List Look) × (order ≡ lanes_of looks) × NoneWaits old.number old.seen looks new.seen
+      × IsEnd its_end old.number looks new
   pub before : All (λ q. waiting old.seen q old.number ≡ []) order
 
 -- why the first message isn't received: F14 and F13 never come
@@ -60,10 +64,11 @@ IsFirstUntaken old order ToItself new = ⊥
 IsFirstUntaken old order LineFull new = (from : ℕ) × IsFirst old order from new.seen × IsUntaken old from LineFull new
 IsFirstUntaken old order Memory new = (from : ℕ) × IsFirst old order from new.seen × IsUntaken old from Memory new
 
--- what a receive from the first of these lanes with a message answers; where it got one, the history in which it was found is
--- what was seen before its receive
+-- what a receive from the first of these lanes with a message answers; where it got one, the history in which it was
+-- found is what was seen before its receive
 abbrev pub TakesFirst : PostView → List ℕ → Result Taken TakeError → PostView → Type 0
-TakesFirst old order (Ok (Got arrival)) new = IsGot old arrival.from arrival new × IsFirst old order arrival.from (drop 1 new.seen)
+TakesFirst old order (Ok (Got arrival)) new = IsGot old arrival.from arrival new
+    × IsFirst old order arrival.from (drop 1 new.seen)
 TakesFirst old order (Ok Nothing) new = Stays old new × AreFoundEmpty old order false new
 TakesFirst old order (Ok Ended) new = Stays old new × AreFoundEmpty old order true new
 TakesFirst old order (Err error) new = Stays old new × IsFirstUntaken old order error new
@@ -77,4 +82,5 @@ LooksAtAll many old (Err error) new = Unit {0}
 
 -- what a receive from any instance answers, which begins after the one that it got a message from last, 0 for none
 abbrev pub TakesAny : PostView → ℕ → Result Taken TakeError → PostView → Type 0
-TakesAny old last result new = TakesFirst old (scan old.board.size old.number last) result new × LooksAtAll (old.board.size - 1) old result new
+TakesAny old last result new = TakesFirst old (scan old.board.size old.number last) result new
+    × LooksAtAll (old.board.size - 1) old result new

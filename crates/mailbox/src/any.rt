@@ -6,10 +6,10 @@ ghost use Rattle.mailbox.specs.TakingAny.{others, TakesFirst, LooksAtAll, TakesA
 use board::{Post, TakeError, Taken};
 use chart::InstanceNo;
 
-/// Receives the first message that waits on the lanes to a post, which are looked at in cyclic order: after the lane from
-/// `last`, an instance of the board, or from the lowest number on. F7 and F6 refuse it where a message waits, as they refuse
-/// [`Post::receive`]; the message is then still the first of its lane. Where none is found it is the end if each lane was found
-/// ended, and else nothing; it then looked at each lane and took no memory.
+/// Receives the first message that waits on the lanes to a post, which are looked at in cyclic order: after the lane
+/// from `last`, an instance of the board, or from the lowest number on. F7 and F6 refuse it where a message waits, as
+/// they refuse [`Post::receive`]; the message is then still the first of its lane. Where none is found it is the end
+/// if each lane was found ended, and else nothing; it then looked at each lane and took no memory.
 pub fn any_from(post: &mut Post, last: Option<InstanceNo>) -> Result<Taken, TakeError>
     requires known { unwrap_or last 0 ≤ post.old.board.size }
     ensures sound { Sound post.old post.new }
@@ -39,8 +39,8 @@ fn any_after(post: &mut Post, last: usize) -> Result<Taken, TakeError>
     }
 }
 
-/// Receives the first message that waits on the lanes from the others among the instances with a number above `from` and up
-/// to `to`.
+/// Receives the first message that waits on the lanes from the others among the instances with a number above `from`
+/// and up to `to`.
 fn any_among(post: &mut Post, from: usize, to: usize) -> Result<Taken, TakeError>
     requires order { from ≤ to }
     requires within { to ≤ post.old.board.size }

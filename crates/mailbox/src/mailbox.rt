@@ -21,8 +21,8 @@ use std::marker::Model;
 /// A post that keeps from which instance it got a message last, so that [`Mailbox::any`] gives each its turn.
 ///
 /// A contract sees its post and this instance, 0 for none. It is none at first. Each message that [`Mailbox::any`],
-/// [`Mailbox::receive`] and [`Mailbox::receive_up_to`] get makes it the sender, and no other call changes it. What else a call
-/// does is what the post's call of this name does.
+/// [`Mailbox::receive`] and [`Mailbox::receive_up_to`] get makes it the sender, and no other call changes it. What
+/// else a call does is what the post's call of this name does.
 #[derive(Drop)]
 pub struct Mailbox<'a> {
     post: Post<'a>,
@@ -69,10 +69,11 @@ impl<'a> Mailbox<'a> {
         self.post.line()
     }
 
-    /// Receives the first message that it finds on the lanes from the other instances, which it looks at in cyclic order,
-    /// beginning after the instance that it got a message from last. F7 and F6 refuse it where it found a message, which is
-    /// then still the first of its lane; the next call begins with the same instance. Where it finds none it is the end if each
-    /// lane was found ended, and else nothing; it then looked at each lane and took no memory.
+    /// Receives the first message that it finds on the lanes from the other instances, which it looks at in cyclic
+    /// order, beginning after the instance that it got a message from last. F7 and F6 refuse it where it found a
+    /// message, which is then still the first of its lane; the next call begins with the same instance. Where it
+    /// finds none it is the end if each lane was found ended, and else nothing; it then looked at each lane and took
+    /// no memory.
     pub fn any(&mut self) -> Result<Taken, TakeError>
         ensures sound { Sound self.old.post self.new.post }
         ensures answer { TakesAny self.old.post self.old.last result self.new.post }
@@ -98,7 +99,8 @@ impl<'a> Mailbox<'a> {
         Ok(taken)
     }
 
-    /// Receives the first messages that wait on the lane from an instance, at most so many, as [`Post::receive_up_to`] does.
+    /// Receives the first messages that wait on the lane from an instance, at most so many, as
+    /// [`Post::receive_up_to`] does.
     pub fn receive_up_to(&mut self, from: InstanceNo, max: usize) -> Result<TakenMany, TakeError>
         requires some { 1 ≤ max }
         ensures sound { Sound self.old.post self.new.post }
@@ -116,7 +118,8 @@ impl<'a> Mailbox<'a> {
     pub fn send(&mut self, to: InstanceNo, message: Message) -> Result<Sent, (Message, SendError)>
         ensures sound { Sound self.old.post self.new.post }
         ensures answer { Sends self.old.post to message result self.new.post }
-        ensures room { 0 < self.old.post.room → self.old.post.board.size ≤ INLINE_ENTRIES → IfErr result (λ refused. refused.1 ≢ sending.Memory) }
+        ensures room { 0 < self.old.post.room → self.old.post.board.size ≤ INLINE_ENTRIES
+            → IfErr result (λ refused. refused.1 ≢ sending.Memory) }
         ensures last { self.new.last ≡ self.old.last }
     {
         self.post.send(to, message)
@@ -146,7 +149,9 @@ impl<'a> Mailbox<'a> {
 
     /// Opens a coregion, as [`Post::open_coregion`] does.
     pub fn open_coregion(&mut self) -> Result<(), RegionError>
-        ensures ok { OnOk result (self.new ≡ record self.old { post = record self.old.post { region = greatest_region (line_of self.old.post) + 1 } }) }
+        ensures ok { OnOk result (self.new ≡ record self.old {
+          post = record self.old.post { region = greatest_region (line_of self.old.post) + 1 };
+        }) }
         ensures open { (result ≡ Err CoregionOpen) ↔ (0 < self.old.post.region) }
         ensures not_open { (result ≡ Err CoregionNotOpen) → ⊥ }
         ensures err { OnErr result (self.new ≡ self.old) }
@@ -174,7 +179,9 @@ impl<'a> Mailbox<'a> {
     /// Makes room for so many events, at most [`chart::MAX_EVENTS`], as [`Post::reserve`] does.
     pub fn reserve(&mut self, events: usize) -> Result<(), Memory>
         requires { events ≤ MAX_EVENTS }
-        ensures ok { OnOk result (self.new ≡ record self.old { post = record self.old.post { room = max self.old.post.room events } }) }
+        ensures ok { OnOk result (self.new ≡ record self.old {
+          post = record self.old.post { room = max self.old.post.room events };
+        }) }
         ensures err { OnErr result (self.new ≡ self.old) }
     {
         self.post.reserve(events)

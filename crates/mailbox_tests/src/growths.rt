@@ -1,6 +1,6 @@
-//! Calls of mailboxes whose growth is refused: each is made once more, and then answers in full. A test ends with a growth of
-//! its own, whose refusal tells that each one before it was refused in an earlier run of the test. Posts of nine instances
-//! take memory for each clock, those of three don't.
+//! Calls of mailboxes whose growth is refused: each is made once more, and then answers in full. A test ends with a
+//! growth of its own, whose refusal tells that each one before it was refused in an earlier run of the test. Posts of
+//! nine instances take memory for each clock, those of three don't.
 use crate::calls::{instance, is_got, message};
 use board::{Board, SendError, TakeError};
 use mailbox::Mailbox;
@@ -17,8 +17,8 @@ fn sends(rt: &impl Abort, alloc: Global, mailbox: &mut Mailbox, to: usize, lette
     }
 }
 
-/// Gets the message of this name and sender, whichever instance it was from. Where memory was refused, the same call made
-/// once more gets it: it begins with the same instance.
+/// Gets the message of this name and sender, whichever instance it was from. Where memory was refused, the same call
+/// made once more gets it: it begins with the same instance.
 fn gets_any(rt: &impl Abort, mailbox: &mut Mailbox, letter: u8, from: usize, races: &[u32]) {
     let events = mailbox.line().len();
     match mailbox.any() {

@@ -1,5 +1,6 @@
 -- The second look at a chart's text: what its lines build, now that all names are known (this project's profile).
-use Rattle.std.specs.Prelude.{◌≡◌, ℕ, suc, ◌+◌, ◌==◌, List, [], ◌∷◌, ◌++◌, length, Option, None, Some, Result, Ok, Err, nat_le, MatchOption, if◌then◌else◌}
+use Rattle.std.specs.Prelude.{◌≡◌, ℕ, suc, ◌+◌, ◌==◌, List, [], ◌∷◌, ◌++◌, length, Option, None, Some, Result, Ok, Err}
+use Rattle.std.specs.Prelude.{nat_le, MatchOption, if◌then◌else◌}
 use Rattle.chart.specs.Charts.{LineView, IsNumbered}
 use Rattle.chart.specs.Events.{partner_of, region_of, greatest_region, MayHaveRegion}
 use Rattle.chart.specs.declared.event.Event.{Event}
@@ -13,7 +14,8 @@ use Rattle.msc_text.specs.declared.fault.Cause.TheVariants.{Syntax, Instances, T
 use Rattle.msc_reader.specs.declared.state.Saying.{Saying}
 use Rattle.msc_reader.specs.declared.state.Saying.TheVariants.{Begin, Head, Send, Receive, Open, Shut, Foot, End}
 
--- the lines that are built whole, and that which is being built, if there is one; its open coregion, 0 where there is none
+-- the lines that are built whole, and that which is being built, if there is one; its open coregion, 0 where there is
+-- none
 pub record BuilderView : Type 0 where
   pub lines : List LineView
   pub line : Option LineView
@@ -43,7 +45,12 @@ with_event d (Some line) m = do
 -- the next instance's line begins
 abbrev pub with_head : BuilderView → Result BuilderView Cause
 with_head d =
-    if nat_le MAX_INSTANCES (length d.lines) then Err Instances else Ok (record { lines = d.lines; line = Some (record { instance = suc (length d.lines); events = [] }); open_region = 0 })
+    if nat_le MAX_INSTANCES (length d.lines) then Err Instances else Ok
+    (record {
+      lines = d.lines;
+      line = Some (record { instance = suc (length d.lines); events = [] });
+      open_region = 0;
+    })
 
 -- the line that is being built is whole
 abbrev pub with_foot : BuilderView → Option LineView → Result BuilderView Cause

@@ -1,4 +1,5 @@
--- The last word of a line in a chart's text: a semicolon stands behind it (a profile of the instance-oriented text of ITU-T Z.120).
+-- The last word of a line in a chart's text: a semicolon stands behind it (a profile of the instance-oriented text of
+-- ITU-T Z.120).
 use Rattle.std.specs.Prelude.{ℕ, Bool, List, [], ◌∷◌, ◌++◌, bytes_eq}
 
 -- a word with a semicolon behind it

@@ -1,5 +1,7 @@
--- A line of a chart's text, by where it stands: what it says, or its first fault (this project's profile of ITU-T Z.120).
-use Rattle.std.specs.Prelude.{ℕ, ◌+◌, Bool, true, false, not, ◌&&◌, ◌||◌, ◌==◌, List, [], ◌∷◌, length, take, position, Option, None, Some, Result, Ok, Err, nat_le, bytes_eq, if◌then◌else◌}
+-- A line of a chart's text, by where it stands: what it says, or its first fault (this project's profile of ITU-T
+-- Z.120).
+use Rattle.std.specs.Prelude.{ℕ, ◌+◌, Bool, true, false, not, ◌&&◌, ◌||◌, ◌==◌, List, [], ◌∷◌, length, take, position}
+use Rattle.std.specs.Prelude.{Option, None, Some, Result, Ok, Err, nat_le, bytes_eq, if◌then◌else◌}
 use Rattle.std.specs.List.{list_all}
 use Rattle.chart.specs.Keywords.{spelled, is_keyword}
 use Rattle.chart.specs.declared.keyword.Keyword.TheVariants as keywords
@@ -43,7 +45,10 @@ is_plain word = not (length word == 0) && list_all is_other word
 
 -- the text's first line, by its words
 abbrev pub start_by : List (List ℕ) → Result Step Cause
-start_by (m ∷ r ∷ []) = if is_keyword keywords.Msc m && is_last_word chart_name r then Ok (sayings.Begin, states.Outside) else Err Syntax
+start_by (m ∷ r ∷ []) = if is_keyword keywords.Msc m && is_last_word chart_name r then Ok (
+  sayings.Begin,
+  states.Outside,
+) else Err Syntax
 start_by _ = Err Syntax
 
 -- an instance begins
@@ -99,15 +104,20 @@ is_closed regions.Held = false
 unfoldable pub event_of : List ℕ → ℕ → Region → List ℕ → List ℕ → List ℕ → List ℕ → Result Step Cause
 event_of own events region k m t w =
     if is_keyword keywords.In k && is_keyword keywords.From t then receive_of own events region m w else (
-    if is_keyword keywords.Out k && is_keyword keywords.To t && is_closed region then send_of own events m w else Err Syntax)
+    if is_keyword keywords.Out k && is_keyword keywords.To t
+    && is_closed region then send_of own events m w else Err Syntax)
 
 -- a line of one word inside an instance
 unfoldable pub alone_of : List ℕ → ℕ → Region → List ℕ → Result Step Cause
 alone_of own events regions.Closed k =
     if is_last_word (spelled keywords.EndInstance) k then Ok (sayings.Foot, states.Outside) else (
-    if is_last_word (spelled keywords.Concurrent) k then Ok (sayings.Open, states.Inside own events regions.Empty) else Err Syntax)
+    if is_last_word (spelled keywords.Concurrent) k then Ok (sayings.Open, states.Inside own events regions.Empty) else
+    Err Syntax)
 alone_of own events regions.Empty k = Err Syntax
-alone_of own events regions.Held k = if is_last_word (spelled keywords.EndConcurrent) k then Ok (sayings.Shut, states.Inside own events regions.Closed) else Err Syntax
+alone_of own events regions.Held k = if is_last_word (spelled keywords.EndConcurrent) k then Ok (
+  sayings.Shut,
+  states.Inside own events regions.Closed,
+) else Err Syntax
 
 -- a line inside an instance, by its words
 abbrev pub inside_by : List ℕ → ℕ → Region → List (List ℕ) → Result Step Cause

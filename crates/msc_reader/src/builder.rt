@@ -1,10 +1,11 @@
-//! What the lines of a chart's text build, once all names are known and each line was found right by itself: so the only
-//! fault that is left is a partner that is no instance.
+//! What the lines of a chart's text build, once all names are known and each line was found right by itself: so the
+//! only fault that is left is a partner that is no instance.
 ghost use Rattle.std.specs.Prelude.{◌≡◌, ◌⊎◌, Ok, IfOk, OnOk};
 ghost use Rattle.chart.specs.Charts.{IsNumbered};
 ghost use Rattle.chart.specs.Events.{region_of, MayHaveRegion};
 ghost use Rattle.msc_text.specs.Faults.{Gives, in_line};
-ghost use Rattle.msc_reader.specs.Builders.{blank, pushed, next_region, with_event, with_head, with_foot, with_coregion, with_send, with_receive, built, IsRight};
+ghost use Rattle.msc_reader.specs.Builders.{blank, pushed, next_region, with_event, with_head, with_foot};
+ghost use Rattle.msc_reader.specs.Builders.{with_coregion, with_send, with_receive, built, IsRight};
 
 use crate::state::Saying;
 use chart::{Event, InstanceNo, Line, LineError, MAX_EVENTS, Name, Names};
@@ -12,7 +13,8 @@ use msc_text::{TextError, at_line, known_in};
 use std::alloc::{AllocError, Global};
 use std::marker::Model;
 
-/// A chart that is being built: the lines that are whole so far, and that which is being built. A contract sees a record of its fields.
+/// A chart that is being built: the lines that are whole so far, and that which is being built. A contract sees a
+/// record of its fields.
 #[derive(Debug, Drop)]
 pub(crate) struct Builder {
     lines: Vec<Line>,

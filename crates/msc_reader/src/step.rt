@@ -2,7 +2,9 @@
 ghost use Rattle.std.specs.Prelude.{◌≡◌, ◌<◌, length, position, Some, None, IfSome, IsOk, MatchOption};
 ghost use Rattle.std.specs.List.{list_all};
 ghost use Rattle.chart.specs.declared.line.TheConstants.{MAX_EVENTS};
-ghost use Rattle.msc_reader.specs.Steps.{is_semicolon, is_other, name_part, is_plain, start_by, head_of, outside_by, pair_of, names_of, after_receive, is_closed, send_of, receive_of, event_of, alone_of, inside_by, step_of};
+ghost use Rattle.msc_reader.specs.Steps.{is_semicolon, is_other, name_part, is_plain, start_by, head_of, outside_by};
+ghost use Rattle.msc_reader.specs.Steps.{pair_of, names_of, after_receive, is_closed, send_of, receive_of, event_of};
+ghost use Rattle.msc_reader.specs.Steps.{alone_of, inside_by, step_of};
 ghost use Rattle.msc_text.specs.Lines.{words_of};
 
 use crate::last_word::is_last_word;
@@ -100,8 +102,8 @@ fn outside_in(line: &[u8]) -> Result<(Saying, State), Cause>
     }
 }
 
-/// Message and partner of an event of the instance `own`, which has so many events before it: the first of F1 to F4 that
-/// applies to the message's name, and then to the partner's, F13 and F7 refuse them.
+/// Message and partner of an event of the instance `own`, which has so many events before it: the first of F1 to F4
+/// that applies to the message's name, and then to the partner's, F13 and F7 refuse them.
 #[tactic(auto, unfolding(crate::specs::Steps::pair_of))]
 fn pair_in(own: Name, events: usize, message: &[u8], partner: &[u8]) -> Result<(Name, Name), Cause>
     ensures pair { result ≡ pair_of own events message.now partner.now }

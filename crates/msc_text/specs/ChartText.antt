@@ -16,7 +16,9 @@ name_at names (suc place) = unwrap_or (slice_get names place) []
 
 -- a line of four words: in which direction goes the message, its name, and its partner behind a word of its own
 unfoldable pub event_line : Keyword → List ℕ → Keyword → List ℕ → List ℕ
-event_line direction message side partner = spelled direction ++ (codes " " ++ (message ++ (codes " " ++ (spelled side ++ (codes " " ++ (partner ++ codes ";\n"))))))
+event_line direction message side partner =
+    spelled direction
+    ++ (codes " " ++ (message ++ (codes " " ++ (spelled side ++ (codes " " ++ (partner ++ codes ";\n"))))))
 
 -- a line of one word
 unfoldable pub lone_line : Keyword → List ℕ

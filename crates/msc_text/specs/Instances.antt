@@ -1,5 +1,6 @@
 -- The instances of a text by their names: what becomes of a new name, and the instance that a name has.
-use Rattle.std.specs.Prelude.{ℕ, ◌==◌, List, [], ◌∷◌, ◌++◌, length, Option, None, Some, Result, Ok, Err, bytes_eq, if◌then◌else◌}
+use Rattle.std.specs.Prelude.{ℕ, ◌==◌, List, [], ◌∷◌, ◌++◌, length, Option, None, Some, Result, Ok, Err, bytes_eq}
+use Rattle.std.specs.Prelude.{if◌then◌else◌}
 use Rattle.std.specs.List.{list_any}
 use Rattle.chart.specs.Names.{instance_of}
 use Rattle.chart.specs.declared.instance.TheConstants.{MAX_INSTANCES}

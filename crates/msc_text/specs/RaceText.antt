@@ -23,7 +23,8 @@ race_text name receive earlier = race_line (race_front name) (race_end receive) 
 
 -- a line for each race of a receive
 abbrev pub report_text : List (List ℕ) → ReportView → List ℕ
-report_text names report = flat_map (race_text (name_at names report.receive.instance) report.receive.index) report.earlier
+report_text names report =
+    flat_map (race_text (name_at names report.receive.instance) report.receive.index) report.earlier
 
 -- a line for each race of each of these receives
 abbrev pub races_text : List (List ℕ) → List ReportView → List ℕ

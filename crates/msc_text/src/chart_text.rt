@@ -3,7 +3,9 @@ ghost use Rattle.std.specs.Prelude.{◌≡◌, ◌≤◌, length, All};
 ghost use Rattle.chart.specs.Charts.{HasPartners};
 ghost use Rattle.chart.specs.Events.{partner_of};
 ghost use Rattle.std.specs.List.{flat_map};
-ghost use Rattle.msc_text.specs.ChartText.{name_at, event_line, lone_line, event_text, ending, beginning, event_lines_text, events_text, head_text, foot_text, line_text, chart_name, begin_text, end_text, chart_text};
+ghost use Rattle.msc_text.specs.ChartText.{name_at, event_line, lone_line, event_text, ending, beginning};
+ghost use Rattle.msc_text.specs.ChartText.{event_lines_text, events_text, head_text, foot_text, line_text, chart_name};
+ghost use Rattle.msc_text.specs.ChartText.{begin_text, end_text, chart_text};
 ghost use Rattle.msc_text.specs.Writing.{Wrote, Adds};
 
 use crate::out::Out;

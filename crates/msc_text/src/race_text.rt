@@ -12,7 +12,8 @@ use crate::text_buffer::{TextBuffer, WriteError};
 use chart::{EventNo, EventRange, Name, Names, Report};
 use itoa::Buffer;
 
-/// Writes the lines of races. What is the same in all lines of a receive is made once, so one value serves many receives.
+/// Writes the lines of races. What is the same in all lines of a receive is made once, so one value serves many
+/// receives.
 #[derive(Drop)]
 pub struct RaceLines {
     /// What stands before the number of the earlier event.

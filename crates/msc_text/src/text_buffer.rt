@@ -16,9 +16,9 @@ pub enum WriteError {
     Put(#[from] OutFault),
 }
 
-/// A text that is being written to an [`Out`], which it borrows until it is dropped. It takes no memory. Pieces are held
-/// until the next one doesn't fit beside them, and are put then and by `finish`: so a text of many short pieces takes few
-/// puts. After an error nothing is held, so that nothing more of the text can be put.
+/// A text that is being written to an [`Out`], which it borrows until it is dropped. It takes no memory. Pieces are
+/// held until the next one doesn't fit beside them, and are put then and by `finish`: so a text of many short pieces
+/// takes few puts. After an error nothing is held, so that nothing more of the text can be put.
 #[derive(Drop)]
 pub struct TextBuffer<'a, W> {
     out: &'a mut W,

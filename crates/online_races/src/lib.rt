@@ -25,8 +25,8 @@ enum Stretch {
     Races { start: usize },
 }
 
-/// How many events the line has ahead of a run of races that ends with this event: the neighbouring receives from its sender,
-/// where the receive that comes is in no coregion.
+/// How many events the line has ahead of a run of races that ends with this event: the neighbouring receives from its
+/// sender, where the receive that comes is in no coregion.
 fn races_start(line: &GrowingLine, index: usize, region: u32) -> usize
     requires begun { 1 ≤ index }
     requires within { index ≤ length line.now.line.events }

@@ -5,7 +5,8 @@ use Rattle.msc_text.specs.ChartText.{chart_text}
 use Rattle.msc_text.specs.RaceText.{races_text}
 use Rattle.schedule.specs.declared.command.Note.{Note}
 use Rattle.schedule.specs.declared.command.Word.{Word}
-use Rattle.schedule.specs.declared.command.Word.TheVariants.{Full, Nothing, Ended, Closed, LineFull, Open, NotOpen, InCoregion}
+use Rattle.schedule.specs.declared.command.Word.TheVariants.{Full, Nothing, Ended, Closed, LineFull, Open, NotOpen}
+use Rattle.schedule.specs.declared.command.Word.TheVariants.{InCoregion}
 use Rattle.outcomes.specs.Outcomes.{OutcomeView}
 
 unfoldable pub word_text : Word → List ℕ

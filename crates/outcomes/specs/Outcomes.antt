@@ -24,8 +24,8 @@ pub record AreByLine (came listed : List Note) : Type 0 where
   pub rising : AllPairs (λ a b. a.line ≤ b.line) listed
   pub same : (line : ℕ) → filter (λ note. note.line == line) listed ≡ filter (λ note. note.line == line) came
 
--- what a schedule comes to: the chart of the history that its commands make, each of its receives with its report, and the
--- notes by line
+-- what a schedule comes to: the chart of the history that its commands make, each of its receives with its report,
+-- and the notes by line
 pub record IsOutcome (plan : Plan) (o : OutcomeView) : Type 0 where
   pub names : o.names ≡ plan.names
   pub chart : o.chart ≡ history_lines (length plan.names) (meaning plan).run.history
@@ -38,4 +38,5 @@ OneOutcomeLaw = (plan : Plan) (a b : OutcomeView) → IsOutcome plan a → IsOut
 
 -- the chart of what a plan comes to is one that some run has
 abbrev pub PossibleOutcomeLaw : Type 0
-PossibleOutcomeLaw = (plan : Plan) (o : OutcomeView) → IsPlan plan → All IsNumbered plan.commands → IsOutcome plan o → IsPossible (length o.names) (chart_lines o.chart)
+PossibleOutcomeLaw = (plan : Plan) (o : OutcomeView) → IsPlan plan → All IsNumbered plan.commands → IsOutcome plan o
+    → IsPossible (length o.names) (chart_lines o.chart)

@@ -5,8 +5,8 @@ ghost use Rattle.outcomes.specs.Outcomes.{AreByLine};
 use schedule::Note;
 use std::alloc::AllocError;
 
-/// Puts the notes in the order of their lines, and leaves those of one line in the order in which they came. It fails only
-/// where there is no memory.
+/// Puts the notes in the order of their lines, and leaves those of one line in the order in which they came. It fails
+/// only where there is no memory.
 pub fn put_by_line(notes: &mut Vec<Note>) -> Result<(), AllocError>
     ensures { OnOk result (AreByLine notes.old.items notes.new.items) }
 {

@@ -7,9 +7,9 @@ use chart::{Chart, Names, Report, has_races};
 use schedule::Note;
 use std::marker::Model;
 
-/// What a schedule comes to: its instances' names, the chart of what happened, the report of each receive by
-/// instance and index, and a note for each command that was refused or found nothing, by line. A
-/// contract sees a record of these. There are as many names as lines, and the reports are those of the chart's receives.
+/// What a schedule comes to: its instances' names, the chart of what happened, the report of each receive by instance
+/// and index, and a note for each command that was refused or found nothing, by line. A contract sees a record of
+/// these. There are as many names as lines, and the reports are those of the chart's receives.
 #[derive(Debug, Drop)]
 pub struct Outcome<'a> {
     names: &'a Names,
@@ -23,7 +23,12 @@ impl<'a> Model for Outcome<'a> {
 
     ghost Value = { OutcomeView };
 
-    ghost view = { λ o. record { names = o.names.now; chart = o.chart; reports = o.reports.items; notes = o.notes.items } };
+    ghost view = { λ o. record {
+      names = o.names.now;
+      chart = o.chart;
+      reports = o.reports.items;
+      notes = o.notes.items;
+    } };
 
     ghost invariant = { λ o. FitTogether o.names.now o.chart o.reports.items };
 }

@@ -51,8 +51,10 @@ pub record Agrees (n k : ℕ) (r : Run) (actors : List ActorView) : Type 0 where
 abbrev pub IsReached : ℕ → List ActorView → Type 0
 IsReached k actors = (n : ℕ) × (r : Run) × Agrees n k r actors
 
--- what a command left, memory aside: the instances are as far as the command's run, or as they were with the word of its note
-abbrev pub HasActed : ℕ → ℕ → List ActorView → List ActorView → Result (Option Word) ReplayError → Result Run Word → Type 0
+-- what a command left, memory aside: the instances are as far as the command's run, or as they were with the word of
+-- its note
+abbrev pub HasActed : ℕ → ℕ → List ActorView → List ActorView → Result (Option Word) ReplayError → Result Run Word
+    → Type 0
 HasActed n k old new (Ok None) (Ok r) = Agrees n k r new
 HasActed n k old new (Ok None) (Err word) = ⊥
 HasActed n k old new (Ok (Some noted)) (Ok r) = ⊥

@@ -16,12 +16,14 @@ without_closes (Send a b m ∷ h) = Send a b m ∷ without_closes h
 without_closes (Receive a b c ∷ h) = Receive a b c ∷ without_closes h
 without_closes (Close a b ∷ h) = without_closes h
 
--- the steps are the accepted sends and receives of the commands, in their order, among n instances with lanes of k slots
+-- the steps are the accepted sends and receives of the commands, in their order, among n instances with lanes of k
+-- slots
 pub record IsRecordedBy (n k : ℕ) (commands : List Command) (steps : List Step) : Type 0 where
   pub history : history_of steps ≡ without_closes (after n k commands).run.history
   pub legal : IsLegal n k (after n k commands).run.history
 
--- the steps are the accepted sends and receives of the plan, in their order: a run with its chart, over lanes of its capacity
+-- the steps are the accepted sends and receives of the plan, in their order: a run with its chart, over lanes of its
+-- capacity
 pub record IsRecorded (plan : Plan) (steps : List Step) : Type 0 where
   pub history : history_of steps ≡ without_closes (meaning plan).run.history
   pub legal : IsLegal (length plan.names) plan.capacity (history_of steps)

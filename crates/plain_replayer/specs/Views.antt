@@ -1,5 +1,6 @@
 -- What a replay holds of an instance, as a contract sees it.
-use Rattle.std.specs.Prelude.{ℕ, zero, suc, Bool, false, List, [], length, replicate, slice_get, Option, None, Some, nat_lt}
+use Rattle.std.specs.Prelude.{ℕ, zero, suc, Bool, false, List, [], length, replicate, slice_get, Option, None, Some}
+use Rattle.std.specs.Prelude.{nat_lt}
 use Rattle.chart.specs.Reports.{ReportView}
 use Rattle.line_recorder.specs.Recorders.{RecorderView, new_recorder, after_receive}
 
@@ -23,7 +24,12 @@ empty_lane = record { names = []; clocks = []; closed = false }
 
 -- the instance p among so many, before the first command
 abbrev pub fresh_actor : ℕ → ℕ → ActorView
-fresh_actor instances p = record { recorder = new_recorder p instances; last = 0; region = 0; lanes = replicate instances empty_lane }
+fresh_actor instances p = record {
+  recorder = new_recorder p instances;
+  last = 0;
+  region = 0;
+  lanes = replicate instances empty_lane;
+}
 
 -- the first message is off the lane
 abbrev pub popped : LaneView → List (List ℕ) → List (List ℕ) → LaneView
@@ -32,7 +38,12 @@ popped lane names clocks = record { names = names; clocks = clocks; closed = lan
 -- the instance after it received a message of this name with this clock from q, and reported its races
 abbrev pub after_receipt : ActorView → ℕ → List ℕ → List ℕ → ReportView → ActorView
 after_receipt a q name clock report =
-    record { recorder = after_receive a.recorder q name a.region clock report; last = q; region = a.region; lanes = a.lanes }
+    record {
+      recorder = after_receive a.recorder q name a.region clock report;
+      last = q;
+      region = a.region;
+      lanes = a.lanes;
+    }
 
 -- the number of the instance, 0 for none
 abbrev pub number_or_zero : Option ℕ → ℕ

@@ -1,5 +1,6 @@
 //! The instances of a replay.
-ghost use Rattle.std.specs.Prelude.{ℕ, ◌≡◌, ◌≢◌, ◌≤◌, ◌<◌, ◌+◌, ◌++◌, ◌∷◌, [], true, suc, List, length, slice_get, slice_set, replicate, Some, All, IfOk, OnOk};
+ghost use Rattle.std.specs.Prelude.{ℕ, ◌≡◌, ◌≢◌, ◌≤◌, ◌<◌, ◌+◌, ◌++◌, ◌∷◌, [], true, suc, List, length, slice_get};
+ghost use Rattle.std.specs.Prelude.{slice_set, replicate, Some, All, IfOk, OnOk};
 ghost use Rattle.chart.specs.Events.{MayHaveRegion, greatest_region};
 ghost use Rattle.chart.specs.Reports.{ReportView};
 ghost use Rattle.chart.specs.declared.instance.TheConstants.{MAX_INSTANCES};
@@ -34,7 +35,12 @@ impl Model for Actor {
 
     ghost Value = { ActorView };
 
-    ghost view = { λ a. record { recorder = a.recorder; last = number_or_zero a.last; region = a.region; lanes = a.lanes.items } };
+    ghost view = { λ a. record {
+      recorder = a.recorder;
+      last = number_or_zero a.last;
+      region = a.region;
+      lanes = a.lanes.items;
+    } };
 }
 
 /// A lane from each of so many instances.
@@ -76,7 +82,9 @@ fn receive(
     requires entries { length clock.now ≡ length recorder.old.knowledge }
     requires region_fits { MayHaveRegion recorder.old.line.events region }
     requires room { length recorder.old.line.events < MAX_EVENTS }
-    ensures { OnOk result ((report : ReportView) × (recorder.new ≡ after_receive recorder.old from name region clock.now report) × IsReportOf recorder.old from region clock.now report) }
+    ensures { OnOk result ((report : ReportView)
+        × (recorder.new ≡ after_receive recorder.old from name region clock.now report)
+        × IsReportOf recorder.old from region clock.now report) }
 {
     match recorder.receive(from, name, clock, region) {
         Ok(_) => Ok(()),
@@ -194,7 +202,15 @@ impl Actor {
     pub fn deliver(&mut self, from: InstanceNo, parcel: Parcel) -> Result<(), ReplayError>
         requires { from ≤ length self.old.lanes }
         ensures { (j : ℕ) (lane : LaneView) → from ≡ suc j → slice_get self.old.lanes j ≡ Some lane
-            → OnOk result (self.new ≡ record self.old { lanes = slice_set self.old.lanes j (record { names = lane.names ++ parcel.name ∷ []; clocks = lane.clocks ++ parcel.clock ∷ []; closed = lane.closed }) }) }
+            → OnOk result
+            (self.new ≡ record self.old {
+              lanes = slice_set self.old.lanes j
+                  (record {
+                    names = lane.names ++ parcel.name ∷ [];
+                    clocks = lane.clocks ++ parcel.clock ∷ [];
+                    closed = lane.closed;
+                  });
+            }) }
     {
         let lane = &mut self.lanes[from.place()];
         lane.push(parcel)
@@ -217,12 +233,16 @@ impl Actor {
         requires not_itself { from ≢ self.old.recorder.line.instance }
         requires entries { (j : ℕ) (lane : LaneView) → from ≡ suc j → slice_get self.old.lanes j ≡ Some lane
             → All (λ clock. length clock ≡ length self.old.recorder.knowledge) lane.clocks }
-        requires waits { (j : ℕ) (lane : LaneView) → from ≡ suc j → slice_get self.old.lanes j ≡ Some lane → 0 < length lane.names }
+        requires waits { (j : ℕ) (lane : LaneView) → from ≡ suc j → slice_get self.old.lanes j ≡ Some lane
+            → 0 < length lane.names }
         requires region_fits { MayHaveRegion self.old.recorder.line.events self.old.region }
         requires room { length self.old.recorder.line.events < MAX_EVENTS }
         ensures { (j : ℕ) (lane : LaneView) (name clock : List ℕ) (names clocks : List (List ℕ)) → from ≡ suc j
             → slice_get self.old.lanes j ≡ Some lane → lane.names ≡ name ∷ names → lane.clocks ≡ clock ∷ clocks
-            → OnOk result ((report : ReportView) × (self.new ≡ after_receipt (record self.old { lanes = slice_set self.old.lanes j (popped lane names clocks) }) from name clock report) × IsReportOf self.old.recorder from self.old.region clock report) }
+            → OnOk result ((report : ReportView)
+            × (self.new ≡ after_receipt
+            (record self.old { lanes = slice_set self.old.lanes j (popped lane names clocks) }) from name clock
+            report) × IsReportOf self.old.recorder from self.old.region clock report) }
     {
         let lane = &mut self.lanes[from.place()];
         match lane.pop() {
@@ -238,7 +258,9 @@ impl Actor {
         requires entries { length parcel.now.clock ≡ length self.old.recorder.knowledge }
         requires region_fits { MayHaveRegion self.old.recorder.line.events self.old.region }
         requires room { length self.old.recorder.line.events < MAX_EVENTS }
-        ensures { OnOk result ((report : ReportView) × (self.new ≡ after_receipt self.old from parcel.now.name parcel.now.clock report) × IsReportOf self.old.recorder from self.old.region parcel.now.clock report) }
+        ensures { OnOk result ((report : ReportView)
+            × (self.new ≡ after_receipt self.old from parcel.now.name parcel.now.clock report)
+            × IsReportOf self.old.recorder from self.old.region parcel.now.clock report) }
     {
         let region = self.region;
         receive(&mut self.recorder, from, parcel.name, &parcel.clock, region)?;

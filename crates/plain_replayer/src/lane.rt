@@ -1,5 +1,6 @@
 //! Lanes, as their receivers hold them.
-ghost use Rattle.std.specs.Prelude.{ℕ, ◌≡◌, ◌≤◌, ◌-◌, ◌+◌, ◌++◌, ◌∷◌, [], ◌==◌, not, true, false, List, length, map, filter, find, None, OnOk};
+ghost use Rattle.std.specs.Prelude.{ℕ, ◌≡◌, ◌≤◌, ◌-◌, ◌+◌, ◌++◌, ◌∷◌, [], ◌==◌, not, true, false, List, length, map};
+ghost use Rattle.std.specs.Prelude.{filter, find, None, OnOk};
 ghost use Rattle.std.specs.List.{range_with_len, list_all};
 ghost use Rattle.std.specs.Option.{option_to_list};
 ghost use Rattle.chart.specs.declared.instance.TheConstants.{MAX_INSTANCES};
@@ -34,7 +35,11 @@ impl Model for Lane {
 
     ghost Value = { LaneView };
 
-    ghost view = { λ l. record { names = map (λ parcel. parcel.name) l.waiting.items; clocks = map (λ parcel. parcel.clock) l.waiting.items; closed = l.is_closed } };
+    ghost view = { λ l. record {
+      names = map (λ parcel. parcel.name) l.waiting.items;
+      clocks = map (λ parcel. parcel.clock) l.waiting.items;
+      closed = l.is_closed;
+    } };
 }
 
 impl Lane {
@@ -69,7 +74,11 @@ impl Lane {
 
     /// Adds a message behind those that wait.
     pub fn push(&mut self, parcel: Parcel) -> Result<(), ReplayError>
-        ensures { OnOk result (self.new ≡ record { names = self.old.names ++ parcel.name ∷ []; clocks = self.old.clocks ++ parcel.clock ∷ []; closed = self.old.closed }) }
+        ensures { OnOk result (self.new ≡ record {
+          names = self.old.names ++ parcel.name ∷ [];
+          clocks = self.old.clocks ++ parcel.clock ∷ [];
+          closed = self.old.closed;
+        }) }
     {
         self.waiting.push_back(parcel)?;
         Ok(())
@@ -91,7 +100,8 @@ fn waiting_among(lanes: &[Lane], p: InstanceNo, from: usize, to: usize) -> Optio
     requires order { from ≤ to }
     requires within { to ≤ length lanes.now }
     requires within_limit { length lanes.now ≤ MAX_INSTANCES }
-    ensures { result ≡ find (lane_waits lanes.now) (filter (λ q. not (q == p)) (range_with_len (from + 1) (to - from))) }
+    ensures { result ≡ find (lane_waits lanes.now) (filter (λ q. not (q == p))
+        (range_with_len (from + 1) (to - from))) }
 {
     for place in from..to {
         let q = InstanceNo::at_place(place);

@@ -1,9 +1,10 @@
 //! Replays a schedule's commands one after the other in the plainest way: a recorder for each instance, and a queue for
 //! each lane. It is the reference that the replay over running posts is compared with.
 //!
-//! What is promised: the outcome is what the schedule means, which is the chart of the history that its commands come to,
-//! for each receive of this chart, by instance and index, exactly its report, and the notes by line. The only refusal is F6
-//! ([`plain_replay`]). The accepted sends and receives are also answered as a run, step by step ([`recorded_run`]).
+//! What is promised: the outcome is what the schedule means, which is the chart of the history that its commands come
+//! to, for each receive of this chart, by instance and index, exactly its report, and the notes by line. The only
+//! refusal is F6 ([`plain_replay`]). The accepted sends and receives are also answered as a run, step by step
+//! ([`recorded_run`]).
 #![tactic(auto)]
 
 mod actor;

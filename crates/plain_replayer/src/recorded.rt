@@ -61,8 +61,8 @@ fn record(
     Ok(steps)
 }
 
-/// The steps of a schedule's accepted sends and receives, in their order. Its closes, the marks of its coregions and the
-/// commands that leave a note make none. They are a run with the schedule's chart, over lanes of its capacity.
+/// The steps of a schedule's accepted sends and receives, in their order. Its closes, the marks of its coregions and
+/// the commands that leave a note make none. They are a run with the schedule's chart, over lanes of its capacity.
 ///
 /// F6: it fails only where there is no memory.
 pub fn recorded_run(alloc: Global, schedule: &Schedule) -> Result<Vec<Step>, ReplayError>

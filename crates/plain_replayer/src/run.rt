@@ -40,7 +40,8 @@ fn perform(
 ) -> Result<Vec<Note>, ReplayError>
     requires among { All (IsAmong (length actors.old)) commands.now }
     requires fresh { Agrees (length actors.old) capacity start.run actors.old }
-    ensures { IfOk result (λ notes. Agrees (length actors.old) capacity (after (length actors.old) capacity commands.now).run actors.new
+    ensures { IfOk result (λ notes. Agrees (length actors.old) capacity
+        (after (length actors.old) capacity commands.now).run actors.new
         × (notes.items ≡ (after (length actors.old) capacity commands.now).notes)) }
 {
     let mut notes = Vec::new(alloc);
@@ -72,7 +73,8 @@ fn parts(alloc: Global, actors: Vec<Actor>) -> Result<(Vec<Line>, Vec<Report>), 
 
 /// The chart of these lines, which are those of a run.
 fn chart(lines: Vec<Line>) -> Chart
-    requires { (n k : ℕ) × (h : List Occurrence) × (2 ≤ n) × (n ≤ MAX_INSTANCES) × IsLegal n k h × (lines.items ≡ history_lines n h) }
+    requires { (n k : ℕ) × (h : List Occurrence) × (2 ≤ n) × (n ≤ MAX_INSTANCES) × IsLegal n k h
+        × (lines.items ≡ history_lines n h) }
     ensures { result ≡ lines.items }
 {
     match Chart::new(lines) {
@@ -83,7 +85,8 @@ fn chart(lines: Vec<Line>) -> Chart
 
 /// The instances after the schedule's commands, and the notes as they came.
 fn played(alloc: Global, schedule: &Schedule) -> Result<(Vec<Actor>, Vec<Note>), ReplayError>
-    ensures agrees { IfOk result (λ played. Agrees (length schedule.now.names) schedule.now.capacity (meaning schedule.now).run played.0.items) }
+    ensures agrees { IfOk result (λ played. Agrees (length schedule.now.names) schedule.now.capacity
+        (meaning schedule.now).run played.0.items) }
     ensures notes { IfOk result (λ played. played.1.items ≡ (meaning schedule.now).notes) }
 {
     let capacity = schedule.capacity().slots();

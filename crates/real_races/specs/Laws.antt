@@ -6,7 +6,9 @@ use Rattle.chart.specs.Histories.{Begins}
 use Rattle.chart.specs.Charts.{Chart, Place, at, IsReceiveFrom, IsPossible}
 use Rattle.chart.specs.Places.{IsEvent}
 use Rattle.chart.specs.Order.{Before, IsReport}
-use Rattle.real_races.specs.OtherRuns.{HasCome, IsRunOf, IsOvertaken, ComesFirst, CanBeOvertaken, AreOvertaken, BeforeWithin, IsRunWithin, ComesFirstWithin, IsPossibleWithin, CanBeOvertakenWithin}
+use Rattle.real_races.specs.OtherRuns.{HasCome, IsRunOf, IsOvertaken, ComesFirst, CanBeOvertaken, AreOvertaken}
+use Rattle.real_races.specs.OtherRuns.{BeforeWithin, IsRunWithin, ComesFirstWithin, IsPossibleWithin}
+use Rattle.real_races.specs.OtherRuns.{CanBeOvertakenWithin}
 
 -- in each run what is enforced before r has come when r has
 abbrev pub OrderLaw : Type 0

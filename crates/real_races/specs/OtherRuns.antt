@@ -3,7 +3,8 @@
 --
 -- An event is told by its lane and its turn there, as the third message from 2 to 1, or the receive of that message. So
 -- two runs are compared by counts, and no map between the places of two charts is needed.
-use Rattle.std.specs.Prelude.{◌≡◌, ℕ, ◌<◌, ◌≤◌, ◌↔◌, ◌⊎◌, ◌+◌, false, List, [], ◌∷◌, length, map, Some, count_by, AllPairs, Contains, if◌then◌else◌, ◌==◌}
+use Rattle.std.specs.Prelude.{◌≡◌, ℕ, ◌<◌, ◌≤◌, ◌↔◌, ◌⊎◌, ◌+◌, false, List, [], ◌∷◌, length, map, Some, count_by}
+use Rattle.std.specs.Prelude.{AllPairs, Contains, if◌then◌else◌, ◌==◌}
 use Rattle.chart.specs.declared.history.Occurrence.{Occurrence}
 use Rattle.chart.specs.declared.event.Event.{Event}
 use Rattle.chart.specs.declared.event.Event.TheVariants.{Send, Receive}
@@ -66,7 +67,8 @@ CanBeOvertaken n c e r = (g : List Occurrence) × IsRunOf n c g × IsOvertaken c
 pub data DirectWithin (k : ℕ) (c : Chart) (e f : Place) : Type 0 where
   enforced : Direct c e f → DirectWithin k c e f
   freed : IsReceiveFrom c f.instance e → IsSendTo c e.instance f
-      → tally (is_receive_from f.instance) (c e.instance) e.index + k ≤ tally (is_send_to e.instance) (c f.instance) f.index
+      → tally (is_receive_from f.instance) (c e.instance) e.index + k
+      ≤ tally (is_send_to e.instance) (c f.instance) f.index
       → DirectWithin k c e f
 
 -- enforced where lanes have k slots: the least transitive relation that has all that is direct

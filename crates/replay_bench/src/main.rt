@@ -1,5 +1,5 @@
-//! What it costs to replay a schedule over running posts, and plainly. With the words `time` and a number behind the file's
-//! name it tells what so many replays take by each, and else what the schedule comes to by each.
+//! What it costs to replay a schedule over running posts, and plainly. With the words `time` and a number behind the
+//! file's name it tells what so many replays take by each, and else what the schedule comes to by each.
 #![tactic(auto)]
 
 use anyhow::bail;

@@ -36,8 +36,8 @@ pub record IsMet (h : List Occurrence) (new : PostView) (met : List Occurrence) 
   pub joint : IsJoint met new
   pub others : (q : ℕ) → 1 ≤ q → q ≤ new.board.size → q ≢ new.number → own met q ≡ own h q
 
--- the run t is as far as what was met, and p's post, whose instance received from this one last, as the run has it; of the
--- other instances it has what the run s had
+-- the run t is as far as what was met, and p's post, whose instance received from this one last, as the run has it;
+-- of the other instances it has what the run s had
 pub record HasGone (s t : Run) (p : ℕ) (met : List Occurrence) (from : Option ℕ) (post : PostView) : Type 0 where
   pub history : t.history ≡ met
   pub region : post.region ≡ t.region p
@@ -47,7 +47,8 @@ pub record HasGone (s t : Run) (p : ℕ) (met : List Occurrence) (from : Option 
   pub other_lasts : (q : ℕ) → q ≢ p → t.last q ≡ s.last q
 
 -- what a call for a command left
-abbrev pub HasCalled : Run → ℕ → List Occurrence → Option ℕ → PostView → Result (Option Word) ReplayError → Result Run Word → Type 0
+abbrev pub HasCalled : Run → ℕ → List Occurrence → Option ℕ → PostView → Result (Option Word) ReplayError
+    → Result Run Word → Type 0
 HasCalled r p met from new answer acted = HasDone (λ s. HasGone r s p met from new) r answer acted
 
 -- a call does what the action means, as the next meeting shows
@@ -66,19 +67,22 @@ pub record ArePosts (board : BoardView) (posts : List PostView) : Type 0 where
 pub record Agrees (board : BoardView) (r : Run) (them : List PostView) (last : List (Option ℕ)) : Type 0 where
   pub posts : ArePosts board them
   pub as_many : length last ≡ board.size
-  pub far : (i : ℕ) (post : PostView) (from : Option ℕ) → slice_get them i ≡ Some post → slice_get last i ≡ Some from → IsAsFar r from post
+  pub far : (i : ℕ) (post : PostView) (from : Option ℕ) → slice_get them i ≡ Some post → slice_get last i ≡ Some from
+      → IsAsFar r from post
 
 -- they are as far as some run
 abbrev pub IsReached : List PostView → List (Option ℕ) → Type 0
 IsReached posts last = (board : BoardView) × (r : Run) × Agrees board r posts last
 
 -- what a command left
-abbrev pub HasActed : BoardView → Run → Command → Result (Option Word) ReplayError → List PostView → List (Option ℕ) → Type 0
+abbrev pub HasActed : BoardView → Run → Command → Result (Option Word) ReplayError → List PostView → List (Option ℕ)
+    → Type 0
 HasActed board r command answer posts last =
     HasDone (λ s. Agrees board s posts last) r answer (acts board.size board.capacity r command.actor command.action)
 
 -- what these commands left: the posts are as far as they lead, and these are their notes as they came
-pub record HavePerformed (board : BoardView) (commands : List Command) (posts : List PostView) (last : List (Option ℕ)) (notes : List Note) : Type 0 where
+pub record HavePerformed (board : BoardView) (commands : List Command) (posts : List PostView) (last : List (Option ℕ))
+    (notes : List Note) : Type 0 where
   pub agrees : Agrees board (after board.size board.capacity commands).run posts last
   pub noted : notes ≡ (after board.size board.capacity commands).notes
 
@@ -87,8 +91,10 @@ pub record AreFresh (board : BoardView) (posts : List PostView) : Type 0 where
   pub sized : IsSized board.size board.capacity
   pub new : AreNewPosts board posts
 
--- what the board comes to by these commands: the chart of the history that they make, with its reports, and the notes by line
-pub record HasCome (board : BoardView) (commands : List Command) (gathered : Gathered) (listed : List Note) : Type 0 where
+-- what the board comes to by these commands: the chart of the history that they make, with its reports, and the notes
+-- by line
+pub record HasCome (board : BoardView) (commands : List Command) (gathered : Gathered)
+    (listed : List Note) : Type 0 where
   pub chart : gathered.chart ≡ history_lines board.size (after board.size board.capacity commands).run.history
   pub reports : AreReports gathered.chart gathered.reports.items
   pub notes : AreByLine (after board.size board.capacity commands).notes listed

@@ -42,8 +42,8 @@ fn perform_one(
     Ok(word)
 }
 
-/// Makes the commands one after the other, by posts that have met, which meet again after each. It answers the notes as they
-/// come.
+/// Makes the commands one after the other, by posts that have met, which meet again after each. It answers the notes
+/// as they come.
 fn perform(
     alloc: Global,
     posts: &mut [Post<'_>],
@@ -78,8 +78,8 @@ fn nobody(alloc: Global, instances: usize) -> Result<Vec<Option<InstanceNo>>, Re
     Ok(last)
 }
 
-/// Makes the commands one after the other, by new posts of a board, and answers their notes as they come. All posts meet before
-/// each command, and after the last one.
+/// Makes the commands one after the other, by new posts of a board, and answers their notes as they come. All posts
+/// meet before each command, and after the last one.
 pub fn perform_all(
     alloc: Global,
     posts: &mut [Post<'_>],

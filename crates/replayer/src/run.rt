@@ -56,8 +56,8 @@ fn play(
     Ok((gather_all(alloc, posts)?, notes))
 }
 
-/// Replays a schedule's commands one after the other, with all posts met before each one: what they come to. F6: a growth was
-/// refused.
+/// Replays a schedule's commands one after the other, with all posts met before each one: what they come to. F6: a
+/// growth was refused.
 pub fn replay<'a>(alloc: Global, schedule: &'a Schedule) -> Result<Outcome<'a>, ReplayError>
     ensures { IfOk result (IsOutcome schedule.now) }
 {

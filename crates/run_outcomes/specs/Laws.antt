@@ -22,8 +22,8 @@ AreOf acts many place [] = Unit {0}
 AreOf acts many place (turn ∷ turns) =
     (turn.act ≡ slice_index_or acts place Stop) × AreOf acts many (next_place many place turn.answer) turns
 
--- In a run of an instance's script each turn is one of the command to which its note is given: the acts and the lines of
--- the instance's commands have the same places.
+-- In a run of an instance's script each turn is one of the command to which its note is given: the acts and the lines
+-- of the instance's commands have the same places.
 abbrev pub TurnsLaw : Type 0
 TurnsLaw = (commands : List Command) (p most : ℕ) (old new : MailboxView) (trace : List Turn) (end : End)
     → (left : ScriptView) → IsRun script_meaning most (script_of commands p) old trace end left new

@@ -1,5 +1,6 @@
 -- The notes of instances that did their scripts, each on its own (this project's profile).
-use Rattle.std.specs.Prelude.{ℕ, ◌+◌, ◌==◌, Bool, true, false, List, [], ◌∷◌, ◌++◌, length, map, filter, slice_get, Option, Some, None}
+use Rattle.std.specs.Prelude.{ℕ, ◌+◌, ◌==◌, Bool, true, false, List, [], ◌∷◌, ◌++◌, length, map, filter, slice_get}
+use Rattle.std.specs.Prelude.{Option, Some, None}
 use Rattle.board.specs.declared.error.CloseError.TheVariants as closing
 use Rattle.board.specs.declared.error.RegionError.TheVariants as marking
 use Rattle.board.specs.declared.error.SendError.TheVariants as sending
@@ -55,8 +56,8 @@ abbrev pub noted : List ℕ → ℕ → Option BareAnswer → List Note
 noted lines place (Some answer) = note_of (slice_get lines place) (word_of answer)
 noted lines place None = []
 
--- The notes of an instance's turns, the first of which is one of its command at this place, from 0. As long as a command
--- is answered so that the script does it again, the turns are that command's.
+-- The notes of an instance's turns, the first of which is one of its command at this place, from 0. As long as a
+-- command is answered so that the script does it again, the turns are that command's.
 abbrev pub notes_from : List ℕ → ℕ → List Turn → List Note
 notes_from lines place [] = []
 notes_from lines place (turn ∷ turns) =

@@ -2,8 +2,8 @@
 //!
 //! What is promised:
 //!
-//! - A schedule's instances run on a board of their own ([`run_schedule`]), with all that [`instances::run`] promises of
-//!   it (`specs/OwnBoards.antt`).
+//! - A schedule's instances run on a board of their own ([`run_schedule`]), with all that [`instances::run`] promises
+//!   of it (`specs/OwnBoards.antt`).
 //! - A run has one outcome ([`RunOutcome::of`]): the chart and the reports that were gathered, a note for each command
 //!   that was refused or found its lane ended, by line, and the names of the instances whose turns were spent. Turns
 //!   that were answered full or nothing leave no note, since the script does its act again (`specs/RunNotes.antt`).

@@ -73,7 +73,8 @@ by_three names a k b =
 abbrev pub action_by : List (List ℕ) → List (List ℕ) → Result ActorAction Cause
 action_by names (a ∷ k ∷ []) = if length a == 0 then Err Syntax else by_two names a k
 action_by names (a ∷ k ∷ b ∷ []) = if length a == 0 || length b == 0 then Err Syntax else by_three names a k b
-action_by names (a ∷ k ∷ b ∷ m ∷ []) = if length a == 0 || length b == 0 || length m == 0 || not (is_written keywords.Send k) then Err Syntax else send_of names a b m
+action_by names (a ∷ k ∷ b ∷ m ∷ []) = if length a == 0 || length b == 0 || length m == 0
+    || not (is_written keywords.Send k) then Err Syntax else send_of names a b m
 action_by names _ = Err Syntax
 
 -- what the line says

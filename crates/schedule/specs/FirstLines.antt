@@ -1,5 +1,6 @@
 -- The first two lines of a schedule's text: the instances' names, and the capacity (this project's profile).
-use Rattle.std.specs.Prelude.{ℕ, ◌+◌, ◌-◌, ◌*◌, Bool, false, not, ◌&&◌, ◌||◌, ◌==◌, List, [], ◌∷◌, length, Result, Ok, Err, nat_lt, nat_le, if◌then◌else◌}
+use Rattle.std.specs.Prelude.{ℕ, ◌+◌, ◌-◌, ◌*◌, Bool, false, not, ◌&&◌, ◌||◌, ◌==◌, List, [], ◌∷◌, length, Result, Ok}
+use Rattle.std.specs.Prelude.{Err, nat_lt, nat_le, if◌then◌else◌}
 use Rattle.std.specs.List.{list_all}
 use Rattle.msc_text.specs.Faults.{◌>>=◌}
 use Rattle.msc_text.specs.Instances.{with_name}
@@ -44,7 +45,8 @@ instances_of words = do
 -- the names of line 1, by its words
 abbrev pub instances_by : List (List ℕ) → Result (List (List ℕ)) Cause
 instances_by [] = Err Syntax
-instances_by (keyword ∷ words) = if is_written keywords.Instances keyword && are_words words then instances_of words else Err Syntax
+instances_by (keyword ∷ words) = if is_written keywords.Instances keyword
+    && are_words words then instances_of words else Err Syntax
 
 -- the names of line 1
 unfoldable pub names_of : List ℕ → Result (List (List ℕ)) Cause
@@ -74,7 +76,8 @@ slots_of digits = slots (number_from 0 digits)
 
 -- the capacity of line 2, by its words
 abbrev pub capacity_by : List (List ℕ) → Result ℕ Cause
-capacity_by (keyword ∷ digits ∷ []) = if is_written keywords.Capacity keyword && is_number digits then slots_of digits else Err Syntax
+capacity_by (keyword ∷ digits ∷ []) = if is_written keywords.Capacity keyword
+    && is_number digits then slots_of digits else Err Syntax
 capacity_by _ = Err Syntax
 
 -- the capacity of line 2

@@ -1,10 +1,11 @@
--- The words that a schedule's text has of its own: they begin its first two lines, or stand behind an actor's name (this
--- project's profile; those of coregions are the chart text's).
+-- The words that a schedule's text has of its own: they begin its first two lines, or stand behind an actor's name
+-- (this project's profile; those of coregions are the chart text's).
 use Rattle.std.specs.Prelude.{ℕ, Bool, List, codes, bytes_eq}
 use Rattle.chart.specs.Keywords.{spelled}
 use Rattle.chart.specs.declared.keyword.Keyword.TheVariants as chart_words
 use Rattle.schedule.specs.declared.keyword.ScheduleWord.{ScheduleWord}
-use Rattle.schedule.specs.declared.keyword.ScheduleWord.TheVariants.{Instances, Capacity, Send, Receive, Any, Close, Concurrent, EndConcurrent}
+use Rattle.schedule.specs.declared.keyword.ScheduleWord.TheVariants.{Instances, Capacity, Send, Receive, Any, Close}
+use Rattle.schedule.specs.declared.keyword.ScheduleWord.TheVariants.{Concurrent, EndConcurrent}
 
 -- how the word is spelled
 unfoldable pub written : ScheduleWord → List ℕ

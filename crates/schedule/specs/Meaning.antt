@@ -1,5 +1,6 @@
 -- What a schedule means: its commands, one after the other, over a history (this project's profile).
-use Rattle.std.specs.Prelude.{ℕ, ◌+◌, Bool, ◌==◌, List, [], ◌∷◌, ◌++◌, length, find, fold, Option, None, Some, Result, Ok, Err, nat_lt, nat_le, if◌then◌else◌, All}
+use Rattle.std.specs.Prelude.{ℕ, ◌+◌, Bool, ◌==◌, List, [], ◌∷◌, ◌++◌, length, find, fold, Option, None, Some, Result}
+use Rattle.std.specs.Prelude.{Ok, Err, nat_lt, nat_le, if◌then◌else◌, All}
 use Rattle.std.specs.List.{list_all}
 use Rattle.chart.specs.declared.history.Occurrence.{Occurrence}
 use Rattle.chart.specs.declared.history.Occurrence.TheVariants as events
@@ -15,8 +16,8 @@ use Rattle.schedule.specs.declared.command.Word.{Word}
 use Rattle.schedule.specs.declared.command.Word.TheVariants as words
 use Rattle.schedule.specs.Plans.{Plan, IsPlan, IsNumbered}
 
--- how far a schedule has come: the history; from whom each instance received last, 0 for nobody; and each instance's open
--- coregion, 0 for none
+-- how far a schedule has come: the history; from whom each instance received last, 0 for nobody; and each instance's
+-- open coregion, 0 for none
 pub record Run : Type 0 where
   pub history : List Occurrence
   pub last : ℕ → ℕ
@@ -45,16 +46,19 @@ sends k r p q name =
     if nat_lt 0 (r.region p) then Err words.InCoregion else (
     if is_closed r.history p q then Err words.Closed else (
     if is_line_full r.history p then Err words.LineFull else (
-    if nat_le k (length (waiting r.history p q)) then Err words.Full else Ok (happens r (events.Send p q (record { name = name; body = [] }))))))
+    if nat_le k (length (waiting r.history p q)) then Err words.Full else Ok
+    (happens r (events.Send p q (record { name = name; body = [] }))))))
 
 -- p receives from q, where a message waits
 abbrev pub takes : Run → ℕ → ℕ → Result Run Word
 takes r p q =
-    if is_line_full r.history p then Err words.LineFull else Ok (record { history = events.Receive p q (r.region p) ∷ r.history; last = changed r.last p q; region = r.region })
+    if is_line_full r.history p then Err words.LineFull else Ok
+    (record { history = events.Receive p q (r.region p) ∷ r.history; last = changed r.last p q; region = r.region })
 
 abbrev pub receives : Run → ℕ → ℕ → Result Run Word
 receives r p q =
-    if has_waiting r.history q p then takes r p q else (if is_closed r.history q p then Err words.Ended else Err words.Nothing)
+    if has_waiting r.history q p then takes r p q else (if is_closed r.history q p then Err words.Ended else Err
+    words.Nothing)
 
 -- the first instance in scan order from which a message waits
 abbrev pub first_waiting : ℕ → Run → ℕ → Option ℕ
@@ -74,11 +78,16 @@ closes r p q = if is_closed r.history p q then Err words.Closed else Ok (happens
 -- a coregion that begins is one more than the greatest of the line
 abbrev pub opens : Run → ℕ → Result Run Word
 opens r p =
-    if nat_lt 0 (r.region p) then Err words.Open else Ok (record { history = r.history; last = r.last; region = changed r.region p (greatest_region (chart_of r.history p) + 1) })
+    if nat_lt 0 (r.region p) then Err words.Open else Ok (record {
+      history = r.history;
+      last = r.last;
+      region = changed r.region p (greatest_region (chart_of r.history p) + 1);
+    })
 
 abbrev pub shuts : Run → ℕ → Result Run Word
 shuts r p =
-    if nat_lt 0 (r.region p) then Ok (record { history = r.history; last = r.last; region = changed r.region p 0 }) else Err words.NotOpen
+    if nat_lt 0 (r.region p) then Ok (record { history = r.history; last = r.last; region = changed r.region p 0 }) else
+    Err words.NotOpen
 
 -- among n instances with lanes of k slots
 abbrev pub acts : ℕ → ℕ → Run → ℕ → Action → Result Run Word
@@ -114,4 +123,5 @@ meaning plan = after (length plan.names) plan.capacity plan.commands
 
 -- whatever a schedule's commands are, what they come to is a legal history over lanes of its capacity
 abbrev pub LegalLaw : Type 0
-LegalLaw = (plan : Plan) → IsPlan plan → All IsNumbered plan.commands → IsLegal (length plan.names) plan.capacity (meaning plan).run.history
+LegalLaw = (plan : Plan) → IsPlan plan → All IsNumbered plan.commands
+    → IsLegal (length plan.names) plan.capacity (meaning plan).run.history

@@ -51,4 +51,5 @@ schedule_of bytes = do
 
 -- the first faulty line decides, whatever follows the text
 abbrev pub FirstFaultLaw : Type 0
-FirstFaultLaw = (a b : List ℕ) (n : ℕ) (c : Cause) → schedule_of a ≡ Err (Line n c) → schedule_of (a ++ b) ≡ Err (Line n c)
+FirstFaultLaw = (a b : List ℕ) (n : ℕ) (c : Cause) → schedule_of a ≡ Err (Line n c)
+    → schedule_of (a ++ b) ≡ Err (Line n c)

@@ -1,4 +1,5 @@
--- The text of a plan: its lines from the top, each ended by a line feed, with one space between words (this project's profile).
+-- The text of a plan: its lines from the top, each ended by a line feed, with one space between words (this project's
+-- profile).
 use Rattle.std.specs.Prelude.{◌≡◌, ℕ, ◌+◌, ◌≤◌, List, [], ◌∷◌, All, decimal, map}
 use Rattle.std.specs.List.{flat_map, join_with_byte}
 use Rattle.chart.specs.Names.{IsName}

@@ -30,4 +30,5 @@ command_text names command = line_of (name_at names command.actor) (action_words
 
 -- line 1, line 2, and the commands' lines
 unfoldable pub plan_text : Plan → List ℕ
-plan_text plan = line_of (written keywords.Instances) plan.names ++ (capacity_text plan.capacity ++ flat_map (command_text plan.names) plan.commands)
+plan_text plan = line_of (written keywords.Instances) plan.names
+    ++ (capacity_text plan.capacity ++ flat_map (command_text plan.names) plan.commands)

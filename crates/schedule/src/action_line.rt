@@ -1,6 +1,7 @@
 //! A command's line: who acts, and what it does.
 ghost use Rattle.std.specs.Prelude.{◌≡◌};
-ghost use Rattle.schedule.specs.ActionLines.{pair_of, partners_of, send_of, receive_of, close_of, alone_of, by_two, by_three, action_of};
+ghost use Rattle.schedule.specs.ActionLines.{pair_of, partners_of, send_of, receive_of, close_of, alone_of, by_two};
+ghost use Rattle.schedule.specs.ActionLines.{by_three, action_of};
 
 use crate::command::Action;
 use crate::keyword::ScheduleWord;

@@ -27,7 +27,8 @@ fn next_in(bytes: &[u8]) -> Result<(&[u8], &[u8]), TextError>
 
 /// The commands, from line 3 on, or F21 where the last line is not whole.
 fn commands_in(alloc: Global, names: &Names, bytes: &[u8]) -> Result<Vec<Command>, TextError>
-    ensures { Gives (λ commands. commands.items) result (commands_of names.now (lines_of bytes.now) (end_of bytes.now)) }
+    ensures { Gives (λ commands. commands.items) result (commands_of names.now (lines_of bytes.now)
+        (end_of bytes.now)) }
 {
     let mut commands = Vec::new(alloc);
     let mut rest = bytes;
@@ -56,7 +57,8 @@ fn commands_in(alloc: Global, names: &Names, bytes: &[u8]) -> Result<Vec<Command
 /// The parts of the schedule that the text says.
 #[tactic(auto, unfolding(crate::specs::Reading::schedule_of))]
 fn parts_in(alloc: Global, bytes: &[u8]) -> Result<(Names, Capacity, Vec<Command>), TextError>
-    ensures { Gives (λ parts. record { names = parts.0; capacity = parts.1; commands = parts.2.items }) result (schedule_of bytes.now) }
+    ensures { Gives (λ parts. record { names = parts.0; capacity = parts.1; commands = parts.2.items }) result
+        (schedule_of bytes.now) }
 {
     let (first, rest) = next_in(bytes)?;
     let names = names_in(alloc, first)?;

@@ -73,7 +73,8 @@ fn add_with_partner<W: Out>(
     partner: InstanceNo,
 ) -> Result<(), WriteError>
     requires { partner ≤ length names.now }
-    ensures { Adds W.contents W.failures text.old text.new result (flat_map behind_space (written word ∷ name_at names.now partner ∷ [])) }
+    ensures { Adds W.contents W.failures text.old text.new result
+        (flat_map behind_space (written word ∷ name_at names.now partner ∷ [])) }
 {
     let name = named(names, partner);
     text.add_all(&[b" ", word.as_bytes(), b" ", name.as_bytes()])
@@ -88,7 +89,8 @@ fn add_action<W: Out>(
     action: &Action,
 ) -> Result<(), WriteError>
     requires { HasPartner (length names.now) actor action.now }
-    ensures { Adds W.contents W.failures text.old text.new result (flat_map behind_space (action_words names.now action.now)) }
+    ensures { Adds W.contents W.failures text.old text.new result
+        (flat_map behind_space (action_words names.now action.now)) }
 {
     match action {
         Action::Send { to, name } => {
@@ -162,8 +164,8 @@ fn write_lines<W: Out>(schedule: &Schedule, out: &mut W) -> Result<(), WriteErro
 }
 
 impl Schedule {
-    /// Writes the schedule's text: its commands come one after the other from line 3 on, whatever lines they had. It takes
-    /// no memory. Where a put fails (F24), a beginning of the text was written, and no other put is tried.
+    /// Writes the schedule's text: its commands come one after the other from line 3 on, whatever lines they had. It
+    /// takes no memory. Where a put fails (F24), a beginning of the text was written, and no other put is tried.
     pub fn write<W: Out>(&self, out: &mut W) -> Result<(), WriteError>
         ensures { Wrote W.contents W.failures out.old out.new result (schedule_text self.now) }
     {

@@ -1,4 +1,5 @@
-//! Tests of what the program writes: worked cases to the byte, refusals, growths and writes that fail, by what is public.
+//! Tests of what the program writes: worked cases to the byte, refusals, growths and writes that fail, by what is
+//! public.
 //!
 //! They are in a crate of their own, since a crate with tests is proved twice.
 #![tactic(auto)]

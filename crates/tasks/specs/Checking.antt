@@ -9,8 +9,10 @@ use Rattle.msc_text.specs.declared.text_buffer.TextBuffer.{TextBuffer}
 module _ {S E : Type 0} (contents : S → Option (List ℕ)) (failures : S → ℕ) where
   -- the races of the chart with these lines were added to a text, and it was told whether there are some
   abbrev pub HasAdded : TextBuffer S → TextBuffer S → List (List ℕ) → List LineView → Result Bool E → Type 0
-  HasAdded old new names lines result = (reports : List ReportView) × AreReports lines reports × Adds contents failures old new result (races_text names reports) × IfOk result (λ has. has ≡ has_races reports)
+  HasAdded old new names lines result = (reports : List ReportView) × AreReports lines reports
+      × Adds contents failures old new result (races_text names reports) × IfOk result (λ has. has ≡ has_races reports)
 
   -- they were written
   abbrev pub HasWritten : S → S → List (List ℕ) → List LineView → Result Bool E → Type 0
-  HasWritten old new names lines result = (reports : List ReportView) × AreReports lines reports × Wrote contents failures old new result (races_text names reports) × IfOk result (λ has. has ≡ has_races reports)
+  HasWritten old new names lines result = (reports : List ReportView) × AreReports lines reports
+      × Wrote contents failures old new result (races_text names reports) × IfOk result (λ has. has ≡ has_races reports)

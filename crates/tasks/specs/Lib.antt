@@ -1,6 +1,7 @@
 pub use Rattle.msc_text.specs.Writing
 pub mod Refusals
 pub mod Tasks
+pub mod Files
 pub mod Seeds
 pub mod Statuses
 pub mod Checking

@@ -3,11 +3,13 @@ use Rattle.std.specs.Prelude.{ℕ, List, [], ◌++◌, ◌⊎◌, Option, None, 
 use Rattle.chart.specs.declared.name.NameError.{NameError}
 use Rattle.chart.specs.declared.name.NameError.TheVariants.{Empty, TooLong, BadByte, Reserved}
 use Rattle.msc_text.specs.declared.fault.Cause.{Cause}
-use Rattle.msc_text.specs.declared.fault.Cause.TheVariants.{Name, LineFull, Instances, Capacity, ToItself, Syntax, Duplicate, UnknownInstance}
+use Rattle.msc_text.specs.declared.fault.Cause.TheVariants.{Name, LineFull, Instances, Capacity, ToItself, Syntax}
+use Rattle.msc_text.specs.declared.fault.Cause.TheVariants.{Duplicate, UnknownInstance}
 use Rattle.msc_text.specs.declared.fault.Fault.TheVariants.{Line, Unfinished}
 use Rattle.msc_text.specs.Writing.{Puts, Breaks}
 use Rattle.tasks.specs.declared.error.ProgramError.{ProgramError}
-use Rattle.tasks.specs.declared.error.ProgramError.TheVariants.{Usage, File, Memory, Text, ReceiveWithoutSend, NameMismatch, Cyclic, Write}
+use Rattle.tasks.specs.declared.error.ProgramError.TheVariants.{Usage, File, Memory, Text, ReceiveWithoutSend}
+use Rattle.tasks.specs.declared.error.ProgramError.TheVariants.{NameMismatch, Cyclic, Write}
 
 -- a name's fault, by number and name
 unfoldable pub name_label : NameError → List ℕ
@@ -43,8 +45,8 @@ label Write = codes "F24 Write"
 unfoldable pub behind_space : ℕ → List ℕ
 behind_space n = codes " " ++ decimal n
 
--- where a line's fault is: its line, and in it the place of a byte that doesn't belong; the counts of instances and of a
--- lane's slots have no line
+-- where a line's fault is: its line, and in it the place of a byte that doesn't belong; the counts of instances and
+-- of a lane's slots have no line
 unfoldable pub cause_detail : ℕ → Cause → List ℕ
 cause_detail n (Name Empty) = behind_space n
 cause_detail n (Name TooLong) = behind_space n

@@ -14,8 +14,8 @@ use Rattle.tasks.specs.Refusals.{refusal_text, Tried}
 use Rattle.tasks.specs.Tasks.{status_of, Answers}
 
 module _ {S : Type 0} (contents : S → Option (List ℕ)) (failures : S → ℕ) where
-  -- the text of what the run comes to was written; or a beginning of it, where a put failed; or nothing, where memory ran
-  -- out, as it did where the run lacked memory
+  -- the text of what the run comes to was written; or a beginning of it, where a put failed; or nothing, where memory
+  -- ran out, as it did where the run lacked memory
   abbrev pub Shows : Plan → Run → S → S → Result Status ProgramError → Type 0
   Shows plan run old new (Ok status) = (o : RunView) × IsRunOutcome plan run o
       × (status ≡ status_of o.outcome.reports) × Puts contents failures old new (run_text o)
@@ -24,8 +24,8 @@ module _ {S : Type 0} (contents : S → Option (List ℕ)) (failures : S → ℕ
       × Breaks contents failures old new (run_text o)
   Shows plan run old new (Err _) = ⊥
 
-  -- What is answered to a run. One that memory kept from being made is refused so; one that had no fit posts, behaviours
-  -- or turns leaves nothing anywhere but its status, 2.
+  -- What is answered to a run. One that memory kept from being made is refused so; one that had no fit posts,
+  -- behaviours or turns leaves nothing anywhere but its status, 2.
   module _ {T P B : Type 0} (err_contents : T → Option (List ℕ)) (err_failures : T → ℕ) where
     abbrev pub ShowsRun : Plan → Result Run (RunError P B) → S → S → T → T → ℕ → Type 0
     ShowsRun plan (Ok run) old new err_old err_new status =

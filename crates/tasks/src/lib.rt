@@ -6,13 +6,15 @@
 //!   which is possible; 1 says that there are races.
 //! - With status 2 the refusal's line was written, or a beginning of it where standard error failed, and nothing went
 //!   to the output before it, unless a write failed (F24).
-//! - A run of a schedule's scripts on threads ([`scripts`], [`run_schedule`]) decides the output's bytes too ([`show_run`]).
+//! - A run of a schedule's scripts on threads ([`scripts`], [`run_schedule`]) decides the output's bytes too
+//!   ([`show_run`]).
 //! - [`refused`] writes a refusal's line, or a beginning of it, and [`seed_in`] reads exactly the words of digits alone
 //!   whose number has 64 bits, [`turns_in`] those whose number is one of turns that a run may have.
 #![tactic(auto)]
 
 mod checking;
 mod error;
+mod kind;
 mod refusal;
 mod replaying;
 mod seed;
@@ -22,6 +24,7 @@ mod task;
 
 pub use checking::{chart_in, closure_of};
 pub use error::ProgramError;
+pub use kind::is_schedule;
 pub use refusal::{refused, refused_by};
 pub use replaying::schedule_in;
 pub use run_outcomes::run_schedule;

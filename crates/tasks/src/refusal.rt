@@ -2,7 +2,8 @@
 ghost use Rattle.std.specs.Prelude.{◌≡◌, IfErr, IfOk};
 ghost use Rattle.msc_text.specs.Writing.{Wrote, Adds};
 ghost use Rattle.tasks.specs.Statuses.{code_of};
-ghost use Rattle.tasks.specs.Refusals.{name_label, cause_label, label, behind_space, cause_detail, event_detail, detail, start_text, end_text, refusal_text, number_detail, labelled_text, Tried};
+ghost use Rattle.tasks.specs.Refusals.{name_label, cause_label, label, behind_space, cause_detail, event_detail};
+ghost use Rattle.tasks.specs.Refusals.{detail, start_text, end_text, refusal_text, number_detail, labelled_text, Tried};
 
 use crate::error::ProgramError;
 use crate::status::Status;
@@ -152,7 +153,8 @@ pub fn refused<V: Out>(error: &ProgramError, err: &mut V) -> u8
 /// The exit status of what was done, or of what is refused now.
 pub(crate) fn answered<V: Out>(done: Result<Status, ProgramError>, err: &mut V) -> u8
     ensures ok { IfOk done (λ status. (result ≡ code_of status) × (err.new ≡ err.old)) }
-    ensures err { IfErr done (λ error. (result ≡ 2) × Tried V.contents V.failures err.old err.new (refusal_text error)) }
+    ensures err { IfErr done (λ error. (result ≡ 2) × Tried V.contents V.failures err.old err.new
+        (refusal_text error)) }
 {
     match done {
         Ok(status) => status.code(),
@@ -195,8 +197,8 @@ fn write_labelled<W: Out>(label: &[u8], number: Option<u64>, out: &mut W) -> Res
     text.finish()
 }
 
-/// Prints the line of a refusal that is another program's own, by its number and name, with a number behind them where it
-/// has one, and answers the exit status, which is 2 whether or not the line could be written.
+/// Prints the line of a refusal that is another program's own, by its number and name, with a number behind them
+/// where it has one, and answers the exit status, which is 2 whether or not the line could be written.
 pub fn refused_by<V: Out>(label: &[u8], number: Option<u64>, err: &mut V) -> u8
     ensures status { result ≡ 2 }
     ensures line { Tried V.contents V.failures err.old err.new (labelled_text label.now number) }

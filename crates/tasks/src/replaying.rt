@@ -42,7 +42,8 @@ fn replay_and_write<W: Out>(
     schedule: &Schedule,
     out: &mut W,
 ) -> Result<Status, ProgramError>
-    ensures { (said : Result Plan Fault) → said ≡ Ok schedule.now → Replays W.contents W.failures out.old out.new result said }
+    ensures { (said : Result Plan Fault) → said ≡ Ok schedule.now
+        → Replays W.contents W.failures out.old out.new result said }
 {
     let outcome = match replay(alloc, schedule) {
         Ok(outcome) => outcome,

@@ -36,9 +36,9 @@ fn do_task<W: Out>(
     }
 }
 
-/// Does the task with the bytes of the file: writes its output to `out`, or the line of a refusal to `err`, and answers the
-/// exit status: 0, 1 where there are races, or 2 after a refusal. Nothing is written to `out` before a refusal, but where
-/// writing to it failed (F24). A failed write to `err` changes nothing.
+/// Does the task with the bytes of the file: writes its output to `out`, or the line of a refusal to `err`, and
+/// answers the exit status: 0, 1 where there are races, or 2 after a refusal. Nothing is written to `out` before a
+/// refusal, but where writing to it failed (F24). A failed write to `err` changes nothing.
 pub fn perform<W: Out, V: Out>(
     alloc: Global,
     task: &Task,
@@ -46,7 +46,8 @@ pub fn perform<W: Out, V: Out>(
     out: &mut W,
     err: &mut V,
 ) -> u8
-    ensures { Performs W.contents W.failures V.contents V.failures task.now text.now out.old out.new err.old err.new result }
+    ensures { Performs W.contents W.failures V.contents V.failures task.now text.now out.old out.new err.old err.new
+        result }
 {
     answered(do_task(alloc, task, text, out), err)
 }

@@ -62,8 +62,8 @@ impl Answered {
         self.err.as_bytes()
     }
 
-    /// A line `WORD STATUS LENGTH LENGTH LENGTH`, and then the text, what was written and what was said, of these lengths.
-    /// The word is `check` or `replay`.
+    /// A line `WORD STATUS LENGTH LENGTH LENGTH`, and then the text, what was written and what was said, of these
+    /// lengths. The word is `check` or `replay`.
     pub fn record(&self, alloc: Global) -> Result<Vec<u8>, AllocError> {
         let word = match self.task {
             Task::Check => "check",

@@ -1,8 +1,8 @@
 //! Breaks worked texts and tells what the program answers to each, to be compared with a plain model's answers.
 //!
 //! The words are MODE COUNT SEED FILE..: so many texts are made out of the files, which are charts or schedules, by a
-//! generator that begins with the seed. In the mode `tell` it prints each text with its answer, and in both modes then how
-//! many were read, how many were refused by which refusal, and a digest of all texts and answers (`tally`).
+//! generator that begins with the seed. In the mode `tell` it prints each text with its answer, and in both modes
+//! then how many were read, how many were refused by which refusal, and a digest of all texts and answers (`tally`).
 #![tactic(auto)]
 
 mod answers;

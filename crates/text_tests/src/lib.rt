@@ -1,4 +1,5 @@
-//! Tests of texts and of what is read from them: writers, schedules, charts, drawn orders and replays, by what is public.
+//! Tests of texts and of what is read from them: writers, schedules, charts, drawn orders and replays, by what is
+//! public.
 //!
 //! They are in a crate of their own, since a crate with tests is proved twice.
 #![tactic(auto)]

@@ -6,7 +6,8 @@ use Rattle.behaviour.specs.declared.answer.Answer.{Answer}
 use Rattle.behaviour.specs.declared.answer.Answer.TheVariants.{Start, Sent, Got, Nothing}
 use Rattle.timed_requests.specs.declared.letters.Letter.{Letter}
 use Rattle.timed_requests.specs.declared.server.ServerStep.{ServerStep}
-use Rattle.timed_requests.specs.declared.server.ServerStep.TheVariants.{Wait, Tell, Reply, LeaveClient, LeaveLogger, Stop}
+use Rattle.timed_requests.specs.declared.server.ServerStep.TheVariants.{Wait, Tell, Reply, LeaveClient, LeaveLogger}
+use Rattle.timed_requests.specs.declared.server.ServerStep.TheVariants.{Stop}
 use Rattle.timed_requests.specs.Letters.{act_of_first}
 
 -- how many turns it still waits after this answer: one less where nothing came, and else as long as its patience lasts

@@ -39,7 +39,8 @@ IsHeld k h p (events.Receive q name region) = length (waiting h q p) ≡ 0
 
 -- so many events of the line at p were made: the step makes the next one, and may
 abbrev pub IsNext : Chart → ℕ → List Occurrence → List ℕ → ℕ → Step → Type 0
-IsNext c k h made p x = (m : Event) × (slice_get (c (suc p)) (slice_index made p) ≡ Some m) × (x ≡ step_made (suc p) m) × MayCome k h (suc p) m
+IsNext c k h made p x = (m : Event) × (slice_get (c (suc p)) (slice_index made p) ≡ Some m) × (x ≡ step_made (suc p) m)
+    × MayCome k h (suc p) m
 
 -- all events of the line at p were made, or its lane holds the next one
 abbrev pub IsStopped : Chart → ℕ → List Occurrence → List ℕ → ℕ → Type 0

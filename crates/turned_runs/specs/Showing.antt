@@ -17,6 +17,8 @@ pub record ShowsTurn (n : ℕ) (c : Chart) (e r : Place) (plan : Plan) : Type 0 
 
 -- a plan of these instances that shows it, with the least number of slots; that no run does; or the slots that it takes
 abbrev pub IsShown : List (List ℕ) → ℕ → Chart → Place → Place → Shown → Type 0
-IsShown names first c e r (Replay plan) = (plan.names ≡ names) × ShowsTurn (length names) c e r plan × IsLeastTurn (length names) first plan.capacity c e r
+IsShown names first c e r (Replay plan) = (plan.names ≡ names) × ShowsTurn (length names) c e r plan
+    × IsLeastTurn (length names) first plan.capacity c e r
 IsShown names first c e r Enforced = CanBeOvertaken (length names) c e r → ⊥
-IsShown names first c e r (TooManySlots k) = (MAX_CAPACITY < k) × CanBeOvertakenWithin (length names) k c e r × IsLeastTurn (length names) first k c e r
+IsShown names first c e r (TooManySlots k) = (MAX_CAPACITY < k) × CanBeOvertakenWithin (length names) k c e r
+    × IsLeastTurn (length names) first k c e r

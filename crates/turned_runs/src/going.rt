@@ -1,5 +1,6 @@
 //! How far a run of a chart has come, and its next steps.
-ghost use Rattle.std.specs.Prelude.{ℕ, ◌≡◌, ◌+◌, ◌<◌, ◌≤◌, [], ◌∷◌, suc, List, length, replicate, slice_get, slice_index, slice_set, MatchBool, MatchOption, IfOk};
+ghost use Rattle.std.specs.Prelude.{ℕ, ◌≡◌, ◌+◌, ◌<◌, ◌≤◌, [], ◌∷◌, suc, List, length, replicate, slice_get};
+ghost use Rattle.std.specs.Prelude.{slice_index, slice_set, MatchBool, MatchOption, IfOk};
 ghost use Rattle.chart.specs.declared.history.Occurrence.{Occurrence};
 ghost use Rattle.chart.specs.declared.instance.TheConstants.{MAX_INSTANCES};
 ghost use Rattle.chart.specs.declared.line.TheConstants.{MAX_EVENTS};
@@ -108,7 +109,8 @@ impl Going {
         requires { length lines.now ≤ MAX_INSTANCES }
         ensures { MatchBool result
             ((p : ℕ) → p < length lines.now → length (chart_lines lines.now (suc p)) ≤ slice_index self.now.made p)
-            ((p : ℕ) × (p < length lines.now) × (slice_index self.now.made p < length (chart_lines lines.now (suc p)))) }
+            ((p : ℕ) × (p < length lines.now)
+            × (slice_index self.now.made p < length (chart_lines lines.now (suc p)))) }
     {
         for line in 0..lines.len() {
             if self.made[line] < lines[line].len() {

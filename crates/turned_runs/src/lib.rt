@@ -7,8 +7,8 @@
 //!
 //! - A chart's lines are run as they are drawn over lanes of so many slots just where they can be ([`run_within`]).
 //! - The step that makes an event is told by its number ([`step_of`]).
-//! - For a receive and another event: a run in which the receive overtakes it, with the least number of slots that does;
-//!   or no run with the same events and causes has it, whatever the slots ([`overtake_of_chart`],
+//! - For a receive and another event: a run in which the receive overtakes it, with the least number of slots that
+//!   does; or no run with the same events and causes has it, whatever the slots ([`overtake_of_chart`],
 //!   [`overtake_of_schedule`]).
 //! - A schedule shows that run: it means just this, and leaves no note ([`show`]).
 #![tactic(auto)]

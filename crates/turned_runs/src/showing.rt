@@ -26,7 +26,8 @@ pub enum Shown {
 /// F6: it fails only where there is no memory.
 pub fn show(alloc: Global, names: &Names, turned: &Turned) -> Result<Shown, AllocError>
     requires several { 2 ≤ length names.now }
-    requires turned { (first : ℕ) × (c : Chart) × (e : Place) × (r : Place) × IsTurned (length names.now) first c e r turned.now }
+    requires turned { (first : ℕ) × (c : Chart) × (e : Place) × (r : Place)
+        × IsTurned (length names.now) first c e r turned.now }
     ensures { IfOk result (λ shown. (first : ℕ) (c : Chart) (e r : Place) → 1 ≤ first
         → IsTurned (length names.now) first c e r turned.now → IsShown names.now first c e r shown) }
 {

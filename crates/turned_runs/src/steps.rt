@@ -50,7 +50,8 @@ pub fn is_receive(chart: &Chart, event: EventNo) -> bool
 pub fn step_of(steps: &[Step], event: EventNo) -> Option<usize>
     ensures { (n k : ℕ) → IsLegal n k (history_of steps.now)
         → MatchOption result (IsEvent (chart_of (history_of steps.now)) (place_of event) → ⊥)
-        (λ place. (x : Step) × (slice_get steps.now place ≡ Some x) × (place_after steps.now place x ≡ place_of event)) }
+        (λ place. (x : Step) × (slice_get steps.now place ≡ Some x)
+        × (place_after steps.now place x ≡ place_of event)) }
 {
     let mut made = 0;
     for place in 0..steps.len() {

@@ -30,8 +30,8 @@ pub enum Turned {
 }
 
 /// Of a run whose lanes have so many slots, a receive in it and another step, both by their numbers from 0: the least
-/// number of slots, from these on, with which some run of the same events and causes has the receive before the event of
-/// the other step, and such a run; or that none has.
+/// number of slots, from these on, with which some run of the same events and causes has the receive before the event
+/// of the other step, and such a run; or that none has.
 ///
 /// Only what has to come with the receive is moved. It takes some twelve walks over the steps. F6: it fails only where
 /// there is no memory.
@@ -118,15 +118,16 @@ pub fn overtake_of_chart(
     requires possible { IsPossible (length chart.now) (chart_lines chart.now) }
     requires receive { (q : ℕ) × IsReceiveFrom (chart_lines chart.now) q (place_of receive) }
     requires earlier { IsEvent (chart_lines chart.now) (place_of earlier) }
-    ensures { IfOk result (IsTurned (length chart.now) 1 (chart_lines chart.now) (place_of earlier) (place_of receive)) }
+    ensures { IfOk result (IsTurned (length chart.now) 1 (chart_lines chart.now) (place_of earlier)
+        (place_of receive)) }
 {
     let base = least_run(alloc, chart)?;
     overtake_in_run(alloc, base.steps.as_slice(), base.slots, receive, earlier)
 }
 
 /// Of a schedule, a receive and another event of the chart that it comes to: the least number of slots, from the
-/// schedule's capacity on, with which some run of the same events and causes has the receive before the event, and such a
-/// run; or that none has, whatever the slots. What needn't come with the receive stays in the recorded order.
+/// schedule's capacity on, with which some run of the same events and causes has the receive before the event, and
+/// such a run; or that none has, whatever the slots. What needn't come with the receive stays in the recorded order.
 ///
 /// F6: it fails only where there is no memory.
 pub fn overtake_of_schedule(
@@ -135,10 +136,15 @@ pub fn overtake_of_schedule(
     receive: EventNo,
     earlier: EventNo,
 ) -> Result<Turned, ReplayError>
-    requires receive { (q : ℕ) × IsReceiveFrom (chart_lines (history_lines (length schedule.now.names) (meaning schedule.now).run.history)) q (place_of receive) }
-    requires earlier { IsEvent (chart_lines (history_lines (length schedule.now.names) (meaning schedule.now).run.history)) (place_of earlier) }
+    requires receive { (q : ℕ)
+        × IsReceiveFrom (chart_lines (history_lines (length schedule.now.names) (meaning schedule.now).run.history)) q
+        (place_of receive) }
+    requires earlier { IsEvent
+        (chart_lines (history_lines (length schedule.now.names) (meaning schedule.now).run.history))
+        (place_of earlier) }
     ensures { IfOk result (IsTurned (length schedule.now.names) schedule.now.capacity
-        (chart_lines (history_lines (length schedule.now.names) (meaning schedule.now).run.history)) (place_of earlier) (place_of receive)) }
+        (chart_lines (history_lines (length schedule.now.names) (meaning schedule.now).run.history)) (place_of earlier)
+        (place_of receive)) }
 {
     let steps = recorded_run(alloc, schedule)?;
     let slots = schedule.capacity().slots();

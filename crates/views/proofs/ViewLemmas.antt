@@ -6,7 +6,7 @@ use Rattle.views.specs.declared.error.ViewError.{ViewError}
 use Rattle.views.specs.declared.error.ViewError.TheVariants.{Program, NoSuchEvent, NotAPair, ManySlots}
 use Rattle.views.specs.declared.verdict.Verdict.{Verdict}
 use Rattle.views.specs.Explaining.{Explains}
-use Rattle.views.specs.Files.{Says}
+use Rattle.tasks.specs.Files.{Says}
 use Rattle.views.specs.Views.{Whys}
 
 module _ {S : Type 0} (contents : S → Option (List ℕ)) (failures : S → ℕ) (bytes : List ℕ) (named : Named) (says : Says bytes named) (instance : List ℕ) (e r : ℕ) (old new : S) where

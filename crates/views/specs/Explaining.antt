@@ -49,19 +49,23 @@ IsExplained c pair Hidden sayings = (Before c (place_of pair.earlier) (place_of 
 
 -- the text of these lines, for a pair of the chart
 abbrev pub sayings_text : Named → Pair → List Saying → List ℕ
-sayings_text (names, lines) pair sayings = flat_map (saying_text names (chart_lines lines pair.receive.instance)) sayings
+sayings_text (names, lines) pair sayings =
+    flat_map (saying_text names (chart_lines lines pair.receive.instance)) sayings
 
 module _ {S : Type 0} (contents : S → Option (List ℕ)) (failures : S → ℕ) where
-  -- the lines that explain the pair were written; or a beginning of them, where a put failed; or nothing, where the chart is
-  -- not possible, where there is no such pair, or where memory ran out
+  -- the lines that explain the pair were written; or a beginning of them, where a put failed; or nothing, where the
+  -- chart is not possible, where there is no such pair, or where memory ran out
   abbrev pub Explains : S → S → Result Verdict ViewError → Named → List ℕ → ℕ → ℕ → Type 0
   Explains old new (Ok verdict) named instance e r = (pair : Pair) × (sayings : List Saying)
       × (pair_of named.0 named.1 instance e r ≡ Ok pair) × IsPossible (length named.1) (chart_lines named.1)
-      × IsExplained (chart_lines named.1) pair verdict sayings × Puts contents failures old new (sayings_text named pair sayings)
+      × IsExplained (chart_lines named.1) pair verdict sayings
+      × Puts contents failures old new (sayings_text named pair sayings)
   Explains old new (Err (Program errors.Memory)) named instance e r = new ≡ old
-  Explains old new (Err (Program errors.Write)) named instance e r = (pair : Pair) × (verdict : Verdict) × (sayings : List Saying)
+  Explains old new (Err (Program errors.Write)) named instance e r =
+      (pair : Pair) × (verdict : Verdict) × (sayings : List Saying)
       × (pair_of named.0 named.1 instance e r ≡ Ok pair) × IsPossible (length named.1) (chart_lines named.1)
-      × IsExplained (chart_lines named.1) pair verdict sayings × Breaks contents failures old new (sayings_text named pair sayings)
+      × IsExplained (chart_lines named.1) pair verdict sayings
+      × Breaks contents failures old new (sayings_text named pair sayings)
   Explains old new (Err (Program error)) named instance e r = IsRefused error named × (new ≡ old)
   Explains old new (Err (ManySlots slots)) named instance e r = ⊥
   Explains old new (Err error) named instance e r = (pair_of named.0 named.1 instance e r ≡ Err error)

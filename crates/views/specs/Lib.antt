@@ -1,6 +1,5 @@
 pub mod Answers
 pub mod Explaining
-pub mod Files
 pub mod Pairs
 pub mod Sayings
 pub mod SayingText

@@ -40,12 +40,14 @@ told_text names start p n = piece_text start ++ (place_text names p n ++ piece_t
 -- INDEX out MESSAGE to, or INDEX in MESSAGE from, and a space
 unfoldable pub message_text : ℕ → Keyword → List ℕ → Keyword → List ℕ
 message_text index direction message side =
-    decimal index ++ (codes " " ++ (spelled direction ++ (codes " " ++ (message ++ (codes " " ++ (spelled side ++ codes " "))))))
+    decimal index
+    ++ (codes " " ++ (spelled direction ++ (codes " " ++ (message ++ (codes " " ++ (spelled side ++ codes " "))))))
 
 -- INDEX out MESSAGE to NAME, or INDEX in MESSAGE from NAME
 unfoldable pub half_text : List (List ℕ) → ℕ → Event → List ℕ
 half_text names index (Send to name) = message_text index keywords.Out name keywords.To ++ name_at names to
-half_text names index (Receive from name region) = message_text index keywords.In name keywords.From ++ name_at names from
+half_text names index (Receive from name region) = message_text index keywords.In name keywords.From
+    ++ name_at names from
 
 -- the same where there is an event
 abbrev pub half_at : List (List ℕ) → ℕ → Option Event → List ℕ
@@ -55,7 +57,8 @@ half_at names index (Some m) = half_text names index m
 -- line INDEX EVENT | INDEX EVENT
 unfoldable pub row_text : List (List ℕ) → List Event → ℕ → ℕ → List ℕ
 row_text names events was may =
-    piece_text pieces.Line ++ (half_at names was (ith events was) ++ (piece_text pieces.Beside ++ (half_at names may (ith events may) ++ piece_text pieces.End)))
+    piece_text pieces.Line ++ (half_at names was (ith events was)
+    ++ (piece_text pieces.Beside ++ (half_at names may (ith events may) ++ piece_text pieces.End)))
 
 -- a rule's name
 unfoldable pub rule_text : Rule → List ℕ
@@ -66,7 +69,9 @@ rule_text SameSender = codes "same sender"
 -- NAME INDEX before NAME INDEX: RULE
 unfoldable pub step_text : List (List ℕ) → Link → List ℕ
 step_text names link =
-    place_text names link.earlier.instance link.earlier.index ++ (piece_text pieces.Earlier ++ (place_text names link.later.instance link.later.index ++ (piece_text pieces.By ++ (rule_text link.rule ++ piece_text pieces.End))))
+    place_text names link.earlier.instance link.earlier.index
+    ++ (piece_text pieces.Earlier ++ (place_text names link.later.instance link.later.index
+    ++ (piece_text pieces.By ++ (rule_text link.rule ++ piece_text pieces.End))))
 
 -- a line; a row is of these events
 abbrev pub saying_text : List (List ℕ) → List Event → Saying → List ℕ

@@ -1,6 +1,7 @@
--- What explains a race, line by line: what has to come before the receive, and the receive's line as it was and as it may be
--- (this project's profile).
-use Rattle.std.specs.Prelude.{ℕ, zero, suc, ◌-◌, Bool, true, false, not, ◌&&◌, ◌||◌, nat_lt, nat_le, List, [], ◌∷◌, ◌++◌, length, map, slice_index, Option, None, Some, if◌then◌else◌}
+-- What explains a race, line by line: what has to come before the receive, and the receive's line as it was and as it
+-- may be (this project's profile).
+use Rattle.std.specs.Prelude.{ℕ, zero, suc, ◌-◌, Bool, true, false, not, ◌&&◌, ◌||◌, nat_lt, nat_le, List, [], ◌∷◌}
+use Rattle.std.specs.Prelude.{◌++◌, length, map, slice_index, Option, None, Some, if◌then◌else◌}
 use Rattle.chart.specs.declared.event.Event.{Event}
 use Rattle.chart.specs.Events.{ith, is_receive_from}
 use Rattle.closure.specs.Rows.{entry}
@@ -34,7 +35,8 @@ so false answer = not answer
 -- the numbers of a line's events with those before the receive r first, then r, and then the others
 abbrev pub order : List Event → ℕ → ℕ → ℕ → List ℕ
 order events r count q =
-    passing (λ i. so true (comes_first events count q i)) (r - 1) ++ r ∷ (passing (λ i. so false (comes_first events count q i)) (r - 1) ++ passing (nat_lt r) (length events))
+    passing (λ i. so true (comes_first events count q i)) (r - 1) ++ r
+    ∷ (passing (λ i. so false (comes_first events count q i)) (r - 1) ++ passing (nat_lt r) (length events))
 
 -- of each of the first n lines how many first events come before
 abbrev pub befores : List ℕ → ℕ → List Saying
@@ -50,8 +52,8 @@ abbrev pub rows : List ℕ → ℕ → List Saying
 rows numbers zero = []
 rows numbers (suc n) = rows numbers n ++ Row (suc n) (slice_index numbers n) ∷ []
 
--- what explains a race of the receive of this number of p's line, with these events, from q: `counts` tells of each line how
--- many first events come before it
+-- what explains a race of the receive of this number of p's line, with these events, from q: `counts` tells of each
+-- line how many first events come before it
 abbrev pub race_sayings : List Event → ℕ → ℕ → ℕ → List ℕ → List Saying
 race_sayings events p r q counts =
     befores counts (length counts)

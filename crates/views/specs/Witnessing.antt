@@ -19,7 +19,7 @@ use Rattle.views.specs.declared.error.ViewError.TheVariants.{Program, NoSuchEven
 use Rattle.views.specs.declared.pair.Pair.{Pair}
 use Rattle.views.specs.declared.verdict.Verdict.{Verdict}
 use Rattle.views.specs.Answers.{told_of_witness, refusal_text}
-use Rattle.views.specs.Files.{is_schedule}
+use Rattle.tasks.specs.Files.{is_schedule}
 use Rattle.views.specs.Pairs.{pair_of}
 use Rattle.views.specs.Turning.{Shows}
 use Rattle.views.specs.Verdicts.{code_of}
@@ -38,52 +38,69 @@ abbrev pub has_closes : Plan → Bool
 has_closes plan = list_any (λ (c : Command). is_close c.action) plan.commands
 
 module _ {S : Type 0} (contents : S → Option (List ℕ)) (failures : S → ℕ) where
-  -- what is written for two events of a chart, with slots from `first` on: a witness, or none was found; or nothing, where the
-  -- chart is not possible, where there is no such pair, or where memory ran out
+  -- what is written for two events of a chart, with slots from `first` on: a witness, or none was found; or nothing,
+  -- where the chart is not possible, where there is no such pair, or where memory ran out
   abbrev pub Finds : S → S → Result Verdict ViewError → Named → ℕ → List ℕ → ℕ → ℕ → Type 0
   Finds old new (Err (Program errors.Memory)) named first instance e r = new ≡ old
-  Finds old new (Err (Program errors.Write)) named first instance e r = (pair : Pair) × (pair_of named.0 named.1 instance e r ≡ Ok pair)
-      × IsPossible (length named.1) (chart_lines named.1) × Shows contents failures old new (Err (Program errors.Write)) named first pair
+  Finds old new (Err (Program errors.Write)) named first instance e r =
+      (pair : Pair) × (pair_of named.0 named.1 instance e r ≡ Ok pair)
+      × IsPossible (length named.1) (chart_lines named.1) × Shows contents failures old new
+      (Err (Program errors.Write)) named first pair
   Finds old new (Err (Program error)) named first instance e r = IsRefused error named × (new ≡ old)
-  Finds old new (Err NoSuchEvent) named first instance e r = (pair_of named.0 named.1 instance e r ≡ Err NoSuchEvent) × (new ≡ old)
-  Finds old new (Err NotAPair) named first instance e r = (pair_of named.0 named.1 instance e r ≡ Err NotAPair) × (new ≡ old)
+  Finds old new (Err NoSuchEvent) named first instance e r = (pair_of named.0 named.1 instance e r ≡ Err NoSuchEvent)
+      × (new ≡ old)
+  Finds old new (Err NotAPair) named first instance e r = (pair_of named.0 named.1 instance e r ≡ Err NotAPair)
+      × (new ≡ old)
   Finds old new done named first instance e r = (pair : Pair) × (pair_of named.0 named.1 instance e r ≡ Ok pair)
       × IsPossible (length named.1) (chart_lines named.1) × Shows contents failures old new done named first pair
 
   -- the same for two events of the chart that a schedule comes to, with slots from its own capacity on
   abbrev pub FindsOf : S → S → Result Verdict ViewError → Plan → List ℕ → ℕ → ℕ → Type 0
   FindsOf old new (Err (Program errors.Memory)) plan instance e r = new ≡ old
-  FindsOf old new done plan instance e r = (o : OutcomeView) × IsOutcome plan o × Finds old new done (o.names, o.chart) plan.capacity instance e r
+  FindsOf old new done plan instance e r = (o : OutcomeView) × IsOutcome plan o
+      × Finds old new done (o.names, o.chart) plan.capacity instance e r
 
--- the exit status, and what is told on standard error: where it was done, or the line of a refusal, of which a failed write may
--- leave a beginning
-abbrev pub AnsweredAs : {T : Type 0} → (T → Option (List ℕ)) → (T → ℕ) → (Result Verdict ViewError → Type 0) → Bool → T → T → ℕ → Type 0
+-- the exit status, and what is told on standard error: where it was done, or the line of a refusal, of which a failed
+-- write may leave a beginning
+abbrev pub AnsweredAs : {T : Type 0} → (T → Option (List ℕ)) → (T → ℕ) → (Result Verdict ViewError → Type 0) → Bool → T
+    → T → ℕ → Type 0
 AnsweredAs err_contents err_failures does closes err_old err_new status =
-    ((verdict : Verdict) × does (Ok verdict) × (status ≡ code_of verdict) × Tried err_contents err_failures err_old err_new (told_of_witness closes verdict))
-    ⊎ ((error : ViewError) × does (Err error) × (status ≡ 2) × Tried err_contents err_failures err_old err_new (refusal_text error))
+    ((verdict : Verdict) × does (Ok verdict) × (status ≡ code_of verdict)
+    × Tried err_contents err_failures err_old err_new (told_of_witness closes verdict))
+    ⊎ ((error : ViewError) × does (Err error) × (status ≡ 2)
+    × Tried err_contents err_failures err_old err_new (refusal_text error))
 
-module _ {S T : Type 0} (contents : S → Option (List ℕ)) (failures : S → ℕ) (err_contents : T → Option (List ℕ)) (err_failures : T → ℕ) where
+module _ {S T : Type 0} (contents : S → Option (List ℕ)) (failures : S → ℕ) (err_contents : T
+    → Option (List ℕ)) (err_failures : T → ℕ) where
   -- what is answered to what was read: nothing was written where it has a fault
-  abbrev pub AnswersRead : {A : Type 0} → (A → Result Verdict ViewError → Type 0) → (A → Bool) → S → S → T → T → ℕ → Result A Fault → Type 0
+  abbrev pub AnswersRead : {A : Type 0} → (A → Result Verdict ViewError → Type 0) → (A → Bool) → S → S → T → T → ℕ
+      → Result A Fault → Type 0
   AnswersRead {A} does closes old new err_old err_new status said =
-      ((error : ProgramError) × Reads {A = A} (Err error) said × (new ≡ old) × (status ≡ 2) × Tried err_contents err_failures err_old err_new (refusal_text (Program error)))
-      ⊎ ((read : A) × (said ≡ Ok read) × AnsweredAs err_contents err_failures (does read) (closes read) err_old err_new status)
+      ((error : ProgramError) × Reads {A = A} (Err error) said × (new ≡ old) × (status ≡ 2)
+      × Tried err_contents err_failures err_old err_new (refusal_text (Program error)))
+      ⊎ ((read : A) × (said ≡ Ok read) × AnsweredAs err_contents err_failures (does read)
+      (closes read) err_old err_new status)
 
   -- to a schedule
   abbrev pub AnswersSchedule : S → S → T → T → ℕ → Result Plan Fault → List ℕ → ℕ → ℕ → Type 0
   AnswersSchedule old new err_old err_new status said instance e r =
-      AnswersRead (λ plan done. FindsOf contents failures old new done plan instance e r) has_closes old new err_old err_new status said
+      AnswersRead (λ plan done. FindsOf contents failures old new done plan instance e r) has_closes old new err_old
+      err_new status said
 
   -- to a chart
   abbrev pub AnswersChart : S → S → T → T → ℕ → Result Named Fault → List ℕ → ℕ → ℕ → Type 0
   AnswersChart old new err_old err_new status said instance e r =
-      AnswersRead (λ named done. Finds contents failures old new done named 1 instance e r) (λ named. false) old new err_old err_new status said
+      AnswersRead (λ named done. Finds contents failures old new done named 1 instance e r)
+      (λ named. false) old new err_old err_new status said
 
   -- to a text of one kind or the other
   abbrev pub AnswersSo : Bool → S → S → T → T → ℕ → List ℕ → List ℕ → ℕ → ℕ → Type 0
-  AnswersSo true old new err_old err_new status bytes instance e r = AnswersSchedule old new err_old err_new status (schedule_of bytes) instance e r
-  AnswersSo false old new err_old err_new status bytes instance e r = AnswersChart old new err_old err_new status (chart_of bytes) instance e r
+  AnswersSo true old new err_old err_new status bytes instance e r =
+      AnswersSchedule old new err_old err_new status (schedule_of bytes) instance e r
+  AnswersSo false old new err_old err_new status bytes instance e r =
+      AnswersChart old new err_old err_new status (chart_of bytes) instance e r
 
   -- to the bytes of a file
   abbrev pub AnswersWitness : S → S → T → T → ℕ → List ℕ → List ℕ → ℕ → ℕ → Type 0
-  AnswersWitness old new err_old err_new status bytes instance e r = AnswersSo (is_schedule bytes) old new err_old err_new status bytes instance e r
+  AnswersWitness old new err_old err_new status bytes instance e r =
+      AnswersSo (is_schedule bytes) old new err_old err_new status bytes instance e r

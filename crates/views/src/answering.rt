@@ -52,8 +52,10 @@ fn tell<V: Out>(told: &[u8], err: &mut V)
 
 /// The exit status of what was explained, with what is told beside it; or of what is refused now.
 pub(crate) fn answered<V: Out>(done: Result<Verdict, ViewError>, err: &mut V) -> u8
-    ensures ok { IfOk done (λ verdict. (result ≡ code_of verdict) × Tried V.contents V.failures err.old err.new (told_of verdict)) }
-    ensures err { IfErr done (λ error. (result ≡ 2) × Tried V.contents V.failures err.old err.new (refusal_text error)) }
+    ensures ok { IfOk done (λ verdict. (result ≡ code_of verdict)
+        × Tried V.contents V.failures err.old err.new (told_of verdict)) }
+    ensures err { IfErr done (λ error. (result ≡ 2) × Tried V.contents V.failures err.old err.new
+        (refusal_text error)) }
 {
     match done {
         Ok(verdict) => {
@@ -114,15 +116,17 @@ fn write_witness_told<V: Out>(
     text.finish()
 }
 
-/// The exit status of a witness that was written, or of a pair that has none, with what is told beside it; or of what is
-/// refused now.
+/// The exit status of a witness that was written, or of a pair that has none, with what is told beside it; or of what
+/// is refused now.
 pub(crate) fn witnessed<V: Out>(
     done: Result<Verdict, ViewError>,
     has_closes: bool,
     err: &mut V,
 ) -> u8
-    ensures ok { IfOk done (λ verdict. (result ≡ code_of verdict) × Tried V.contents V.failures err.old err.new (told_of_witness has_closes verdict)) }
-    ensures err { IfErr done (λ error. (result ≡ 2) × Tried V.contents V.failures err.old err.new (refusal_text error)) }
+    ensures ok { IfOk done (λ verdict. (result ≡ code_of verdict)
+        × Tried V.contents V.failures err.old err.new (told_of_witness has_closes verdict)) }
+    ensures err { IfErr done (λ error. (result ≡ 2) × Tried V.contents V.failures err.old err.new
+        (refusal_text error)) }
 {
     match done {
         Ok(verdict) => {

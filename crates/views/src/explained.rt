@@ -72,8 +72,8 @@ fn explain(
     }
 }
 
-/// Explains the two events of the chart that are asked about: writes why the first has to come before the second, or that
-/// it needn't, and answers what they are. All memory is taken before the first line is written.
+/// Explains the two events of the chart that are asked about: writes why the first has to come before the second, or
+/// that it needn't, and answers what they are. All memory is taken before the first line is written.
 pub(crate) fn why_in<W: Out>(
     alloc: Global,
     names: &Names,
@@ -82,7 +82,8 @@ pub(crate) fn why_in<W: Out>(
     out: &mut W,
 ) -> Result<Verdict, ViewError>
     requires { length names.now ≡ length chart.now }
-    ensures { Explains W.contents W.failures out.old out.new result (names.now, chart.now) asked.now.instance.now asked.now.earlier asked.now.receive }
+    ensures { Explains W.contents W.failures out.old out.new result (names.now, chart.now) asked.now.instance.now
+        asked.now.earlier asked.now.receive }
 {
     let lines = chart.lines();
     let closure = closure_of(alloc, names, chart)?;

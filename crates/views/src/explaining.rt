@@ -1,9 +1,10 @@
-//! What explains a pair: of a race what has to come before its receive and how the receive's line may be, of an enforced
-//! pair its chain.
+//! What explains a pair: of a race what has to come before its receive and how the receive's line may be, of an
+//! enforced pair its chain.
 ghost use Rattle.std.specs.Prelude.{◌≡◌, ◌≤◌, ◌++◌, ◌-◌, nat_lt, length, IfOk, OnOk};
 ghost use Rattle.chart.specs.declared.instance.TheConstants.{MAX_INSTANCES};
 ghost use Rattle.closure.specs.Rows.{entry};
-ghost use Rattle.views.specs.Sayings.{passing, comes_first, comes_too, so, order, befores, alsos, rows, race_sayings, chain_sayings};
+ghost use Rattle.views.specs.Sayings.{passing, comes_first, comes_too, so, order, befores, alsos, rows, race_sayings};
+ghost use Rattle.views.specs.Sayings.{chain_sayings};
 
 use crate::saying::Saying;
 use causes::Link;
@@ -60,7 +61,8 @@ fn add_alsos(sayings: &mut Vec<Saying>, own: &OwnLine<'_>) -> Result<(), AllocEr
     requires begun { 1 ≤ own.now.receive }
     requires within { own.now.receive ≤ length own.now.events.now }
     ensures { OnOk result (sayings.new.items ≡ sayings.old.items
-        ++ alsos own.now.instance (passing (comes_too own.now.events.now own.now.count own.now.sender) (own.now.receive - 1))) }
+        ++ alsos own.now.instance
+        (passing (comes_too own.now.events.now own.now.count own.now.sender) (own.now.receive - 1))) }
 {
     for place in 0..own.receive - 1 {
         let index = place + 1;
@@ -92,7 +94,8 @@ fn add_above(order: &mut Vec<usize>, own: &OwnLine<'_>, before: bool) -> Result<
     requires begun { 1 ≤ own.now.receive }
     requires within { own.now.receive ≤ length own.now.events.now }
     ensures { OnOk result (order.new.items ≡ order.old.items
-        ++ passing (λ i. so before (comes_first own.now.events.now own.now.count own.now.sender i)) (own.now.receive - 1)) }
+        ++ passing (λ i. so before (comes_first own.now.events.now own.now.count own.now.sender i))
+        (own.now.receive - 1)) }
 {
     for place in 0..own.receive - 1 {
         let index = place + 1;
@@ -105,7 +108,8 @@ fn add_above(order: &mut Vec<usize>, own: &OwnLine<'_>, before: bool) -> Result<
 
 /// Adds the numbers of the events below the receive.
 fn add_below(order: &mut Vec<usize>, own: &OwnLine<'_>) -> Result<(), AllocError>
-    ensures { OnOk result (order.new.items ≡ order.old.items ++ passing (nat_lt own.now.receive) (length own.now.events.now)) }
+    ensures { OnOk result (order.new.items ≡ order.old.items ++ passing (nat_lt own.now.receive)
+        (length own.now.events.now)) }
 {
     for place in 0..own.events.len() {
         if own.receive < place + 1 {
@@ -115,12 +119,13 @@ fn add_below(order: &mut Vec<usize>, own: &OwnLine<'_>) -> Result<(), AllocError
     Ok(())
 }
 
-/// The numbers of the line's events in the order in which they may be: those before the receive first, then the receive,
-/// and then the others.
+/// The numbers of the line's events in the order in which they may be: those before the receive first, then the
+/// receive, and then the others.
 fn order_of(alloc: Global, own: &OwnLine<'_>) -> Result<Vec<usize>, AllocError>
     requires begun { 1 ≤ own.now.receive }
     requires within { own.now.receive ≤ length own.now.events.now }
-    ensures { IfOk result (λ numbers. numbers.items ≡ order own.now.events.now own.now.receive own.now.count own.now.sender) }
+    ensures { IfOk result (λ numbers. numbers.items ≡ order own.now.events.now own.now.receive own.now.count
+        own.now.sender) }
 {
     let mut order = Vec::new(alloc);
     add_above(&mut order, own, true)?;
@@ -143,8 +148,8 @@ fn add_rows(sayings: &mut Vec<Saying>, order: &[usize]) -> Result<(), AllocError
     Ok(())
 }
 
-/// What explains a race of this receive: of each line how many first events are before it, what else of its line is, and
-/// its line as it was and as it may be.
+/// What explains a race of this receive: of each line how many first events are before it, what else of its line is,
+/// and its line as it was and as it may be.
 pub(crate) fn race_sayings(
     alloc: Global,
     own: &OwnLine<'_>,

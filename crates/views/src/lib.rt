@@ -1,21 +1,21 @@
 //! What the program `mscview` does with the bytes of a file, and what it says where it can't.
 //!
-//! What is promised ([`why`]): the bytes of the file, an instance's name and the numbers of two events decide the output's
-//! bytes.
+//! What is promised ([`why`]): the bytes of the file, an instance's name and the numbers of two events decide the
+//! output's bytes.
 //!
-//! - With status 0 the enforced order puts the event before the receive, and exactly a shortest chain of direct steps was
-//!   written, each with its rule.
+//! - With status 0 the enforced order puts the event before the receive, and exactly a shortest chain of direct steps
+//!   was written, each with its rule.
 //! - With status 1 it doesn't, and exactly what has to come before the receive was written, line by line, and then the
 //!   receive's line as it was beside the line as it may be.
-//! - With status 2 the refusal's line was written, or a beginning of it where standard error failed, and nothing went to
-//!   the output before it, unless a write failed (F24).
+//! - With status 2 the refusal's line was written, or a beginning of it where standard error failed, and nothing went
+//!   to the output before it, unless a write failed (F24).
 //!
 //! And of the other order of the two ([`witness`]), where a run is one of the same events and causes:
 //!
 //! - With status 0 no run has the receive before the event, whatever the slots, and nothing was written to the output.
-//! - With status 1 exactly the text of a schedule was written which refuses no command and means such a run. It has the
-//!   fewest slots that allow one, of a schedule from its own capacity on, and of a chart from 1 on, among those over which
-//!   the chart itself can be.
+//! - With status 1 exactly the text of a schedule was written which refuses no command and means such a run. It has
+//!   the fewest slots that allow one, of a schedule from its own capacity on, and of a chart from 1 on, among those
+//!   over which the chart itself can be.
 //! - With status 2 the same holds as above. A pair that needs more than 64 slots is refused with their number (F33).
 #![tactic(auto)]
 
@@ -24,7 +24,6 @@ mod error;
 mod explained;
 mod explaining;
 mod pair;
-mod reading;
 mod saying;
 mod turning;
 mod verdict;

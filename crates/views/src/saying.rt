@@ -4,7 +4,8 @@ ghost use Rattle.std.specs.List.{flat_map};
 ghost use Rattle.chart.specs.Events.{ith};
 ghost use Rattle.msc_text.specs.ChartText.{name_at};
 ghost use Rattle.msc_text.specs.Writing.{Wrote, Adds};
-ghost use Rattle.views.specs.SayingText.{piece_text, behind_space, place_text, told_text, message_text, half_text, half_at, row_text, rule_text, step_text, saying_text};
+ghost use Rattle.views.specs.SayingText.{piece_text, behind_space, place_text, told_text, message_text, half_text};
+ghost use Rattle.views.specs.SayingText.{half_at, row_text, rule_text, step_text, saying_text};
 
 use causes::{Link, Rule};
 use chart::{Event, InstanceNo, Keyword, Name, Names};
@@ -248,7 +249,8 @@ fn add_sayings<W: Out>(
     events: &[Event],
     sayings: &[Saying],
 ) -> Result<(), WriteError>
-    ensures { Adds W.contents W.failures text.old text.new result (flat_map (saying_text names.now events.now) sayings.now) }
+    ensures { Adds W.contents W.failures text.old text.new result
+        (flat_map (saying_text names.now events.now) sayings.now) }
 {
     for saying in sayings {
         add_saying(text, names, events, saying)?;
@@ -265,7 +267,8 @@ pub(crate) fn write_sayings<W: Out>(
     sayings: &[Saying],
     out: &mut W,
 ) -> Result<(), WriteError>
-    ensures { Wrote W.contents W.failures out.old out.new result (flat_map (saying_text names.now events.now) sayings.now) }
+    ensures { Wrote W.contents W.failures out.old out.new result
+        (flat_map (saying_text names.now events.now) sayings.now) }
 {
     let mut text = TextBuffer::new(out);
     add_sayings(&mut text, names, events, sayings)?;

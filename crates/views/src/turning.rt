@@ -61,8 +61,10 @@ pub(crate) fn write_turned<W: Out>(
 ) -> Result<Verdict, ViewError>
     requires named { length names.now ≡ length chart.now }
     requires pair { IsPair (chart_lines chart.now) pair.now }
-    requires turned { (first : ℕ) × (1 ≤ first) × IsTurned (length names.now) first (chart_lines chart.now) (place_of pair.now.earlier) (place_of pair.now.receive) turned.now }
-    ensures { (first : ℕ) → 1 ≤ first → IsTurned (length names.now) first (chart_lines chart.now) (place_of pair.now.earlier) (place_of pair.now.receive) turned.now
+    requires turned { (first : ℕ) × (1 ≤ first) × IsTurned (length names.now) first (chart_lines chart.now)
+        (place_of pair.now.earlier) (place_of pair.now.receive) turned.now }
+    ensures { (first : ℕ) → 1 ≤ first → IsTurned (length names.now) first (chart_lines chart.now)
+        (place_of pair.now.earlier) (place_of pair.now.receive) turned.now
         → Shows W.contents W.failures out.old out.new result (names.now, chart.now) first pair.now }
 {
     let lines = chart.lines();

@@ -1,18 +1,17 @@
 //! What the program does with the bytes of a file.
 ghost use Rattle.std.specs.Prelude.{◌≡◌, true, false};
-ghost use Rattle.views.specs.Files.{is_schedule};
+ghost use Rattle.tasks.specs.Files.{is_schedule};
 ghost use Rattle.views.specs.Views.{Whys, AnswersWhy};
 
 use crate::answering::answered;
 use crate::error::ViewError;
 use crate::explained::why_in;
 use crate::pair::Asked;
-use crate::reading::is_schedule;
 use crate::verdict::Verdict;
 use msc_text::Out;
 use replayer::replay;
 use std::alloc::Global;
-use tasks::{ProgramError, chart_in, schedule_in};
+use tasks::{ProgramError, chart_in, is_schedule, schedule_in};
 
 /// Explains two events of what the schedule comes to that the text says.
 fn why_schedule<W: Out>(
@@ -22,7 +21,8 @@ fn why_schedule<W: Out>(
     out: &mut W,
 ) -> Result<Verdict, ViewError>
     requires { is_schedule text.now ≡ true }
-    ensures { Whys W.contents W.failures out.old out.new result text.now asked.now.instance.now asked.now.earlier asked.now.receive }
+    ensures { Whys W.contents W.failures out.old out.new result text.now asked.now.instance.now asked.now.earlier
+        asked.now.receive }
 {
     let schedule = schedule_in(alloc, text)?;
     let Ok(outcome) = replay(alloc, &schedule) else {
@@ -39,7 +39,8 @@ fn why_chart<W: Out>(
     out: &mut W,
 ) -> Result<Verdict, ViewError>
     requires { is_schedule text.now ≡ false }
-    ensures { Whys W.contents W.failures out.old out.new result text.now asked.now.instance.now asked.now.earlier asked.now.receive }
+    ensures { Whys W.contents W.failures out.old out.new result text.now asked.now.instance.now asked.now.earlier
+        asked.now.receive }
 {
     let (names, chart) = chart_in(alloc, text)?;
     why_in(alloc, &names, &chart, asked, out)
@@ -52,7 +53,8 @@ fn why_text<W: Out>(
     asked: &Asked<'_>,
     out: &mut W,
 ) -> Result<Verdict, ViewError>
-    ensures { Whys W.contents W.failures out.old out.new result text.now asked.now.instance.now asked.now.earlier asked.now.receive }
+    ensures { Whys W.contents W.failures out.old out.new result text.now asked.now.instance.now asked.now.earlier
+        asked.now.receive }
 {
     if is_schedule(text) {
         why_schedule(alloc, text, asked, out)
@@ -61,11 +63,11 @@ fn why_text<W: Out>(
     }
 }
 
-/// Explains two events of the chart that the bytes of a file say, or of what the schedule comes to that they say: writes to
-/// `out` the chain that enforces the pair, or what has to come before the receive and how its line may be. Writes the line
-/// of a refusal to `err`, or that a coregion hides the pair. Answers the exit status: 0 where the pair is enforced, 1 where
-/// it isn't, 2 after a refusal. Nothing is written to `out` before a refusal, but where writing to it failed (F24). A
-/// failed write to `err` changes nothing.
+/// Explains two events of the chart that the bytes of a file say, or of what the schedule comes to that they say:
+/// writes to `out` the chain that enforces the pair, or what has to come before the receive and how its line may be.
+/// Writes the line of a refusal to `err`, or that a coregion hides the pair. Answers the exit status: 0 where the
+/// pair is enforced, 1 where it isn't, 2 after a refusal. Nothing is written to `out` before a refusal, but where
+/// writing to it failed (F24). A failed write to `err` changes nothing.
 pub fn why<W: Out, V: Out>(
     alloc: Global,
     text: &[u8],
@@ -73,7 +75,8 @@ pub fn why<W: Out, V: Out>(
     out: &mut W,
     err: &mut V,
 ) -> u8
-    ensures { AnswersWhy W.contents W.failures V.contents V.failures out.old out.new err.old err.new result text.now asked.now.instance.now asked.now.earlier asked.now.receive }
+    ensures { AnswersWhy W.contents W.failures V.contents V.failures out.old out.new err.old err.new result text.now
+        asked.now.instance.now asked.now.earlier asked.now.receive }
 {
     answered(why_text(alloc, text, asked, out), err)
 }

@@ -2,12 +2,12 @@
 ghost use Rattle.std.specs.Prelude.{◌≡◌, length};
 ghost use Rattle.schedule.specs.Reading.{schedule_of};
 ghost use Rattle.msc_reader.specs.Reading.{chart_of};
-ghost use Rattle.views.specs.Witnessing.{is_close, has_closes, Finds, FindsOf, AnswersSchedule, AnswersChart, AnswersWitness};
+ghost use Rattle.views.specs.Witnessing.{is_close, has_closes, Finds, FindsOf, AnswersSchedule, AnswersChart};
+ghost use Rattle.views.specs.Witnessing.{AnswersWitness};
 
 use crate::answering::{refused, witnessed};
 use crate::error::ViewError;
 use crate::pair::Asked;
-use crate::reading::is_schedule;
 use crate::turning::{pair_of_possible, write_turned};
 use crate::verdict::Verdict;
 use chart::{Chart, Names};
@@ -15,7 +15,7 @@ use msc_text::Out;
 use replayer::replay;
 use schedule::{Action, Schedule};
 use std::alloc::Global;
-use tasks::{ProgramError, chart_in, schedule_in};
+use tasks::{ProgramError, chart_in, is_schedule, schedule_in};
 use turned_runs::{overtake_of_chart, overtake_of_schedule};
 
 fn is_close(action: &Action) -> bool
@@ -47,7 +47,8 @@ fn witness_chart<W: Out>(
     out: &mut W,
 ) -> Result<Verdict, ViewError>
     requires { length names.now ≡ length chart.now }
-    ensures { Finds W.contents W.failures out.old out.new result (names.now, chart.now) 1 asked.now.instance.now asked.now.earlier asked.now.receive }
+    ensures { Finds W.contents W.failures out.old out.new result (names.now, chart.now) 1 asked.now.instance.now
+        asked.now.earlier asked.now.receive }
 {
     let pair = pair_of_possible(alloc, names, chart, asked)?;
     let Ok(turned) = overtake_of_chart(alloc, chart, pair.receive, pair.earlier) else {
@@ -63,7 +64,8 @@ fn witness_schedule<W: Out>(
     asked: &Asked<'_>,
     out: &mut W,
 ) -> Result<Verdict, ViewError>
-    ensures { FindsOf W.contents W.failures out.old out.new result schedule.now asked.now.instance.now asked.now.earlier asked.now.receive }
+    ensures { FindsOf W.contents W.failures out.old out.new result schedule.now asked.now.instance.now asked.now.earlier
+        asked.now.receive }
 {
     let Ok(outcome) = replay(alloc, schedule) else {
         return Err(ViewError::Program(ProgramError::Memory));
@@ -84,7 +86,8 @@ fn witness_schedule_in<W: Out, V: Out>(
     out: &mut W,
     err: &mut V,
 ) -> u8
-    ensures { AnswersSchedule W.contents W.failures V.contents V.failures out.old out.new err.old err.new result (schedule_of text.now) asked.now.instance.now asked.now.earlier asked.now.receive }
+    ensures { AnswersSchedule W.contents W.failures V.contents V.failures out.old out.new err.old err.new result
+        (schedule_of text.now) asked.now.instance.now asked.now.earlier asked.now.receive }
 {
     let schedule = match schedule_in(alloc, text) {
         Ok(schedule) => schedule,
@@ -105,7 +108,8 @@ fn witness_chart_in<W: Out, V: Out>(
     out: &mut W,
     err: &mut V,
 ) -> u8
-    ensures { AnswersChart W.contents W.failures V.contents V.failures out.old out.new err.old err.new result (chart_of text.now) asked.now.instance.now asked.now.earlier asked.now.receive }
+    ensures { AnswersChart W.contents W.failures V.contents V.failures out.old out.new err.old err.new result
+        (chart_of text.now) asked.now.instance.now asked.now.earlier asked.now.receive }
 {
     let (names, chart) = match chart_in(alloc, text) {
         Ok(read) => read,
@@ -114,11 +118,11 @@ fn witness_chart_in<W: Out, V: Out>(
     witnessed(witness_chart(alloc, &names, &chart, asked, out), false, err)
 }
 
-/// Writes the schedule of a run that turns two events round, of the chart that the bytes of a file say, or of what the
-/// schedule comes to that they say. Writes the line of a refusal to `err`, or what else there is to tell: that the pair is
-/// enforced, that closes are left out, that a coregion hides the pair. Answers the exit status: 0 where the pair is
-/// enforced, 1 where a schedule was written, 2 after a refusal. Nothing is written to `out` before a refusal, but where
-/// writing to it failed (F24). A failed write to `err` changes nothing.
+/// Writes the schedule of a run that turns two events round, of the chart that the bytes of a file say, or of what
+/// the schedule comes to that they say. Writes the line of a refusal to `err`, or what else there is to tell: that
+/// the pair is enforced, that closes are left out, that a coregion hides the pair. Answers the exit status: 0 where
+/// the pair is enforced, 1 where a schedule was written, 2 after a refusal. Nothing is written to `out` before a
+/// refusal, but where writing to it failed (F24). A failed write to `err` changes nothing.
 pub fn witness<W: Out, V: Out>(
     alloc: Global,
     text: &[u8],
@@ -126,7 +130,8 @@ pub fn witness<W: Out, V: Out>(
     out: &mut W,
     err: &mut V,
 ) -> u8
-    ensures { AnswersWitness W.contents W.failures V.contents V.failures out.old out.new err.old err.new result text.now asked.now.instance.now asked.now.earlier asked.now.receive }
+    ensures { AnswersWitness W.contents W.failures V.contents V.failures out.old out.new err.old err.new result text.now
+        asked.now.instance.now asked.now.earlier asked.now.receive }
 {
     if is_schedule(text) {
         witness_schedule_in(alloc, text, asked, out, err)

@@ -16,8 +16,9 @@ abbrev pub receives_left : ℕ → Answer → ℕ
 receives_left receives (Got arrival) = receives - 1
 receives_left receives _ = receives
 
--- What it does after this answer, where all was sent or not, and all was received or not. What isn't sent, or doesn't come,
--- gives the other its turn; where nothing is left to do, a send and a receive are tried, and the refused receive ends it.
+-- What it does after this answer, where all was sent or not, and all was received or not. What isn't sent, or doesn't
+-- come, gives the other its turn; where nothing is left to do, a send and a receive are tried, and the refused
+-- receive ends it.
 abbrev pub next_deed : Answer → Bool → Bool → Deed
 next_deed (Unreceived error) all_sent all_got = Stop
 next_deed (Unsent message error) false true = Send

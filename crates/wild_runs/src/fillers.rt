@@ -56,8 +56,8 @@ fn next_deed(last: &Answer, all_sent: bool, all_got: bool) -> Deed
     }
 }
 
-/// An instance that sends so many messages, in turn to two others, and receives so many. Then it tries a send, and receives
-/// until a receive is refused.
+/// An instance that sends so many messages, in turn to two others, and receives so many. Then it tries a send, and
+/// receives until a receive is refused.
 #[derive(Drop)]
 pub struct Filler {
     pub alloc: Global,

@@ -15,8 +15,8 @@ const INSTANCES: usize = 8;
 /// How many slots a lane has: the most.
 const SLOTS: usize = 64;
 
-/// How many messages each instance sends, and how many it receives: a line's events together. As many more are sent to it
-/// as a lane has slots, so no lane to it is full for good, and a message waits when its line is full.
+/// How many messages each instance sends, and how many it receives: a line's events together. As many more are sent
+/// to it as a lane has slots, so no lane to it is full for good, and a message waits when its line is full.
 const SENDS: u32 = 2080;
 
 const RECEIVES: u32 = 2016;

@@ -16,8 +16,8 @@ fn with_left(digest: u64, left: &[Left], sender: usize, receiver: usize) -> u64 
     digest
 }
 
-/// Whether on each lane what was sent is what was received and then left, message by message, and all that wasn't sent came
-/// back.
+/// Whether on each lane what was sent is what was received and then left, message by message, and all that wasn't
+/// sent came back.
 pub fn are_whole(ledgers: &[Arc<Ledger>], left: &[Left]) -> bool {
     for (sender, from) in ledgers.iter().enumerate() {
         if !from.all_came_back() {

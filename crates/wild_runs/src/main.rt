@@ -1,9 +1,11 @@
-//! Wild runs: behaviours whose acts are drawn, with partners that may be themselves or no instances of the board, act each
-//! on a thread of its own. Each run is audited, and on each lane what was sent is what was received and then left.
+//! Wild runs: behaviours whose acts are drawn, with partners that may be themselves or no instances of the board, act
+//! each on a thread of its own. Each run is audited, and on each lane what was sent is what was received and then
+//! left.
 //!
-//! With no word there are runs among 3, 8 and 32 instances, and one that fills the lines of 8; the program tells only what
-//! no schedule changes. With the words INSTANCES SLOTS SEED RUNS there are so many runs over lanes of so many slots, from
-//! this seed on, and the program tells how many messages were passed. It stops at the first run that went wrong.
+//! With no word there are runs among 3, 8 and 32 instances, and one that fills the lines of 8; the program tells only
+//! what no schedule changes. With the words INSTANCES SLOTS SEED RUNS there are so many runs over lanes of so many
+//! slots, from this seed on, and the program tells how many messages were passed. It stops at the first run that went
+//! wrong.
 #![tactic(auto)]
 
 mod acts;

@@ -1,5 +1,6 @@
 -- Runs as lists of steps, the first one first, and the histories that they make (this project's profile).
-use Rattle.std.specs.Prelude.{◌≡◌, ℕ, ◌+◌, ◌-◌, ◌<◌, ◌^◌, ◌⊎◌, ◌||◌, ◌==◌, nat_le, Bool, false, Option, None, List, [], ◌∷◌, length, take, slice_get, Some}
+use Rattle.std.specs.Prelude.{◌≡◌, ℕ, ◌+◌, ◌-◌, ◌<◌, ◌^◌, ◌⊎◌, ◌||◌, ◌==◌, nat_le, Bool, false, Option, None, List, []}
+use Rattle.std.specs.Prelude.{◌∷◌, length, take, slice_get, Some}
 use Rattle.chart.specs.declared.history.Occurrence.{Occurrence}
 use Rattle.chart.specs.declared.history.Occurrence.TheVariants as occurrences
 use Rattle.chart.specs.declared.event.Event.{Event}
@@ -39,7 +40,8 @@ turn_of h (Receive a b region) = received h b a + 1
 
 -- the place in the chart of the event that the i-th step makes, counted from 0
 abbrev pub place_after : List Step → ℕ → Step → Place
-place_after steps i x = at (by (occurrence_of x)) (length (chart_of (history_of (take i steps)) (by (occurrence_of x))) + 1)
+place_after steps i x =
+    at (by (occurrence_of x)) (length (chart_of (history_of (take i steps)) (by (occurrence_of x))) + 1)
 
 -- each of the first steps has its turn
 pub record AreTurned (steps : List Step) (many : ℕ) (turned : List Turned) : Type 0 where
@@ -85,8 +87,16 @@ is_wanted w x t = w.all (maker_of x) || is_within w x t
 
 -- what is wanted with it
 abbrev pub with_step : ℕ → Wanted → Step → ℕ → Wanted
-with_step k w (Send a b name) t = record { sends = raise w.sends a b t; receives = raise w.receives a b (t - k); all = λ p. (a == p) || w.all p }
-with_step k w (Receive a b region) t = record { sends = raise w.sends b a t; receives = raise w.receives b a t; all = w.all }
+with_step k w (Send a b name) t = record {
+  sends = raise w.sends a b t;
+  receives = raise w.receives a b (t - k);
+  all = λ p. (a == p) || w.all p;
+}
+with_step k w (Receive a b region) t = record {
+  sends = raise w.sends b a t;
+  receives = raise w.receives b a t;
+  all = w.all;
+}
 
 -- nothing is wanted
 abbrev pub nothing : Wanted
@@ -105,4 +115,5 @@ IsReceive steps i = (a b region : ℕ) × (slice_get steps i ≡ Some (Receive a
 -- what is found for two steps: that the first is the second or before it, or a run in which the second overtakes it
 abbrev pub IsFound : ℕ → ℕ → List Occurrence → Place → Place → Option (List Step) → Type 0
 IsFound n k h e r None = (e ≡ r) ⊎ BeforeWithin k (chart_of h) e r
-IsFound n k h e r (Some run) = IsRunWithin n k (chart_of h) (history_of run) × IsOvertaken (chart_of h) (history_of run) e r
+IsFound n k h e r (Some run) = IsRunWithin n k (chart_of h) (history_of run)
+    × IsOvertaken (chart_of h) (history_of run) e r

@@ -241,8 +241,8 @@ impl Machine for SlotLane {
     }
 }
 
-/// A plain closable queue of the numbers from `first` up to `next`, of which the first `held` are in the receiver's hand;
-/// the sender has the next `filled` numbers ready.
+/// A plain closable queue of the numbers from `first` up to `next`, of which the first `held` are in the receiver's
+/// hand; the sender has the next `filled` numbers ready.
 #[derive(Clone, Copy, Debug, PartialEq, Eq)]
 pub struct Queue {
     pub capacity: u32,

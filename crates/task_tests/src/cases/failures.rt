@@ -7,7 +7,8 @@ use std::process::Abort;
 use std::test::Fail;
 use tasks::{Task, perform};
 
-/// The schedule comes to this, or a growth was refused and nothing was written, or a beginning where the writer's own was.
+/// The schedule comes to this, or a growth was refused and nothing was written, or a beginning where the writer's own
+/// was.
 fn replays_or_fails(rt: &impl Abort, alloc: Global, text: &[u8], written: &[u8], status: u8) {
     let mut out = MemoryOut::new(alloc);
     let mut err = MemoryOut::new(alloc);

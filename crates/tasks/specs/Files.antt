@@ -24,7 +24,8 @@ is_schedule bytes = begins_so (lines_of bytes)
 
 -- the chart of what a schedule comes to, with its instances' names
 abbrev pub ComesTo : Result Plan Fault → Named → Type 0
-ComesTo said named = (plan : Plan) × (o : OutcomeView) × (said ≡ Ok plan) × IsOutcome plan o × (named ≡ (o.names, o.chart))
+ComesTo said named = (plan : Plan) × (o : OutcomeView) × (said ≡ Ok plan) × IsOutcome plan o
+    × (named ≡ (o.names, o.chart))
 
 -- a text of this kind says the chart
 abbrev pub SaysSo : Bool → List ℕ → Named → Type 0
