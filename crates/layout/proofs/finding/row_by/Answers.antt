@@ -1,0 +1,12 @@
+use Rattle.std.proofs.Common.{inl, inr, sym, subst, arith}
+use Rattle.std.proofs.lemmas.Bool.{cases_eq}
+use Rattle.chart.specs.Charts.{chart_lines}
+use Rattle.layout.specs.Ways.{HasNoWay}
+use Rattle.layout.proofs.finding.row_by.Goals as goal
+
+pub loop-line-preserved : goal.loop-line-preserved
+loop-line-preserved c =
+    λ p less. elim (cases_eq p c.loop-line.line) [
+      | inl last ↦ subst (λ q. HasNoWay (chart_lines c.args.closure.now) c.args.layout.now c.args.way q) (sym last) c.in_default-row_on.ensures
+      | inr other ↦ c.loop-line.invariant p (omega (arith, less, other))
+    ]

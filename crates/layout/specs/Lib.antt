@@ -1,0 +1,4 @@
+pub mod Ends
+pub mod Indexes
+pub mod Layouts
+pub mod Ways
