@@ -1,7 +1,7 @@
-"""Times mscrun's check of three charts of 32 lines with 4,096 events each, and tells its peak memory: a token that is passed
-round, mixed traffic, and bursts of 64 messages, which chart_bench makes. With the path of another mscrun behind it, both
-programs are run in turn, and the ratio of their times is told. Each time is the median of five runs, with what is written
-thrown away. Where the programs aren't built yet, they are proved and built first."""
+"""Times mscrun's check and mscview's draw of three charts of 32 lines with 4,096 events each, and tells their peak memory:
+a token that is passed round, mixed traffic, and bursts of 64 messages, which chart_bench makes. With the path of another
+mscrun behind it, its check is run in turn with the others, and the ratio of the two times is told. Each time is the median
+of five runs, with what is written thrown away. Where the programs aren't built yet, they are proved and built first."""
 
 import os
 import statistics
@@ -23,37 +23,37 @@ def built(crate):
     return program
 
 
-def run(program, chart):
-    """The seconds and the peak megabytes of one check."""
+def run(program, command, chart):
+    """The seconds and the peak megabytes of one run."""
     began = time.monotonic()
     with open(os.devnull, "wb") as nowhere:
-        child = subprocess.Popen([program, "check", chart], stdout=nowhere, stderr=nowhere)
+        child = subprocess.Popen([program, command, chart], stdout=nowhere, stderr=nowhere)
         _, _, usage = os.wait4(child.pid, 0)
     return time.monotonic() - began, usage.ru_maxrss / 1000
 
 
 def main():
-    programs = {"this": built("mscrun")}
+    runs_of = {"check": (built("mscrun"), "check"), "draw": (built("mscview"), "draw")}
     if len(sys.argv) > 1:
-        programs["other"] = sys.argv[1]
+        runs_of["other check"] = (sys.argv[1], "check")
     maker = built("chart_bench")
     with tempfile.TemporaryDirectory() as folder:
         for traffic in ("token", "mixed", "bursts"):
             chart = os.path.join(folder, "chart")
             with open(chart, "wb") as text:
                 subprocess.run([maker, "make", traffic], stdout=text, check=True)
-            seen = {name: [] for name in programs}
+            seen = {name: [] for name in runs_of}
             for _ in range(REPETITIONS):
-                for name, program in programs.items():
-                    seen[name].append(run(program, chart))
+                for name, (program, command) in runs_of.items():
+                    seen[name].append(run(program, command, chart))
             print(f"{traffic}, {os.path.getsize(chart) / 1e6:.1f} MB of text:")
             medians = {}
             for name, runs in seen.items():
                 medians[name] = statistics.median(seconds for seconds, _ in runs)
                 peak = max(megabytes for _, megabytes in runs)
                 print(f"  {name}: {medians[name]:.3f} s, at most {peak:.0f} MB")
-            if "other" in medians:
-                print(f"  ratio: {medians['this'] / medians['other']:.2f}")
+            if "other check" in medians:
+                print(f"  ratio: {medians['check'] / medians['other check']:.2f}")
 
 
 main()

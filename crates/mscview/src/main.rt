@@ -2,13 +2,14 @@
 #![tactic(auto)]
 
 use command_line::CommandLineError;
+use formats::{Events, Wanted, draw, events_in};
 use msc_text::{Out, StreamOut};
 use std::process::ExitCode;
 use std::rt::{Env, Files};
 use std::{env, fs, io};
-use tasks::{ProgramError, seed_in};
-use view_line::{Question, Request, requested};
-use views::{Asked, ViewError, refused, why, witness};
+use tasks::{ProgramError, refused, seed_in};
+use view_line::{Draw, Pair, Question, Request, requested};
+use views::{Asked, why, witness};
 
 /// What the system refused is F6 where memory ran out, and else the other refusal.
 fn cause(error: &io::Error, other: ProgramError) -> ProgramError {
@@ -27,10 +28,10 @@ fn refusal(error: CommandLineError) -> ProgramError {
 }
 
 /// The two events that are asked about. G1: a number isn't one.
-fn asked_by<'a>(request: &Request<'a>) -> Result<Asked<'a>, ProgramError> {
-    match (seed_in(request.earlier), seed_in(request.receive)) {
+fn asked_by<'a>(pair: &Pair<'a>) -> Result<Asked<'a>, ProgramError> {
+    match (seed_in(pair.earlier), seed_in(pair.receive)) {
         (Some(earlier), Some(receive)) => Ok(Asked {
-            instance: request.instance.as_bytes(),
+            instance: pair.instance.as_bytes(),
             earlier,
             receive,
         }),
@@ -47,6 +48,48 @@ fn bytes_of<R: Files + AllocGlobal>(rt: &R, file: &str) -> Result<Vec<u8>, Progr
     fs::read(rt, file).map_err(|error| cause(&error, ProgramError::File))
 }
 
+/// What is to be drawn. G1: the word for the events says none.
+fn wanted_by<'a>(draw: &Draw<'a>) -> Result<Wanted<'a>, ProgramError> {
+    let events = match draw.events {
+        None => Events::ALL,
+        Some(word) => events_in(word).ok_or(ProgramError::Usage)?,
+    };
+    Ok(Wanted {
+        file: draw.file.as_bytes(),
+        only: draw.only.map(|names| names.as_bytes()),
+        events,
+        numbers: draw.numbers,
+    })
+}
+
+/// Explains a pair of events, or turns it round.
+fn view_pair<R: Files + AllocGlobal, W: Out, V: Out>(
+    rt: &R,
+    pair: &Pair<'_>,
+    out: &mut W,
+    err: &mut V,
+) -> Result<u8, ProgramError> {
+    let asked = asked_by(pair)?;
+    let bytes = bytes_of(rt, pair.file)?;
+    let status = match pair.question {
+        Question::Witness => witness(rt.alloc(), bytes.as_slice(), &asked, out, err),
+        Question::Why => why(rt.alloc(), bytes.as_slice(), &asked, out, err),
+    };
+    Ok(status)
+}
+
+/// Draws a file.
+fn view_picture<R: Files + AllocGlobal, W: Out, V: Out>(
+    rt: &R,
+    picture: &Draw<'_>,
+    out: &mut W,
+    err: &mut V,
+) -> Result<u8, ProgramError> {
+    let wanted = wanted_by(picture)?;
+    let bytes = bytes_of(rt, picture.file)?;
+    Ok(draw(rt.alloc(), bytes.as_slice(), &wanted, out, err))
+}
+
 /// Does what the words ask for, and answers the exit status.
 fn view<R: Files + AllocGlobal, W: Out, V: Out>(
     rt: &R,
@@ -54,14 +97,10 @@ fn view<R: Files + AllocGlobal, W: Out, V: Out>(
     out: &mut W,
     err: &mut V,
 ) -> Result<u8, ProgramError> {
-    let request = requested(rt.alloc(), words).map_err(refusal)?;
-    let asked = asked_by(&request)?;
-    let bytes = bytes_of(rt, request.file)?;
-    let status = match request.question {
-        Question::Witness => witness(rt.alloc(), bytes.as_slice(), &asked, out, err),
-        Question::Why => why(rt.alloc(), bytes.as_slice(), &asked, out, err),
-    };
-    Ok(status)
+    match requested(rt.alloc(), words).map_err(refusal)? {
+        Request::Pair(pair) => view_pair(rt, &pair, out, err),
+        Request::Draw(picture) => view_picture(rt, &picture, out, err),
+    }
 }
 
 /// The same with the words of the command line.
@@ -80,7 +119,7 @@ fn main(rt: HostRuntime) -> ExitCode {
     let mut err = StreamOut::new(io::writer(&stderr));
     let status = match view_words(&rt, &mut out, &mut err) {
         Ok(status) => status,
-        Err(error) => refused(&ViewError::Program(error), &mut err),
+        Err(error) => refused(&error, &mut err),
     };
     ExitCode::from(status)
 }

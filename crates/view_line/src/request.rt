@@ -13,14 +13,35 @@ pub enum Question {
     Why,
 }
 
-/// What a command line asks for. The numbers are words still.
+/// What is asked about two events of an instance's line. The numbers are words still.
 #[derive(Clone, Copy, Debug, PartialEq, Eq)]
-pub struct Request<'a> {
+pub struct Pair<'a> {
     pub question: Question,
     pub file: &'a str,
     pub instance: &'a str,
     pub earlier: &'a str,
     pub receive: &'a str,
+}
+
+/// What is to be drawn, and how. The names and the numbers are words still.
+#[derive(Clone, Copy, Debug, PartialEq, Eq)]
+pub struct Draw<'a> {
+    /// The names behind `--only`, joined by commas.
+    pub only: Option<&'a str>,
+    /// The numbers behind `--events`, joined by two dots.
+    pub events: Option<&'a str>,
+    /// Whether `--numbers` is given.
+    pub numbers: bool,
+    pub file: &'a str,
+}
+
+/// What a command line asks for.
+#[derive(Clone, Copy, Debug, PartialEq, Eq)]
+pub enum Request<'a> {
+    /// `why` and `witness`, which ask about two events.
+    Pair(Pair<'a>),
+    /// `draw [--only NAME,NAME..] [--events A..B] [--numbers] FILE`.
+    Draw(Draw<'a>),
 }
 
 /// A word that a command needs.
@@ -38,6 +59,24 @@ fn pair_command<'a>(alloc: Global, name: &'static str) -> Result<Command<'a>, Al
         .arg(needed(alloc, "RECEIVE"))
 }
 
+/// An option that has a word, and may be left out.
+fn option<'a>(alloc: Global, name: &'static str) -> Arg<'a> {
+    Arg::new(alloc, name).long(name).action(ArgAction::Set)
+}
+
+/// The command that draws a file.
+fn draw_command<'a>(alloc: Global) -> Result<Command<'a>, AllocError> {
+    let numbers = Arg::new(alloc, "numbers")
+        .long("numbers")
+        .action(ArgAction::SetTrue);
+    Command::new(alloc, "draw")
+        .disable_help_flag(true)
+        .arg(option(alloc, "only"))?
+        .arg(option(alloc, "events"))?
+        .arg(numbers)?
+        .arg(needed(alloc, "FILE"))
+}
+
 /// The command line that the program understands. Help, the version, no command and an unknown one are all mistakes.
 fn command_line<'a>(alloc: Global) -> Result<Command<'a>, AllocError> {
     Command::new(alloc, "mscview")
@@ -45,7 +84,8 @@ fn command_line<'a>(alloc: Global) -> Result<Command<'a>, AllocError> {
         .disable_help_subcommand(true)
         .subcommand_required(true)
         .subcommand(pair_command(alloc, "witness")?)?
-        .subcommand(pair_command(alloc, "why")?)
+        .subcommand(pair_command(alloc, "why")?)?
+        .subcommand(draw_command(alloc)?)
 }
 
 /// What a command asks.
@@ -57,15 +97,33 @@ fn question_of(command: &str) -> Option<Question> {
     }
 }
 
-/// What a command's words ask for.
-fn request_of<'a>(command: &str, words: &ArgMatches<'a>) -> Option<Request<'a>> {
-    Some(Request {
-        question: question_of(command)?,
+/// What a command's words ask about two events.
+fn pair_of<'a>(question: Question, words: &ArgMatches<'a>) -> Option<Request<'a>> {
+    Some(Request::Pair(Pair {
+        question,
         file: words.get_str("FILE")?,
         instance: words.get_str("INSTANCE")?,
         earlier: words.get_str("EARLIER")?,
         receive: words.get_str("RECEIVE")?,
-    })
+    }))
+}
+
+/// What the words of `draw` ask for.
+fn draw_of<'a>(words: &ArgMatches<'a>) -> Option<Request<'a>> {
+    Some(Request::Draw(Draw {
+        only: words.get_str("only"),
+        events: words.get_str("events"),
+        numbers: words.get_flag("numbers"),
+        file: words.get_str("FILE")?,
+    }))
+}
+
+/// What a command's words ask for.
+fn request_of<'a>(command: &str, words: &ArgMatches<'a>) -> Option<Request<'a>> {
+    match command {
+        "draw" => draw_of(words),
+        _ => pair_of(question_of(command)?, words),
+    }
 }
 
 /// What these words ask for, of which the first is the program's name.

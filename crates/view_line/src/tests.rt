@@ -1,5 +1,5 @@
 //! Command lines that are understood, and those that aren't.
-use crate::{CommandLineError, Question, Request, requested};
+use crate::{CommandLineError, Draw, Pair, Question, Request, requested};
 use std::alloc::Global;
 use std::process::Abort;
 
@@ -13,13 +13,13 @@ fn words_of_a_race_line(rt: HostRuntime) {
     assert!(rt;
         matches!(
             requested(rt.alloc(), &words),
-            Ok(Request {
+            Ok(Request::Pair(Pair {
                 question: Question::Why,
                 file: "a file",
                 instance: "client",
                 earlier: "2",
                 receive: "3",
-            })
+            }))
         )
     );
     misses(&rt, rt.alloc(), &["mscview"]);
@@ -34,4 +34,57 @@ fn words_of_a_race_line(rt: HostRuntime) {
         &["mscview", "why", "f", "a", "1", "2", "3"],
     );
     misses(&rt, rt.alloc(), &["mscview", "why", "--help"]);
+}
+
+#[test]
+fn words_of_a_picture(rt: HostRuntime) {
+    let words = ["mscview", "draw", "a file"];
+    assert!(rt;
+        matches!(
+            requested(rt.alloc(), &words),
+            Ok(Request::Draw(Draw {
+                only: None,
+                events: None,
+                numbers: false,
+                file: "a file",
+            }))
+        )
+    );
+    let words = [
+        "mscview",
+        "draw",
+        "--only",
+        "client,east",
+        "--events",
+        "2..7",
+        "--numbers",
+        "a file",
+    ];
+    assert!(rt;
+        matches!(
+            requested(rt.alloc(), &words),
+            Ok(Request::Draw(Draw {
+                only: Some("client,east"),
+                events: Some("2..7"),
+                numbers: true,
+                file: "a file",
+            }))
+        )
+    );
+}
+
+#[test]
+fn words_of_no_picture(rt: HostRuntime) {
+    misses(&rt, rt.alloc(), &["mscview", "draw"]);
+    misses(&rt, rt.alloc(), &["mscview", "draw", "--numbers"]);
+    misses(&rt, rt.alloc(), &["mscview", "draw", "f", "g"]);
+    misses(&rt, rt.alloc(), &["mscview", "draw", "f", "--only"]);
+    misses(&rt, rt.alloc(), &["mscview", "draw", "f", "--onl", "a"]);
+    misses(&rt, rt.alloc(), &["mscview", "draw", "f", "--names"]);
+    misses(&rt, rt.alloc(), &["mscview", "draw", "--help"]);
+    misses(
+        &rt,
+        rt.alloc(),
+        &["mscview", "draw", "f", "--numbers", "--numbers"],
+    );
 }

@@ -1,0 +1,4 @@
+pub mod Answers
+pub mod Columns
+pub mod Drawing
+pub mod Spans

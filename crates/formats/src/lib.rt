@@ -1,0 +1,27 @@
+//! What the program `mscview` draws of a file, and what it says where it can't.
+//!
+//! What is promised ([`draw`]): the bytes of the file, its name, the names of columns and the numbers of two events
+//! decide the output's bytes, but for where the rows of a layout are.
+//!
+//! - With status 0 exactly the text of a picture was written. It is of the chart that the file says, which is possible,
+//!   of a layout of it, of the other ends of its messages and of the reports of its receives. It has the columns that
+//!   are named, or all, and the events between the two.
+//! - With status 2 the refusal's line was written, or a beginning of it where standard error failed, and nothing went
+//!   to the output before it, unless a write failed (F24).
+//! - [`events_in`] reads exactly the words of two numbers, joined by two dots, of which the first is at least 1 and not
+//!   above the second.
+#![tactic(auto)]
+
+mod answering;
+mod columns;
+mod drawing;
+mod error;
+mod events;
+
+pub use answering::refused;
+pub use drawing::{Wanted, draw};
+pub use error::FormatError;
+pub use events::{Events, events_in};
+
+#[cfg(test)]
+mod tests;

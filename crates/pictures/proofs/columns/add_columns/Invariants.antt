@@ -1,0 +1,9 @@
+use Rattle.std.proofs.Common.{take}
+use Rattle.std.specs.List.{flat_map}
+use Rattle.msc_text.specs.Writing.{Buffers}
+use Rattle.pictures.specs.ColumnText.{column_text}
+use Rattle.pictures.proofs.columns.add_columns.Given as goal
+
+-- what came so far was added
+abbrev pub invariant-loop-instance : goal.invariant-loop-instance
+invariant-loop-instance g l = Buffers g.W.Out.contents g.W.Out.failures l.initial.text l.text (flat_map (column_text l.picture) (take l.instance-index l.drawn))

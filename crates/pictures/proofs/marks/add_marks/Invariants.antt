@@ -1,0 +1,9 @@
+use Rattle.std.proofs.Common.{take}
+use Rattle.std.specs.List.{flat_map}
+use Rattle.msc_text.specs.Writing.{Buffers}
+use Rattle.pictures.specs.MarkText.{marks}
+use Rattle.pictures.proofs.marks.add_marks.Given as goal
+
+-- what came so far was added
+abbrev pub invariant-loop-report : goal.invariant-loop-report
+invariant-loop-report g l = Buffers g.W.Out.contents g.W.Out.failures l.initial.text l.text (flat_map (marks l.picture) (take l.report-index l.reports))

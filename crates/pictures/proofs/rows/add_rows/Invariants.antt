@@ -1,0 +1,9 @@
+use Rattle.std.proofs.Common.{take}
+use Rattle.std.specs.List.{flat_map}
+use Rattle.msc_text.specs.Writing.{Buffers}
+use Rattle.pictures.specs.RowText.{row_text}
+use Rattle.pictures.proofs.rows.add_rows.Given as goal
+
+-- what came so far was added
+abbrev pub invariant-loop-row : goal.invariant-loop-row
+invariant-loop-row g l = Buffers g.W.Out.contents g.W.Out.failures l.initial.text l.text (flat_map (row_text l.picture) (take l.row-index l.rows))

@@ -1,0 +1,131 @@
+-- The rows of a picture as text: arrows with their labels, and the numbers of events (this project's profile, after the
+-- graphical form of ITU-T Z.120).
+use Rattle.std.specs.Prelude.{ℕ, ◌+◌, Bool, true, false, is_some, nat_lt, List, [], ◌++◌, Option, None, Some, codes}
+use Rattle.std.specs.Prelude.{if◌then◌else◌}
+use Rattle.chart.specs.declared.event.Event.{Event}
+use Rattle.chart.specs.declared.event.Event.TheVariants.{Send, Receive}
+use Rattle.chart.specs.declared.instance.EventNo.{EventNo}
+use Rattle.chart.specs.Events.{name_of}
+use Rattle.layout.specs.declared.row.Row.{Row}
+use Rattle.layout.specs.declared.row.Row.TheVariants as variants
+use Rattle.msc_text.specs.ChartText.{name_at}
+use Rattle.pictures.specs.declared.rows.Side.{Side}
+use Rattle.pictures.specs.declared.rows.Side.TheVariants.{Receiver, Sender}
+use Rattle.pictures.specs.declared.spots.Spot.{Spot}
+use Rattle.pictures.specs.declared.spots.Cell.{Cell}
+use Rattle.pictures.specs.Elements.{arrow, ring, label_start, label_end, number_text}
+use Rattle.pictures.specs.Pictures.{PictureView, left_of, cell_of, end_of, event_of}
+use Rattle.pictures.specs.Spots.{on_line, aside, beside, height, label_spot, number_spot}
+
+-- the name of an event's message, where there is the event
+abbrev pub name_in : Option Event → List ℕ
+name_in None = []
+name_in (Some m) = name_of m
+
+abbrev pub message_name : PictureView → EventNo → List ℕ
+message_name v e = name_in (event_of v e)
+
+-- what stands before the instance on the other side of a message that is cut
+unfoldable pub side_text : Side → List ℕ
+side_text Receiver = codes " to "
+side_text Sender = codes " from "
+
+-- the number of an event, where the picture has numbers
+abbrev pub number_at : PictureView → EventNo → Cell → List ℕ
+number_at v e cell = if v.numbers then number_text (number_spot v.span cell) e.index else []
+
+-- the label of an event's message
+unfoldable pub label : PictureView → EventNo → Spot → List ℕ
+label v e a = label_start a ++ (message_name v e ++ label_end)
+
+-- the label of a message that is cut, with the instance on its other side
+unfoldable pub cut_label : PictureView → EventNo → Side → ℕ → Spot → List ℕ
+cut_label v e side other a = label_start a ++ (message_name v e ++ (side_text side ++ (name_at v.names other
+    ++ label_end)))
+
+-- a send whose message is cut
+unfoldable pub leaving : PictureView → EventNo → ℕ → Cell → List ℕ
+leaving v e to cell = arrow (on_line v.span cell) (aside v.span cell)
+    ++ (cut_label v e Receiver to (beside v.span cell true) ++ number_at v e cell)
+
+-- a receive whose message is cut
+unfoldable pub coming : PictureView → EventNo → ℕ → Cell → List ℕ
+coming v e from cell = arrow (aside v.span cell) (on_line v.span cell)
+    ++ (cut_label v e Sender from (beside v.span cell true) ++ number_at v e cell)
+
+-- the arrow of a message from its send to its receive, with its label beside the send
+unfoldable pub message : PictureView → EventNo → Cell → Cell → List ℕ
+message v e a b = arrow (on_line v.span a) (on_line v.span b) ++ label v e (label_spot v.span a b.left)
+
+-- where the tip of the arrow of a message that waits is, and the circle beside it: on this side of the lifeline of the
+-- column that begins at `left`
+abbrev pub waiting_ends : ℕ → Cell → ℕ → Spot × Spot
+waiting_ends span cell left =
+    if nat_lt cell.left left
+    then (record { x = left + span; y = height cell.place }, record { x = left + span + 4; y = height cell.place })
+    else (
+      record { x = left + span + 52; y = height cell.place },
+      record { x = left + span + 48; y = height cell.place },
+    )
+
+unfoldable pub toward : ℕ → Cell → ℕ → List ℕ
+toward span cell left = arrow (on_line span cell) (waiting_ends span cell left).0
+    ++ ring (waiting_ends span cell left).1
+
+-- a send whose message waits for the instance whose column begins at `left`
+unfoldable pub waiting : PictureView → EventNo → Cell → ℕ → List ℕ
+waiting v e cell left = toward v.span cell left ++ (label v e (label_spot v.span cell left) ++ number_at v e cell)
+
+-- both ends of a message
+unfoldable pub both : PictureView → EventNo → EventNo → Cell → Cell → List ℕ
+both v s r a b = message v s a b ++ (number_at v s a ++ number_at v r b)
+
+-- a message that is drawn level, or the end of it that is drawn
+abbrev pub level : PictureView → EventNo → EventNo → Option Cell → Option Cell → List ℕ
+level v s r None None = []
+level v s r None (Some b) = coming v r s.instance b
+level v s r (Some a) None = leaving v s r.instance a
+level v s r (Some a) (Some b) = both v s r a b
+
+-- a send above its receive, with the arrow down to it
+unfoldable pub slanted : PictureView → EventNo → Cell → Cell → List ℕ
+slanted v e a b = message v e a b ++ number_at v e a
+
+-- a send to an instance, of a message that is received there
+abbrev pub sent_to : PictureView → EventNo → ℕ → Cell → Option Cell → List ℕ
+sent_to v e to a None = leaving v e to a
+sent_to v e to a (Some b) = slanted v e a b
+
+-- a send to an instance, of a message that waits
+abbrev pub sent_off : PictureView → EventNo → ℕ → Cell → Option ℕ → List ℕ
+sent_off v e to a None = leaving v e to a
+sent_off v e to a (Some left) = waiting v e a left
+
+-- a send alone
+abbrev pub sent : PictureView → EventNo → ℕ → Cell → Option EventNo → List ℕ
+sent v e to a None = sent_off v e to a (left_of v to)
+sent v e to a (Some r) = sent_to v e to a (cell_of v r)
+
+-- the event of the other end is drawn
+abbrev pub is_drawn_end : PictureView → Option EventNo → Bool
+is_drawn_end v None = false
+is_drawn_end v (Some e) = is_some (cell_of v e)
+
+abbrev pub has_end : PictureView → EventNo → Bool
+has_end v e = is_drawn_end v (end_of v e)
+
+-- a receive alone: its arrow, if it isn't cut, is drawn from its send on
+abbrev pub received : PictureView → EventNo → ℕ → Cell → List ℕ
+received v e from b = if has_end v e then number_at v e b else coming v e from b
+
+-- an event that stands alone in its row
+abbrev pub alone : PictureView → EventNo → Option Cell → Option Event → List ℕ
+alone v e None m = []
+alone v e (Some cell) None = []
+alone v e (Some cell) (Some (Send to name)) = sent v e to cell (end_of v e)
+alone v e (Some cell) (Some (Receive from name region)) = received v e from cell
+
+-- a row
+abbrev pub row_text : PictureView → Row → List ℕ
+row_text v (variants.Message s r) = level v s r (cell_of v s) (cell_of v r)
+row_text v (variants.Event e) = alone v e (cell_of v e) (event_of v e)

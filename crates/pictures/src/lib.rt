@@ -1,0 +1,29 @@
+//! Pictures of message sequence charts, as SVG text: a column for each instance, an arrow for each message, and the
+//! races in red.
+//!
+//! What is promised:
+//!
+//! - [`write_picture`] writes the text of the picture and nothing else. A contract gives each byte of it
+//!   (`specs/PictureText`): where each line, label and mark is, what it says, and in which order they come. Bytes of
+//!   the file's name that XML keeps for itself, or that are no printable ASCII characters, are spelled so that none of
+//!   them is taken for an element.
+//! - What it is drawn from is what the caller gave ([`Picture::of`]): the chart, its layout, the ends of its messages,
+//!   the reports of its receives, and the part of it that is to be drawn.
+//! - F24: where a put fails, a beginning of the text was written, and no other put is tried. F6: only [`Picture::of`]
+//!   takes memory, and it fails only where there is none.
+#![tactic(auto)]
+
+mod columns;
+mod elements;
+mod frame;
+mod marks;
+mod part;
+mod picture;
+mod pieces;
+mod preparing;
+mod rows;
+mod spots;
+
+pub use frame::write_picture;
+pub use part::{Part, Source};
+pub use picture::Picture;
