@@ -11,7 +11,6 @@ use Rattle.pictures.specs.Pictures.{PictureView}
 use Rattle.pictures.specs.PictureText.{picture_text}
 use Rattle.pictures.specs.Preparing.{IsPictureOf}
 use Rattle.tasks.specs.declared.error.ProgramError.TheVariants as errors
-use Rattle.tasks.specs.Files.{Says, HasFault}
 use Rattle.tasks.specs.Refusals.{Tried}
 use Rattle.tasks.specs.Tasks.{Named, IsRefused}
 use Rattle.formats.specs.declared.drawing.Wanted.{Wanted}
@@ -19,6 +18,7 @@ use Rattle.formats.specs.declared.error.FormatError.{FormatError}
 use Rattle.formats.specs.declared.error.FormatError.TheVariants.{Program, NoSuchName}
 use Rattle.formats.specs.Answers.{refusal_text}
 use Rattle.formats.specs.Columns.{AreColumns}
+use Rattle.formats.specs.Texts.{OfText}
 
 -- the bytes that name the columns, if there are some
 abbrev pub only_of : Wanted → Option (List ℕ)
@@ -60,10 +60,7 @@ module _ {S : Type 0} (contents : S → Option (List ℕ)) (failures : S → ℕ
 
   -- the same for the chart that the bytes say; or nothing was written, where the bytes have a fault
   abbrev pub DrawsText : S → S → Result (Unit {0}) FormatError → Wanted → List ℕ → Type 0
-  DrawsText old new (Err (Program errors.Memory)) wanted bytes = new ≡ old
-  DrawsText old new (Err (Program (errors.Text fault))) wanted bytes = HasFault bytes fault × (new ≡ old)
-  DrawsText old new done wanted bytes = (named : Named) × Says bytes named
-      × Draws old new done wanted named
+  DrawsText old new done wanted bytes = OfText old new (λ result named. Draws old new result wanted named) done bytes
 
 -- what is answered: it is drawn and nothing is said, or it is refused with status 2 and a line, of which a failed write
 -- may leave a beginning

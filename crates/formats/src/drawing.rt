@@ -35,14 +35,14 @@ pub struct Wanted<'a> {
 
 /// What a picture is drawn from, beside the chart itself.
 #[derive(Drop)]
-struct Prepared {
-    layout: Layout,
-    ends: Ends,
-    reports: Vec<Report>,
+pub(crate) struct Prepared {
+    pub(crate) layout: Layout,
+    pub(crate) ends: Ends,
+    pub(crate) reports: Vec<Report>,
 }
 
 /// What a picture of the chart is drawn from.
-fn prepare(alloc: Global, closure: &Closure<'_>) -> Result<Prepared, AllocError>
+pub(crate) fn prepare(alloc: Global, closure: &Closure<'_>) -> Result<Prepared, AllocError>
     ensures { IfOk result (λ p. IsPrepared closure.now p.layout p.ends p.reports.items) }
 {
     let layout = layout(alloc, closure)?;

@@ -1,6 +1,6 @@
-//! What the program `mscview` draws of a file, and what it says where it can't.
+//! What the program `mscview` draws of a file or writes for other tools, and what it says where it can't.
 //!
-//! What is promised ([`draw`]): the bytes of the file, its name, the names of columns and the numbers of two events
+//! What is promised of [`draw`]: the bytes of the file, its name, the names of columns and the numbers of two events
 //! decide the output's bytes, but for where the rows of a layout are.
 //!
 //! - With status 0 exactly the text of a picture was written. It is of the chart that the file says, which is possible,
@@ -10,6 +10,10 @@
 //!   to the output before it, unless a write failed (F24).
 //! - [`events_in`] reads exactly the words of two numbers, joined by two dots, of which the first is at least 1 and not
 //!   above the second.
+//!
+//! Of [`export`] the same is promised with the text of the tool in place of the picture; and with status 0 standard
+//! error tells what such a text can't say: a message that isn't level, where the tool has no arrow for it, and
+//! coregions.
 #![tactic(auto)]
 
 mod answering;
@@ -17,11 +21,15 @@ mod columns;
 mod drawing;
 mod error;
 mod events;
+mod exporting;
+mod target;
 
 pub use answering::refused;
 pub use drawing::{Wanted, draw};
 pub use error::FormatError;
 pub use events::{Events, events_in};
+pub use exporting::export;
+pub use target::{Target, target_in};
 
 #[cfg(test)]
 mod tests;

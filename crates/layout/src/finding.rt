@@ -2,7 +2,7 @@
 ghost use Rattle.std.specs.Prelude.{ℕ, ◌≡◌, ◌<◌, ◌≤◌, suc, length, MatchOption};
 ghost use Rattle.chart.specs.declared.instance.TheConstants.{MAX_INSTANCES};
 ghost use Rattle.chart.specs.declared.line.TheConstants.{MAX_EVENTS};
-ghost use Rattle.chart.specs.Charts.{chart_lines};
+ghost use Rattle.chart.specs.Charts.{chart_event, chart_lines};
 ghost use Rattle.closure.specs.Closures.{IsPossibleChart};
 ghost use Rattle.closure.specs.Faults.{place_of};
 ghost use Rattle.layout.specs.Layouts.{drawn};
@@ -10,7 +10,7 @@ ghost use Rattle.layout.specs.Ways.{IsNextEvent, IsWay, HasNoWay, HaveNoWay, IsN
 
 use crate::row::Row;
 use crate::rows::Layout;
-use chart::{EventNo, InstanceNo, Line};
+use chart::{Event, EventNo, InstanceNo, Line};
 use closure::Closure;
 
 /// How an event comes next.
@@ -31,6 +31,19 @@ pub(crate) fn len_of(lines: &[Line], line: usize) -> usize
     ensures limit { result ≤ MAX_EVENTS }
 {
     lines[line].len()
+}
+
+/// The event of this number, if the lines have it.
+pub fn event_in(lines: &[Line], event: &EventNo) -> Option<Event>
+    ensures { result ≡ chart_event (chart_lines lines.now) (place_of event.now) }
+{
+    if event.index == 0 {
+        return None;
+    }
+    match lines.get(event.instance.place()) {
+        Some(line) => line.events().get(event.index as usize - 1).copied(),
+        None => None,
+    }
 }
 
 /// The next event of a line, where one is left.

@@ -20,5 +20,6 @@ mod rows;
 
 pub use drawing::layout;
 pub use ends::Ends;
+pub use finding::event_in;
 pub use row::Row;
 pub use rows::Layout;

@@ -2,13 +2,13 @@
 #![tactic(auto)]
 
 use command_line::CommandLineError;
-use formats::{Events, Wanted, draw, events_in};
+use formats::{Events, Target, Wanted, draw, events_in, export, target_in};
 use msc_text::{Out, StreamOut};
 use std::process::ExitCode;
 use std::rt::{Env, Files};
 use std::{env, fs, io};
 use tasks::{ProgramError, refused, seed_in};
-use view_line::{Draw, Pair, Question, Request, requested};
+use view_line::{Draw, Export, Pair, Question, Request, requested};
 use views::{Asked, why, witness};
 
 /// What the system refused is F6 where memory ran out, and else the other refusal.
@@ -90,6 +90,23 @@ fn view_picture<R: Files + AllocGlobal, W: Out, V: Out>(
     Ok(draw(rt.alloc(), bytes.as_slice(), &wanted, out, err))
 }
 
+/// What is to be exported to. G1: the word says none.
+fn target_by(exported: &Export<'_>) -> Result<Target, ProgramError> {
+    target_in(exported.to).ok_or(ProgramError::Usage)
+}
+
+/// Writes a file as another tool's text.
+fn view_export<R: Files + AllocGlobal, W: Out, V: Out>(
+    rt: &R,
+    exported: &Export<'_>,
+    out: &mut W,
+    err: &mut V,
+) -> Result<u8, ProgramError> {
+    let target = target_by(exported)?;
+    let bytes = bytes_of(rt, exported.file)?;
+    Ok(export(rt.alloc(), bytes.as_slice(), target, out, err))
+}
+
 /// Does what the words ask for, and answers the exit status.
 fn view<R: Files + AllocGlobal, W: Out, V: Out>(
     rt: &R,
@@ -100,6 +117,7 @@ fn view<R: Files + AllocGlobal, W: Out, V: Out>(
     match requested(rt.alloc(), words).map_err(refusal)? {
         Request::Pair(pair) => view_pair(rt, &pair, out, err),
         Request::Draw(picture) => view_picture(rt, &picture, out, err),
+        Request::Export(exported) => view_export(rt, &exported, out, err),
     }
 }
 

@@ -3,7 +3,6 @@ pub mod Elements
 pub mod MarkText
 pub mod PictureText
 pub mod Pictures
-pub mod Pieces
 pub mod Preparing
 pub mod RowText
 pub mod Spots

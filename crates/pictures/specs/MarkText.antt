@@ -7,39 +7,12 @@ use Rattle.chart.specs.declared.instance.EventNo.{EventNo}
 use Rattle.chart.specs.declared.ranges.EventRange.{EventRange}
 use Rattle.chart.specs.Ranges.{ranges_of}
 use Rattle.chart.specs.Reports.{ReportView}
+use Rattle.text_parts.specs.RaceWords.{amount, range_text, ranges_text}
 use Rattle.pictures.specs.declared.spots.Spot.{Spot}
 use Rattle.pictures.specs.declared.spots.Cell.{Cell}
 use Rattle.pictures.specs.Elements.{dot_start, dot_end, bracket_start, bracket_end}
 use Rattle.pictures.specs.Pictures.{PictureView, cell_of}
 use Rattle.pictures.specs.Spots.{on_line}
-
--- what they are, behind their number
-unfoldable pub kind : ℕ → List ℕ
-kind n = if n == 1 then codes " earlier event: " else codes " earlier events: "
-
--- how many earlier events they are
-unfoldable pub amount : ℕ → List ℕ
-amount n = decimal n ++ kind n
-
--- FIRST to LAST
-unfoldable pub up_to : ℕ → ℕ → List ℕ
-up_to first last = decimal first ++ (codes " to " ++ decimal last)
-
--- the numbers of the events of a range
-unfoldable pub range_text : EventRange → List ℕ
-range_text r = if r.count == 1 then decimal r.first.index else up_to r.first.index (r.first.index + (r.count - 1))
-
-unfoldable pub comma : List ℕ
-comma = codes ", "
-
--- the same behind those of another range
-unfoldable pub next_range : EventRange → List ℕ
-next_range r = comma ++ range_text r
-
--- the numbers of the events of ranges
-abbrev pub ranges_text : List EventRange → List ℕ
-ranges_text [] = []
-ranges_text (r ∷ ranges) = range_text r ++ flat_map next_range ranges
 
 -- the dot of a receive that may come before so many earlier events, in these ranges
 unfoldable pub dot : Spot → ℕ → List EventRange → List ℕ

@@ -1,7 +1,7 @@
 -- The text of a picture (SVG 1.1; what is on it is this project's profile).
 use Rattle.std.specs.Prelude.{ℕ, ◌+◌, List, ◌++◌, codes, decimal}
 use Rattle.std.specs.List.{flat_map}
-use Rattle.pictures.specs.Pieces.{escaped}
+use Rattle.text_parts.specs.Pieces.{escaped}
 use Rattle.pictures.specs.Spots.{height}
 use Rattle.pictures.specs.Pictures.{PictureView}
 use Rattle.pictures.specs.ColumnText.{column_text}

@@ -5,9 +5,9 @@ ghost use Rattle.msc_text.specs.Writing.{Adds};
 ghost use Rattle.pictures.specs.Elements.{arrow, ring, label_start, label_end, number_text, solid, dashed, segment};
 ghost use Rattle.pictures.specs.Elements.{dot_start, dot_end, bracket_start, bracket_end, box_start, foot};
 
-use crate::pieces::{Piece, add_pieces};
 use crate::spots::Spot;
 use msc_text::{Out, TextBuffer, WriteError};
+use text_parts::{Piece, add_pieces};
 
 /// Adds an arrow between two spots.
 #[tactic(auto, unfolding(crate::specs::Elements::arrow))]

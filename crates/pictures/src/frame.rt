@@ -7,10 +7,10 @@ ghost use Rattle.pictures.specs.PictureText.{svg_end, bottom, picture_text};
 use crate::columns::add_columns;
 use crate::marks::add_marks;
 use crate::picture::Picture;
-use crate::pieces::{Piece, add_pieces};
 use crate::rows::add_rows;
 use crate::spots::height;
 use msc_text::{Out, TextBuffer, WriteError};
+use text_parts::{Piece, add_pieces};
 
 /// Adds the colours, each of which can be read on white and on black, and the kinds of lines and of labels. Nothing is
 /// fetched: the font is whichever the reader's program has.

@@ -19,7 +19,6 @@ mod frame;
 mod marks;
 mod part;
 mod picture;
-mod pieces;
 mod preparing;
 mod rows;
 mod spots;

@@ -3,115 +3,16 @@ ghost use Rattle.std.specs.Prelude.{◌≡◌, All};
 ghost use Rattle.std.specs.List.{flat_map};
 ghost use Rattle.chart.specs.Ranges.{IsRange, ranges_of};
 ghost use Rattle.msc_text.specs.Writing.{Adds};
-ghost use Rattle.pictures.specs.MarkText.{kind, amount, up_to, range_text, comma, next_range, ranges_text, dot};
-ghost use Rattle.pictures.specs.MarkText.{first_drawn, last_drawn, upper_left, lower_right, bracket_between};
+ghost use Rattle.pictures.specs.MarkText.{dot, first_drawn, last_drawn, upper_left, lower_right, bracket_between};
 ghost use Rattle.pictures.specs.MarkText.{bracket_text, marks, marked};
 ghost use Rattle.pictures.specs.Pictures.{cell_of};
 
 use crate::elements::{add_bracket_end, add_bracket_start, add_dot_end, add_dot_start};
 use crate::picture::Picture;
-use crate::pieces::{Piece, add_pieces};
 use crate::spots::{Cell, Spot, on_line};
 use chart::{EventNo, EventRange, EventRanges, Report};
 use msc_text::{Out, TextBuffer, WriteError};
-
-/// What they are, behind their number.
-#[tactic(auto, unfolding(crate::specs::MarkText::kind))]
-fn kind(events: usize) -> &'static [u8]
-    ensures { result.now ≡ kind events }
-{
-    if events == 1 {
-        b" earlier event: "
-    } else {
-        b" earlier events: "
-    }
-}
-
-/// Adds how many earlier events they are.
-#[tactic(auto, using(msc_text::proofs::Writes::joining), unfolding(crate::specs::MarkText::amount))]
-fn add_amount<W: Out>(text: &mut TextBuffer<'_, W>, events: usize) -> Result<(), WriteError>
-    ensures { Adds W.contents W.failures text.old text.new result (amount events) }
-{
-    text.add_number(events as u64)?;
-    text.add(kind(events))
-}
-
-/// Adds the number of the last event of a range behind that of its first one.
-#[tactic(auto, unfolding(crate::specs::MarkText::up_to))]
-fn add_up_to<W: Out>(text: &mut TextBuffer<'_, W>, first: u64, last: u64) -> Result<(), WriteError>
-    ensures { Adds W.contents W.failures text.old text.new result (up_to first last) }
-{
-    add_pieces(
-        text,
-        &[
-            Piece::Number(first),
-            Piece::Bytes(b" to "),
-            Piece::Number(last),
-        ],
-    )
-}
-
-/// Adds the numbers of the events of a range.
-#[tactic(auto, unfolding(crate::specs::MarkText::range_text))]
-fn add_range<W: Out>(text: &mut TextBuffer<'_, W>, range: &EventRange) -> Result<(), WriteError>
-    requires { IsRange range.now }
-    ensures { Adds W.contents W.failures text.old text.new result (range_text range.now) }
-{
-    let last = range.event(range.count - 1);
-    if range.count == 1 {
-        text.add_number(u64::from(range.first.index))
-    } else {
-        add_up_to(text, u64::from(range.first.index), u64::from(last.index))
-    }
-}
-
-#[tactic(auto, unfolding(crate::specs::MarkText::comma))]
-fn add_comma<W: Out>(text: &mut TextBuffer<'_, W>) -> Result<(), WriteError>
-    ensures { Adds W.contents W.failures text.old text.new result comma }
-{
-    text.add(b", ")
-}
-
-/// The same behind those of another range.
-#[tactic(auto, using(msc_text::proofs::Writes::joining), unfolding(crate::specs::MarkText::next_range))]
-fn add_next_range<W: Out>(
-    text: &mut TextBuffer<'_, W>,
-    range: &EventRange,
-) -> Result<(), WriteError>
-    requires { IsRange range.now }
-    ensures { Adds W.contents W.failures text.old text.new result (next_range range.now) }
-{
-    add_comma(text)?;
-    add_range(text, range)
-}
-
-fn add_next_ranges<W: Out>(
-    text: &mut TextBuffer<'_, W>,
-    ranges: &[EventRange],
-) -> Result<(), WriteError>
-    requires { All IsRange ranges.now }
-    ensures { Adds W.contents W.failures text.old text.new result (flat_map next_range ranges.now) }
-{
-    for range in ranges {
-        add_next_range(text, range)?;
-    }
-    Ok(())
-}
-
-/// Adds the numbers of the events of ranges.
-#[tactic(auto, using(msc_text::proofs::Writes::joining))]
-fn add_ranges<W: Out>(text: &mut TextBuffer<'_, W>, ranges: &[EventRange]) -> Result<(), WriteError>
-    requires { All IsRange ranges.now }
-    ensures { Adds W.contents W.failures text.old text.new result (ranges_text ranges.now) }
-{
-    match ranges {
-        [] => text.add(b""),
-        [first, others @ ..] => {
-            add_range(text, first)?;
-            add_next_ranges(text, others)
-        }
-    }
-}
+use text_parts::{add_amount, add_range, add_ranges};
 
 /// Adds the dot of a receive, which says the earlier events.
 #[tactic(auto, using(msc_text::proofs::Writes::joining), unfolding(crate::specs::MarkText::dot))]

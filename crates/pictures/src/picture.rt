@@ -7,7 +7,7 @@ ghost use Rattle.pictures.specs.Pictures.{left_of, is_within, cell_of, end_of, e
 use crate::part::Part;
 use crate::spots::Cell;
 use chart::{Event, EventNo, InstanceNo, Line, Name, Names, Report};
-use layout::{Ends, Layout, Row};
+use layout::{Ends, Layout, Row, event_in};
 use std::marker::Model;
 
 /// A picture of a chart: what is drawn of it, and where.
@@ -178,12 +178,7 @@ impl<'a> Picture<'a> {
     pub(crate) fn event_of(&self, event: &EventNo) -> Option<Event>
         ensures { result ≡ event_of self.now event.now }
     {
-        if event.index == 0 {
-            return None;
-        }
-        self.events_of(event.instance)
-            .get(event.index as usize - 1)
-            .copied()
+        event_in(self.lines, event)
     }
 
     pub(crate) fn names(&self) -> &Names

@@ -35,6 +35,14 @@ pub struct Draw<'a> {
     pub file: &'a str,
 }
 
+/// What is to be written for another tool.
+#[derive(Clone, Copy, Debug, PartialEq, Eq)]
+pub struct Export<'a> {
+    /// The word behind `--to`.
+    pub to: &'a str,
+    pub file: &'a str,
+}
+
 /// What a command line asks for.
 #[derive(Clone, Copy, Debug, PartialEq, Eq)]
 pub enum Request<'a> {
@@ -42,6 +50,8 @@ pub enum Request<'a> {
     Pair(Pair<'a>),
     /// `draw [--only NAME,NAME..] [--events A..B] [--numbers] FILE`.
     Draw(Draw<'a>),
+    /// `export --to TOOL FILE`.
+    Export(Export<'a>),
 }
 
 /// A word that a command needs.
@@ -77,6 +87,14 @@ fn draw_command<'a>(alloc: Global) -> Result<Command<'a>, AllocError> {
         .arg(needed(alloc, "FILE"))
 }
 
+/// The command that writes a file for another tool.
+fn export_command<'a>(alloc: Global) -> Result<Command<'a>, AllocError> {
+    Command::new(alloc, "export")
+        .disable_help_flag(true)
+        .arg(option(alloc, "to").required(true))?
+        .arg(needed(alloc, "FILE"))
+}
+
 /// The command line that the program understands. Help, the version, no command and an unknown one are all mistakes.
 fn command_line<'a>(alloc: Global) -> Result<Command<'a>, AllocError> {
     Command::new(alloc, "mscview")
@@ -85,7 +103,8 @@ fn command_line<'a>(alloc: Global) -> Result<Command<'a>, AllocError> {
         .subcommand_required(true)
         .subcommand(pair_command(alloc, "witness")?)?
         .subcommand(pair_command(alloc, "why")?)?
-        .subcommand(draw_command(alloc)?)
+        .subcommand(draw_command(alloc)?)?
+        .subcommand(export_command(alloc)?)
 }
 
 /// What a command asks.
@@ -118,10 +137,19 @@ fn draw_of<'a>(words: &ArgMatches<'a>) -> Option<Request<'a>> {
     }))
 }
 
+/// What the words of `export` ask for.
+fn export_of<'a>(words: &ArgMatches<'a>) -> Option<Request<'a>> {
+    Some(Request::Export(Export {
+        to: words.get_str("to")?,
+        file: words.get_str("FILE")?,
+    }))
+}
+
 /// What a command's words ask for.
 fn request_of<'a>(command: &str, words: &ArgMatches<'a>) -> Option<Request<'a>> {
     match command {
         "draw" => draw_of(words),
+        "export" => export_of(words),
         _ => pair_of(question_of(command)?, words),
     }
 }

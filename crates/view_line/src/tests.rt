@@ -1,5 +1,5 @@
 //! Command lines that are understood, and those that aren't.
-use crate::{CommandLineError, Draw, Pair, Question, Request, requested};
+use crate::{CommandLineError, Draw, Export, Pair, Question, Request, requested};
 use std::alloc::Global;
 use std::process::Abort;
 
@@ -86,5 +86,27 @@ fn words_of_no_picture(rt: HostRuntime) {
         &rt,
         rt.alloc(),
         &["mscview", "draw", "f", "--numbers", "--numbers"],
+    );
+}
+
+#[test]
+fn words_of_an_export(rt: HostRuntime) {
+    let words = ["mscview", "export", "--to", "mscgen", "a file"];
+    assert!(rt;
+        matches!(
+            requested(rt.alloc(), &words),
+            Ok(Request::Export(Export {
+                to: "mscgen",
+                file: "a file",
+            }))
+        )
+    );
+    misses(&rt, rt.alloc(), &["mscview", "export", "f"]);
+    misses(&rt, rt.alloc(), &["mscview", "export", "--to", "mscgen"]);
+    misses(&rt, rt.alloc(), &["mscview", "export", "f", "--to"]);
+    misses(
+        &rt,
+        rt.alloc(),
+        &["mscview", "export", "f", "--from", "mscgen"],
     );
 }

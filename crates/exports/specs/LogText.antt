@@ -1,0 +1,76 @@
+-- The text of a chart as a log with vector clocks, as ShiViz reads it: in the first line the parser's expression, then
+-- an empty one, and then each event on a line of its own (which words say an event is this project's profile).
+use Rattle.std.specs.Prelude.{ℕ, ◌==◌, ◌||◌, List, [], ◌++◌, Option, None, Some, codes, decimal, length, nat_le}
+use Rattle.std.specs.Prelude.{if◌then◌else◌}
+use Rattle.std.specs.List.{flat_map}
+use Rattle.chart.specs.Charts.{LineView}
+use Rattle.chart.specs.Ranges.{ranges_of}
+use Rattle.chart.specs.Reports.{ReportView}
+use Rattle.chart.specs.declared.event.Event.{Event}
+use Rattle.chart.specs.declared.event.Event.TheVariants.{Send, Receive}
+use Rattle.clock.specs.Clocks.{entry_of}
+use Rattle.msc_text.specs.ChartText.{name_at}
+use Rattle.text_parts.specs.RaceWords.{amount, ranges_text}
+use Rattle.exports.specs.declared.log.Stamped.{Stamped}
+use Rattle.exports.specs.declared.word.Word.TheVariants as words
+use Rattle.exports.specs.Exports.{ExportView, event_of, note_of}
+use Rattle.exports.specs.ExportText.{counted}
+use Rattle.exports.specs.Spelling.{quoted}
+use Rattle.exports.specs.Words.{spelled}
+
+-- the parser's expression, and an empty line: there is one execution
+unfoldable pub log_start : List ℕ
+log_start = codes "(?<host>\\S*) (?<clock>{.*}) (?<event>.*)\n\n"
+
+-- the entry of an instance, if the clock has one
+abbrev pub entry_in : List ℕ → ℕ → ℕ
+entry_in clock p = if nat_le p (length clock) then entry_of clock p else 0
+
+-- an entry of a clock
+unfoldable pub entry_text : ExportView → List ℕ → ℕ → List ℕ
+entry_text v clock p = quoted (name_at v.names p) ++ (spelled words.Colon ++ decimal (entry_in clock p))
+
+unfoldable pub next_entry : ExportView → List ℕ → ℕ → List ℕ
+next_entry v clock p = spelled words.Comma ++ entry_text v clock p
+
+-- another instance's entry, if some of its events are known
+abbrev pub other_entry : ExportView → Stamped → LineView → List ℕ
+other_entry v stamped line =
+    if line.instance == stamped.event.instance || entry_in stamped.clock line.instance == 0 then [] else
+    next_entry v stamped.clock line.instance
+
+-- a clock: the instance's own entry, and those of the others
+unfoldable pub clock_text : ExportView → Stamped → List ℕ
+clock_text v stamped = spelled words.ClockStart ++ (entry_text v stamped.clock stamped.event.instance
+    ++ (flat_map (other_entry v stamped) v.lines ++ spelled words.ClockEnd))
+
+-- the earlier events that a receive may come before
+unfoldable pub races_said : ReportView → ℕ → List ℕ
+races_said report events = spelled words.Comma ++ (spelled words.MayComeBefore ++ (amount events
+    ++ ranges_text (ranges_of report.earlier)))
+
+abbrev pub races_of : Option ReportView → List ℕ
+races_of None = []
+races_of (Some report) = races_said report (counted report)
+
+-- out MESSAGE to NAME, or in MESSAGE from NAME
+unfoldable pub sent_text : ExportView → ℕ → List ℕ → List ℕ
+sent_text v to name = spelled words.Out ++ (name ++ (spelled words.To ++ name_at v.names to))
+
+unfoldable pub received_text : ExportView → Stamped → ℕ → List ℕ → List ℕ
+received_text v stamped from name = spelled words.In ++ (name ++ (spelled words.From ++ (name_at v.names from
+    ++ races_of (note_of v stamped.event))))
+
+abbrev pub event_text : ExportView → Stamped → Option Event → List ℕ
+event_text v stamped None = []
+event_text v stamped (Some (Send to name)) = sent_text v to name
+event_text v stamped (Some (Receive from name region)) = received_text v stamped from name
+
+-- a line of the log
+unfoldable pub log_line : ExportView → Stamped → List ℕ
+log_line v stamped = name_at v.names stamped.event.instance ++ (clock_text v stamped
+    ++ (event_text v stamped (event_of v stamped.event) ++ spelled words.LineEnd))
+
+-- the text of these events
+unfoldable pub log_text : ExportView → List Stamped → List ℕ
+log_text v log = log_start ++ flat_map (log_line v) log
