@@ -5,10 +5,10 @@ ghost use Rattle.closure.specs.Faults.{place_of};
 ghost use Rattle.layout.specs.Layouts.{row_of};
 ghost use Rattle.exports.specs.Exports.{event_of, end_of, in_row, start_of, skip, report_at, note_of};
 
-use crate::tool::Tool;
 use chart::{Event, EventNo, Line, Names, Report};
 use layout::{Ends, Layout, Row, event_in};
 use std::marker::Model;
+use tool_text::Tool;
 
 /// A chart that is written as a text of another tool.
 #[derive(Drop)]

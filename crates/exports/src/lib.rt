@@ -16,19 +16,19 @@
 #![tactic(auto)]
 
 mod clocks;
+mod drawn;
 mod export;
 mod log;
 mod log_text;
 mod preparing;
 mod saying;
 mod spelling;
-mod tool;
 mod word;
 mod writing;
 
+pub use drawn::Drawn;
 pub use export::Export;
 pub use log::Log;
 pub use log_text::write_log;
 pub use saying::has_parted;
-pub use tool::{Drawn, Tool};
 pub use writing::write_export;

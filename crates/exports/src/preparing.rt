@@ -2,11 +2,12 @@
 ghost use Rattle.std.specs.Prelude.{◌≡◌, length, replicate, None, Some, slice_set, IfOk};
 ghost use Rattle.exports.specs.Preparing.{put_in, put_report, notes_of, height, below, starts_from, IsExportOf};
 
+use crate::drawn::Drawn;
 use crate::export::Export;
-use crate::tool::{Drawn, Tool};
 use chart::Report;
 use layout::Layout;
 use std::alloc::{AllocError, Global};
+use tool_text::Tool;
 
 /// Puts the note of the report at this place into a row.
 fn put(notes: &mut [Option<usize>], place: usize, row: Option<usize>)

@@ -3,9 +3,9 @@ ghost use Rattle.std.specs.Prelude.{◌≡◌};
 ghost use Rattle.exports.specs.Sayings.{has_late, level, sent, received, alone, saying_of, is_end, has_parted};
 
 use crate::export::Export;
-use crate::tool::Tool;
 use chart::{Event, EventNo, InstanceNo, Name};
 use layout::Row;
+use tool_text::Tool;
 
 /// What a row says.
 #[derive(Clone, Copy)]

@@ -9,11 +9,11 @@ ghost use Rattle.exports.specs.Spelling.{note_start, sending, receiving, races, 
 
 use crate::export::Export;
 use crate::saying::Saying;
-use crate::tool::Tool;
 use crate::word::Word;
 use chart::{InstanceNo, Name, Names, Report};
 use msc_text::{Out, TextBuffer, WriteError, named};
 use text_parts::{add_amount, add_ranges};
+use tool_text::Tool;
 
 /// What stands before each line of a chart.
 #[tactic(auto, unfolding(crate::specs::Spelling::indent))]

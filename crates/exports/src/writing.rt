@@ -9,11 +9,11 @@ ghost use Rattle.exports.specs.ExportText.{noted, export_text};
 use crate::export::Export;
 use crate::saying::saying_of;
 use crate::spelling::{add_name, add_races, add_saying, add_space, add_who, indent};
-use crate::tool::Tool;
 use crate::word::Word;
 use chart::{EventNo, InstanceNo, Line, Report};
 use layout::Row;
 use msc_text::{Out, TextBuffer, WriteError};
+use tool_text::Tool;
 
 /// The text's beginning.
 #[tactic(auto, unfolding(crate::specs::ExportText::start))]

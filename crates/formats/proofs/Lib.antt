@@ -1,3 +1,4 @@
 pub mod ColumnLemmas
 pub mod DrawingLemmas
+pub mod ImportingLemmas
 pub mod SpanLemmas

@@ -1,12 +1,17 @@
--- What a word of a command line says to export to.
-use Rattle.std.specs.Prelude.{ℕ, List, Option, None, Some, bytes_eq, codes, if◌then◌else◌}
-use Rattle.exports.specs.declared.tool.Tool.TheVariants.{Mscgen, PlantUml, Mermaid}
+-- Which tools a word of a command line names.
+use Rattle.std.specs.Prelude.{ℕ, List, Option, None, Some, option_map, bytes_eq, codes, if◌then◌else◌}
+use Rattle.tool_text.specs.declared.saying.Tool.{Tool}
+use Rattle.tool_text.specs.declared.saying.Tool.TheVariants.{Mscgen, PlantUml, Mermaid}
 use Rattle.formats.specs.declared.target.Target.{Target}
 use Rattle.formats.specs.declared.target.Target.TheVariants.{Diagram, ShiViz}
 
+-- the tool that a word names
+abbrev pub tool_said : List ℕ → Option Tool
+tool_said word =
+    if bytes_eq word (codes "mscgen") then Some Mscgen else
+    (if bytes_eq word (codes "plantuml") then Some PlantUml else
+    (if bytes_eq word (codes "mermaid") then Some Mermaid else None))
+
+-- what a word says to export to
 abbrev pub target_said : List ℕ → Option Target
-target_said word =
-    if bytes_eq word (codes "mscgen") then Some (Diagram Mscgen) else
-    (if bytes_eq word (codes "plantuml") then Some (Diagram PlantUml) else
-    (if bytes_eq word (codes "mermaid") then Some (Diagram Mermaid) else
-    (if bytes_eq word (codes "shiviz") then Some ShiViz else None)))
+target_said word = if bytes_eq word (codes "shiviz") then Some ShiViz else option_map Diagram (tool_said word)

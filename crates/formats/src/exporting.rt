@@ -15,11 +15,12 @@ use crate::error::FormatError;
 use crate::target::Target;
 use chart::{Chart, Line, Names};
 use closure::Closure;
-use exports::{Drawn, Export, Log, Tool, has_parted, write_export, write_log};
+use exports::{Drawn, Export, Log, has_parted, write_export, write_log};
 use msc_text::{Out, TextBuffer, WriteError};
 use replayer::replay;
 use std::alloc::Global;
 use tasks::{ProgramError, chart_in, closure_of, is_schedule, schedule_in};
+use tool_text::Tool;
 
 /// What is to be told beside a text, since it doesn't say so.
 #[derive(Clone, Copy)]

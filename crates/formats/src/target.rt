@@ -1,8 +1,8 @@
-//! What a chart is exported to.
+//! Which tools a command line names.
 ghost use Rattle.std.specs.Prelude.{◌≡◌};
-ghost use Rattle.formats.specs.Targets.{target_said};
+ghost use Rattle.formats.specs.Targets.{tool_said, target_said};
 
-use exports::Tool;
+use tool_text::Tool;
 
 /// What a chart is exported to.
 #[derive(Clone, Copy, Debug, PartialEq, Eq)]
@@ -13,15 +13,27 @@ pub enum Target {
     ShiViz,
 }
 
-/// What a word of a command line says to export to: `mscgen`, `plantuml`, `mermaid` or `shiviz`.
+/// The tool that a word of a command line names: `mscgen`, `plantuml` or `mermaid`.
+pub fn tool_in(word: &str) -> Option<Tool>
+    ensures { result ≡ tool_said word.now }
+{
+    match word {
+        "mscgen" => Some(Tool::Mscgen),
+        "plantuml" => Some(Tool::PlantUml),
+        "mermaid" => Some(Tool::Mermaid),
+        _ => None,
+    }
+}
+
+/// What a word of a command line says to export to: a tool, or `shiviz`.
 pub fn target_in(word: &str) -> Option<Target>
     ensures { result ≡ target_said word.now }
 {
-    match word {
-        "mscgen" => Some(Target::Diagram(Tool::Mscgen)),
-        "plantuml" => Some(Target::Diagram(Tool::PlantUml)),
-        "mermaid" => Some(Target::Diagram(Tool::Mermaid)),
-        "shiviz" => Some(Target::ShiViz),
-        _ => None,
+    if word == "shiviz" {
+        return Some(Target::ShiViz);
+    }
+    match tool_in(word) {
+        Some(tool) => Some(Target::Diagram(tool)),
+        None => None,
     }
 }

@@ -2,13 +2,14 @@
 #![tactic(auto)]
 
 use command_line::CommandLineError;
-use formats::{Events, Target, Wanted, draw, events_in, export, target_in};
+use formats::{Events, Target, Wanted, draw, events_in, export, import, target_in, tool_in};
 use msc_text::{Out, StreamOut};
 use std::process::ExitCode;
 use std::rt::{Env, Files};
 use std::{env, fs, io};
 use tasks::{ProgramError, refused, seed_in};
-use view_line::{Draw, Export, Pair, Question, Request, requested};
+use tool_text::Tool;
+use view_line::{Draw, Export, Import, Pair, Question, Request, requested};
 use views::{Asked, why, witness};
 
 /// What the system refused is F6 where memory ran out, and else the other refusal.
@@ -107,6 +108,23 @@ fn view_export<R: Files + AllocGlobal, W: Out, V: Out>(
     Ok(export(rt.alloc(), bytes.as_slice(), target, out, err))
 }
 
+/// Which tool is imported from. G1: the word names none.
+fn tool_by(imported: &Import<'_>) -> Result<Tool, ProgramError> {
+    tool_in(imported.from).ok_or(ProgramError::Usage)
+}
+
+/// Writes the chart of another tool's text.
+fn view_import<R: Files + AllocGlobal, W: Out, V: Out>(
+    rt: &R,
+    imported: &Import<'_>,
+    out: &mut W,
+    err: &mut V,
+) -> Result<u8, ProgramError> {
+    let tool = tool_by(imported)?;
+    let bytes = bytes_of(rt, imported.file)?;
+    Ok(import(rt.alloc(), bytes.as_slice(), tool, out, err))
+}
+
 /// Does what the words ask for, and answers the exit status.
 fn view<R: Files + AllocGlobal, W: Out, V: Out>(
     rt: &R,
@@ -118,6 +136,7 @@ fn view<R: Files + AllocGlobal, W: Out, V: Out>(
         Request::Pair(pair) => view_pair(rt, &pair, out, err),
         Request::Draw(picture) => view_picture(rt, &picture, out, err),
         Request::Export(exported) => view_export(rt, &exported, out, err),
+        Request::Import(imported) => view_import(rt, &imported, out, err),
     }
 }
 

@@ -6,7 +6,7 @@
 mod request;
 
 pub use command_line::CommandLineError;
-pub use request::{Draw, Export, Pair, Question, Request, requested};
+pub use request::{Draw, Export, Import, Pair, Question, Request, requested};
 
 #[cfg(test)]
 mod tests;

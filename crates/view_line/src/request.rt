@@ -43,6 +43,14 @@ pub struct Export<'a> {
     pub file: &'a str,
 }
 
+/// What is to be read of another tool.
+#[derive(Clone, Copy, Debug, PartialEq, Eq)]
+pub struct Import<'a> {
+    /// The word behind `--from`.
+    pub from: &'a str,
+    pub file: &'a str,
+}
+
 /// What a command line asks for.
 #[derive(Clone, Copy, Debug, PartialEq, Eq)]
 pub enum Request<'a> {
@@ -52,6 +60,8 @@ pub enum Request<'a> {
     Draw(Draw<'a>),
     /// `export --to TOOL FILE`.
     Export(Export<'a>),
+    /// `import --from TOOL FILE`.
+    Import(Import<'a>),
 }
 
 /// A word that a command needs.
@@ -87,11 +97,15 @@ fn draw_command<'a>(alloc: Global) -> Result<Command<'a>, AllocError> {
         .arg(needed(alloc, "FILE"))
 }
 
-/// The command that writes a file for another tool.
-fn export_command<'a>(alloc: Global) -> Result<Command<'a>, AllocError> {
-    Command::new(alloc, "export")
+/// A command that writes a file for another tool, or reads one of it. The tool's name is behind this option.
+fn translation<'a>(
+    alloc: Global,
+    name: &'static str,
+    side: &'static str,
+) -> Result<Command<'a>, AllocError> {
+    Command::new(alloc, name)
         .disable_help_flag(true)
-        .arg(option(alloc, "to").required(true))?
+        .arg(option(alloc, side).required(true))?
         .arg(needed(alloc, "FILE"))
 }
 
@@ -104,7 +118,8 @@ fn command_line<'a>(alloc: Global) -> Result<Command<'a>, AllocError> {
         .subcommand(pair_command(alloc, "witness")?)?
         .subcommand(pair_command(alloc, "why")?)?
         .subcommand(draw_command(alloc)?)?
-        .subcommand(export_command(alloc)?)
+        .subcommand(translation(alloc, "export", "to")?)?
+        .subcommand(translation(alloc, "import", "from")?)
 }
 
 /// What a command asks.
@@ -145,11 +160,20 @@ fn export_of<'a>(words: &ArgMatches<'a>) -> Option<Request<'a>> {
     }))
 }
 
+/// What the words of `import` ask for.
+fn import_of<'a>(words: &ArgMatches<'a>) -> Option<Request<'a>> {
+    Some(Request::Import(Import {
+        from: words.get_str("from")?,
+        file: words.get_str("FILE")?,
+    }))
+}
+
 /// What a command's words ask for.
 fn request_of<'a>(command: &str, words: &ArgMatches<'a>) -> Option<Request<'a>> {
     match command {
         "draw" => draw_of(words),
         "export" => export_of(words),
+        "import" => import_of(words),
         _ => pair_of(question_of(command)?, words),
     }
 }

@@ -1,5 +1,5 @@
 //! Command lines that are understood, and those that aren't.
-use crate::{CommandLineError, Draw, Export, Pair, Question, Request, requested};
+use crate::{CommandLineError, Draw, Export, Import, Pair, Question, Request, requested};
 use std::alloc::Global;
 use std::process::Abort;
 
@@ -108,5 +108,25 @@ fn words_of_an_export(rt: HostRuntime) {
         &rt,
         rt.alloc(),
         &["mscview", "export", "f", "--from", "mscgen"],
+    );
+}
+
+#[test]
+fn words_of_an_import(rt: HostRuntime) {
+    let words = ["mscview", "import", "--from", "plantuml", "a file"];
+    assert!(rt;
+        matches!(
+            requested(rt.alloc(), &words),
+            Ok(Request::Import(Import {
+                from: "plantuml",
+                file: "a file",
+            }))
+        )
+    );
+    misses(&rt, rt.alloc(), &["mscview", "import", "f"]);
+    misses(
+        &rt,
+        rt.alloc(),
+        &["mscview", "import", "f", "--to", "mscgen"],
     );
 }

@@ -1,0 +1,14 @@
+pub use Rattle.chart.specs.Charts
+pub use Rattle.chart.specs.Events
+pub use Rattle.chart.specs.Names
+pub use Rattle.msc_text.specs.Lines
+pub use Rattle.tool_text.specs.Sayings
+pub use Rattle.tool_text.specs.Seen
+pub mod ByteSets
+pub mod Faults
+pub mod Finishing
+pub mod Importing
+pub mod Labels
+pub mod Lanes
+pub mod Readings
+pub mod Steps

@@ -1,0 +1,4 @@
+pub mod AttributeLoops
+pub mod ItemLoops
+pub mod NoteLoops
+pub mod WordLists

@@ -1,0 +1,10 @@
+pub mod Attributes
+pub mod Items
+pub mod Lines
+pub mod Sayings
+pub mod Seen
+pub mod Statements
+pub mod Tables
+pub mod Tokens
+pub mod Unreads
+pub mod Words
