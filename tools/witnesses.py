@@ -11,8 +11,8 @@ import subprocess
 import sys
 import tempfile
 
-MSCRUN = "crates/mscrun/out/mscrun"
-MSCVIEW = "crates/mscview/out/mscview"
+MSCRUN = "out/bin/mscrun"
+MSCVIEW = "out/bin/mscview"
 DRAWN = 300
 MANY_SLOTS = "it needs more than 64 slots"
 
