@@ -12,3 +12,8 @@ reader_act from _ = Receive from
 abbrev pub bytes_after : ℕ → Answer → ℕ
 bytes_after bytes (Got arrival) = length arrival.message.body
 bytes_after bytes _ = bytes
+
+-- what a behaviour does that receives from one instance until something came
+abbrev pub waiter_act : ℕ → Answer → Act
+waiter_act from (Got arrival) = Stop
+waiter_act from _ = Receive from

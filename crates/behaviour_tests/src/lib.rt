@@ -4,6 +4,8 @@
 #![tactic(auto)]
 
 #[cfg(test)]
+mod before_acts;
+#[cfg(test)]
 mod calls;
 #[cfg(test)]
 mod ends;

@@ -1,8 +1,8 @@
 //! Behaviours on threads: held back until each of them has begun; and runs whose reports are audited.
-use agreement::audit_run;
 use behaviour::{BareAct, Behaviour, Script};
-use board::Board;
+use board::{Board, Gathered};
 use chart::InstanceNo;
+use closure::{AuditError, audit};
 use instances::{End, Gate, Open, run};
 use schedule::Schedule;
 use schedule_scripts::scripts;
@@ -81,6 +81,15 @@ fn audited_runs(rt: HostRuntime) -> Result<(), Fail> {
     let Ok(ran) = run(&rt, posts, behaviours, 1_000_000, &Open) else {
         return Err("the board was run")?;
     };
-    assert!(rt; audit_run(alloc, &ran).is_ok());
+    let Gathered { chart, reports, .. } = ran.gathered;
+    assert!(rt; audit(alloc, &chart, reports.as_slice()).is_ok());
+    // (and it isn't accepted where the second receive's report, which has the race, is left out)
+    assert_eq!(rt; reports.len(), 2);
+    assert!(rt;
+        matches!(
+            audit(alloc, &chart, &reports.as_slice()[..1]),
+            Err(AuditError::WrongReport(_))
+        )
+    );
     Ok(())
 }

@@ -35,6 +35,14 @@ at_within [] i x at = absurd (none_there x at)
 at_within (y ∷ xs) zero x at = omega arith
 at_within (y ∷ xs) (suc i) x at = let its = at_within xs i x at in omega (arith, its)
 
+-- one is at a place
+pub one_ahead : (posts : List PostView) (i : ℕ) (x y : PostView) → slice_get posts i ≡ Some x → slice_get posts i ≡ Some y → x ≡ y
+one_ahead posts i x y at there = some_one x y (sym at ∙ there)
+
+-- what was read at a place is there
+pub one_post : (posts : List PostView) (i : ℕ) (x y : PostView) → x ≡ get_or posts i x → slice_get posts i ≡ Some y → x ≡ y
+one_post posts i x y is at = one_ahead posts i x y (slice_get-get_or posts i x (at_within posts i y at) ∙ ap (λ (post : PostView). Some post) (sym is)) at
+
 -- lists are one where each element is
 pub same_map : {X : Type 0} (f : X → X) (xs ys : List X) → length ys ≡ length xs → ((i : ℕ) (x : X) → slice_get xs i ≡ Some x → slice_get ys i ≡ Some (f x)) → ys ≡ map f xs
 same_map f [] [] many each = refl
@@ -156,6 +164,32 @@ note_for t u m w x y one two its = record {
   note = subst (λ (z : ℕ). IsNote z y.board.capacity w) (sym one.note.post.instances ∙ two.note.post.instances)
       (subst (λ (z : ℕ). IsNote x.board.size z w) (sym one.note.post.capacity ∙ two.note.post.capacity) its.note);
 }
+
+-- after one round too, where the note told of all that they had seen
+module _ (old new : List PostView) (first told : List Occurrence) (one : HaveHeard (length old) old first new told) (all : (i : ℕ) (x : PostView) → slice_get old i ≡ Some x → Begins x.seen first) where
+  at_new : (i : ℕ) (x : PostView) → slice_get old i ≡ Some x → slice_get new i ≡ Some (get_or new i x)
+  at_new i x at = let lt = at_within old i x at in slice_get-get_or new i x (omega (arith, lt, one.as_many))
+
+  has_heard : (i : ℕ) (x : PostView) → slice_get old i ≡ Some x → HasHeard told x (get_or new i x)
+  has_heard i x at = one.heard i x (get_or new i x) (at_within old i x at) at (at_new i x at)
+
+  seen_first : (i : ℕ) (x : PostView) → slice_get old i ≡ Some x → (get_or new i x).seen ≡ first
+  seen_first i x at = (one.settled all).1 i (get_or new i x) (at_within old i x at) (at_new i x at)
+
+  pub all_seen : new ≡ map (λ (post : PostView). record post { seen = first }) old
+  all_seen = same_map (λ (post : PostView). record post { seen = first }) old new one.as_many (λ i x at.
+      at_new i x at ∙ ap (λ (post : PostView). Some post) ((has_heard i x at).rest ∙ ap (λ (h : List Occurrence). record x { seen = h }) (seen_first i x at)))
+
+  pub met_once : HaveMet old new
+  met_once = record {
+    history = first;
+    joint = λ i x at. record {
+      later = all i x at;
+      legal = subst (λ (h : List Occurrence). IsLegal x.board.size x.board.capacity h) (seen_first i x at) (has_heard i x at).legal;
+      own = subst (λ (h : List Occurrence). own h x.number ≡ x.made) (seen_first i x at) (has_heard i x at).own;
+    };
+    seen = all_seen;
+  }
 
 pub still_notes : (old mid : List PostView) (first told : List Occurrence) (t : TableId) (m : Mine) → HaveHeard (length old) old first mid told → ((i : ℕ) (post : PostView) → slice_get old i ≡ Some post → IsNoteOf t m post) → (i : ℕ) (post : PostView) → slice_get mid i ≡ Some post → IsNoteOf t m post
 still_notes old mid first told t m its notes i post at =

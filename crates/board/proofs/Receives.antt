@@ -15,7 +15,6 @@ use Rattle.chart.specs.Histories.{own, sent, received, waiting, chart_of, IsLega
 use Rattle.chart.specs.Reports.{ReportView, IsReportIn}
 use Rattle.chart.proofs.Histories.{begins_onward, same_received, received-le, sent_begins-le}
 use Rattle.chart.proofs.Tally.{ith_at_drop}
-use Rattle.clock.specs.Diffs.{apply_diff}
 use Rattle.line_recorder.specs.Carried.{clocks_of}
 use Rattle.line_recorder.specs.Recorders.{RecorderView, after_receive, IsReportOf}
 use Rattle.line_recorder.specs.Recording.{IsRecorder}
@@ -35,6 +34,7 @@ use Rattle.board_table.specs.Layout.{LaneView}
 use Rattle.board_table.specs.Carrying.{Carries, AreCarried, last_clock, with_received}
 use Rattle.board_table.specs.Knowing.{Mine, held, packets_out, vacant_out, IsEmptying, Moves, waiting_goods, emptied_base, at_rest}
 use Rattle.board_table.specs.Plays.{PutsBack, Frees}
+use Rattle.board_table.specs.Recording.{IsReady, IsRecorded}
 use Rattle.board.specs.declared.answer.Arrival.{Arrival}
 use Rattle.board.specs.declared.answer.Stop.{Stop}
 use Rattle.board.specs.declared.answer.Stop.TheVariants.{Asked, NoMore, Refused}
@@ -42,7 +42,7 @@ use Rattle.board.specs.declared.ends.Incoming.{Incoming}
 use Rattle.board.specs.declared.error.TakeError.{TakeError}
 use Rattle.board.specs.Known.{IsIncoming, Did}
 use Rattle.board.specs.Found.{KnowsOf}
-use Rattle.board.specs.Receipts.{MayReceive, MayTake, IsTaking, IsReady, IsRecorded, IsTaken, reports_of, AreTaken, IsUnrecorded, IsReceived, AreReceived, IsUnreceived, IsHalted, IsStopped}
+use Rattle.board.specs.Receipts.{MayReceive, MayTake, IsTaking, IsTaken, reports_of, AreTaken, IsUnrecorded, IsReceived, AreReceived, IsUnreceived, IsHalted, IsStopped}
 use Rattle.board.specs.Sending.{numbered}
 use Rattle.board.specs.TakingMany.{messages_of}
 use Rattle.board.proofs.DidLemmas.{did_nothing, did_put_back, did_move, waiting_many}
@@ -151,15 +151,6 @@ module _ (l : LaneView) (t : Mine) (o : Incoming) (taking : IsTaking l t o) (leg
       let clocks : drop passed (clocks_of l.instances (held t).seen l.sender l.receiver) ≡ y.clock ∷ map (λ (z : Parcel). z.clock) ys =
       ap (drop passed) (sym (goods_clocks l.instances (held t).seen l.sender l.receiver)) ∙ drop-map (λ (z : Parcel). z.clock) passed goods_then ∙ ap (map (λ (z : Parcel). z.clock)) e in
       carried_entries l.instances l.capacity (held t).seen legal l.sender l.receiver passed y.clock (ith_at_drop passed (clocks_of l.instances (held t).seen l.sender l.receiver) y.clock (map (λ (z : Parcel). z.clock) ys) clocks)
-
-  pub front_long : (clock : List ℕ) → map (λ (x : Packet). apply_diff o.base x.diff) (take 1 (packets_out t)) ≡ clock ∷ [] → length clock ≡ l.instances
-  front_long clock = go (packets_out t) refl
-    where
-      go : (xs : List Packet) → packets_out t ≡ xs → map (λ (x : Packet). apply_diff o.base x.diff) (take 1 xs) ≡ clock ∷ [] → length clock ≡ l.instances
-      go [] are e = absurd (omega (arith, ap length e))
-      go (x ∷ xs) are e =
-          let good = first_good x xs are in
-          ap length (sym (one_is (apply_diff o.base x.diff) clock e)) ∙ ap length good.3.clock ∙ good_long good.0 good.1 good.2
 
   pub taken_few : o.taken ≤ MAX_EVENTS
   taken_few = omega (arith, taking.taken, taking.emptying.waiting, sent_within (held t).seen l.sender l.receiver, line_short l.instances l.capacity (held t).seen legal l.sender)

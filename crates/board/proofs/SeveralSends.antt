@@ -16,7 +16,7 @@ use Rattle.clock.specs.Diffs.{IsDiff}
 use Rattle.line_recorder.specs.Carried.{knowledge_of}
 use Rattle.line_recorder.specs.Recorders.{RecorderView, send_clock, after_send, after_sends, send_clocks}
 use Rattle.line_recorder.specs.Recording.{IsRecorder}
-use Rattle.line_recorder.proofs.EntryLemmas.{length-with_entry}
+use Rattle.clock.proofs.EntryLemmas.{length-with_entry}
 use Rattle.line_recorder.proofs.Recording.{IsRecorder-send}
 use Rattle.board_core.specs.Parcels.{next_clock}
 use Rattle.board_table.specs.declared.packet.Packet.{Packet}

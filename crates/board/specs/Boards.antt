@@ -3,7 +3,7 @@ use Rattle.std.specs.Prelude.{◌≡◌, ℕ, suc, ◌+◌, ◌<◌, ◌≤◌, 
 use Rattle.std.specs.Prelude.{slice_get, Option, Some, None, Result, Ok, Err}
 use Rattle.chart.specs.declared.instance.TheConstants.{MAX_INSTANCES}
 use Rattle.atomic_table.specs.Seated.{TableId}
-use Rattle.board_table.specs.declared.lane.TheConstants.{MAX_CAPACITY}
+use Rattle.chart.specs.declared.history.TheConstants.{MAX_CAPACITY}
 use Rattle.board_table.specs.Knowing.{Mine, new_held}
 use Rattle.board_table.specs.Rule.{new_helds}
 use Rattle.board.specs.declared.ends.Outgoing.{Outgoing}

@@ -7,7 +7,7 @@ use Rattle.chart.specs.declared.instance.TheConstants.{MAX_INSTANCES}
 use Rattle.line_recorder.specs.Recorders.{RecorderView}
 use Rattle.board_core.specs.Instances.{IsInstance}
 use Rattle.atomic_table.specs.Seated.{TableId}
-use Rattle.board_table.specs.declared.lane.TheConstants.{MAX_CAPACITY}
+use Rattle.chart.specs.declared.history.TheConstants.{MAX_CAPACITY}
 use Rattle.board_table.specs.declared.held.Held.{Held}
 use Rattle.board_table.specs.declared.shape.Shape.{Shape}
 use Rattle.board_table.specs.Layout.{IsBoard}

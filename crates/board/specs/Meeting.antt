@@ -19,11 +19,20 @@ pub record IsJoint (history : List Occurrence) (post : PostView) : Type 0 where
   pub legal : IsLegal post.board.size post.board.capacity history
   pub own : own history post.number ≡ post.made
 
+-- all posts have seen this history, and nothing else has changed
+abbrev pub HaveSeen : List Occurrence → List PostView → List PostView → Type 0
+HaveSeen history old new = new ≡ map (λ (post : PostView). record post { seen = history }) old
+
 -- all posts have seen one history, and nothing else has changed
 pub record HaveMet (old new : List PostView) : Type 0 where
   pub history : List Occurrence
   pub joint : (i : ℕ) (post : PostView) → slice_get old i ≡ Some post → IsJoint history post
   pub seen : new ≡ map (λ (post : PostView). record post { seen = history }) old
+
+-- the post at this place has seen all that each of them has seen
+abbrev pub HasSeenAll : List PostView → ℕ → Type 0
+HasSeenAll posts place = (ahead : PostView) × (slice_get posts place ≡ Some ahead)
+    × ((i : ℕ) (post : PostView) → slice_get posts i ≡ Some post → Begins post.seen ahead.seen)
 
 -- the post at this place has this number
 abbrev pub IsAt : List PostView → ℕ → ℕ → Type 0

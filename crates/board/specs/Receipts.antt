@@ -6,15 +6,14 @@ use Rattle.chart.specs.Events.{MayHaveRegion}
 use Rattle.chart.specs.Messages.{Content}
 use Rattle.chart.specs.Histories.{own, received, waiting, chart_of, AreTwo, IsLegal}
 use Rattle.chart.specs.Reports.{ReportView, IsReportIn}
-use Rattle.clock.specs.Diffs.{apply_diff}
 use Rattle.line_recorder.specs.Recorders.{RecorderView, after_receive, IsReportOf}
 use Rattle.line_recorder.specs.Recording.{IsRecorder}
 use Rattle.board_core.specs.Parcels.{Parcel, goods}
 use Rattle.board_core.specs.World.{after_receives}
 use Rattle.board_core.specs.Runs.{AreAnswers}
-use Rattle.board_table.specs.declared.packet.Packet.{Packet}
 use Rattle.board_table.specs.Layout.{LaneView}
 use Rattle.board_table.specs.Knowing.{Mine, held, packets_out, vacant_out, IsEmptying, waiting_goods, emptied_base}
+use Rattle.board_table.specs.Recording.{IsReady}
 use Rattle.board.specs.declared.answer.Arrival.{Arrival}
 use Rattle.board.specs.declared.answer.Stop.{Stop}
 use Rattle.board.specs.declared.answer.Stop.TheVariants.{Asked, NoMore, Refused}
@@ -43,12 +42,6 @@ pub record IsTaking (l : LaneView) (me : Mine) (end : Incoming) : Type 0 where
   pub base : end.base ≡ emptied_base l me
   pub long : length end.base ≡ l.instances
 
--- the recorder is the receiver's, and its next event may have this coregion
-pub record IsReady (l : LaneView) (region : ℕ) (recorder : RecorderView) : Type 0 where
-  pub its : recorder.line.instance ≡ l.receiver
-  pub knows : length recorder.knowledge ≡ l.instances
-  pub region_fits : MayHaveRegion recorder.line.events region
-
 -- the receiver may take the next message out in this coregion: one is out with it, and its line has room
 pub record MayTake (l : LaneView) (region : ℕ) (me : Mine) (end : Incoming) (recorder : RecorderView) : Type 0 where
   pub taking : IsTaking l me end
@@ -57,15 +50,6 @@ pub record MayTake (l : LaneView) (region : ℕ) (me : Mine) (end : Incoming) (r
   pub ready : IsReady l region recorder
   pub short : length recorder.line.events < MAX_EVENTS
   pub two : AreTwo l.instances l.receiver l.sender
-
--- the recorder has recorded the receive of the first of these packets over the base, with this report, and this is
--- its clock
-pub record IsRecorded (packets : List Packet) (base : List ℕ) (from region : ℕ) (old : RecorderView)
-    (report : ReportView) (clock : List ℕ) (new : RecorderView) : Type 0 where
-  pub clock_is : (x : Packet) (xs : List Packet) → packets ≡ x ∷ xs → apply_diff base x.diff ≡ clock
-  pub recorded : (x : Packet) (xs : List Packet) → packets ≡ x ∷ xs
-      → new ≡ after_receive old from x.message.name region clock report
-  pub report_is : IsReportOf old from region clock report
 
 -- the first message that was out was taken out of its slot, and its receive recorded: its parcel, with this arrival
 pub record IsTaken (l : LaneView) (region : ℕ) (old : Mine) (before : Incoming) (recorder : RecorderView)

@@ -1,15 +1,15 @@
 //! Boards.
 ghost use Rattle.std.specs.Prelude.{◌≡◌, ◌≤◌, true, false, IfOk, IfErr, IfSome, IfNone};
 ghost use Rattle.chart.specs.declared.instance.TheConstants.{MAX_INSTANCES};
-ghost use Rattle.board_table.specs.declared.lane.TheConstants.{MAX_CAPACITY};
+ghost use Rattle.chart.specs.declared.history.TheConstants.{MAX_CAPACITY};
 ghost use Rattle.board.specs.Boards.{MakesBoard, AreNewPosts, IsWholeSeat};
 ghost use Rattle.board.specs.Asking.{IsUngiven};
 
 use crate::error::{BoardError, PostsError};
 use crate::opening::deal_posts;
 use crate::post::Post;
-use board_table::{BoardTable, MAX_CAPACITY, Seat, Shape, open};
-use chart::MAX_INSTANCES;
+use board_table::{BoardTable, Seat, Shape, open};
+use chart::{MAX_CAPACITY, MAX_INSTANCES};
 use std::alloc::Global;
 use std::marker::Model;
 

@@ -15,7 +15,7 @@ pub enum BoardError {
     /// F8: fewer than 2 instances, or more than [`chart::MAX_INSTANCES`].
     #[error("a board has 2 to 32 instances")]
     Instances,
-    /// F9: lanes of no slot, or of more than [`board_table::MAX_CAPACITY`].
+    /// F9: lanes of no slot, or of more than [`chart::MAX_CAPACITY`].
     #[error("a lane has 1 to 64 slots")]
     Capacity,
     /// F6: a growth was refused.

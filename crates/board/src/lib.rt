@@ -42,5 +42,5 @@ pub use error::{
     TakeError,
 };
 pub use gathering::{GatherError, Gathered, Left, gather};
-pub use meeting::{are_all, meet, meet_all};
+pub use meeting::{are_all, meet, meet_all, meet_at};
 pub use post::Post;

@@ -3,8 +3,8 @@ ghost use Rattle.std.specs.Prelude.{◌≡◌, ◌<◌, ◌≤◌, ℕ, length, 
 ghost use Rattle.chart.specs.declared.instance.TheConstants.{MAX_INSTANCES};
 ghost use Rattle.board_table.specs.Knowing.{held};
 ghost use Rattle.board.specs.Views.{PostView};
-ghost use Rattle.board.specs.Meeting.{AreOfOneBoard, HaveMet, HaveHeard, HasNoPost, AreAll, AreNotAll, IsAt, Hears};
-ghost use Rattle.board.specs.Meeting.{IsNoteOf, MeetsAll};
+ghost use Rattle.board.specs.Meeting.{AreOfOneBoard, HaveMet, HaveSeen, HasSeenAll, HaveHeard, HasNoPost, AreAll};
+ghost use Rattle.board.specs.Meeting.{AreNotAll, IsAt, Hears, IsNoteOf, MeetsAll};
 
 use crate::error::MeetError;
 use crate::post::Post;
@@ -56,6 +56,19 @@ pub fn meet(posts: &mut [Post])
     }
     let note = posts[0].note();
     let note = hear_each(posts, note);
+    hear_each(posts, note);
+}
+
+/// Any posts of one board meet, of which the one at this place has seen all that the others have: they have then all
+/// seen what it has. The note goes round once, and not twice as in [`meet`]. It takes no memory.
+pub fn meet_at(posts: &mut [Post], place: usize)
+    requires board { AreOfOneBoard posts.old }
+    requires ahead { HasSeenAll posts.old place }
+    ensures met { HaveMet posts.old posts.new }
+    ensures seen { (ahead : PostView) → slice_get posts.old place ≡ Some ahead
+        → HaveSeen ahead.seen posts.old posts.new }
+{
+    let note = posts[place].note();
     hear_each(posts, note);
 }
 

@@ -1,5 +1,6 @@
 //! The post of an instance.
 ghost use Rattle.std.specs.Prelude.{◌≡◌, ◌+◌, ◌<◌, ◌≤◌, ◌↔◌, Ok, Err, OnOk, OnErr};
+ghost use Rattle.chart.specs.declared.history.TheConstants.{MAX_CAPACITY};
 ghost use Rattle.chart.specs.declared.instance.TheConstants.{MAX_INSTANCES};
 ghost use Rattle.chart.specs.Events.{greatest_region};
 ghost use Rattle.board.specs.Views.{Sound, line_of};
@@ -56,11 +57,13 @@ impl<'a> Post<'a> {
         self.number
     }
 
-    /// How many posts its board has. What it has seen is sound, before its first call too.
+    /// How many posts its board has. Its lanes have 1 to [`chart::MAX_CAPACITY`] slots, and what it has seen is sound,
+    /// before its first call too.
     pub fn board_size(&self) -> usize
         ensures value { result ≡ self.now.board.size }
         ensures sized { (2 ≤ result) × (result ≤ MAX_INSTANCES) }
         ensures among { (1 ≤ self.now.number) × (self.now.number ≤ self.now.board.size) }
+        ensures slots { (1 ≤ self.now.board.capacity) × (self.now.board.capacity ≤ MAX_CAPACITY) }
         ensures sound { Sound self.now self.now }
     {
         self.shape.instances

@@ -14,6 +14,7 @@ impl<'a> Post<'a> {
     /// Receives the first message that waits on the lane from an instance. F14 and F13 refuse it; then it is nothing,
     /// or the end, where no message waits, and this comes only after a look; then F7 and F6 refuse it, and the
     /// message is still the first of its lane.
+    #[inline(always)]
     pub fn receive(&mut self, from: InstanceNo) -> Result<Taken, TakeError>
         ensures sound { Sound self.old self.new }
         ensures answer { Takes self.old from result self.new }
@@ -29,7 +30,6 @@ impl<'a> Post<'a> {
             self.words,
             &mut self.seat,
             &lane,
-            self.alloc,
             &mut self.recorder,
             end,
             from,
@@ -39,6 +39,7 @@ impl<'a> Post<'a> {
     }
 
     /// The lane from an instance. The first of F14 and F13 refuses it.
+    #[inline(always)]
     pub(crate) fn lane_from(&self, from: InstanceNo) -> Result<Lane, TakeError>
         ensures ok { IfOk result (IsLaneFrom self.now from) }
         ensures err { IfErr result (λ error. IsUntaken self.now from error self.now) }

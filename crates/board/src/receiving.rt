@@ -5,21 +5,21 @@ ghost use Rattle.chart.specs.declared.line.TheConstants.{MAX_EVENTS};
 ghost use Rattle.line_recorder.specs.Recording.{IsRecorder};
 ghost use Rattle.board_table.specs.Layout.{IsBoard};
 ghost use Rattle.board_table.specs.Knowing.{held, packets_out, Rests};
+ghost use Rattle.board_table.specs.Recording.{IsRecorded};
 ghost use Rattle.board.specs.Known.{IsIncoming, Did};
 ghost use Rattle.board.specs.Found.{IsFound, KnowsOf};
-ghost use Rattle.board.specs.Receipts.{MayReceive, MayTake, IsRecorded, IsTaken, IsReceived, IsUnreceived};
+ghost use Rattle.board.specs.Receipts.{MayReceive, MayTake, IsTaken, IsReceived, IsUnreceived};
 ghost use Rattle.board.specs.declared.receiving.Found.TheVariants.{Messages};
 
 use crate::answer::Arrival;
 use crate::ends::Incoming;
 use crate::error::TakeError;
 use board_table::{
-    Lane, Packet, Seat, Words, find_again, find_anew, free, front, give_back_full, take,
+    Lane, Packet, Seat, Words, find_again, find_anew, free, give_back_full, record_front, take,
 };
 use chart::{InstanceNo, MAX_EVENTS, Report};
-use clock::Clock;
 use line_recorder::Recorder;
-use std::alloc::{AllocError, Global};
+use std::alloc::AllocError;
 
 /// What a receiver finds on a lane.
 #[derive(Clone, Copy, Debug, PartialEq, Eq)]
@@ -34,6 +34,7 @@ pub(crate) enum Found {
 
 /// Takes the slots of all messages that wait on the lane. It looks at the sender's word only where it knows of fewer
 /// than so many.
+#[inline(always)]
 pub(crate) fn find_messages(
     words: &Words,
     seat: &mut Seat,
@@ -52,6 +53,7 @@ pub(crate) fn find_messages(
     ensures did { Did lane.now.instances lane.now.capacity lane.now.receiver (held seat.old.me) (held seat.new.me)
         (held seat.new.me).seen [] }
     ensures end { IsIncoming lane.now.instances (held seat.new.me).seen lane.now.receiver lane.now.sender end.new }
+    ensures looks { end.old.taken + many ≤ end.old.known_put → (held seat.new.me).looks ≡ (held seat.old.me).looks }
     ensures found { IsFound lane.now seat.old.me seat.new.me result }
     ensures knows { result ≡ Messages → KnowsOf lane.now many seat.new.me end.new }
 {
@@ -75,11 +77,11 @@ pub(crate) fn find_messages(
 /// Receives the first of the messages that were found, in this coregion.
 ///
 /// The first of F7 and F6 refuses it: then the message is still the first of its lane.
+#[inline(always)]
 pub(crate) fn receive_one(
     words: &Words,
     seat: &mut Seat,
     lane: &Lane,
-    alloc: Global,
     recorder: &mut Recorder,
     end: &mut Incoming,
     from: InstanceNo,
@@ -102,7 +104,7 @@ pub(crate) fn receive_one(
         give_back_full(words, seat, lane);
         return Err(TakeError::LineFull);
     }
-    let Ok(arrival) = take_next(words, seat, lane, alloc, recorder, end, from, region) else {
+    let Ok(arrival) = take_next(words, seat, lane, recorder, end, from, region) else {
         give_back_full(words, seat, lane);
         return Err(TakeError::Memory);
     };
@@ -113,11 +115,11 @@ pub(crate) fn receive_one(
 /// Takes the next of the messages that were found out of its slot, and records its receive.
 ///
 /// F6: it fails only where there is no memory, and then nothing has changed.
+#[inline(always)]
 pub(crate) fn take_next(
     words: &Words,
     seat: &mut Seat,
     lane: &Lane,
-    alloc: Global,
     recorder: &mut Recorder,
     end: &mut Incoming,
     from: InstanceNo,
@@ -134,9 +136,8 @@ pub(crate) fn take_next(
     ensures end { OnErr result (end.new ≡ end.old) }
     ensures recorder { OnErr result (recorder.new ≡ recorder.old) }
 {
-    let (report, clock) = record(words, seat, lane, alloc, recorder, end, from, region)?;
+    let report = record(words, seat, lane, recorder, end, region)?;
     let Packet { message, diff: _ } = take(words, seat, lane, end.taken);
-    end.base = clock;
     end.taken += 1;
     Ok(Arrival {
         from,
@@ -145,32 +146,40 @@ pub(crate) fn take_next(
     })
 }
 
-/// Records the receive of the next message that was found, and answers its report and its clock.
+/// Records the receive of the next message that was found, and answers its report. The end's base is the message's
+/// clock from then on.
 ///
 /// F6: it fails only where there is no memory, and then nothing is recorded.
+#[inline(always)]
 fn record(
     words: &Words,
     seat: &mut Seat,
     lane: &Lane,
-    alloc: Global,
     recorder: &mut Recorder,
-    end: &Incoming,
-    from: InstanceNo,
+    end: &mut Incoming,
     region: u32,
-) -> Result<(Report, Clock), AllocError>
+) -> Result<Report, AllocError>
     requires table { seat.old.table_id ≡ words.now.table_id }
     requires board { IsBoard lane.now.instances lane.now.capacity words.now.key words.now.table_id }
-    requires may_take { MayTake lane.now region seat.old.me end.now recorder.old }
-    requires from { from ≡ lane.now.sender }
+    requires may_take { MayTake lane.now region seat.old.me end.old recorder.old }
     ensures table { seat.new.table_id ≡ seat.old.table_id }
     ensures same { seat.new.me ≡ seat.old.me }
-    ensures ok { IfOk result (λ told. IsRecorded (packets_out seat.old.me) end.now.base lane.now.sender region
-        recorder.old told.0 told.1 recorder.new) }
+    ensures ok { IfOk result (λ report. IsRecorded (packets_out seat.old.me) end.old.base lane.now.sender region
+        recorder.old report end.new.base recorder.new) }
+    ensures counts { (end.new.taken ≡ end.old.taken) × (end.new.known_put ≡ end.old.known_put) }
     ensures err { OnErr result (recorder.new ≡ recorder.old) }
+    ensures end { OnErr result (end.new ≡ end.old) }
 {
-    let (name, clock) = front(words, seat, lane, end.taken, alloc, &end.base)?;
-    match recorder.receive(from, name, &clock, region) {
-        Ok(report) => Ok((report, clock)),
+    match record_front(
+        words,
+        seat,
+        lane,
+        end.taken,
+        recorder,
+        &mut end.base,
+        region,
+    ) {
+        Ok(report) => Ok(report),
         Err(_) => Err(AllocError),
     }
 }

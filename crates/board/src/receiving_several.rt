@@ -55,7 +55,6 @@ pub(crate) fn receive_several(
         words,
         seat,
         lane,
-        alloc,
         recorder,
         end,
         from,
@@ -81,7 +80,6 @@ fn take_several(
     words: &Words,
     seat: &mut Seat,
     lane: &Lane,
-    alloc: Global,
     recorder: &mut Recorder,
     end: &mut Incoming,
     from: InstanceNo,
@@ -110,7 +108,7 @@ fn take_several(
         if arrivals.reserve(1).is_err() {
             return Stop::Refused(TakeError::Memory);
         }
-        let Ok(arrival) = take_next(words, seat, lane, alloc, recorder, end, from, region) else {
+        let Ok(arrival) = take_next(words, seat, lane, recorder, end, from, region) else {
             return Stop::Refused(TakeError::Memory);
         };
         arrivals.push_reserved(arrival);

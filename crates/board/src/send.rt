@@ -18,6 +18,7 @@ impl<'a> Post<'a> {
     ///
     /// F11 comes only after a look at what the receiver has received, and F6 not while there is room, on boards of up
     /// to [`clock::INLINE_ENTRIES`] instances.
+    #[inline(always)]
     pub fn send(&mut self, to: InstanceNo, message: Message) -> Result<Sent, (Message, SendError)>
         ensures sound { Sound self.old self.new }
         ensures answer { Sends self.old to message result self.new }
@@ -34,7 +35,6 @@ impl<'a> Post<'a> {
             self.words,
             &mut self.seat,
             &lane,
-            self.alloc,
             &mut self.recorder,
             end,
             to,
@@ -52,6 +52,7 @@ impl<'a> Post<'a> {
     }
 
     /// The first cause why it doesn't send so many messages to this instance, whatever waits there.
+    #[inline(always)]
     pub(crate) fn sends_nothing(&self, to: InstanceNo, many: usize) -> Option<SendError>
         ensures none { IfNone result (MayPass self.now to many) }
         ensures some { IfSome result (λ error. IsUnsent self.now to many error self.now) }

@@ -8,7 +8,7 @@ ghost use Rattle.clock.specs.Diffs.{IsDiff, apply_diff};
 ghost use Rattle.clock.specs.declared.clock.TheConstants.{INLINE_ENTRIES};
 ghost use Rattle.line_recorder.specs.Recorders.{send_clock, after_send};
 ghost use Rattle.line_recorder.specs.Recording.{IsRecorder};
-ghost use Rattle.board_table.specs.declared.lane.TheConstants.{MAX_CAPACITY};
+ghost use Rattle.chart.specs.declared.history.TheConstants.{MAX_CAPACITY};
 ghost use Rattle.board_table.specs.Layout.{IsBoard};
 ghost use Rattle.board_table.specs.Knowing.{held, Rests};
 ghost use Rattle.board.specs.Known.{IsOutgoing, Did};
@@ -22,10 +22,11 @@ use board_table::{
 use chart::{InstanceNo, MAX_EVENTS, Message, Name};
 use clock::{Clock, Diff};
 use line_recorder::Recorder;
-use std::alloc::{AllocError, Global};
+use std::alloc::AllocError;
 
 /// Takes all slots of the lane that are free, if there are so many, and else none. It looks at the receiver's word
 /// only where the number that is known leaves too few.
+#[inline(always)]
 pub(crate) fn claim_slots(
     words: &Words,
     seat: &mut Seat,
@@ -47,10 +48,13 @@ pub(crate) fn claim_slots(
     ensures did { Did lane.now.instances lane.now.capacity lane.now.sender (held seat.old.me) (held seat.new.me)
         (held seat.new.me).seen [] }
     ensures end { IsOutgoing lane.now.instances (held seat.new.me).seen lane.now.sender lane.now.receiver end.new }
+    ensures looks { end.old.put + many ≤ lane.now.capacity + end.old.known_taken
+        → (held seat.new.me).looks ≡ (held seat.old.me).looks }
     ensures yes { result ≡ true → HasSlots lane.now many seat.new.me }
     ensures no { result ≡ false → HasNoSlots lane.now many seat.old.me seat.new.me }
 {
-    if end.put - end.known_taken + many as u64 <= capacity as u64 {
+    let used = end.put - end.known_taken;
+    if used + many as u64 <= capacity as u64 {
         claim_again(words, seat, lane);
         return true;
     }
@@ -66,8 +70,8 @@ pub(crate) fn claim_slots(
 ///
 /// F6: it fails only where there is no memory, and then nothing is recorded. With room, up to [`clock::INLINE_ENTRIES`]
 /// instances, it takes none.
+#[inline(always)]
 fn record(
-    alloc: Global,
     recorder: &mut Recorder,
     base: &Clock,
     to: InstanceNo,
@@ -84,19 +88,18 @@ fn record(
     ensures succeeds { 0 < recorder.old.room → length recorder.old.knowledge ≤ INLINE_ENTRIES → IsOk result }
     ensures err { OnErr result (recorder.new ≡ recorder.old) }
 {
-    let diff = recorder.next_clock()?.diff_from(alloc, base)?;
-    match recorder.send(to, name) {
-        Ok(_) => Ok(diff),
+    match recorder.send_over(to, name, base) {
+        Ok(diff) => Ok(diff),
         Err(_) => Err(AllocError),
     }
 }
 
 /// Sends a message on an open lane, whose sender's line has room for it.
+#[inline(always)]
 pub(crate) fn send_one(
     words: &Words,
     seat: &mut Seat,
     lane: &Lane,
-    alloc: Global,
     recorder: &mut Recorder,
     end: &mut Outgoing,
     to: InstanceNo,
@@ -124,7 +127,7 @@ pub(crate) fn send_one(
     if !claim_slots(words, seat, lane, end, capacity, 1) {
         return Err((message, SendError::Full));
     }
-    let Ok(diff) = record(alloc, recorder, &end.base, to, message.name()) else {
+    let Ok(diff) = record(recorder, &end.base, to, message.name()) else {
         give_back_vacant(words, seat, lane);
         return Err((message, SendError::Memory));
     };

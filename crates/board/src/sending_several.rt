@@ -4,7 +4,7 @@ ghost use Rattle.chart.specs.Histories.{own, sent};
 ghost use Rattle.chart.specs.declared.line.TheConstants.{MAX_EVENTS};
 ghost use Rattle.line_recorder.specs.Sends.{next_clocks};
 ghost use Rattle.line_recorder.specs.Recording.{IsRecorder};
-ghost use Rattle.board_table.specs.declared.lane.TheConstants.{MAX_CAPACITY};
+ghost use Rattle.chart.specs.declared.history.TheConstants.{MAX_CAPACITY};
 ghost use Rattle.board_table.specs.Layout.{IsBoard};
 ghost use Rattle.board_table.specs.Knowing.{held, packets_out, Rests, IsFilling};
 ghost use Rattle.board.specs.Known.{IsOutgoing};

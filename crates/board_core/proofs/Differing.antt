@@ -15,7 +15,7 @@ use Rattle.clock.specs.Diffs.{apply_diff, IsDiff}
 use Rattle.clock.proofs.DiffLemmas.{IsDiffUpTo, up_to_none, up_to_same, up_to_change, up_to_all}
 use Rattle.line_recorder.specs.Carried.{clocks_of}
 use Rattle.line_recorder.proofs.Carrying.{clocks_many, carried_clock, carried_entries}
-use Rattle.line_recorder.proofs.EntryLemmas.{entry_of-with_entry, entry_of-with_entry_other, length-with_entry}
+use Rattle.clock.proofs.EntryLemmas.{entry_of-with_entry, entry_of-with_entry_other, length-with_entry}
 use Rattle.board_core.specs.Parcels.{clocks, goods}
 use Rattle.board_core.specs.Differences.{zeros, AreDiffs, restored}
 use Rattle.board_core.specs.Runs.{history_of}

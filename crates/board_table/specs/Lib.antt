@@ -3,4 +3,5 @@ pub mod Knowing
 pub mod Layout
 pub mod Leaving
 pub mod Plays
+pub mod Recording
 pub mod Rule

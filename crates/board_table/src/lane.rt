@@ -2,15 +2,12 @@
 ghost use Rattle.std.specs.Prelude.{◌≡◌, ◌≢◌, ℕ, ◌≤◌, ◌<◌};
 ghost use Rattle.chart.specs.Histories.{AreTwo};
 ghost use Rattle.chart.specs.declared.instance.TheConstants.{MAX_INSTANCES};
-ghost use Rattle.board_table.specs.declared.lane.TheConstants.{MAX_CAPACITY};
+ghost use Rattle.chart.specs.declared.history.TheConstants.{MAX_CAPACITY};
 ghost use Rattle.board_table.specs.Layout.{put_word, taken_word, word_count, slot_of, slot_count};
 
 use crate::Shape;
-use chart::{InstanceNo, MAX_INSTANCES};
+use chart::{InstanceNo, MAX_CAPACITY, MAX_INSTANCES};
 use std::marker::Model;
-
-/// The most slots that a lane has.
-pub const MAX_CAPACITY: usize = 64;
 
 /// A lane of a board: who sends on it, and who receives.
 #[derive(Debug, Drop)]
@@ -24,7 +21,7 @@ impl Model for Lane {
     ghost use Rattle.std.specs.Prelude.{◌≤◌};
     ghost use Rattle.chart.specs.Histories.{AreTwo};
     ghost use Rattle.chart.specs.declared.instance.TheConstants.{MAX_INSTANCES};
-    ghost use Rattle.board_table.specs.declared.lane.TheConstants.{MAX_CAPACITY};
+    ghost use Rattle.chart.specs.declared.history.TheConstants.{MAX_CAPACITY};
     ghost use Rattle.board_table.specs.Layout.{LaneView};
 
     ghost Value = { LaneView };
@@ -42,6 +39,7 @@ impl Model for Lane {
 
 impl Lane {
     /// The lane between these two instances.
+    #[inline(always)]
     pub fn new(shape: &Shape, sender: InstanceNo, receiver: InstanceNo) -> Lane
         requires sized { (shape.now.instances ≤ MAX_INSTANCES) × (1 ≤ shape.now.capacity)
             × (shape.now.capacity ≤ MAX_CAPACITY) }
@@ -61,7 +59,17 @@ impl Lane {
         }
     }
 
+    /// Who sends on it.
+    #[inline(always)]
+    pub(crate) fn sender(&self) -> InstanceNo
+        ensures value { result ≡ self.now.sender }
+        ensures two { AreTwo self.now.instances self.now.sender self.now.receiver }
+    {
+        self.sender
+    }
+
     /// The word that has how many messages were sent, twice, and one more when the lane is closed.
+    #[inline(always)]
     pub(crate) fn put_word(&self) -> usize
         ensures value { result ≡ put_word self.now.instances self.now.sender self.now.receiver }
         ensures within { result < word_count self.now.instances }
@@ -72,6 +80,7 @@ impl Lane {
     }
 
     /// The word that has how many messages were received.
+    #[inline(always)]
     pub(crate) fn taken_word(&self) -> usize
         ensures value { result ≡ taken_word self.now.instances self.now.sender self.now.receiver }
         ensures within { result < word_count self.now.instances }
@@ -84,6 +93,7 @@ impl Lane {
     }
 
     /// The slot of the message before which so many were sent.
+    #[inline(always)]
     pub(crate) fn slot(&self, count: u64) -> usize
         ensures value { result ≡ slot_of self.now.instances self.now.capacity self.now.sender self.now.receiver count }
         ensures two { AreTwo self.now.instances self.now.sender self.now.receiver }

@@ -29,11 +29,11 @@ mod shape;
 mod table;
 
 pub use held::{Held, Hold};
-pub use lane::{Lane, MAX_CAPACITY};
+pub use lane::Lane;
 pub use leaving::{draw, leave};
 pub use meeting::{meet_note, note};
 pub use packet::Packet;
-pub use receiver::{find_again, find_anew, free, front, give_back_full, take};
+pub use receiver::{find_again, find_anew, free, give_back_full, record_front, take};
 pub use rule::{BoardRule, Seat, Words};
 pub use sender::{claim_again, claim_anew, close, fill, give_back_vacant, publish};
 pub use shape::Shape;

@@ -1,23 +1,23 @@
 //! The steps of a lane's receiver.
-ghost use Rattle.std.specs.Prelude.{◌≡◌, ℕ, ◌+◌, ◌<◌, ◌≤◌, [], ◌∷◌, length, map, take, suc, IfOk, IsOk};
+ghost use Rattle.std.specs.Prelude.{◌≡◌, ℕ, ◌+◌, ◌<◌, ◌≤◌, ◌↔◌, [], ◌∷◌, length, suc, Err, IfOk, OnErr};
 ghost use Rattle.chart.specs.Events.{MayHaveRegion};
 ghost use Rattle.chart.specs.Histories.{received, chart_of};
 ghost use Rattle.chart.specs.declared.line.TheConstants.{MAX_EVENTS};
-ghost use Rattle.clock.specs.Diffs.{apply_diff};
-ghost use Rattle.clock.specs.declared.clock.TheConstants.{INLINE_ENTRIES};
 ghost use Rattle.board_table.specs.Layout.{IsBoard};
 ghost use Rattle.board_table.specs.Knowing.{held, packets_out, vacant_out, emptied_base, Rests, IsEmptying};
 ghost use Rattle.board_table.specs.Plays.{FindsAnew, FindsAgain, Frees, PutsBack};
+ghost use Rattle.board_table.specs.Recording.{IsReady, IsRecorded};
 
 use crate::rule::{FindAgain, FindAnew, Free, PutBackEmptying, Site};
 use crate::{Lane, Packet, Seat, Words};
-use chart::Name;
+use chart::Report;
 use clock::Clock;
-use std::alloc::{AllocError, Global};
+use line_recorder::{RecordError, Recorder};
 use std::marker::Brand;
 
 /// Takes the slots of all messages that wait, by a look at how many were sent, and whether the lane is closed, which it
 /// answers.
+#[inline(always)]
 pub fn find_anew(words: &Words, seat: &mut Seat, lane: &Lane) -> u64
     requires table { seat.old.table_id ≡ words.now.table_id }
     requires board { IsBoard lane.now.instances lane.now.capacity words.now.key words.now.table_id }
@@ -28,6 +28,7 @@ pub fn find_anew(words: &Words, seat: &mut Seat, lane: &Lane) -> u64
     find_anew_at::<Brand>(words, seat, lane)
 }
 
+#[inline(always)]
 fn find_anew_at<A: Site>(words: &Words, seat: &mut Seat, lane: &Lane) -> u64
     requires site { lane.now ≡ A.lane }
     requires table { seat.old.table_id ≡ words.now.table_id }
@@ -40,6 +41,7 @@ fn find_anew_at<A: Site>(words: &Words, seat: &mut Seat, lane: &Lane) -> u64
 }
 
 /// Takes the slots of all messages that wait, by a load of the receiver's own word, which is no look.
+#[inline(always)]
 pub fn find_again(words: &Words, seat: &mut Seat, lane: &Lane)
     requires table { seat.old.table_id ≡ words.now.table_id }
     requires board { IsBoard lane.now.instances lane.now.capacity words.now.key words.now.table_id }
@@ -50,6 +52,7 @@ pub fn find_again(words: &Words, seat: &mut Seat, lane: &Lane)
     find_again_at::<Brand>(words, seat, lane);
 }
 
+#[inline(always)]
 fn find_again_at<A: Site>(words: &Words, seat: &mut Seat, lane: &Lane)
     requires site { lane.now ≡ A.lane }
     requires table { seat.old.table_id ≡ words.now.table_id }
@@ -61,41 +64,46 @@ fn find_again_at<A: Site>(words: &Words, seat: &mut Seat, lane: &Lane)
     words.load::<FindAgain<A>>(seat, lane.taken_word());
 }
 
-/// The name of the first message that is in the slots, and the clock of its send, if the base is the clock of the one
-/// before it. It stands behind `count` messages, and stays where it is.
+/// Records the receive of the first message that is in the slots, in this coregion (0 outside of one), and answers its
+/// report. The base is the clock of the message before it, and is this one's afterwards. The message stands behind
+/// `count` messages, and stays where it is.
 ///
-/// F6: it fails only where there is no memory, and up to [`INLINE_ENTRIES`](clock::INLINE_ENTRIES) instances it takes
-/// none.
-pub fn front(
+/// A refusal, the first of F7 and F6 that applies, changes nothing.
+#[inline(always)]
+pub fn record_front(
     words: &Words,
     seat: &mut Seat,
     lane: &Lane,
     count: u64,
-    alloc: Global,
-    base: &Clock,
-) -> Result<(Name, Clock), AllocError>
+    recorder: &mut Recorder,
+    base: &mut Clock,
+    region: u32,
+) -> Result<Report, RecordError>
     requires table { seat.old.table_id ≡ words.now.table_id }
     requires board { IsBoard lane.now.instances lane.now.capacity words.now.key words.now.table_id }
     requires emptying { IsEmptying lane.now seat.old.me }
     requires some { 0 < length (packets_out seat.old.me) }
     requires count { count ≡ received (held seat.old.me).seen lane.now.sender lane.now.receiver
         + vacant_out seat.old.me }
-    requires base { base.now ≡ emptied_base lane.now seat.old.me }
+    requires base { base.old ≡ emptied_base lane.now seat.old.me }
+    requires entries { length base.old ≡ lane.now.instances }
+    requires ready { IsReady lane.now region recorder.old }
     ensures table { (seat.new.table_id ≡ seat.old.table_id) × (seat.new.id ≡ seat.old.id) }
     ensures same { seat.new.me ≡ seat.old.me }
-    ensures name { IfOk result (λ front. map (λ x. x.message.name) (take 1 (packets_out seat.old.me)) ≡ front.0 ∷ []) }
-    ensures clock { IfOk result (λ front. map (λ x. apply_diff base.now x.diff) (take 1 (packets_out seat.old.me))
-        ≡ front.1 ∷ []) }
-    ensures succeeds { length base.now ≤ INLINE_ENTRIES → IsOk result }
+    ensures ok { IfOk result (λ report. IsRecorded (packets_out seat.old.me) base.old lane.now.sender region
+        recorder.old report base.new recorder.new) }
+    ensures full { (result ≡ Err RecordError.LineFull) ↔ (length recorder.old.line.events ≡ MAX_EVENTS) }
+    ensures err { OnErr result (recorder.new ≡ recorder.old) }
+    ensures base_err { OnErr result (base.new ≡ base.old) }
 {
+    let from = lane.sender();
     let slot: &Option<Packet> = seat.slot_mut(words, lane.slot(count));
     let Some(packet) = slot else { unreachable!() };
-    let mut clock = base.copied(alloc)?;
-    clock.apply(&packet.diff);
-    Ok((packet.message.name(), clock))
+    recorder.receive_over(from, packet.message.name(), base, &packet.diff, region)
 }
 
 /// Takes the first message that is in the slots out of its own. It stands behind `count` messages.
+#[inline(always)]
 pub fn take(words: &Words, seat: &mut Seat, lane: &Lane, count: u64) -> Packet
     requires table { seat.old.table_id ≡ words.now.table_id }
     requires board { IsBoard lane.now.instances lane.now.capacity words.now.key words.now.table_id }
@@ -118,6 +126,7 @@ pub fn take(words: &Words, seat: &mut Seat, lane: &Lane, count: u64) -> Packet
 
 /// Receives the messages that were taken out, one directly after another, in this coregion (0 outside of one), and
 /// gives all slots back. The others wait again. With these, `count` messages were received on the lane.
+#[inline(always)]
 pub fn free(words: &Words, seat: &mut Seat, lane: &Lane, count: u64, region: u32)
     requires table { seat.old.table_id ≡ words.now.table_id }
     requires board { IsBoard lane.now.instances lane.now.capacity words.now.key words.now.table_id }
@@ -132,6 +141,7 @@ pub fn free(words: &Words, seat: &mut Seat, lane: &Lane, count: u64, region: u32
     free_at::<Brand>(words, seat, lane, count, region);
 }
 
+#[inline(always)]
 fn free_at<A: Site>(words: &Words, seat: &mut Seat, lane: &Lane, count: u64, region: u32)
     requires site { (lane.now ≡ A.lane) × (region ≡ A.region) }
     requires table { seat.old.table_id ≡ words.now.table_id }

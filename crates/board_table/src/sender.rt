@@ -12,6 +12,7 @@ use crate::{Lane, Packet, Seat, Words};
 use std::marker::Brand;
 
 /// Takes all slots that are free, by a look at how many messages were received, which it answers.
+#[inline(always)]
 pub fn claim_anew(words: &Words, seat: &mut Seat, lane: &Lane) -> u64
     requires table { seat.old.table_id ≡ words.now.table_id }
     requires board { IsBoard lane.now.instances lane.now.capacity words.now.key words.now.table_id }
@@ -22,6 +23,7 @@ pub fn claim_anew(words: &Words, seat: &mut Seat, lane: &Lane) -> u64
     claim_anew_at::<Brand>(words, seat, lane)
 }
 
+#[inline(always)]
 fn claim_anew_at<A: Site>(words: &Words, seat: &mut Seat, lane: &Lane) -> u64
     requires site { lane.now ≡ A.lane }
     requires table { seat.old.table_id ≡ words.now.table_id }
@@ -34,6 +36,7 @@ fn claim_anew_at<A: Site>(words: &Words, seat: &mut Seat, lane: &Lane) -> u64
 }
 
 /// Takes all slots that are free, by a load of the sender's own word, which is no look.
+#[inline(always)]
 pub fn claim_again(words: &Words, seat: &mut Seat, lane: &Lane)
     requires table { seat.old.table_id ≡ words.now.table_id }
     requires board { IsBoard lane.now.instances lane.now.capacity words.now.key words.now.table_id }
@@ -44,6 +47,7 @@ pub fn claim_again(words: &Words, seat: &mut Seat, lane: &Lane)
     claim_again_at::<Brand>(words, seat, lane);
 }
 
+#[inline(always)]
 fn claim_again_at<A: Site>(words: &Words, seat: &mut Seat, lane: &Lane)
     requires site { lane.now ≡ A.lane }
     requires table { seat.old.table_id ≡ words.now.table_id }
@@ -56,6 +60,7 @@ fn claim_again_at<A: Site>(words: &Words, seat: &mut Seat, lane: &Lane)
 }
 
 /// Fills the first empty slot, which is that of the message before which `count` were put on the lane.
+#[inline(always)]
 pub fn fill(words: &Words, seat: &mut Seat, lane: &Lane, count: u64, packet: Packet)
     requires table { seat.old.table_id ≡ words.now.table_id }
     requires board { IsBoard lane.now.instances lane.now.capacity words.now.key words.now.table_id }
@@ -80,6 +85,7 @@ pub fn fill(words: &Words, seat: &mut Seat, lane: &Lane, count: u64, packet: Pac
 
 /// Sends what is in the slots, one message directly after another, and gives all slots back. With these, `count`
 /// messages were sent on the lane.
+#[inline(always)]
 pub fn publish(words: &Words, seat: &mut Seat, lane: &Lane, count: u64)
     requires table { seat.old.table_id ≡ words.now.table_id }
     requires board { IsBoard lane.now.instances lane.now.capacity words.now.key words.now.table_id }
@@ -99,6 +105,7 @@ pub fn publish(words: &Words, seat: &mut Seat, lane: &Lane, count: u64)
     publish_at::<Brand>(words, seat, lane, count);
 }
 
+#[inline(always)]
 fn publish_at<A: Site>(words: &Words, seat: &mut Seat, lane: &Lane, count: u64)
     requires site { lane.now ≡ A.lane }
     requires table { seat.old.table_id ≡ words.now.table_id }

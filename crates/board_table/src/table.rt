@@ -1,7 +1,7 @@
 //! The table itself: made for a board of some size, and dealt out to its posts.
 ghost use Rattle.std.specs.Prelude.{◌≡◌, ◌≤◌, [], ◌∷◌, IfOk};
 ghost use Rattle.chart.specs.declared.instance.TheConstants.{MAX_INSTANCES};
-ghost use Rattle.board_table.specs.declared.lane.TheConstants.{MAX_CAPACITY};
+ghost use Rattle.chart.specs.declared.history.TheConstants.{MAX_CAPACITY};
 ghost use Rattle.board_table.specs.Layout.{IsBoard};
 ghost use Rattle.board_table.specs.Knowing.{held, later_helds};
 ghost use Rattle.board_table.specs.Rule.{new_helds};

@@ -1,11 +1,10 @@
 -- Chains of direct steps: joined, of what is before, and what they show.
-use Rattle.std.proofs.Common.{◌≡◌, ℕ, ◌+◌, ◌≤◌, List, [], ◌∷◌, ◌++◌, length, refl, sym, ap, ◌∙◌, subst, arith}
+use Rattle.std.proofs.Common.{◌≡◌, ◌≤◌, List, [], ◌∷◌, ◌++◌, length, refl, sym, subst, arith}
 use Rattle.std.proofs.lemmas.List.{length-append}
-use Rattle.chart.specs.Charts.{Chart, Place, BelongsTo}
-use Rattle.chart.specs.Order.{IsEarlier, Direct, Before}
+use Rattle.chart.specs.Charts.{Chart, Place}
+use Rattle.chart.specs.Order.{Direct, Before}
 use Rattle.chart.specs.Order.Direct.{message, to_send, same_sender}
 use Rattle.chart.specs.Order.Before.{direct, through}
-use Rattle.chart.specs.declared.instance.EventNo.{EventNo}
 use Rattle.closure.specs.Faults.{place_of}
 use Rattle.causes.specs.declared.link.Rule.{Rule}
 use Rattle.causes.specs.declared.link.Rule.TheVariants.{Message, BeforeSend, SameSender}

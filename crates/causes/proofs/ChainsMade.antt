@@ -1,10 +1,9 @@
 -- The links that are made along the sends that were reached, and that they are a shortest chain.
-use Rattle.std.proofs.Common.{◌≡◌, ℕ, zero, suc, ◌+◌, ◌*◌, ◌<◌, ◌≤◌, ◌⊎◌, inl, inr, List, [], ◌∷◌, ◌++◌, length, Option, None, Some, refl, sym, ap, ◌∙◌, subst, arith}
-use Rattle.std.specs.Prelude.{slice_get}
+use Rattle.std.proofs.Common.{◌≡◌, ℕ, ◌+◌, ◌*◌, ◌<◌, ◌≤◌, inl, inr, List, [], ◌∷◌, ◌++◌, length, None, Some, refl, sym, ap, ◌∙◌, subst, arith}
 use Rattle.std.proofs.lemmas.Bool.{cases_eq}
 use Rattle.std.proofs.lemmas.List.{length-append}
 use Rattle.std.proofs.lemmas.Option.{slice_get_within, same_Some}
-use Rattle.chart.specs.Charts.{Chart, Place, at, IsSendTo, IsReceiveFrom, BelongsTo}
+use Rattle.chart.specs.Charts.{Chart, Place, IsReceiveFrom, BelongsTo}
 use Rattle.chart.specs.Order.{IsEarlier, Before}
 use Rattle.chart.specs.declared.instance.EventNo.{EventNo}
 use Rattle.closure.specs.Faults.{place_of}
@@ -12,7 +11,7 @@ use Rattle.closure.specs.Searches.{IsEarlierReceive}
 use Rattle.causes.specs.declared.link.Rule.TheVariants.{Message, BeforeSend, SameSender}
 use Rattle.causes.specs.declared.link.Link.{Link}
 use Rattle.causes.specs.declared.reaching.Reached.{Reached}
-use Rattle.causes.specs.Chains.{IsStepBy, Lead, IsShortestChain}
+use Rattle.causes.specs.Chains.{Lead, IsShortestChain}
 use Rattle.causes.specs.Reaching.{IsAt, IsTrail, AreAll, IsUnder, AreSteps, IsNearest, IsChainBy}
 use Rattle.causes.proofs.ChainLemmas.{lead_more, before_from_lead, links_of}
 use Rattle.causes.proofs.Leading.{known_in}

@@ -1,9 +1,8 @@
 -- However links lead to a receive, what they lead from was reached by no more steps.
-use Rattle.std.proofs.Common.{◌≡◌, ℕ, zero, suc, ◌+◌, ◌*◌, ◌<◌, ◌≤◌, ◌⊎◌, inl, inr, List, [], ◌∷◌, length, Option, None, Some, refl, sym, ap, ◌∙◌, subst, arith, add-one}
-use Rattle.std.proofs.lemmas.Bool.{cases_eq}
+use Rattle.std.proofs.Common.{◌≡◌, ℕ, suc, ◌+◌, ◌*◌, ◌<◌, ◌≤◌, ◌⊎◌, inl, inr, List, [], ◌∷◌, length, refl, sym, ap, ◌∙◌, subst, arith, add-one}
 use Rattle.chart.specs.Events.{is_send_to}
-use Rattle.chart.specs.Charts.{Chart, Place, at, IsSendTo, IsReceiveFrom, BelongsTo}
-use Rattle.chart.specs.Order.{IsEarlier, Before}
+use Rattle.chart.specs.Charts.{Chart, Place, IsSendTo, IsReceiveFrom, BelongsTo}
+use Rattle.chart.specs.Order.{IsEarlier}
 use Rattle.chart.proofs.Belongs.{IsEvent-from_passes, IsEarlier-trans, same_place, not_both, one_sender, same_send, earlier_send}
 use Rattle.closure.specs.Faults.{place_of}
 use Rattle.closure.specs.Searches.{IsEarlierReceive}

@@ -1,11 +1,11 @@
 -- The send with the fewest steps among those that were looked at, and one more.
-use Rattle.std.proofs.Common.{◌≡◌, ℕ, ◌+◌, ◌*◌, ◌<◌, ◌≤◌, ◌⊎◌, inl, inr, List, length, Option, None, Some, refl, sym, ap, ◌∙◌, subst, arith}
+use Rattle.std.proofs.Common.{◌≡◌, ℕ, ◌+◌, ◌<◌, ◌≤◌, inl, inr, List, Option, None, Some, sym, ap, ◌∙◌, subst, arith}
 use Rattle.std.specs.Prelude.{slice_get}
 use Rattle.std.proofs.lemmas.Bool.{cases_eq}
 use Rattle.std.proofs.lemmas.Option.{same_Some}
 use Rattle.chart.specs.Charts.{Place}
 use Rattle.causes.specs.declared.reaching.Reached.{Reached}
-use Rattle.causes.specs.Reaching.{IsAt, IsUnder, AreSteps, TellsSteps, IsNearest}
+use Rattle.causes.specs.Reaching.{IsAt, IsUnder, AreSteps, IsNearest}
 
 -- one event has one number of steps by a send
 same_steps : (x : Reached) (e : Place) (k l : ℕ) → AreSteps x e k → AreSteps x e l → k ≡ l

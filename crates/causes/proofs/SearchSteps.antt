@@ -1,7 +1,7 @@
 -- What the search keeps: at its start, when an event was followed, when a send is done with, and at its end.
-use Rattle.std.proofs.Common.{◌≡◌, ◌≢◌, ℕ, zero, suc, ◌+◌, ◌<◌, ◌≤◌, ◌⊎◌, inl, inr, List, [], ◌∷◌, ◌++◌, length, set, replicate, Some, refl, sym, ap, ◌∙◌, subst, arith}
+use Rattle.std.proofs.Common.{◌≡◌, ℕ, zero, suc, ◌+◌, ◌<◌, ◌≤◌, ◌⊎◌, inl, inr, List, [], ◌∷◌, ◌++◌, length, set, replicate, refl, sym, ap, ◌∙◌, subst, arith}
 use Rattle.std.specs.Prelude.{slice_get, slice_index}
-use Rattle.std.proofs.lemmas.Bool.{cases_eq, cases_lt}
+use Rattle.std.proofs.lemmas.Bool.{cases_eq}
 use Rattle.std.proofs.lemmas.Option.{slice_get_within, same_Some}
 use Rattle.std.proofs.lemmas.List.{get_or-set_same, length-append}
 use Rattle.chart.specs.Events.{is_send_to, is_receive_from}
@@ -16,7 +16,7 @@ use Rattle.closure.proofs.ReadLemmas.{instance_within}
 use Rattle.closure.proofs.RunLemmas.{entry-raised}
 use Rattle.closure.proofs.SearchLemmas.{entry-zeros}
 use Rattle.causes.specs.declared.reaching.Reached.{Reached}
-use Rattle.causes.specs.Reaching.{IsAt, IsOnTheWay, IsTrail, IsFound, IsFollowed, IsSearching, AreAll, HasFollowed}
+use Rattle.causes.specs.Reaching.{IsAt, IsOnTheWay, IsFollowed, IsSearching, AreAll, HasFollowed}
 
 -- what was found stays where it is
 at_more : (found : List Reached) (y : Reached) (i : ℕ) (x : Reached) → IsAt found i x → IsAt (found ++ y ∷ []) i x

@@ -1,12 +1,20 @@
 -- What comes before a receive, as a number for each line (over the order of Alur, Holzmann and Peled 1996, in this
 -- project's profile).
-use Rattle.std.specs.Prelude.{ℕ, ◌≤◌, ◌↔◌, ◌⊎◌, List}
-use Rattle.chart.specs.Charts.{Chart, Place, IsReceiveFrom}
+use Rattle.std.specs.Prelude.{◌≡◌, ℕ, ◌≤◌, ◌↔◌, ◌⊎◌, List, length}
+use Rattle.chart.specs.Charts.{Chart, Place, IsReceiveFrom, BelongsTo}
 use Rattle.chart.specs.Order.{Before}
 use Rattle.closure.specs.Rows.{entry}
-use Rattle.closure.specs.Searches.{IsEarlierReceive}
+use Rattle.closure.specs.Searches.{IsReached, IsEarlierReceive}
 
--- before the receive r are, of each line, so many first events, and earlier receives of its line from its sender
-abbrev pub IsPast : Chart → Place → List ℕ → Type 0
-IsPast c r counts = (q : ℕ) → IsReceiveFrom c q r → (e : Place) → 1 ≤ e.index
-    → Before c e r ↔ ((e.index ≤ entry counts e.instance) ⊎ IsEarlierReceive c q e r)
+-- Of each of n lines so many first events are the send of the receive r, or come before that send. Before r are these,
+-- and earlier receives of its line from its sender. That alone would leave a number open where such a receive stands
+-- right behind the first events.
+pub record IsPast (n : ℕ) (c : Chart) (r : Place) (counts : List ℕ) : Type 0 where
+  pub whole : length counts ≡ n
+  pub reached : (s : Place) × BelongsTo c s r × IsReached c s counts
+  pub before : (q : ℕ) → IsReceiveFrom c q r → (e : Place) → 1 ≤ e.index
+      → Before c e r ↔ ((e.index ≤ entry counts e.instance) ⊎ IsEarlierReceive c q e r)
+
+-- a receive has one past
+abbrev pub OnePastLaw : Type 0
+OnePastLaw = (n : ℕ) (c : Chart) (r : Place) (a b : List ℕ) → IsPast n c r a → IsPast n c r b → a ≡ b

@@ -4,8 +4,9 @@
 //!
 //! - Of an event and a receive: a shortest chain of direct steps that leads from the one to the other, each with its
 //!   rule. There is none exactly where the event isn't before the receive ([`shortest_chain`]).
-//! - Of a receive: of each line how many first events come before it. All that comes before it is among these, but for
-//!   receives of its own line from the same sender ([`past`]).
+//! - Of a receive: of each line how many first events are its send or come before this send. All that comes before the
+//!   receive is among these, but for receives of its own line from the same sender ([`past`]). These numbers are the
+//!   only ones ([`one_past_law`]).
 #![tactic(auto)]
 
 mod chaining;
@@ -15,4 +16,4 @@ mod receive_past;
 
 pub use chaining::shortest_chain;
 pub use link::{Link, Rule};
-pub use receive_past::past;
+pub use receive_past::{one_past_law, past};

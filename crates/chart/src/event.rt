@@ -22,6 +22,7 @@ impl Event {
     ghost use Rattle.chart.specs.Events.{partner_of, name_of, region_of, is_receive_from, is_in};
 
     /// The instance at the other end of the message.
+    #[inline(always)]
     pub fn partner(&self) -> InstanceNo
         ensures { result ≡ partner_of self.now }
     {
@@ -32,6 +33,7 @@ impl Event {
     }
 
     /// The name of the message.
+    #[inline(always)]
     pub fn name(&self) -> Name
         ensures { result ≡ name_of self.now }
     {
@@ -42,6 +44,7 @@ impl Event {
     }
 
     /// The coregion that the event is in, from 1, or 0 outside of one. A send is in none.
+    #[inline(always)]
     pub fn region(&self) -> u32
         ensures { result ≡ region_of self.now }
     {
@@ -52,6 +55,7 @@ impl Event {
     }
 
     /// Whether it is a receive from this instance.
+    #[inline(always)]
     pub fn is_receive_from(&self, sender: InstanceNo) -> bool
         ensures { result ≡ is_receive_from sender self.now }
     {
@@ -62,6 +66,7 @@ impl Event {
     }
 
     /// Whether it is a receive of this coregion. Nothing is in 0.
+    #[inline(always)]
     pub fn is_in(&self, region: u32) -> bool
         ensures { result ≡ is_in region self.now }
     {

@@ -1,7 +1,12 @@
-//! The events of a history: of all instances, in one order.
+//! The events of a history, of all instances, in one order; and how many messages a lane holds.
 
 use crate::instance::InstanceNo;
 use crate::message::Message;
+
+/// The most slots of a lane.
+pub const MAX_CAPACITY: usize = 64;
+
+const _: () = prove!(MAX_CAPACITY == 64);
 
 /// What an instance did. Contracts alone speak of histories, so no value of this type is made.
 #[derive(Drop)]

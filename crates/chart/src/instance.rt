@@ -8,6 +8,8 @@ use std::marker::Model;
 /// The most instances that a chart, a schedule or a board has.
 pub const MAX_INSTANCES: usize = 32;
 
+const _: () = prove!(MAX_INSTANCES == 32);
+
 /// The number of an instance, from 1 to [`MAX_INSTANCES`]. A contract sees it as the number.
 #[derive(Clone, Copy, Debug, PartialEq, Eq, PartialOrd, Ord, Hash)]
 pub struct InstanceNo {
@@ -41,6 +43,7 @@ impl InstanceNo {
     }
 
     /// The instance at a place of a list that begins at 0.
+    #[inline(always)]
     pub fn at_place(place: usize) -> InstanceNo
         requires { place < MAX_INSTANCES }
         ensures { result ≡ suc place }
@@ -51,6 +54,7 @@ impl InstanceNo {
     }
 
     /// The number, from 1.
+    #[inline(always)]
     pub fn number(self) -> usize
         ensures value { result ≡ self }
         ensures first { 1 ≤ result }
@@ -60,6 +64,7 @@ impl InstanceNo {
     }
 
     /// The place in a list that begins at 0.
+    #[inline(always)]
     pub fn place(self) -> usize
         ensures value { self ≡ suc result }
         ensures last { result < MAX_INSTANCES }

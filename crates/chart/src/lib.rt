@@ -31,6 +31,7 @@ mod report;
 
 pub use chart::{Chart, LinesError};
 pub use event::Event;
+pub use history::MAX_CAPACITY;
 pub use instance::{EventNo, InstanceNo, MAX_INSTANCES};
 pub use keyword::Keyword;
 pub use line::{GrowingLine, Line, LineError, MAX_EVENTS};

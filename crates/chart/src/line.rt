@@ -19,6 +19,8 @@ use thiserror::Error;
 /// The most events on a line.
 pub const MAX_EVENTS: usize = 4096;
 
+const _: () = prove!(MAX_EVENTS == 4096);
+
 /// Why a line takes no event: the first of these that applies.
 #[derive(Clone, Copy, Debug, PartialEq, Eq, Error)]
 pub enum LineError {
@@ -105,6 +107,7 @@ impl GrowingLine {
         }
     }
 
+    #[inline(always)]
     pub fn instance(&self) -> InstanceNo
         ensures { result ≡ self.now.line.instance }
     {
@@ -112,6 +115,7 @@ impl GrowingLine {
     }
 
     /// The events, the first of the line first.
+    #[inline(always)]
     pub fn events(&self) -> &[Event]
         ensures value { result.now ≡ self.now.line.events }
         ensures line { IsLine self.now.line }
@@ -120,6 +124,7 @@ impl GrowingLine {
         self.events.as_slice()
     }
 
+    #[inline(always)]
     pub fn len(&self) -> usize
         ensures value { result ≡ length self.now.line.events }
         ensures limit { result ≤ MAX_EVENTS }
@@ -127,6 +132,7 @@ impl GrowingLine {
         self.events.len()
     }
 
+    #[inline(always)]
     pub fn is_empty(&self) -> bool
         ensures { result ≡ (length self.now.line.events == 0) }
     {
@@ -134,6 +140,7 @@ impl GrowingLine {
     }
 
     /// The greatest coregion of the line, 0 where there is none: the next one's number is one above it.
+    #[inline(always)]
     pub fn greatest_region(&self) -> u32
         ensures value { result ≡ greatest_region self.now.line.events }
         ensures limit { result ≤ length self.now.line.events }
@@ -142,6 +149,7 @@ impl GrowingLine {
     }
 
     /// So many events can be added without memory.
+    #[inline(always)]
     pub fn room(&self) -> usize
         ensures { result ≡ self.now.room }
     {
@@ -151,6 +159,7 @@ impl GrowingLine {
     /// Makes room for so many events.
     ///
     /// F6: it fails only where there is no memory, and then nothing has changed.
+    #[inline(always)]
     pub fn reserve(&mut self, events: usize) -> Result<(), AllocError>
         ensures line { self.new.line ≡ self.old.line }
         ensures ok { OnOk result (events ≤ self.new.room) }
@@ -161,6 +170,18 @@ impl GrowingLine {
         if events <= self.events.capacity() - self.events.len() {
             return Ok(());
         }
+        self.grow(events)
+    }
+
+    /// Makes room for so many events, as [`GrowingLine::reserve`] does where there is too little.
+    #[cold]
+    #[inline(never)]
+    fn grow(&mut self, events: usize) -> Result<(), AllocError>
+        ensures line { self.new.line ≡ self.old.line }
+        ensures ok { OnOk result (events ≤ self.new.room) }
+        ensures least { self.old.room ≤ self.new.room }
+        ensures err { OnErr result (self.new ≡ self.old) }
+    {
         self.starts.reserve(events)?;
         let room = self.starts.capacity() - self.events.len();
         self.events.reserve_exact(room)
@@ -168,6 +189,7 @@ impl GrowingLine {
 
     /// How many events the line has ahead of the run of neighbouring receives from one sender that ends with the event
     /// of this index. For a send, which is in no such run, it is some number below the index.
+    #[inline(always)]
     pub fn run_start(&self, index: usize) -> usize
         requires begun { 1 ≤ index }
         requires within { index ≤ length self.now.line.events }
@@ -178,6 +200,7 @@ impl GrowingLine {
 
     /// How many events the line has ahead of the part of its coregion that ends with the event of this index. Outside
     /// of a coregion it is some number below the index.
+    #[inline(always)]
     pub fn region_start(&self, index: usize) -> usize
         requires begun { 1 ≤ index }
         requires within { index ≤ length self.now.line.events }
@@ -191,6 +214,7 @@ impl GrowingLine {
     ///
     /// The caller sees to it that the event's coregion may come next: 0, or one above the greatest so far, or
     /// that greatest one where the last event is a receive of it.
+    #[inline(always)]
     pub fn push(&mut self, event: Event) -> Result<(), LineError>
         requires { MayHaveRegion self.old.line.events (region_of event) }
         ensures ok { OnOk result
@@ -335,6 +359,7 @@ impl Line {
 }
 
 /// What is kept for a receive from this sender, in this coregion, that is to come after these events.
+#[inline(always)]
 fn receive_starts(events: &[Event], starts: &[Starts], sender: InstanceNo, region: u32) -> Starts
     requires short { length events.now ≤ MAX_EVENTS }
     requires same { length starts.now ≡ length events.now }
@@ -363,6 +388,7 @@ fn receive_starts(events: &[Event], starts: &[Starts], sender: InstanceNo, regio
 }
 
 /// What is kept for an event that is to come after these.
+#[inline(always)]
 fn next_starts(events: &[Event], starts: &[Starts], event: Event) -> Starts
     requires short { length events.now ≤ MAX_EVENTS }
     requires same { length starts.now ≡ length events.now }

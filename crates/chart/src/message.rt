@@ -8,6 +8,8 @@ use std::marker::Model;
 /// The most bytes in the body of a message.
 pub const MAX_BODY: usize = 4096;
 
+const _: () = prove!(MAX_BODY == 4096);
+
 /// A message: a name, and a body of at most [`MAX_BODY`] bytes. A contract sees it as a record of both.
 #[derive(Debug, Drop)]
 pub struct Message {
@@ -40,12 +42,14 @@ impl Message {
         Ok(Message { name, body })
     }
 
+    #[inline(always)]
     pub fn name(&self) -> Name
         ensures { result ≡ self.now.name }
     {
         self.name
     }
 
+    #[inline(always)]
     pub fn body(&self) -> &[u8]
         ensures value { result.now ≡ self.now.body }
         ensures short { length result.now ≤ MAX_BODY }
@@ -54,6 +58,7 @@ impl Message {
     }
 
     /// The name and the body.
+    #[inline(always)]
     pub fn into_parts(self) -> (Name, Vec<u8>)
         ensures { (result.0 ≡ self.name) × (result.1.items ≡ self.body) }
     {

@@ -15,6 +15,8 @@ use thiserror::Error;
 /// The most bytes in a name.
 pub const MAX_NAME: usize = 32;
 
+const _: () = prove!(MAX_NAME == 32);
+
 /// Why bytes are no name: the first of these that applies.
 #[derive(Clone, Copy, Debug, PartialEq, Eq, Error)]
 pub enum NameError {
@@ -141,6 +143,7 @@ impl Name {
         }
     }
 
+    #[inline(always)]
     pub fn as_bytes(&self) -> &[u8]
         ensures value { result.now ≡ self.now }
         ensures name { IsName result.now }

@@ -17,6 +17,7 @@ pub struct EventRange {
 
 impl EventRange {
     /// The range of one event.
+    #[inline(always)]
     pub fn of(event: EventNo) -> EventRange
         ensures value { result ≡ record { first = event; count = 1 } }
         ensures is { IsRange result }
@@ -84,6 +85,7 @@ impl EventRanges {
     }
 
     /// The ranges, those of the first events first. Each has an event, and their numbers are within 32 bits.
+    #[inline(always)]
     pub fn as_slice(&self) -> &[EventRange]
         ensures events { events_in result.now ≡ self.now }
         ensures fewest { result.now ≡ ranges_of self.now }
@@ -92,6 +94,7 @@ impl EventRanges {
         self.ranges.as_slice()
     }
 
+    #[inline(always)]
     pub fn is_empty(&self) -> bool
         ensures { result ≡ (length self.now == 0) }
     {
@@ -145,6 +148,7 @@ impl EventRanges {
     /// A copy.
     ///
     /// F6: it fails only where there is no memory, and of no events it takes none.
+    #[inline(always)]
     pub fn copied(&self, alloc: Global) -> Result<EventRanges, AllocError>
         ensures events { IfOk result (λ copy. copy ≡ self.now) }
         ensures none { self.now ≡ [] → IsOk result }
@@ -237,6 +241,7 @@ impl Model for RangesBuilder {
 
 impl RangesBuilder {
     /// No events. It takes no memory.
+    #[inline(always)]
     pub fn new(alloc: Global) -> RangesBuilder
         ensures { result ≡ [] }
     {
@@ -270,6 +275,7 @@ impl RangesBuilder {
     }
 
     /// The list that was made.
+    #[inline(always)]
     pub fn finish(self) -> EventRanges
         ensures { result ≡ self }
     {

@@ -26,6 +26,7 @@ impl Model for Report {
 
 impl Report {
     /// The report with the earlier events of these ranges. It takes no memory.
+    #[inline(always)]
     pub fn new(receive: EventNo, earlier: EventRanges) -> Report
         ensures { result ≡ record { receive = receive; earlier = earlier } }
     {
@@ -43,6 +44,7 @@ impl Report {
         Ok(Report { receive, earlier })
     }
 
+    #[inline(always)]
     pub fn receive(&self) -> EventNo
         ensures { result ≡ self.now.receive }
     {
@@ -50,6 +52,7 @@ impl Report {
     }
 
     /// The earlier events, the first of the line first.
+    #[inline(always)]
     pub fn earlier(&self) -> &EventRanges
         ensures { result.now ≡ self.now.earlier }
     {
@@ -66,6 +69,7 @@ impl Report {
     /// A copy.
     ///
     /// F6: it fails only where there is no memory, and without races it takes none.
+    #[inline(always)]
     pub fn copied(&self, alloc: Global) -> Result<Report, AllocError>
         ensures value { IfOk result (λ copy. copy ≡ self.now) }
         ensures none { self.now.earlier ≡ [] → IsOk result }

@@ -6,7 +6,7 @@ ghost use Rattle.clock.specs.Clocks.{entry_of, with_entry, merged};
 ghost use Rattle.clock.specs.Diffs.{IsDiff, apply_diff};
 
 use crate::Diff;
-use crate::entries::{changes, raise, set_changes};
+use crate::entries::{changes, entry_after, raise, set_changes};
 use chart::{InstanceNo, MAX_INSTANCES};
 use smallvec::SmallVec;
 use std::alloc::{AllocError, Global};
@@ -14,6 +14,8 @@ use std::marker::Model;
 
 /// The most entries that a [`Clock`] holds in place. With more it takes memory.
 pub const INLINE_ENTRIES: usize = 8;
+
+const _: () = prove!(INLINE_ENTRIES == 8);
 
 /// A vector time: one entry for each of 2 to [`MAX_INSTANCES`] instances (Fidge 1988, Mattern 1989).
 ///
@@ -51,7 +53,7 @@ impl Clock {
     }
 
     /// How many instances it has an entry for.
-    #[inline]
+    #[inline(always)]
     pub fn len(&self) -> usize
         ensures value { result ≡ length self.now }
         ensures at_least_two { 2 ≤ result }
@@ -61,7 +63,7 @@ impl Clock {
     }
 
     /// The entry of instance `p`: how many of its events are known.
-    #[inline]
+    #[inline(always)]
     pub fn entry(&self, p: InstanceNo) -> u32
         requires { p ≤ length self.now }
         ensures { result ≡ entry_of self.now p }
@@ -69,7 +71,18 @@ impl Clock {
         self.entries.as_slice()[p.place()]
     }
 
+    /// The entry of instance `p` that the clock would have with the difference applied. Nothing is changed.
+    #[inline(always)]
+    pub fn entry_after(&self, diff: &Diff, p: InstanceNo) -> u32
+        requires entry { p ≤ length self.now }
+        requires changes { All (λ change. change.instance ≤ length self.now) diff.now }
+        ensures { result ≡ entry_of (apply_diff self.now diff.now) p }
+    {
+        entry_after(self.entries.as_slice(), diff.changes(), p)
+    }
+
     /// Takes the greater of each two entries. It takes no memory.
+    #[inline(always)]
     pub fn merge(&mut self, other: &Clock)
         requires { length self.old ≡ length other.now }
         ensures value { self.new ≡ merged self.old other.now }
@@ -81,6 +94,7 @@ impl Clock {
     /// A copy.
     ///
     /// F6: it fails only where there is no memory, and up to [`INLINE_ENTRIES`] instances it takes none.
+    #[inline(always)]
     pub fn copied(&self, alloc: Global) -> Result<Clock, AllocError>
         ensures value { IfOk result (λ clock. clock ≡ self.now) }
         ensures len { IfOk result (λ clock. length clock ≡ length self.now) }
@@ -94,6 +108,7 @@ impl Clock {
     /// A copy whose entry for `p` is `index`, as the clock of the event of `p` with this number.
     ///
     /// F6: it fails only where there is no memory, and up to [`INLINE_ENTRIES`] instances it takes none.
+    #[inline(always)]
     pub fn stamped(&self, alloc: Global, p: InstanceNo, index: u32) -> Result<Clock, AllocError>
         requires { p ≤ length self.now }
         ensures value { IfOk result (λ clock. clock ≡ with_entry self.now p index) }
@@ -106,6 +121,7 @@ impl Clock {
     }
 
     /// Makes the entry for `p` this one, as a stamp does, in place. It takes no memory.
+    #[inline(always)]
     pub fn stamp(&mut self, p: InstanceNo, index: u32)
         requires { p ≤ length self.old }
         ensures value { self.new ≡ with_entry self.old p index }
@@ -117,6 +133,7 @@ impl Clock {
     /// The entries that differ from `base`'s, rising by instance. Applied to `base` they give this clock.
     ///
     /// F6: it fails only where there is no memory, and up to [`INLINE_ENTRIES`] instances it takes none.
+    #[inline(always)]
     pub fn diff_from(&self, alloc: Global, base: &Clock) -> Result<Diff, AllocError>
         requires { length self.now ≡ length base.now }
         ensures exact { IfOk result (IsDiff base.now self.now) }
@@ -131,6 +148,7 @@ impl Clock {
     }
 
     /// Sets the entries that the difference lists. It takes no memory.
+    #[inline(always)]
     pub fn apply(&mut self, diff: &Diff)
         requires { All (λ change. change.instance ≤ length self.old) diff.now }
         ensures value { self.new ≡ apply_diff self.old diff.now }

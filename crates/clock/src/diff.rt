@@ -44,7 +44,7 @@ impl Model for Diff {
 
 impl Diff {
     /// The changes, rising by instance.
-    #[inline]
+    #[inline(always)]
     pub fn changes(&self) -> &[Change]
         ensures { result.now ≡ self.now }
     {
@@ -52,7 +52,7 @@ impl Diff {
     }
 
     /// How many entries differ.
-    #[inline]
+    #[inline(always)]
     pub fn len(&self) -> usize
         ensures { result ≡ length self.now }
     {
@@ -60,7 +60,7 @@ impl Diff {
     }
 
     /// Whether no entry differs.
-    #[inline]
+    #[inline(always)]
     pub fn is_empty(&self) -> bool
         ensures { result ≡ (length self.now == 0) }
     {

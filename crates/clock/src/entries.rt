@@ -1,7 +1,7 @@
 //! What clocks do to their entries, as slices.
 ghost use Rattle.std.specs.Prelude.{◌≡◌, ◌≤◌, length, All, IsOk, IfOk};
 ghost use Rattle.smallvec.specs.SmallVec.{small_vec_len};
-ghost use Rattle.clock.specs.Clocks.{merged};
+ghost use Rattle.clock.specs.Clocks.{entry_of, merged};
 ghost use Rattle.clock.specs.Diffs.{IsDiff, apply_diff};
 
 use crate::{Change, INLINE_ENTRIES};
@@ -10,6 +10,7 @@ use smallvec::SmallVec;
 use std::alloc::{AllocError, Global};
 
 /// Raises each entry to the other's, where that is greater.
+#[inline(always)]
 pub(crate) fn raise(entries: &mut [u32], others: &[u32])
     requires { length entries.old ≡ length others.now }
     ensures { entries.new ≡ merged entries.old others.now }
@@ -20,6 +21,7 @@ pub(crate) fn raise(entries: &mut [u32], others: &[u32])
 }
 
 /// The entries that differ from the base's, each with its instance.
+#[inline(always)]
 pub(crate) fn changes(
     alloc: Global,
     entries: &[u32],
@@ -46,6 +48,7 @@ pub(crate) fn changes(
 }
 
 /// Sets the entries that the changes give.
+#[inline(always)]
 pub(crate) fn set_changes(entries: &mut [u32], changes: &[Change])
     requires { All (λ change. change.instance ≤ length entries.old) changes.now }
     ensures { entries.new ≡ apply_diff entries.old changes.now }
@@ -53,4 +56,20 @@ pub(crate) fn set_changes(entries: &mut [u32], changes: &[Change])
     for change in changes {
         entries[change.instance.place()] = change.entry;
     }
+}
+
+/// The entry of an instance as the changes would make it.
+#[inline(always)]
+pub(crate) fn entry_after(entries: &[u32], changes: &[Change], p: InstanceNo) -> u32
+    requires entry { p ≤ length entries.now }
+    requires changes { All (λ change. change.instance ≤ length entries.now) changes.now }
+    ensures { result ≡ entry_of (apply_diff entries.now changes.now) p }
+{
+    let mut entry = entries[p.place()];
+    for change in changes {
+        if change.instance == p {
+            entry = change.entry;
+        }
+    }
+    entry
 }

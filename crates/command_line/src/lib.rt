@@ -8,6 +8,3 @@ mod request;
 
 pub use error::CommandLineError;
 pub use request::{Request, requested};
-
-#[cfg(test)]
-mod tests;

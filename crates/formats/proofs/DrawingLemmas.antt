@@ -1,9 +1,9 @@
 -- What is done with the chart that a text says.
 use Rattle.std.proofs.Common.{◌≡◌, ℕ, List, Result, Ok, Err}
-use Rattle.tasks.specs.declared.error.ProgramError.TheVariants.{Usage, File, Memory, Text, ReceiveWithoutSend, NameMismatch, Cyclic, Write}
+use Rattle.files.specs.declared.error.ProgramError.TheVariants.{Usage, File, Memory, Text, ReceiveWithoutSend, NameMismatch, Cyclic, Write}
 use Rattle.msc_text.specs.declared.fault.Fault.{Fault}
-use Rattle.tasks.specs.Files.{Says}
-use Rattle.tasks.specs.Tasks.{Named}
+use Rattle.files.specs.Files.{Says}
+use Rattle.files.specs.Files.{Named}
 use Rattle.formats.specs.declared.error.FormatError.{FormatError}
 use Rattle.formats.specs.declared.error.FormatError.TheVariants.{Program, NoSuchName}
 use Rattle.formats.specs.Texts.{OfText}

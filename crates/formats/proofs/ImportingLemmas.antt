@@ -1,7 +1,7 @@
 -- What is answered of an import.
 use Rattle.std.proofs.Common.{◌≡◌, ℕ, List, Option, Result, Ok, Err, inl, inr}
 use Rattle.std.specs.Prelude.{IfOk, IfErr}
-use Rattle.tasks.specs.Refusals.{Tried}
+use Rattle.files.specs.Refusals.{Tried}
 use Rattle.imports.specs.declared.finishing.Imported.{Imported}
 use Rattle.tool_text.specs.declared.saying.Tool.{Tool}
 use Rattle.formats.specs.declared.importing.Untranslated.{Untranslated}

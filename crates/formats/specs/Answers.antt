@@ -1,6 +1,6 @@
 -- What is printed on standard error.
 use Rattle.std.specs.Prelude.{ℕ, List, None, codes}
-use Rattle.tasks.specs.Refusals as refusals
+use Rattle.files.specs.Refusals as refusals
 use Rattle.formats.specs.declared.error.FormatError.{FormatError}
 use Rattle.formats.specs.declared.error.FormatError.TheVariants.{Program, NoSuchName}
 

@@ -5,7 +5,7 @@ use Rattle.std.specs.List.{list_any, IsDistinct, range_with_len}
 use Rattle.chart.specs.Names.{instance_of}
 use Rattle.msc_text.specs.Lines.{name_or_cause, parts}
 use Rattle.msc_text.specs.declared.fault.Cause.{Cause}
-use Rattle.tasks.specs.declared.error.ProgramError.TheVariants as errors
+use Rattle.files.specs.declared.error.ProgramError.TheVariants as errors
 use Rattle.formats.specs.declared.error.FormatError.{FormatError}
 use Rattle.formats.specs.declared.error.FormatError.TheVariants.{Program, NoSuchName}
 

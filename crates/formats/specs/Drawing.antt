@@ -10,9 +10,9 @@ use Rattle.msc_text.specs.Writing.{Puts, Breaks}
 use Rattle.pictures.specs.Pictures.{PictureView}
 use Rattle.pictures.specs.PictureText.{picture_text}
 use Rattle.pictures.specs.Preparing.{IsPictureOf}
-use Rattle.tasks.specs.declared.error.ProgramError.TheVariants as errors
-use Rattle.tasks.specs.Refusals.{Tried}
-use Rattle.tasks.specs.Tasks.{Named, IsRefused}
+use Rattle.files.specs.declared.error.ProgramError.TheVariants as errors
+use Rattle.files.specs.Refusals.{Tried}
+use Rattle.files.specs.Files.{Named, IsRefused}
 use Rattle.formats.specs.declared.drawing.Wanted.{Wanted}
 use Rattle.formats.specs.declared.error.FormatError.{FormatError}
 use Rattle.formats.specs.declared.error.FormatError.TheVariants.{Program, NoSuchName}

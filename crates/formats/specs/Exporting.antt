@@ -16,9 +16,9 @@ use Rattle.exports.specs.Preparing.{IsExportOf}
 use Rattle.exports.specs.Sayings.{has_parted}
 use Rattle.layout.specs.declared.row.Row.{Row}
 use Rattle.msc_text.specs.Writing.{Puts, Breaks}
-use Rattle.tasks.specs.declared.error.ProgramError.TheVariants as errors
-use Rattle.tasks.specs.Refusals.{Tried}
-use Rattle.tasks.specs.Tasks.{Named, IsRefused}
+use Rattle.files.specs.declared.error.ProgramError.TheVariants as errors
+use Rattle.files.specs.Refusals.{Tried}
+use Rattle.files.specs.Files.{Named, IsRefused}
 use Rattle.formats.specs.declared.error.FormatError.{FormatError}
 use Rattle.formats.specs.declared.error.FormatError.TheVariants.{Program, NoSuchName}
 use Rattle.formats.specs.declared.exporting.Told.{Told}

@@ -11,8 +11,8 @@ use Rattle.imports.specs.Finishing.{imported_view}
 use Rattle.imports.specs.Importing.{imported}
 use Rattle.msc_text.specs.ChartText.{chart_text}
 use Rattle.msc_text.specs.Writing.{Puts, Breaks}
-use Rattle.tasks.specs.declared.error.ProgramError.TheVariants as errors
-use Rattle.tasks.specs.Refusals.{Tried, refusal_text, labelled_text}
+use Rattle.files.specs.declared.error.ProgramError.TheVariants as errors
+use Rattle.files.specs.Refusals.{Tried, refusal_text, labelled_text}
 use Rattle.tool_text.specs.Unreads.{word_of}
 use Rattle.tool_text.specs.declared.saying.Tool.{Tool}
 use Rattle.formats.specs.declared.importing.Untranslated.{Untranslated}

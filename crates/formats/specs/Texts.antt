@@ -1,8 +1,8 @@
 -- What is done with the chart that a text says.
 use Rattle.std.specs.Prelude.{◌≡◌, ℕ, List, Result, Err}
-use Rattle.tasks.specs.declared.error.ProgramError.TheVariants as errors
-use Rattle.tasks.specs.Files.{Says, HasFault}
-use Rattle.tasks.specs.Tasks.{Named}
+use Rattle.files.specs.declared.error.ProgramError.TheVariants as errors
+use Rattle.files.specs.Files.{Says, HasFault}
+use Rattle.files.specs.Files.{Named}
 use Rattle.formats.specs.declared.error.FormatError.{FormatError}
 use Rattle.formats.specs.declared.error.FormatError.TheVariants.{Program}
 

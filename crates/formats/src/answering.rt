@@ -1,11 +1,11 @@
 //! Refusals, as text on standard error.
 ghost use Rattle.std.specs.Prelude.{◌≡◌};
-ghost use Rattle.tasks.specs.Refusals.{Tried};
+ghost use Rattle.files.specs.Refusals.{Tried};
 ghost use Rattle.formats.specs.Answers.{refusal_text};
 
 use crate::error::FormatError;
+use files::refused_by;
 use msc_text::Out;
-use tasks::refused_by;
 
 /// Prints the line of a refusal, and answers the exit status, which is 2 whether or not the line could be written.
 pub fn refused<V: Out>(error: &FormatError, err: &mut V) -> u8
@@ -13,7 +13,7 @@ pub fn refused<V: Out>(error: &FormatError, err: &mut V) -> u8
     ensures line { Tried V.contents V.failures err.old err.new (refusal_text error.now) }
 {
     match error {
-        FormatError::Program(cause) => tasks::refused(cause, err),
+        FormatError::Program(cause) => files::refused(cause, err),
         FormatError::NoSuchName => refused_by(b"F34 NoSuchName", None, err),
     }
 }

@@ -9,9 +9,9 @@ ghost use Rattle.formats.specs.Columns.{RefusesColumns};
 
 use crate::error::FormatError;
 use chart::{InstanceNo, MAX_INSTANCES, Names};
+use files::ProgramError;
 use msc_text::name_in;
 use std::alloc::{AllocError, Global};
-use tasks::ProgramError;
 
 /// The place of the first comma.
 fn comma_in(bytes: &[u8]) -> Option<usize>

@@ -2,8 +2,8 @@
 ghost use Rattle.std.specs.Prelude.{◌≡◌, ◌≤◌, length, true, false, IfOk, IfErr};
 ghost use Rattle.chart.specs.declared.instance.TheConstants.{MAX_INSTANCES};
 ghost use Rattle.chart.specs.Charts.{chart_lines, IsPossible};
-ghost use Rattle.tasks.specs.Files.{is_schedule};
-ghost use Rattle.tasks.specs.Refusals.{Tried};
+ghost use Rattle.files.specs.Files.{is_schedule};
+ghost use Rattle.files.specs.Refusals.{Tried};
 ghost use Rattle.formats.specs.Answers.{refusal_text};
 ghost use Rattle.formats.specs.Columns.{AreColumns};
 ghost use Rattle.formats.specs.Drawing.{only_of, IsPrepared, Draws, DrawsText, Answers};
@@ -14,12 +14,12 @@ use crate::error::FormatError;
 use crate::events::Events;
 use chart::{Chart, InstanceNo, Names, Report};
 use closure::Closure;
+use files::{ProgramError, chart_in, closure_of, is_schedule, schedule_in};
 use layout::{Ends, Layout, layout};
 use msc_text::Out;
 use pictures::{Part, Picture, Source, write_picture};
 use replayer::replay;
 use std::alloc::{AllocError, Global};
-use tasks::{ProgramError, chart_in, closure_of, is_schedule, schedule_in};
 
 /// What of a file is to be drawn, and how.
 #[derive(Clone, Copy, Debug)]

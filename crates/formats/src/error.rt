@@ -1,6 +1,6 @@
 //! What is refused.
 
-use tasks::ProgramError;
+use files::ProgramError;
 use thiserror::Error;
 
 /// Why a picture was not drawn: the first of these that applies.

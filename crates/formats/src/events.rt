@@ -4,7 +4,7 @@ ghost use Rattle.std.specs.List.{list_all};
 ghost use Rattle.std.specs.Char.{is_ascii_digit};
 ghost use Rattle.formats.specs.Spans.{AreEvents};
 
-use tasks::seed_in;
+use files::number_in;
 
 /// The numbers of the first and of the last event of each line that is drawn, from 1.
 #[derive(Clone, Copy, Debug, PartialEq, Eq)]
@@ -38,7 +38,7 @@ pub fn events_in(word: &str) -> Option<Events>
     ensures { MatchOption result ((events : Events) → AreEvents word.now events → ⊥) (AreEvents word.now) }
 {
     let (first, last) = round_dots(word)?;
-    match (seed_in(first), seed_in(last)) {
+    match (number_in(first), number_in(last)) {
         (Some(first), Some(last)) if 1 <= first && first <= last && last <= u64::from(u32::MAX) => {
             Some(Events {
                 first: first as u32,

@@ -3,8 +3,8 @@ ghost use Rattle.std.specs.Prelude.{◌≡◌, length, true, false, IfOk, IfErr}
 ghost use Rattle.std.specs.List.{list_any};
 ghost use Rattle.chart.specs.Charts.{chart_lines, IsPossible};
 ghost use Rattle.msc_text.specs.Writing.{Wrote, Adds};
-ghost use Rattle.tasks.specs.Files.{is_schedule};
-ghost use Rattle.tasks.specs.Refusals.{Tried};
+ghost use Rattle.files.specs.Files.{is_schedule};
+ghost use Rattle.files.specs.Refusals.{Tried};
 ghost use Rattle.formats.specs.Answers.{refusal_text};
 ghost use Rattle.formats.specs.Exporting.{tool_of, text_of, has_region, has_parted_in, told_of, parted_text};
 ghost use Rattle.formats.specs.Exporting.{regions_text, told_text, Writes, Exports, ExportsText, AnswersExport};
@@ -16,10 +16,10 @@ use crate::target::Target;
 use chart::{Chart, Line, Names};
 use closure::Closure;
 use exports::{Drawn, Export, Log, has_parted, write_export, write_log};
+use files::{ProgramError, chart_in, closure_of, is_schedule, schedule_in};
 use msc_text::{Out, TextBuffer, WriteError};
 use replayer::replay;
 use std::alloc::Global;
-use tasks::{ProgramError, chart_in, closure_of, is_schedule, schedule_in};
 use tool_text::Tool;
 
 /// What is to be told beside a text, since it doesn't say so.

@@ -2,17 +2,17 @@
 ghost use Rattle.std.specs.Prelude.{◌≡◌, IfOk, IfErr};
 ghost use Rattle.std.specs.List.{flat_map};
 ghost use Rattle.msc_text.specs.Writing.{Wrote, Adds};
-ghost use Rattle.tasks.specs.Refusals.{Tried};
+ghost use Rattle.files.specs.Refusals.{Tried};
 ghost use Rattle.imports.specs.Finishing.{imported_view};
 ghost use Rattle.tool_text.specs.Unreads.{word_of};
 ghost use Rattle.formats.specs.Importing.{not_read_text, same_row_text, untranslated_text, told_line, notes_text};
 ghost use Rattle.formats.specs.Importing.{kept_text};
 ghost use Rattle.formats.specs.Importing.{Imports, AnswersImport};
 
+use files::{ProgramError, refused, refused_by};
 use imports::{ImportError, Imported, Told};
 use msc_text::{Out, TextBuffer, WriteError};
 use std::alloc::Global;
-use tasks::{ProgramError, refused, refused_by};
 use text_parts::{Piece, add_pieces};
 use tool_text::{Tool, Unread};
 

@@ -34,6 +34,3 @@ pub use events::{Events, events_in};
 pub use exporting::export;
 pub use importing::import;
 pub use target::{Target, target_in, tool_in};
-
-#[cfg(test)]
-mod tests;

@@ -18,8 +18,6 @@ mod lanes;
 mod lines;
 mod reading;
 mod steps;
-#[cfg(test)]
-mod tests;
 
 pub use error::ImportError;
 pub use finishing::Imported;

@@ -2,3 +2,4 @@ pub mod Boards
 pub mod Effects
 pub mod Running
 pub mod Stretches
+pub mod Accepted

@@ -18,6 +18,8 @@ use std::thread::Threads;
 /// The most turns of a run.
 pub const MAX_TURNS: u32 = 1_000_000;
 
+const _: () = prove!(MAX_TURNS == 1_000_000);
+
 /// Whether posts, so many behaviours and so many turns make a run.
 fn is_fit(posts: &[Post], behaviours: usize, turns: u32) -> bool
     ensures yes { result ≡ true → IsFit posts.now behaviours turns }

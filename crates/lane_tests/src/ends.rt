@@ -115,13 +115,17 @@ fn send<M: Machine>(rt: &impl Abort, lane: &mut M, message: u32) -> Room {
 /// A receive by the steps that come next: it finds this, and takes this message.
 fn receive<M: Machine>(rt: &impl Abort, lane: &mut M, found: Found, message: Option<u32>) {
     if lane.next_of_receiver() == ReceiverStep::Look {
-        assert_eq!(rt; lane.step(Step::ReceiverLoads), Shown::Found(found));
+        assert!(rt; lane.step(Step::ReceiverLoads) == Shown::Found(found));
     }
     if message.is_some() {
-        assert_eq!(rt; lane.next_of_receiver(), ReceiverStep::Take);
-        assert_eq!(rt; lane.step(Step::Takes), Shown::Took(message));
-        assert_eq!(rt; lane.next_of_receiver(), ReceiverStep::Free);
-        assert_eq!(rt; lane.step(Step::Frees), Shown::Made);
+        let steps = [
+            (ReceiverStep::Take, Step::Takes, Shown::Took(message)),
+            (ReceiverStep::Free, Step::Frees, Shown::Made),
+        ];
+        for (next, step, shown) in steps {
+            assert!(rt; lane.next_of_receiver() == next);
+            assert!(rt; lane.step(step) == shown);
+        }
     }
 }
 
@@ -163,31 +167,36 @@ fn full_lanes_close_and_drain(rt: HostRuntime) {
     }
 }
 
+/// Makes the steps in turn, each of which shows this.
+fn shows(rt: &impl Abort, lane: &mut IndexLane, steps: &[(Step, Shown)]) {
+    for (step, shown) in steps {
+        assert!(rt; lane.step(*step) == *shown);
+    }
+}
+
 /// What is put back is taken again, and a sender that fills two and publishes once is seen whole.
 #[test]
 fn several_go_at_once_over_index_words(rt: HostRuntime) {
     let mut lane = IndexLane::new(2);
-    for step in [
-        Step::SenderLoads,
-        Step::Fills(7),
-        Step::Fills(8),
-        Step::ReceiverLoads,
-        Step::Publishes,
-    ] {
-        assert!(rt; lane.step(step) != Shown::Refused);
-    }
-    assert_eq!(rt; lane.step(Step::Fills(9)), Shown::Refused);
-    assert_eq!(rt;
-        lane.step(Step::ReceiverLoads),
-        Shown::Found(Found::Message)
-    );
-    assert_eq!(rt; lane.step(Step::Takes), Shown::Took(Some(7)));
-    assert_eq!(rt; lane.step(Step::Takes), Shown::Took(Some(8)));
-    assert_eq!(rt; lane.step(Step::PutsBack(8)), Shown::Made);
-    assert_eq!(rt; lane.step(Step::Frees), Shown::Made);
-    assert_eq!(rt; lane.taken, 1);
-    assert_eq!(rt; lane.step(Step::Takes), Shown::Took(Some(8)));
-    assert_eq!(rt; lane.put, 4);
-    assert_eq!(rt; lane.step(Step::Closes), Shown::Made);
-    assert_eq!(rt; lane.put, 5);
+    let filled = [
+        (Step::SenderLoads, Shown::Room(Room::Vacant)),
+        (Step::Fills(7), Shown::Made),
+        (Step::Fills(8), Shown::Made),
+        (Step::ReceiverLoads, Shown::Found(Found::Nothing)),
+        (Step::Publishes, Shown::Made),
+        (Step::Fills(9), Shown::Refused),
+        (Step::ReceiverLoads, Shown::Found(Found::Message)),
+        (Step::Takes, Shown::Took(Some(7))),
+        (Step::Takes, Shown::Took(Some(8))),
+        (Step::PutsBack(8), Shown::Made),
+        (Step::Frees, Shown::Made),
+    ];
+    shows(&rt, &mut lane, filled.as_slice());
+    assert!(rt; lane.taken == 1 && lane.put == 4);
+    let closed = [
+        (Step::Takes, Shown::Took(Some(8))),
+        (Step::Closes, Shown::Made),
+    ];
+    shows(&rt, &mut lane, closed.as_slice());
+    assert!(rt; lane.put == 5);
 }

@@ -27,7 +27,7 @@ use Rattle.clock.proofs.ClockLemmas.{length-merged}
 use Rattle.line_recorder.specs.Carried.{first_clock, knowledge_of, clocks_of, waiting_clocks}
 use Rattle.line_recorder.specs.Recorders.{RecorderView, IsReportOf}
 use Rattle.line_recorder.specs.Laws.{next_place, IsClockOf}
-use Rattle.line_recorder.proofs.EntryLemmas.{entry_of-with_entry, entry_of-with_entry_other, length-with_entry, entry_of-merged, entry_of-zeros}
+use Rattle.clock.proofs.EntryLemmas.{entry_of-with_entry, entry_of-with_entry_other, length-with_entry, entry_of-merged, entry_of-zeros}
 
 -- each message has a clock
 pub clocks_many : (n : ℕ) (h : List Occurrence) (q p : ℕ) → length (clocks_of n h q p) ≡ length (sent h q p)

@@ -17,7 +17,7 @@ use Rattle.clock.specs.Clocks.{entry_of}
 use Rattle.clock.proofs.ClockLemmas.{length-merged}
 use Rattle.line_recorder.specs.Recorders.{RecorderView, new_recorder, with_event, send_clock, after_send, after_receive, IsReportOf}
 use Rattle.line_recorder.specs.Laws.{HasLine, next_place, IsOneOfItsOwn, KnowsWhatItHeard, IsClockOf}
-use Rattle.line_recorder.proofs.EntryLemmas.{entry_of-with_entry, entry_of-with_entry_other, length-with_entry, entry_of-merged, entry_of-zeros}
+use Rattle.clock.proofs.EntryLemmas.{entry_of-with_entry, entry_of-with_entry_other, length-with_entry, entry_of-merged, entry_of-zeros}
 
 -- the new event is the chart's
 chart_event-next : (c : Chart) (r : RecorderView) (m : Event) → HasLine c (with_event r.line m) → chart_event c (next_place r) ≡ Some m

@@ -1,16 +1,11 @@
 -- Several sends at once are those sends one after another.
 use Rattle.std.proofs.Common.{◌≡◌, ℕ, zero, suc, ◌+◌, ◌-◌, List, [], ◌∷◌, ◌++◌, length, map, refl, sym, ap, ap₂, ◌∙◌, arith, append_assoc, append-nil}
-use Rattle.std.proofs.lemmas.List.{length-append, set-set}
+use Rattle.std.proofs.lemmas.List.{length-append}
 use Rattle.chart.specs.Charts.{LineView}
 use Rattle.chart.specs.Events.{send_event}
-use Rattle.clock.specs.Clocks.{with_entry}
+use Rattle.clock.proofs.EntryLemmas.{with_entry-with_entry}
 use Rattle.line_recorder.specs.Recorders.{RecorderView, send_clock, after_send, after_sends, send_clocks}
 use Rattle.line_recorder.specs.Sends.{clock_at, next_clocks, known_after}
-
--- an entry that is set again is what it is set to last
-with_entry-with_entry : (clock : List ℕ) (p a b : ℕ) → with_entry (with_entry clock p a) p b ≡ with_entry clock p b
-with_entry-with_entry clock zero a b = refl
-with_entry-with_entry clock (suc k) a b = set-set clock k a b
 
 -- after a send the clocks of the later ones are what they were
 clock_at-after_send : (r : RecorderView) (to : ℕ) (name : List ℕ) (index : ℕ) → clock_at (after_send r to name) index ≡ clock_at r index

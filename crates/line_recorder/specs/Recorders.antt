@@ -42,6 +42,15 @@ after_send r to name = record {
   room = r.room - 1;
 }
 
+-- after a receive of which there is this report, before anything is known of its message
+abbrev pub after_report : RecorderView → ℕ → List ℕ → ℕ → ReportView → RecorderView
+after_report r from name region report = record {
+  line = with_event r.line (receive_event from name region);
+  knowledge = r.knowledge;
+  reports = r.reports ++ report ∷ [];
+  room = r.room - 1;
+}
+
 -- after a receive of a message with this clock, of which there is this report
 abbrev pub after_receive : RecorderView → ℕ → List ℕ → ℕ → List ℕ → ReportView → RecorderView
 after_receive r from name region clock report = record {
@@ -50,6 +59,12 @@ after_receive r from name region clock report = record {
   reports = r.reports ++ report ∷ [];
   room = r.room - 1;
 }
+
+-- the report of the next event, if it is a receive whose send knows so many events of this line: the races above these
+pub record IsReportAbove (r : RecorderView) (from region entry : ℕ) (report : ReportView) : Type 0 where
+  pub receive : report.receive ≡ record { instance = r.line.instance; index = length r.line.events + 1 }
+  pub races : IsRaces r.line.events entry from region (map (λ race. race.index) report.earlier)
+  pub own : All (λ race. race.instance ≡ r.line.instance) report.earlier
 
 -- the report of the next event, if it is a receive of a message with this clock: the races above the clock's own
 -- entry for this line

@@ -1,16 +1,18 @@
 //! The recorder of one instance.
-ghost use Rattle.std.specs.Prelude.{◌≡◌, ◌≢◌, ◌≤◌, ◌<◌, ◌+◌, ◌↔◌, length, Err, OnOk, OnErr, IfOk, IsOk};
+ghost use Rattle.std.specs.Prelude.{◌≡◌, ◌≢◌, ◌≤◌, ◌<◌, ◌+◌, ◌↔◌, length, All, Err, OnOk, OnErr, IfOk, IsOk};
 ghost use Rattle.chart.specs.Events.{MayHaveRegion};
+ghost use Rattle.clock.specs.Clocks.{with_entry};
+ghost use Rattle.clock.specs.Diffs.{IsDiff, apply_diff};
 ghost use Rattle.clock.specs.declared.clock.TheConstants.{INLINE_ENTRIES};
 ghost use Rattle.line_recorder.specs.Sends.{next_clocks, known_after};
 ghost use Rattle.line_recorder.specs.Recorders.{new_recorder, with_room, send_clock, after_send, after_sends};
-ghost use Rattle.line_recorder.specs.Recorders.{send_clocks, after_receive, IsReportOf};
+ghost use Rattle.line_recorder.specs.Recorders.{send_clocks, after_report, after_receive, IsReportAbove, IsReportOf};
 
 use crate::error::RecordError;
 use chart::{
     Event, EventNo, GrowingLine, InstanceNo, Line, MAX_EVENTS, MAX_INSTANCES, Name, Report,
 };
-use clock::{Clock, INLINE_ENTRIES};
+use clock::{Clock, Diff, INLINE_ENTRIES};
 use online_races::next_races;
 use std::alloc::{AllocError, Global};
 use std::marker::Model;
@@ -67,6 +69,7 @@ impl Recorder {
     }
 
     /// The instance's line so far.
+    #[inline(always)]
     pub fn line(&self) -> &GrowingLine
         ensures { result.now.line ≡ self.now.line }
     {
@@ -75,6 +78,7 @@ impl Recorder {
 
     /// For so many events room was made on the line, and not used yet: they need no memory there. An event takes one
     /// place of it.
+    #[inline(always)]
     pub fn room(&self) -> usize
         ensures { result ≡ self.now.room }
     {
@@ -84,6 +88,7 @@ impl Recorder {
     /// Makes room for so many events on the line.
     ///
     /// F6: it fails only where there is no memory, and then nothing has changed.
+    #[inline(always)]
     pub fn reserve(&mut self, events: usize) -> Result<(), AllocError>
         ensures ok { OnOk result (self.new ≡ with_room self.old events) }
         ensures err { OnErr result (self.new ≡ self.old) }
@@ -94,6 +99,7 @@ impl Recorder {
     }
 
     /// How many events it knows of each instance, as its next send will, but for that send itself.
+    #[inline(always)]
     pub fn knowledge(&self) -> &Clock
         ensures value { result.now ≡ self.now.knowledge }
         ensures own { self.now.line.instance ≤ length self.now.knowledge }
@@ -104,6 +110,7 @@ impl Recorder {
     /// The clock of the next event, if it is a send: what is known, and the send itself. Nothing is recorded.
     ///
     /// F6: it fails only where there is no memory, and up to [`INLINE_ENTRIES`] instances it takes none.
+    #[inline(always)]
     pub fn next_clock(&self) -> Result<Clock, AllocError>
         requires { length self.now.line.events < MAX_EVENTS }
         ensures clock { IfOk result (λ clock. clock ≡ send_clock self.now) }
@@ -116,6 +123,7 @@ impl Recorder {
     }
 
     /// The report of each receive of the line, in their order.
+    #[inline(always)]
     pub fn reports(&self) -> &[Report]
         ensures { result.now ≡ self.now.reports }
     {
@@ -135,6 +143,7 @@ impl Recorder {
     ///
     /// A refusal, the first of F7 and F6 that applies, changes nothing. With room it takes no memory up to
     /// [`INLINE_ENTRIES`] instances.
+    #[inline(always)]
     pub fn send(&mut self, to: InstanceNo, name: Name) -> Result<Clock, RecordError>
         requires among { to ≤ length self.old.knowledge }
         requires not_itself { to ≢ self.old.line.instance }
@@ -156,6 +165,49 @@ impl Recorder {
         self.knowledge.stamp(own, index);
         clock.stamp(own, index);
         Ok(clock)
+    }
+
+    /// Records a send to this instance, as [`Recorder::send`] does, and answers its clock as what changed in it since
+    /// the base. No clock is copied.
+    ///
+    /// A refusal, the first of F7 and F6 that applies, changes nothing. With room it takes no memory up to
+    /// [`INLINE_ENTRIES`] instances.
+    #[inline(always)]
+    pub fn send_over(
+        &mut self,
+        to: InstanceNo,
+        name: Name,
+        base: &Clock,
+    ) -> Result<Diff, RecordError>
+        requires among { to ≤ length self.old.knowledge }
+        requires not_itself { to ≢ self.old.line.instance }
+        requires entries { length base.now ≡ length self.old.knowledge }
+        ensures ok { OnOk result (self.new ≡ after_send self.old to name) }
+        ensures exact { IfOk result (IsDiff base.now (send_clock self.old)) }
+        ensures clock { IfOk result (λ diff. apply_diff base.now diff ≡ send_clock self.old) }
+        ensures within { IfOk result (All (λ change. change.instance ≤ length base.now)) }
+        ensures room { 0 < self.old.room → length self.old.knowledge ≤ INLINE_ENTRIES
+            → result ≢ Err RecordError.Memory }
+        ensures full { (result ≡ Err RecordError.LineFull) ↔ (length self.old.line.events ≡ MAX_EVENTS) }
+        ensures err { OnErr result (self.new ≡ self.old) }
+    {
+        if self.line.len() >= MAX_EVENTS {
+            return Err(RecordError::LineFull);
+        }
+        let own = self.line.instance();
+        let next = self.line.len() as u32 + 1;
+        let before = self.knowledge.entry(own);
+        self.knowledge.stamp(own, next);
+        let Ok(diff) = self.knowledge.diff_from(self.alloc, base) else {
+            set_back(&mut self.knowledge, own, before);
+            return Err(RecordError::Memory);
+        };
+        let Ok(()) = self.line.push(Event::Send { to, name }) else {
+            set_back(&mut self.knowledge, own, before);
+            return Err(RecordError::Memory);
+        };
+        self.room = self.room.saturating_sub(1);
+        Ok(diff)
     }
 
     /// Records a send to this instance for each name, in their order, and answers their clocks, as if each were made by
@@ -220,6 +272,7 @@ impl Recorder {
     /// for the report, it takes no memory.
     ///
     /// The caller sees to it that the coregion may come next, as for [`Line::push`].
+    #[inline(always)]
     pub fn receive(
         &mut self,
         from: InstanceNo,
@@ -236,22 +289,90 @@ impl Recorder {
         ensures full { (result ≡ Err RecordError.LineFull) ↔ (length self.old.line.events ≡ MAX_EVENTS) }
         ensures err { OnErr result (self.new ≡ self.old) }
     {
+        let entry = clock.entry(self.line.instance());
+        let report = self.receive_above(entry, from, name, region)?;
+        self.knowledge.merge(clock);
+        Ok(report)
+    }
+
+    /// Records a receive, as [`Recorder::receive`] does, of a message whose clock is told as what changed in it since
+    /// the base. The base is this clock from then on. No clock is copied.
+    ///
+    /// A refusal, the first of F7 and F6 that applies, changes nothing, the base neither. Without races, and with room
+    /// on the line and for the report, it takes no memory.
+    ///
+    /// The caller sees to it that the coregion may come next, as for [`Line::push`].
+    #[inline(always)]
+    pub fn receive_over(
+        &mut self,
+        from: InstanceNo,
+        name: Name,
+        base: &mut Clock,
+        diff: &Diff,
+        region: u32,
+    ) -> Result<Report, RecordError>
+        requires among { from ≤ length self.old.knowledge }
+        requires not_itself { from ≢ self.old.line.instance }
+        requires entries { length base.old ≡ length self.old.knowledge }
+        requires changes { All (λ change. change.instance ≤ length base.old) diff.now }
+        requires coregion { MayHaveRegion self.old.line.events region }
+        ensures ok { IfOk result (λ report.
+            self.new ≡ after_receive self.old from name region (apply_diff base.old diff.now) report) }
+        ensures report { IfOk result (IsReportOf self.old from region (apply_diff base.old diff.now)) }
+        ensures base { OnOk result (base.new ≡ apply_diff base.old diff.now) }
+        ensures full { (result ≡ Err RecordError.LineFull) ↔ (length self.old.line.events ≡ MAX_EVENTS) }
+        ensures err { OnErr result (self.new ≡ self.old) }
+        ensures base_err { OnErr result (base.new ≡ base.old) }
+    {
+        let entry = base.entry_after(diff, self.line.instance());
+        let report = self.receive_above(entry, from, name, region)?;
+        base.apply(diff);
+        self.knowledge.merge(base);
+        Ok(report)
+    }
+
+    /// Records a receive from this instance of a message of this name, whose send knows so many events of this line, in
+    /// this coregion, as [`Recorder::receive`] does, but for what is known, which stays as it was.
+    #[inline(always)]
+    fn receive_above(
+        &mut self,
+        entry: u32,
+        from: InstanceNo,
+        name: Name,
+        region: u32,
+    ) -> Result<Report, RecordError>
+        requires not_itself { from ≢ self.old.line.instance }
+        requires coregion { MayHaveRegion self.old.line.events region }
+        ensures ok { IfOk result (λ report. self.new ≡ after_report self.old from name region report) }
+        ensures report { IfOk result (IsReportAbove self.old from region entry) }
+        ensures full { (result ≡ Err RecordError.LineFull) ↔ (length self.old.line.events ≡ MAX_EVENTS) }
+        ensures err { OnErr result (self.new ≡ self.old) }
+    {
         if self.line.len() >= MAX_EVENTS {
             return Err(RecordError::LineFull);
         }
-        let own = self.line.instance();
         let receive = EventNo {
-            instance: own,
+            instance: self.line.instance(),
             index: self.line.len() as u32 + 1,
         };
-        let earlier = next_races(self.alloc, &self.line, clock.entry(own), from, region)?;
+        let earlier = next_races(self.alloc, &self.line, entry, from, region)?;
         let report = Report::new(receive, earlier);
         let copy = report.copied(self.alloc)?;
         self.reports.reserve(1)?;
         self.line.push(Event::Receive { from, name, region })?;
         self.room = self.room.saturating_sub(1);
-        self.knowledge.merge(clock);
         self.reports.push_reserved(report);
         Ok(copy)
     }
+}
+
+/// Makes the entry of a send that isn't recorded what it was before the send was stamped.
+#[cold]
+#[inline(never)]
+fn set_back(knowledge: &mut Clock, own: InstanceNo, before: u32)
+    requires { own ≤ length knowledge.old }
+    ensures value { knowledge.new ≡ with_entry knowledge.old own before }
+    ensures len { length knowledge.new ≡ length knowledge.old }
+{
+    knowledge.stamp(own, before);
 }

@@ -267,6 +267,25 @@ fn two_on_one_lane(rt: HostRuntime) {
     play(&rt, rt.alloc(), 3, &TWO_ON_ONE_LANE);
 }
 
+/// A message whose clock is told as what changed in it: the receiver's base is this clock from then on.
+#[test]
+fn over_a_base(rt: HostRuntime) -> Result<(), Fail> {
+    let alloc = rt.alloc();
+    let mut a = one_of(&rt, alloc, A, 3);
+    let mut b = one_of(&rt, alloc, B, 3);
+    let to = other(&rt, &a, B);
+    let from = other(&rt, &b, A);
+    let mut base = zero(&rt, alloc, 3);
+    assert_eq!(rt; base.len(), a.knowledge().len());
+    assert_eq!(rt; base.len(), b.knowledge().len());
+    let diff = a.send_over(to, name(&rt, b'x'), &base)?;
+    let report = b.receive_over(from, name(&rt, b'x'), &mut base, &diff, 0)?;
+    reports(&rt, &report, 1, &[]);
+    holds(&rt, &base, &[1, 0, 0]);
+    holds(&rt, b.knowledge(), &[1, 0, 0]);
+    Ok(())
+}
+
 /// Receives of one coregion are no races of one another.
 #[test]
 fn coregion(rt: HostRuntime) -> Result<(), Fail> {

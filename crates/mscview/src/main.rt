@@ -2,12 +2,12 @@
 #![tactic(auto)]
 
 use command_line::CommandLineError;
+use files::{ProgramError, number_in, refused};
 use formats::{Events, Target, Wanted, draw, events_in, export, import, target_in, tool_in};
 use msc_text::{Out, StreamOut};
 use std::process::ExitCode;
 use std::rt::{Env, Files};
 use std::{env, fs, io};
-use tasks::{ProgramError, refused, seed_in};
 use tool_text::Tool;
 use view_line::{Draw, Export, Import, Pair, Question, Request, requested};
 use views::{Asked, why, witness};
@@ -30,7 +30,7 @@ fn refusal(error: CommandLineError) -> ProgramError {
 
 /// The two events that are asked about. G1: a number isn't one.
 fn asked_by<'a>(pair: &Pair<'a>) -> Result<Asked<'a>, ProgramError> {
-    match (seed_in(pair.earlier), seed_in(pair.receive)) {
+    match (number_in(pair.earlier), number_in(pair.receive)) {
         (Some(earlier), Some(receive)) => Ok(Asked {
             instance: pair.instance.as_bytes(),
             earlier,

@@ -27,6 +27,7 @@ enum Stretch {
 
 /// How many events the line has ahead of a run of races that ends with this event: the neighbouring receives from its
 /// sender, where the receive that comes is in no coregion.
+#[inline(always)]
 fn races_start(line: &GrowingLine, index: usize, region: u32) -> usize
     requires begun { 1 ≤ index }
     requires within { index ≤ length line.now.line.events }
@@ -40,6 +41,7 @@ fn races_start(line: &GrowingLine, index: usize, region: u32) -> usize
 }
 
 /// What the events are that end with the one of this index.
+#[inline(always)]
 fn stretch_to(line: &GrowingLine, index: usize, sender: InstanceNo, region: u32) -> Stretch
     requires begun { 1 ≤ index }
     requires within { index ≤ length line.now.line.events }
@@ -66,6 +68,7 @@ fn stretch_to(line: &GrowingLine, index: usize, sender: InstanceNo, region: u32)
 ///
 /// A run of receives from the sender and the coregion are each passed in one step, and so is a run of receives from
 /// another one, unless the receive that comes is in a coregion.
+#[inline(always)]
 fn last_races(
     line: &GrowingLine,
     index: usize,
@@ -108,6 +111,7 @@ fn last_races(
 /// and in this region, if the entry is what its send knows of the line. What comes later on the line doesn't matter.
 ///
 /// F6: it fails only where there is no memory, and where there are no races it needs none.
+#[inline(always)]
 pub fn race_ranges(
     alloc: Global,
     line: &GrowingLine,
@@ -166,6 +170,7 @@ pub fn find_races(
 /// receives of it: what [`race_ranges`] answers for the whole line, as it grows. They rise by their index.
 ///
 /// F6: it fails only where there is no memory, and where there are no races it needs none.
+#[inline(always)]
 pub fn next_races(
     alloc: Global,
     line: &GrowingLine,

@@ -3,7 +3,7 @@ use Rattle.std.proofs.Common.{◌≡◌, ℕ, ◌+◌, List, length, sym, arith}
 use Rattle.chart.specs.Reports.{ReportView}
 use Rattle.clock.proofs.ClockLemmas.{length-merged}
 use Rattle.line_recorder.specs.Recorders.{RecorderView, after_send, after_receive}
-use Rattle.line_recorder.proofs.EntryLemmas.{length-with_entry}
+use Rattle.clock.proofs.EntryLemmas.{length-with_entry}
 use Rattle.recorder_pair.specs.Partners.{ArePartners}
 
 -- whichever is named first

@@ -8,7 +8,7 @@ use Rattle.chart.specs.Histories.{own, IsLegal, Begins}
 use Rattle.board.specs.Views.{BoardView, PostView, IsSamePost}
 use Rattle.board.specs.declared.gathering.Gathered.{Gathered}
 use Rattle.board.specs.Gathering.{IsWhole, size_of}
-use Rattle.board.specs.Meeting.{AreOfOneBoard, IsJoint, HaveMet, AreNotAll}
+use Rattle.board.specs.Meeting.{AreOfOneBoard, IsJoint, HaveMet, HasSeenAll, AreNotAll}
 use Rattle.chart.specs.HistoryLines.{history_lines}
 use Rattle.chart.specs.Reports.{AreReports}
 use Rattle.board.proofs.PostLemmas.{at_set}
@@ -19,6 +19,7 @@ use Rattle.outcomes.specs.declared.error.ReplayError.{ReplayError}
 use Rattle.outcomes.specs.Performed.{HasDone}
 use Rattle.chart.proofs.Places.{slice_get-set_same, slice_get-set_other}
 use Rattle.chart.proofs.Alone.{nothing_more}
+use Rattle.chart.proofs.Histories.{begins_same}
 use Rattle.replayer.specs.Agreement.{GoesOn, IsAsFar, IsMet, HasGone, HasCalled, Does, ArePosts, AreFresh, Agrees, HasActed}
 
 -- they are of one board
@@ -63,6 +64,19 @@ met_posts board old new are met = record {
       let was = are.each i its.0 its.1 in
       (ap (λ (post : PostView). post.board) its.2 ∙ was.0, ap (λ (post : PostView). post.number) its.2 ∙ was.1);
 }
+
+-- one that goes on alone has seen all that they have
+pub seen_all : (board : BoardView) (r : Run) (posts : List PostView) (last : List (Option ℕ)) → Agrees board r posts last → (i : ℕ) (old new : PostView) → slice_get posts i ≡ Some old → GoesOn old new → HasSeenAll (set posts i new) i
+seen_all board r posts last agrees i old new at on = (new, slice_get-set_same posts i new (slice_get_within posts i old at), λ j x at_x. each j x (at_set posts i j new x at_x))
+  where
+    seen : (j : ℕ) (x : PostView) → slice_get posts j ≡ Some x → x.seen ≡ r.history
+    seen j x at_x =
+        let within = slice_get_within posts j x at_x in
+        (agrees.far j x (get_or last j None) at_x (slice_get-get_or last j None (omega (arith, within, agrees.posts.many, agrees.as_many)))).seen
+
+    each : (j : ℕ) (x : PostView) → ((j ≡ i) × (new ≡ x)) ⊎ ((j ≢ i) × (slice_get posts j ≡ Some x)) → Begins x.seen new.seen
+    each j x (inl here) = subst (λ (post : PostView). Begins post.seen new.seen) here.1 (begins_same new.seen)
+    each j x (inr there) = subst (λ (h : List Occurrence). Begins h new.seen) (seen i old at ∙ sym (seen j x there.1)) on.later
 
 module _ (board : BoardView) (r : Run) (posts : List PostView) (last : List (Option ℕ)) (agrees : Agrees board r posts last)
     (i : ℕ) (old new : PostView) (was from : Option ℕ) (at : slice_get posts i ≡ Some old) (at_last : slice_get last i ≡ Some was) (on : GoesOn old new)

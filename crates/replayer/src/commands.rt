@@ -7,7 +7,7 @@ ghost use Rattle.schedule.specs.Meaning.{Run, start};
 ghost use Rattle.replayer.specs.Agreement.{ArePosts, Agrees, IsReached, HasActed, HavePerformed, AreFresh};
 
 use crate::steps::act;
-use board::{MeetError, Post, meet_all};
+use board::{MeetError, Post, meet_all, meet_at};
 use chart::InstanceNo;
 use outcomes::ReplayError;
 use schedule::{Command, Note, Word};
@@ -24,7 +24,8 @@ fn meet_them(posts: &mut [Post<'_>])
     }
 }
 
-/// Makes a command by the post of its instance, and then all posts meet: `None`, or the word of its note.
+/// Makes a command by the post of its instance, and then all posts meet: `None`, or the word of its note. The others
+/// have done nothing since they met, so the command's own post has seen all that they have.
 fn perform_one(
     alloc: Global,
     posts: &mut [Post<'_>],
@@ -38,7 +39,7 @@ fn perform_one(
 {
     let place = command.actor.place();
     let word = act(alloc, &mut posts[place], &mut last[place], command.action)?;
-    meet_them(posts);
+    meet_at(posts, place);
     Ok(word)
 }
 

@@ -1,9 +1,9 @@
 -- Runs of a new board's posts.
-use Rattle.std.proofs.Common.{◌≡◌, ℕ, suc, ◌-◌, ◌<◌, ◌≤◌, ◌⊎◌, inl, inr, List, [], ◌∷◌, length, refl, sym, ap, ◌∙◌, subst, arith}
+use Rattle.std.proofs.Common.{◌≡◌, ℕ, suc, ◌-◌, ◌<◌, ◌≤◌, inl, inr, List, [], ◌∷◌, length, refl, sym, ap, ◌∙◌, subst, arith}
 use Rattle.std.specs.Prelude.{slice_index_or}
 use Rattle.std.proofs.lemmas.Option.{slice_get-get_or}
 use Rattle.board.proofs.OneBoard.{one_board-new}
-use Rattle.board.specs.Boards.{AreNewPosts, new_post}
+use Rattle.board.specs.Boards.{AreNewPosts}
 use Rattle.board.specs.Gathering.{size_of}
 use Rattle.board.specs.Meeting.{AreOfOneBoard, AreNotAll}
 use Rattle.board.specs.Views.{BoardView, PostView}
@@ -11,8 +11,13 @@ use Rattle.chart.specs.Charts.{LineView}
 use Rattle.chart.specs.Reports.{AreReports}
 use Rattle.instances.specs.Whole.{Drives, AreRuns, IsFit, IsUnfit}
 use Rattle.instances.specs.declared.outcome.Run.{Run}
+use Rattle.std.specs.List.{range_with_len}
+use Rattle.std.proofs.lemmas.List.{length-map}
+use Rattle.std.proofs.lemmas.List.FromFn.{length-range_with_len}
 use Rattle.schedule.specs.Plans.{Plan, IsPlan}
+use Rattle.schedule_scripts.specs.InstanceScripts.{scripts_of, script_of}
 use Rattle.run_outcomes.specs.OwnBoards.{AreFitFor, AreUnfitFor}
+use Rattle.run_outcomes.specs.OwnScripts.{IsTurns}
 use Rattle.run_outcomes.specs.RunOutcomes.{IsRunOf}
 
 size-new : (board : BoardView) (posts : List PostView) → AreNewPosts board posts → 0 < board.size
@@ -63,3 +68,14 @@ pub fit_for : (plan : Plan) (posts : List PostView) (board : BoardView) (behavio
     → AreNewPosts board posts → board.size ≡ length plan.names → IsFit posts behaviours turns → AreFitFor plan behaviours turns
 fit_for plan posts board behaviours turns new size fit =
     record { one_of_each = fit.one_of_each ∙ new.as_many ∙ size; some = fit.some }
+
+-- what is fit for it is not unfit
+pub fit_alone : (plan : Plan) (behaviours turns : ℕ) → behaviours ≡ length plan.names → IsTurns turns
+    → AreUnfitFor plan behaviours turns → ⊥
+fit_alone plan behaviours turns same some (inl other) = other same
+fit_alone plan behaviours turns same some (inr (inl none)) = omega (arith, some.0, none)
+fit_alone plan behaviours turns same some (inr (inr many)) = omega (arith, some.1, many)
+
+-- each instance has a script
+pub length-scripts : (plan : Plan) → length (scripts_of plan) ≡ length plan.names
+length-scripts plan = length-map (range_with_len 1 (length plan.names)) (script_of plan.commands) ∙ length-range_with_len 1 (length plan.names)

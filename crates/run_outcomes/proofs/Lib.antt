@@ -1,3 +1,5 @@
 pub mod Passing
 pub mod Boards
+pub mod OneRun
 pub mod Turns
+pub mod Boxes

@@ -1,10 +1,9 @@
 -- Of which command each turn of a script's run is.
-use Rattle.std.proofs.Common.{◌≡◌, ℕ, List, [], ◌∷◌, ◌++◌, length, map, filter, refl, sym, ap, ◌∙◌, subst, append-nil}
+use Rattle.std.proofs.Common.{◌≡◌, ℕ, List, [], ◌∷◌, ◌++◌, length, filter, refl, sym, ap, ◌∙◌, subst, append-nil}
 use Rattle.std.specs.Prelude.{slice_index_or, ◌==◌}
 use Rattle.std.proofs.lemmas.List.{length-map}
 use Rattle.behaviour.specs.Bare.{bare_act, with_empty_body, bare_answer}
 use Rattle.behaviour.specs.Scripts.{ScriptView, script_next, script_after}
-use Rattle.behaviour.specs.declared.act.Act.TheVariants as act
 use Rattle.behaviour.specs.declared.bare_act.BareAct.{BareAct}
 use Rattle.behaviour.specs.declared.bare_act.BareAct.TheVariants.{Send, Receive, Any, Close, Open, Shut, Stop}
 use Rattle.instances.specs.Driving.{Moment, Leads, Ends}

@@ -1,15 +1,22 @@
--- That a note is given to the command that left it (this project's profile).
+-- That a run has one outcome, and that a note is given to the command that left it (this project's profile).
 use Rattle.std.specs.Prelude.{◌≡◌, ℕ, List, [], ◌∷◌, length, slice_index_or}
 use Rattle.behaviour.specs.Scripts.{ScriptView, script_act, script_after}
 use Rattle.behaviour.specs.declared.bare_act.BareAct.{BareAct}
 use Rattle.behaviour.specs.declared.bare_act.BareAct.TheVariants.{Stop}
 use Rattle.instances.specs.Driving.{Meaning, meaning, IsRun}
 use Rattle.instances.specs.declared.end.End.{End}
+use Rattle.instances.specs.declared.outcome.Run.{Run}
 use Rattle.instances.specs.declared.turn.Turn.{Turn}
 use Rattle.mailbox.specs.Mailboxes.{MailboxView}
 use Rattle.schedule.specs.declared.command.Command.{Command}
+use Rattle.schedule.specs.Plans.{Plan}
 use Rattle.schedule_scripts.specs.InstanceScripts.{acts_of, script_of}
 use Rattle.run_outcomes.specs.RunNotes.{lines_of, next_place}
+use Rattle.run_outcomes.specs.RunOutcomes.{RunView, IsRunOutcome}
+
+-- a run of a plan's scripts comes to one outcome
+abbrev pub OneRunOutcomeLaw : Type 0
+OneRunOutcomeLaw = (plan : Plan) (run : Run) (a b : RunView) → IsRunOutcome plan run a → IsRunOutcome plan run b → a ≡ b
 
 -- what a script does
 abbrev pub script_meaning : Meaning ScriptView

@@ -7,3 +7,4 @@ pub mod RunNotes
 pub mod RunOutcomes
 pub mod RunText
 pub mod Laws
+pub mod OwnScripts

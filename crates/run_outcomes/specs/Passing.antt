@@ -1,5 +1,5 @@
 -- Turns that were gone over, with notes so far (this project's profile).
-use Rattle.std.specs.Prelude.{◌≡◌, ℕ, ◌≤◌, List, ◌++◌, length}
+use Rattle.std.specs.Prelude.{◌≡◌, ℕ, List, ◌++◌}
 use Rattle.instances.specs.declared.turn.Turn.{Turn}
 use Rattle.schedule.specs.declared.command.Note.{Note}
 use Rattle.run_outcomes.specs.RunNotes.{notes_from}

@@ -7,7 +7,7 @@ ghost use Rattle.run_outcomes.specs.RunOutcomes.{IsRunOf};
 
 use behaviour::Behaviour;
 use board::Board;
-use instances::{Open, Run, RunError, run};
+use instances::{MAX_TURNS, Open, Run, RunError, run};
 use schedule::Schedule;
 use std::alloc::Global;
 use std::thread::Threads;
@@ -31,10 +31,14 @@ pub fn run_schedule<R: Threads + Sync>(
         schedule.now) }
     ensures fit { IfOk result (λ run. AreFitFor schedule.now (length behaviours.items) turns) }
     ensures err { IfErr result
-        (IsUnrun tt behaviours (Unit {0}) (AreUnfitFor schedule.now (length behaviours.items) turns)) }
+        (IsUnrun tt behaviours (AreFitFor schedule.now (length behaviours.items) turns)
+        (AreUnfitFor schedule.now (length behaviours.items) turns)) }
 {
-    // (no schedule has a count of instances, or a capacity, that a board refuses)
     let instances = schedule.names().len();
+    if behaviours.len() != instances || turns == 0 || MAX_TURNS < turns {
+        return Err(RunError::Unfit((), behaviours));
+    }
+    // (no schedule has a count of instances, or a capacity, that a board refuses)
     let Ok(mut board) = Board::new(alloc, instances, schedule.capacity().slots()) else {
         return Err(RunError::Memory);
     };
@@ -43,7 +47,7 @@ pub fn run_schedule<R: Threads + Sync>(
     };
     match run(rt, posts, behaviours, turns, &Open) {
         Ok(run) => Ok(run),
-        Err(RunError::Unfit(_, behaviours)) => Err(RunError::Unfit((), behaviours)),
+        Err(RunError::Unfit(..)) => unreachable!(),
         Err(RunError::Memory) => Err(RunError::Memory),
     }
 }

@@ -11,7 +11,7 @@ use Rattle.schedule.specs.Keywords.{written, is_written}
 use Rattle.schedule.specs.declared.keyword.ScheduleWord.TheVariants as keywords
 use Rattle.schedule.proofs.PlainWords.{plain_written}
 use Rattle.schedule.specs.ScheduleText.{capacity_line, spaced}
-use Rattle.schedule.specs.declared.schedule.TheConstants.{MAX_CAPACITY}
+use Rattle.chart.specs.declared.history.TheConstants.{MAX_CAPACITY}
 use Rattle.schedule.proofs.Numbers.{above_zero, long_number}
 use Rattle.msc_text.proofs.Spacing.{IsPlain, ArePlain, spaced_again, spaced_lacks, is_spaced}
 use Rattle.msc_text.proofs.Results.{when_ok, ok_is}

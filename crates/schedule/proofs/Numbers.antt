@@ -4,7 +4,7 @@ use Rattle.std.specs.List.{list_all}
 use Rattle.std.proofs.lemmas.Bool.{and_parts, or_cases, eqb-true, eqb-false, leb-true, lt-leb, and_right, not-true, cond-false}
 use Rattle.msc_text.specs.declared.fault.Cause.TheVariants.{Capacity}
 use Rattle.schedule.specs.FirstLines.{is_digit, is_number, number_from, slots_of}
-use Rattle.schedule.specs.declared.schedule.TheConstants.{MAX_CAPACITY}
+use Rattle.chart.specs.declared.history.TheConstants.{MAX_CAPACITY}
 
 -- more digits give no smaller number
 number_grows : (n : ℕ) (digits : List ℕ) → n ≤ number_from n digits

@@ -10,7 +10,7 @@ use Rattle.schedule.specs.declared.keyword.ScheduleWord.TheVariants as keywords
 use Rattle.schedule.specs.declared.command.Action.{Action}
 use Rattle.schedule.specs.declared.command.Action.TheVariants.{Send, Receive, Any, Close, Open, Shut}
 use Rattle.schedule.specs.declared.command.Command.{Command}
-use Rattle.schedule.specs.declared.schedule.TheConstants.{MAX_CAPACITY}
+use Rattle.chart.specs.declared.history.TheConstants.{MAX_CAPACITY}
 use Rattle.schedule.specs.Plans.{Plan, IsPlan}
 
 -- a line of these words: one space stands between each two

@@ -19,4 +19,4 @@ mod schedule;
 mod text;
 
 pub use command::{Action, Command, Note, Word};
-pub use schedule::{Capacity, MAX_CAPACITY, Schedule};
+pub use schedule::{Capacity, Schedule};

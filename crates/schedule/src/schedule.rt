@@ -1,16 +1,13 @@
 //! Schedules.
 ghost use Rattle.std.specs.Prelude.{◌≡◌, ◌≤◌, IfSome};
 ghost use Rattle.std.specs.Option.{SomeIff};
-ghost use Rattle.schedule.specs.declared.schedule.TheConstants.{MAX_CAPACITY};
+ghost use Rattle.chart.specs.declared.history.TheConstants.{MAX_CAPACITY};
 
 use crate::command::Command;
-use chart::Names;
+use chart::{MAX_CAPACITY, Names};
 use std::marker::Model;
 
-/// The most slots that a lane has.
-pub const MAX_CAPACITY: usize = 64;
-
-/// how many slots each lane has, from 1 to [`MAX_CAPACITY`]. A contract sees it as the number.
+/// How many slots each lane has, from 1 to [`MAX_CAPACITY`]. A contract sees it as the number.
 #[derive(Clone, Copy, Debug, PartialEq, Eq, PartialOrd, Ord, Hash)]
 pub struct Capacity {
     slots: u8,
@@ -18,7 +15,7 @@ pub struct Capacity {
 
 impl Model for Capacity {
     ghost use Rattle.std.specs.Prelude.{ℕ, ◌≤◌};
-    ghost use Rattle.schedule.specs.declared.schedule.TheConstants.{MAX_CAPACITY};
+    ghost use Rattle.chart.specs.declared.history.TheConstants.{MAX_CAPACITY};
 
     ghost Value = { ℕ };
 

@@ -6,3 +6,5 @@
 
 #[cfg(test)]
 mod cases;
+#[cfg(test)]
+mod numbers;

@@ -1,2 +1,3 @@
-pub mod Numerals
 pub mod FoundRaces
+pub mod ShownRuns
+pub mod Answered

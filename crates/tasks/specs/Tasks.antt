@@ -1,11 +1,9 @@
 -- What the program does with the bytes of a file.
 use Rattle.std.specs.Prelude.{◌≡◌, ℕ, ◌⊎◌, List, length, Option, Result, Ok, Err}
-use Rattle.chart.specs.Charts.{LineView, chart_lines, IsPossible}
+use Rattle.chart.specs.Charts.{chart_lines, IsPossible}
 use Rattle.chart.specs.Reports.{ReportView, AreReports, has_races}
-use Rattle.closure.specs.Faults.{Refuses}
-use Rattle.closure.specs.declared.error.ChartError.TheVariants as faults
+use Rattle.files.specs.Files.{Named, IsRefused}
 use Rattle.msc_reader.specs.Reading.{chart_of}
-use Rattle.msc_text.specs.ChartText.{name_at}
 use Rattle.msc_text.specs.RaceText.{races_text}
 use Rattle.msc_text.specs.declared.fault.Fault.{Fault}
 use Rattle.msc_text.specs.Writing.{Puts, Breaks}
@@ -16,18 +14,11 @@ use Rattle.outcomes.specs.Outcomes.{OutcomeView, IsOutcome}
 use Rattle.outcomes.specs.OutcomeText.{outcome_text}
 use Rattle.tasks.specs.declared.status.Status.{Status}
 use Rattle.tasks.specs.Statuses.{status_in, code_of}
-use Rattle.tasks.specs.declared.error.ProgramError.{ProgramError}
-use Rattle.tasks.specs.declared.error.ProgramError.TheVariants as errors
+use Rattle.files.specs.declared.error.ProgramError.{ProgramError}
+use Rattle.files.specs.declared.error.ProgramError.TheVariants as errors
 use Rattle.tasks.specs.declared.task.Task.{Task}
 use Rattle.tasks.specs.declared.task.Task.TheVariants.{Replay, Random, Check}
-use Rattle.tasks.specs.Refusals.{refusal_text, Tried}
-
--- what was read is what the text says, or the error is what is wrong with the text, memory aside
-abbrev pub Reads : {A : Type 0} → Result A ProgramError → Result A Fault → Type 0
-Reads (Ok read) said = said ≡ Ok read
-Reads (Err errors.Memory) said = Unit {0}
-Reads (Err (errors.Text fault)) said = said ≡ Err fault
-Reads (Err _) said = ⊥
+use Rattle.files.specs.Refusals.{refusal_text, Tried}
 
 -- what a task comes to by these reports
 abbrev pub status_of : List ReportView → Status
@@ -37,21 +28,6 @@ status_of reports = status_in (has_races reports)
 abbrev pub drawn_by : ℕ → Result Plan Fault → Result Plan Fault
 drawn_by seed (Ok plan) = Ok (drawn_of plan seed)
 drawn_by seed (Err fault) = Err fault
-
--- a chart's names and lines
-abbrev pub Named : Type 0
-Named = List (List ℕ) × List LineView
-
--- the chart that the text says, refused so: the receive is named by its instance's name and its number
-abbrev pub IsRefused : ProgramError → Named → Type 0
-IsRefused (errors.ReceiveWithoutSend instance index) (names, lines) =
-    (p : ℕ) × (instance ≡ name_at names p) × Refuses (chart_lines lines)
-    (faults.ReceiveWithoutSend (record { instance = p; index = index }))
-IsRefused (errors.NameMismatch instance index) (names, lines) =
-    (p : ℕ) × (instance ≡ name_at names p) × Refuses (chart_lines lines)
-    (faults.NameMismatch (record { instance = p; index = index }))
-IsRefused errors.Cyclic (names, lines) = Refuses (chart_lines lines) faults.Cyclic
-IsRefused _ named = ⊥
 
 module _ {S : Type 0} (contents : S → Option (List ℕ)) (failures : S → ℕ) where
   -- the text of what the schedule comes to was written; or a beginning of it, where a put failed; or nothing, where the

@@ -6,29 +6,22 @@
 //!   which is possible; 1 says that there are races.
 //! - With status 2 the refusal's line was written, or a beginning of it where standard error failed, and nothing went
 //!   to the output before it, unless a write failed (F24).
-//! - A run of a schedule's scripts on threads ([`scripts`], [`run_schedule`]) decides the output's bytes too
-//!   ([`show_run`]).
-//! - [`refused`] writes a refusal's line, or a beginning of it, and [`seed_in`] reads exactly the words of digits alone
-//!   whose number has 64 bits, [`turns_in`] those whose number is one of turns that a run may have.
+//! - What is written of a schedule whose instances run on threads is what a run of its own scripts came to
+//!   ([`perform_on_threads`]): each instance does its own commands, in their order. Its parts are there too: [`scripts`],
+//!   [`run_schedule`] and [`show_run`], by which any run decides the output's bytes.
+//! - [`turns_in`] reads exactly the words of digits alone whose number is one of turns that a run may have.
 #![tactic(auto)]
 
+mod answering;
 mod checking;
-mod error;
-mod kind;
-mod refusal;
 mod replaying;
-mod seed;
 mod showing;
 mod status;
 mod task;
+mod turns;
 
-pub use checking::{chart_in, closure_of};
-pub use error::ProgramError;
-pub use kind::is_schedule;
-pub use refusal::{refused, refused_by};
-pub use replaying::schedule_in;
-pub use run_outcomes::run_schedule;
+pub use run_outcomes::{run_schedule, run_scripts};
 pub use schedule_scripts::scripts;
-pub use seed::{seed_in, turns_in};
-pub use showing::show_run;
+pub use showing::{perform_on_threads, show_run};
 pub use task::{Task, perform};
+pub use turns::turns_in;

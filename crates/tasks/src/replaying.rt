@@ -3,27 +3,17 @@ ghost use Rattle.std.specs.Prelude.{◌≡◌, Result, Ok};
 ghost use Rattle.schedule.specs.Plans.{Plan};
 ghost use Rattle.schedule.specs.Reading.{schedule_of};
 ghost use Rattle.msc_text.specs.declared.fault.Fault.{Fault};
-ghost use Rattle.tasks.specs.Tasks.{Reads, drawn_by, Replays};
+ghost use Rattle.files.specs.Files.{Reads};
+ghost use Rattle.tasks.specs.Tasks.{drawn_by, Replays};
 
-use crate::error::ProgramError;
 use crate::status::Status;
+use files::{ProgramError, schedule_in};
 use interleaver::{Memory, drawn};
-use msc_text::{Out, TextError};
+use msc_text::Out;
 use outcomes::ReplayError;
 use replayer::replay;
 use schedule::Schedule;
 use std::alloc::Global;
-
-/// The schedule that a file's bytes say. A refusal is the text's first fault, or F6.
-pub fn schedule_in(alloc: Global, text: &[u8]) -> Result<Schedule, ProgramError>
-    ensures { Reads result (schedule_of text.now) }
-{
-    match Schedule::read(alloc, text) {
-        Ok(schedule) => Ok(schedule),
-        Err(TextError::Memory) => Err(ProgramError::Memory),
-        Err(TextError::Fault(fault)) => Err(ProgramError::Text(fault)),
-    }
-}
 
 /// The schedule in the order that the seed draws.
 fn drawn_in(alloc: Global, seed: u64, text: &[u8]) -> Result<Schedule, ProgramError>

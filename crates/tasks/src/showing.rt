@@ -1,16 +1,17 @@
 //! Shows runs of schedules on threads.
 ghost use Rattle.std.specs.Prelude.{IfOk};
 ghost use Rattle.run_outcomes.specs.RunOutcomes.{IsRunOf};
-ghost use Rattle.tasks.specs.Showing.{Shows, ShowsRun};
+ghost use Rattle.tasks.specs.Showing.{Shows, ShowsRun, DoesOnThreads, PerformsOnThreads};
 
-use crate::error::ProgramError;
-use crate::refusal::{answered, refused};
+use crate::answering::answered;
 use crate::status::Status;
+use files::{ProgramError, refused, schedule_in};
 use instances::{Run, RunError};
 use msc_text::Out;
-use run_outcomes::RunOutcome;
+use run_outcomes::{RunOutcome, run_scripts};
 use schedule::Schedule;
 use std::alloc::Global;
+use std::thread::Threads;
 
 /// Writes what a run comes to, and answers whether it has races.
 fn write_run<W: Out>(
@@ -54,4 +55,42 @@ pub fn show_run<P: Drop, B: Drop, W: Out, V: Out>(
         Err(RunError::Memory) => refused(&ProgramError::Memory, err),
         Err(RunError::Unfit(..)) => 2,
     }
+}
+
+/// Runs the scripts of the schedule that the text says, and writes what they come to.
+fn run_text<R: Threads + Sync, W: Out>(
+    rt: &R,
+    alloc: Global,
+    turns: u32,
+    text: &[u8],
+    out: &mut W,
+) -> Result<Status, ProgramError>
+    ensures { DoesOnThreads W.contents W.failures turns text.now out.old out.new result }
+{
+    let schedule = schedule_in(alloc, text)?;
+    match run_scripts(rt, alloc, &schedule, turns) {
+        Ok(run) => write_run(alloc, &schedule, run, out),
+        Err(RunError::Memory) => Err(ProgramError::Memory),
+        Err(RunError::Unfit(..)) => Err(ProgramError::Usage),
+    }
+}
+
+/// Lets each instance of the schedule that the bytes of a file say do its own commands, in their order, on a thread of
+/// its own, for so many turns at most. It writes what that came to to `out`, or the line of a refusal to `err`, and
+/// answers the exit status: 0, 1 where there are races, or 2 after a refusal.
+///
+/// G1: the turns are none or more than [`instances::MAX_TURNS`], and the text is a schedule. Nothing is written to `out`
+/// before a refusal, but where writing to it failed (F24). A failed write to `err` changes nothing.
+pub fn perform_on_threads<R: Threads + Sync, W: Out, V: Out>(
+    rt: &R,
+    alloc: Global,
+    turns: u32,
+    text: &[u8],
+    out: &mut W,
+    err: &mut V,
+) -> u8
+    ensures { PerformsOnThreads W.contents W.failures V.contents V.failures turns text.now out.old out.new err.old err.new
+        result }
+{
+    answered(run_text(rt, alloc, turns, text, out), err)
 }

@@ -1,11 +1,11 @@
 //! What the program does with the bytes of a file.
 ghost use Rattle.tasks.specs.Tasks.{Does, Performs};
 
+use crate::answering::answered;
 use crate::checking::check;
-use crate::error::ProgramError;
-use crate::refusal::answered;
 use crate::replaying::{replay_drawn, replay_text};
 use crate::status::Status;
+use files::ProgramError;
 use msc_text::Out;
 use std::alloc::Global;
 

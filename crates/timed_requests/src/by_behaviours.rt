@@ -1,19 +1,18 @@
 //! The exchange by behaviours: `run` lets each of them act on a thread of its own.
 ghost use Rattle.std.specs.Prelude.{IfOk};
-ghost use Rattle.chart.specs.Reports.{AreReports};
-ghost use Rattle.instances.specs.Whole.{IsGathered};
+ghost use Rattle.instances.specs.Laws.{IsAccepted};
 
+use crate::audits::audited;
 use crate::client::{Client, ClientStep};
 use crate::letters::{Letter, Letters};
 use crate::logger::Logger;
 use crate::parties::{PATIENCE, REQUESTS, SLOTS, client, logger, message, server};
 use crate::server::{Server, ServerStep};
-use agreement::audit_run;
 use anyhow::bail;
 use behaviour::Behaviour;
 use board::{Board, Gathered};
 use chart::InstanceNo;
-use instances::{Gate, MAX_TURNS, Run, run};
+use instances::{Gate, MAX_TURNS, run};
 use std::alloc::Global;
 use std::collections::VecDeque;
 use std::sync::Arc;
@@ -76,36 +75,25 @@ fn server_at_first(alloc: Global) -> anyhow::Result<Server> {
     })
 }
 
-/// What a run came to, after an audit of its reports.
-fn audited(alloc: Global, ran: Run) -> anyhow::Result<Gathered>
-    requires gathered { IsGathered ran }
-    ensures { IfOk result (λ gathered. AreReports gathered.chart gathered.reports.items) }
-{
-    match audit_run(alloc, &ran) {
-        Ok(()) => Ok(ran.gathered),
-        Err(_) => bail!("no memory for the audit"),
-    }
-}
-
 /// Lets these three act on a board of their own.
 fn run_three<R: Threads + Sync>(
     rt: &R,
     alloc: Global,
     behaviours: Vec<Box<dyn Behaviour + Send>>,
 ) -> anyhow::Result<Gathered>
-    ensures { IfOk result (λ gathered. AreReports gathered.chart gathered.reports.items) }
+    ensures { IfOk result IsAccepted }
 {
     let mut board = Board::new(alloc, 3, SLOTS)?;
     let posts = board.posts()?;
     match run(rt, posts, behaviours, MAX_TURNS, &OthersFirst) {
-        Ok(ran) => audited(alloc, ran),
+        Ok(ran) => audited(alloc, ran.gathered),
         Err(_) => bail!("not run"),
     }
 }
 
 /// What the three came to. Its reports were audited.
 pub fn exchange<R: Threads + AllocGlobal + Sync>(rt: &R) -> anyhow::Result<Gathered>
-    ensures { IfOk result (λ gathered. AreReports gathered.chart gathered.reports.items) }
+    ensures { IfOk result IsAccepted }
 {
     let alloc = rt.alloc();
     let mut behaviours: Vec<Box<dyn Behaviour + Send>> = Vec::new(alloc);

@@ -1,10 +1,10 @@
 //! The same exchange without behaviours: each holds its post itself, in a job of its own.
 ghost use Rattle.std.specs.Prelude.{◌≡◌, IfOk};
 ghost use Rattle.board.specs.Meeting.{AreOfOneBoard};
-ghost use Rattle.chart.specs.Reports.{AreReports};
+ghost use Rattle.instances.specs.Laws.{IsAccepted};
 
+use crate::audits::audited;
 use crate::parties::{PATIENCE, REQUESTS, SLOTS, client, logger, message, server};
-use agreement::audit_gathered;
 use anyhow::bail;
 use board::{Arrival, Board, GatherError, Gathered, Post, Taken, gather};
 use chart::InstanceNo;
@@ -106,23 +106,20 @@ fn act<'a>(alloc: Global, mut post: Post<'a>) -> Post<'a>
     }
 }
 
-/// What their posts came to. Its reports were audited.
-fn audited(alloc: Global, posts: Vec<Post>) -> anyhow::Result<Gathered>
+/// What their posts came to, which an audit accepted.
+fn gathered(alloc: Global, posts: Vec<Post>) -> anyhow::Result<Gathered>
     requires { AreOfOneBoard posts.items }
-    ensures { IfOk result (λ gathered. AreReports gathered.chart gathered.reports.items) }
+    ensures { IfOk result IsAccepted }
 {
     match gather(alloc, posts) {
-        Ok(gathered) => match audit_gathered(alloc, &gathered) {
-            Ok(()) => Ok(gathered),
-            Err(_) => bail!("no memory for the audit"),
-        },
+        Ok(gathered) => audited(alloc, gathered),
         Err(GatherError { posts: _, cause }) => bail!("not gathered: {cause}"),
     }
 }
 
 /// What the three came to. Its reports were audited.
 pub fn exchange<R: Threads + AllocGlobal + Sync>(rt: &R) -> anyhow::Result<Gathered>
-    ensures { IfOk result (λ gathered. AreReports gathered.chart gathered.reports.items) }
+    ensures { IfOk result IsAccepted }
 {
     let alloc = rt.alloc();
     let mut board = Board::new(alloc, 3, SLOTS)?;
@@ -131,5 +128,5 @@ pub fn exchange<R: Threads + AllocGlobal + Sync>(rt: &R) -> anyhow::Result<Gathe
         ensures { result.board ≡ post.entry.board }
     { act(alloc, post) };
     let left = thread::map_vec(rt, posts, &each)?;
-    audited(alloc, left)
+    gathered(alloc, left)
 }

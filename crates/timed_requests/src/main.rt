@@ -5,6 +5,7 @@
 //! itself. With the word `check` both are done, and the program tells only what no schedule changes.
 #![tactic(auto)]
 
+mod audits;
 mod by_behaviours;
 mod by_hand;
 mod client;

@@ -1,5 +1,5 @@
 //! What the program tells.
-ghost use Rattle.chart.specs.Reports.{AreReports};
+ghost use Rattle.instances.specs.Laws.{IsAccepted};
 
 use crate::parties::{client, logger, server};
 use anyhow::bail;
@@ -20,7 +20,7 @@ fn names(alloc: Global) -> anyhow::Result<Names> {
 
 /// Prints the chart, and a line for each race.
 pub fn show<R: Print + AllocGlobal>(rt: &R, gathered: &Gathered) -> anyhow::Result<()>
-    requires { AreReports gathered.now.chart gathered.now.reports.items }
+    requires { IsAccepted gathered.now }
 {
     let names = names(rt.alloc())?;
     if names.len() != gathered.chart.lines().len() {

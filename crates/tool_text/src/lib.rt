@@ -22,6 +22,3 @@ mod words;
 pub use any_line::say;
 pub use saying::{Arrow, Lone, Saying, Tool};
 pub use unread::{ToolError, Unread};
-
-#[cfg(test)]
-mod tests;

@@ -1,6 +1,7 @@
 pub mod Commands
 pub mod EventLemmas
 pub mod GoingOn
+pub mod InTurn
 pub mod Partners
 pub mod Slots
 pub mod StepsMade

@@ -2,11 +2,15 @@
 use Rattle.std.specs.Prelude.{◌≡◌, ℕ, ◌<◌, List, [], length}
 use Rattle.chart.specs.Charts.{Chart, Place}
 use Rattle.real_races.specs.OtherRuns.{IsRunWithin, IsOvertaken, CanBeOvertaken, CanBeOvertakenWithin}
-use Rattle.schedule.specs.declared.schedule.TheConstants.{MAX_CAPACITY}
+use Rattle.chart.specs.declared.history.TheConstants.{MAX_CAPACITY}
 use Rattle.schedule.specs.Meaning.{meaning}
 use Rattle.schedule.specs.Plans.{Plan}
+use Rattle.turned_runs.specs.declared.scheduling.TheConstants.{FIRST_LINE}
 use Rattle.turned_runs.specs.declared.showing.Shown.{Shown}
 use Rattle.turned_runs.specs.declared.showing.Shown.TheVariants.{Replay, Enforced, TooManySlots}
+use Rattle.turned_runs.specs.declared.turning.Turned.{Turned}
+use Rattle.turned_runs.specs.declared.turning.Turned.TheVariants as turns
+use Rattle.turned_runs.specs.Schedules.{commands_of}
 use Rattle.turned_runs.specs.Turns.{IsLeastTurn}
 
 -- the plan refuses no command, and means a run of the chart's events over its lanes in which r overtakes e
@@ -22,3 +26,10 @@ IsShown names first c e r (Replay plan) = (plan.names ≡ names) × ShowsTurn (l
 IsShown names first c e r Enforced = CanBeOvertaken (length names) c e r → ⊥
 IsShown names first c e r (TooManySlots k) = (MAX_CAPACITY < k) × CanBeOvertakenWithin (length names) k c e r
     × IsLeastTurn (length names) first k c e r
+
+-- the plan that is shown has a command for each step of the run, in their order, and its slots
+abbrev pub HasSteps : Turned → Shown → Type 0
+HasSteps (turns.Run slots steps) (Replay plan) = (plan.capacity ≡ slots)
+    × (plan.commands ≡ commands_of FIRST_LINE steps.items)
+HasSteps turns.Enforced (Replay plan) = ⊥
+HasSteps _ _ = Unit {0}

@@ -6,6 +6,7 @@ use Rattle.chart.specs.declared.instance.EventNo.{EventNo}
 use Rattle.chart.specs.Charts.{Chart, Place, at}
 use Rattle.real_races.specs.OtherRuns.{IsRunWithin, IsOvertaken, IsPossibleWithin, CanBeOvertaken, CanBeOvertakenWithin}
 use Rattle.witness.specs.declared.step.Step.{Step}
+use Rattle.witness.specs.Orders.{IsInOrder}
 use Rattle.witness.specs.Steps.{history_of, IsOutside}
 use Rattle.turned_runs.specs.declared.turning.Turned.{Turned}
 use Rattle.turned_runs.specs.declared.turning.Turned.TheVariants.{Run, Enforced}
@@ -35,3 +36,9 @@ pub record IsLeastTurn (n first k : ℕ) (c : Chart) (e r : Place) : Type 0 wher
 abbrev pub IsTurned : ℕ → ℕ → Chart → Place → Place → Turned → Type 0
 IsTurned n first c e r (Run slots steps) = TurnsRound n slots c e r steps.items × IsLeastTurn n first slots c e r
 IsTurned n first c e r Enforced = CanBeOvertaken n c e r → ⊥
+
+-- of these steps the run that is found has those first that have to come with r, and then the others, each in the order
+-- that they had
+abbrev pub IsKept : List Step → Place → Turned → Type 0
+IsKept steps r (Run slots run) = IsInOrder slots steps r run.items
+IsKept steps r Enforced = Unit {0}

@@ -6,7 +6,7 @@ ghost use Rattle.chart.specs.declared.instance.TheConstants.{MAX_INSTANCES};
 ghost use Rattle.chart.specs.declared.line.TheConstants.{MAX_EVENTS};
 ghost use Rattle.chart.specs.Charts.{chart_lines};
 ghost use Rattle.witness.specs.Steps.{occurrence_of, maker_of, step_made, HavePassed, HavePassedSome};
-ghost use Rattle.turned_runs.specs.Runs.{MayCome, IsHeld, IsNext, IsStopped, AreStopped, SomeGoesOn};
+ghost use Rattle.turned_runs.specs.Runs.{MayCome, IsHeld, IsNext, IsStopped, AreStopped, GoesOnFirst};
 
 use chart::{Event, InstanceNo, Line, MAX_INSTANCES};
 use std::alloc::{AllocError, Global};
@@ -78,7 +78,7 @@ impl Going {
         requires hint { hint < length lines.now }
         ensures { (h : List Occurrence) → HavePassed self.now.passed.sends self.now.passed.receives h
             → MatchOption result (AreStopped (chart_lines lines.now) (length lines.now) slots h self.now.made)
-            (SomeGoesOn (chart_lines lines.now) (length lines.now) slots h self.now.made) }
+            (GoesOnFirst (chart_lines lines.now) (length lines.now) slots h self.now.made hint) }
     {
         if let Some(step) = self.next_of(lines, slots, hint) {
             return Some(step);

@@ -2,7 +2,7 @@
 ghost use Rattle.std.specs.Prelude.{ℕ, ◌≤◌, length, IfOk};
 ghost use Rattle.chart.specs.Charts.{Chart, Place};
 ghost use Rattle.turned_runs.specs.Turns.{IsTurned};
-ghost use Rattle.turned_runs.specs.Showing.{IsShown};
+ghost use Rattle.turned_runs.specs.Showing.{IsShown, HasSteps};
 
 use crate::scheduling::schedule_of;
 use crate::turning::Turned;
@@ -21,14 +21,16 @@ pub enum Shown {
     TooManySlots(usize),
 }
 
-/// What there is to show of instances with these names, by what was found: a schedule with the least number of slots.
+/// What there is to show of instances with these names, by what was found: a schedule with the least number of slots,
+/// which has a command for each step of the run, in their order.
 ///
 /// F6: it fails only where there is no memory.
 pub fn show(alloc: Global, names: &Names, turned: &Turned) -> Result<Shown, AllocError>
     requires several { 2 ≤ length names.now }
     requires turned { (first : ℕ) × (c : Chart) × (e : Place) × (r : Place)
         × IsTurned (length names.now) first c e r turned.now }
-    ensures { IfOk result (λ shown. (first : ℕ) (c : Chart) (e r : Place) → 1 ≤ first
+    ensures steps { IfOk result (HasSteps turned.now) }
+    ensures shown { IfOk result (λ shown. (first : ℕ) (c : Chart) (e r : Place) → 1 ≤ first
         → IsTurned (length names.now) first c e r turned.now → IsShown names.now first c e r shown) }
 {
     match turned {

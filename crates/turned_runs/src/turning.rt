@@ -1,5 +1,5 @@
 //! Runs in which a receive overtakes an event, with as few slots as may be.
-ghost use Rattle.std.specs.Prelude.{ℕ, ◌≡◌, ◌<◌, ◌≤◌, length, slice_get, Some, IfOk};
+ghost use Rattle.std.specs.Prelude.{ℕ, ◌≡◌, ◌<◌, ◌≤◌, length, slice_get, Some, IfOk, List};
 ghost use Rattle.chart.specs.declared.line.TheConstants.{MAX_EVENTS};
 ghost use Rattle.chart.specs.Charts.{chart_lines, IsReceiveFrom, IsPossible};
 ghost use Rattle.chart.specs.HistoryLines.{history_lines};
@@ -8,7 +8,9 @@ ghost use Rattle.chart.specs.Places.{IsEvent};
 ghost use Rattle.schedule.specs.Meaning.{meaning};
 ghost use Rattle.witness.specs.declared.step.Step.{Step};
 ghost use Rattle.witness.specs.Steps.{history_of, place_after, IsReceive};
-ghost use Rattle.turned_runs.specs.Turns.{place_of, IsTurned};
+ghost use Rattle.plain_replayer.specs.Recorded.{IsRecorded};
+ghost use Rattle.turned_runs.specs.Runs.{IsLeastRun};
+ghost use Rattle.turned_runs.specs.Turns.{place_of, IsTurned, IsKept};
 
 use crate::running::least_run;
 use crate::steps::step_of;
@@ -33,8 +35,8 @@ pub enum Turned {
 /// number of slots, from these on, with which some run of the same events and causes has the receive before the event
 /// of the other step, and such a run; or that none has.
 ///
-/// Only what has to come with the receive is moved. It takes some twelve walks over the steps. F6: it fails only where
-/// there is no memory.
+/// Only what has to come with the receive is moved: it comes first, and then the other steps, each in the order that
+/// they had. It takes some twelve walks over the steps. F6: it fails only where there is no memory.
 pub fn overtake_of_run(
     alloc: Global,
     steps: &[Step],
@@ -45,7 +47,9 @@ pub fn overtake_of_run(
     requires receive { IsReceive steps.now receive }
     requires earlier { earlier < length steps.now }
     requires limit { slots ≤ MAX_EVENTS }
-    ensures { IfOk result (λ turned. (n : ℕ) (x y : Step) → IsLegal n slots (history_of steps.now)
+    ensures order { IfOk result (λ turned. (n : ℕ) (y : Step) → IsLegal n slots (history_of steps.now)
+        → slice_get steps.now receive ≡ Some y → IsKept steps.now (place_after steps.now receive y) turned) }
+    ensures turned { IfOk result (λ turned. (n : ℕ) (x y : Step) → IsLegal n slots (history_of steps.now)
         → slice_get steps.now earlier ≡ Some x → slice_get steps.now receive ≡ Some y
         → IsTurned n slots (chart_of (history_of steps.now)) (place_after steps.now earlier x)
         (place_after steps.now receive y) turned) }
@@ -96,7 +100,9 @@ fn overtake_in_run(
     requires limit { slots ≤ MAX_EVENTS }
     requires receive { (q : ℕ) × IsReceiveFrom (chart_of (history_of steps.now)) q (place_of receive) }
     requires earlier { IsEvent (chart_of (history_of steps.now)) (place_of earlier) }
-    ensures { IfOk result (λ turned. (n : ℕ) → IsLegal n slots (history_of steps.now)
+    ensures order { IfOk result (λ turned. (n : ℕ) → IsLegal n slots (history_of steps.now)
+        → IsKept steps.now (place_of receive) turned) }
+    ensures turned { IfOk result (λ turned. (n : ℕ) → IsLegal n slots (history_of steps.now)
         → IsTurned n slots (chart_of (history_of steps.now)) (place_of earlier) (place_of receive) turned) }
 {
     let receive = number_of(steps, receive);
@@ -106,7 +112,8 @@ fn overtake_in_run(
 
 /// Of a possible chart, a receive and another event of it: the least number of slots, of those over which the chart's
 /// lines can be run as drawn, with which some run of the same events and causes has the receive before the event, and
-/// such a run; or that none has, whatever the slots.
+/// such a run; or that none has, whatever the slots. It has first what has to come with the receive, and then the other
+/// steps, each in the order of a run of the lines as drawn.
 ///
 /// F6: it fails only where there is no memory.
 pub fn overtake_of_chart(
@@ -118,7 +125,9 @@ pub fn overtake_of_chart(
     requires possible { IsPossible (length chart.now) (chart_lines chart.now) }
     requires receive { (q : ℕ) × IsReceiveFrom (chart_lines chart.now) q (place_of receive) }
     requires earlier { IsEvent (chart_lines chart.now) (place_of earlier) }
-    ensures { IfOk result (IsTurned (length chart.now) 1 (chart_lines chart.now) (place_of earlier)
+    ensures order { IfOk result (λ turned. (k : ℕ) × (steps : List Step)
+        × IsLeastRun (length chart.now) k (chart_lines chart.now) steps × IsKept steps (place_of receive) turned) }
+    ensures turned { IfOk result (IsTurned (length chart.now) 1 (chart_lines chart.now) (place_of earlier)
         (place_of receive)) }
 {
     let base = least_run(alloc, chart)?;
@@ -127,7 +136,8 @@ pub fn overtake_of_chart(
 
 /// Of a schedule, a receive and another event of the chart that it comes to: the least number of slots, from the
 /// schedule's capacity on, with which some run of the same events and causes has the receive before the event, and
-/// such a run; or that none has, whatever the slots. What needn't come with the receive stays in the recorded order.
+/// such a run; or that none has, whatever the slots. It has first what has to come with the receive, and then the other
+/// accepted sends and receives, each in the recorded order.
 ///
 /// F6: it fails only where there is no memory.
 pub fn overtake_of_schedule(
@@ -142,7 +152,9 @@ pub fn overtake_of_schedule(
     requires earlier { IsEvent
         (chart_lines (history_lines (length schedule.now.names) (meaning schedule.now).run.history))
         (place_of earlier) }
-    ensures { IfOk result (IsTurned (length schedule.now.names) schedule.now.capacity
+    ensures order { IfOk result (λ turned. (steps : List Step) × IsRecorded schedule.now steps
+        × IsKept steps (place_of receive) turned) }
+    ensures turned { IfOk result (IsTurned (length schedule.now.names) schedule.now.capacity
         (chart_lines (history_lines (length schedule.now.names) (meaning schedule.now).run.history)) (place_of earlier)
         (place_of receive)) }
 {

@@ -7,6 +7,3 @@ mod request;
 
 pub use command_line::CommandLineError;
 pub use request::{Draw, Export, Import, Pair, Question, Request, requested};
-
-#[cfg(test)]
-mod tests;

@@ -11,10 +11,13 @@ use Rattle.msc_text.specs.Writing.{Puts}
 use Rattle.outcomes.specs.Outcomes.{OutcomeView, IsOutcome}
 use Rattle.schedule.specs.Plans.{Plan}
 use Rattle.schedule.specs.ScheduleText.{schedule_text}
-use Rattle.tasks.specs.declared.error.ProgramError.TheVariants.{Usage, File, Memory, Text, ReceiveWithoutSend, NameMismatch, Cyclic, Write}
-use Rattle.tasks.specs.Refusals.{Tried}
-use Rattle.tasks.specs.Tasks.{Named}
-use Rattle.turned_runs.specs.Showing.{IsShown}
+use Rattle.files.specs.declared.error.ProgramError.TheVariants.{Usage, File, Memory, Text, ReceiveWithoutSend, NameMismatch, Cyclic, Write}
+use Rattle.files.specs.Refusals.{Tried}
+use Rattle.files.specs.Files.{Named}
+use Rattle.turned_runs.specs.Showing.{IsShown, HasSteps}
+use Rattle.turned_runs.specs.declared.turning.Turned.{Turned}
+use Rattle.turned_runs.specs.declared.turning.Turned.TheVariants as turns
+use Rattle.witness.specs.Orders.{IsInOrder}
 use Rattle.turned_runs.specs.declared.showing.Shown.{Shown}
 use Rattle.turned_runs.specs.declared.showing.Shown.TheVariants as founds
 use Rattle.views.specs.declared.error.ViewError.{ViewError}
@@ -25,9 +28,16 @@ use Rattle.views.specs.declared.verdict.Verdict.TheVariants.{Enforced, Race, Hid
 use Rattle.views.specs.Answers.{told_of_witness, refusal_text}
 use Rattle.views.specs.Explaining.{IsPair, AreInOneRegion}
 use Rattle.views.specs.Pairs.{instance_said, has_event, receives, pair_on, pair_at, pair_of}
-use Rattle.views.specs.Turning.{IsAskedFor, WritesPlan, Writes, Shows}
+use Rattle.views.specs.Turning.{Origin, first_of, IsKeptFrom, IsOrdered, IsAskedFor, WritesPlan, Writes, Shows}
+use Rattle.views.specs.Turning.Origin.{recorded}
 use Rattle.views.specs.Verdicts.{verdict_in, code_of}
 use Rattle.views.specs.Witnessing.{Finds, FindsOf, AnsweredAs}
+
+-- a plan that has the steps that were found is ordered as they are
+ordered_from : (named : Named) (origin : Origin) (pair : Pair) (turned : Turned) (plan : Plan) → IsKeptFrom named origin pair turned → HasSteps turned (founds.Replay plan) → IsOrdered named origin pair plan
+ordered_from named origin pair (turns.Run slots run) plan (steps, from, kept) (capacity, commands) =
+    (steps, run.items, from, subst (λ k. IsInOrder k steps (place_of pair.receive) run.items) (sym capacity) kept, commands)
+ordered_from named origin pair turns.Enforced plan kept has = absurd has
 
 -- the earlier event of a pair is one of the chart
 pub earlier_event : (c : Chart) (pair : Pair) → IsPair c pair → IsEvent c (place_of pair.earlier)
@@ -42,36 +52,39 @@ module _ {S : Type 0} (contents : S → Option (List ℕ)) (failures : S → ℕ
   plan_written c pair plan false are puts = (are, puts)
 
   -- what was found is shown so
-  pub shows_from : (names : List (List ℕ)) (lines : List LineView) (first : ℕ) (pair : Pair) (shown : Shown) (done : Result Verdict ViewError) → IsShown names first (chart_lines lines) (place_of pair.earlier) (place_of pair.receive) shown
-      → Writes contents failures old new (chart_lines lines) pair shown done → Shows contents failures old new done (names, lines) first pair
-  shows_from names lines first pair (founds.Replay plan) (Ok Enforced) is written = absurd written
-  shows_from names lines first pair (founds.Replay plan) (Ok Race) is written = (plan, is, written.0, written.1)
-  shows_from names lines first pair (founds.Replay plan) (Ok Hidden) is written = (plan, is, written.0, written.1)
-  shows_from names lines first pair (founds.Replay plan) (Err error) is written =
-      subst (λ (e : ViewError). Shows contents failures old new (Err e) (names, lines) first pair) (sym written.0) (plan, is, written.1)
-  shows_from names lines first pair founds.Enforced done is written =
-      subst (λ (d : Result Verdict ViewError). Shows contents failures old new d (names, lines) first pair) (sym written.0) (is, written.1)
-  shows_from names lines first pair (founds.TooManySlots k) done is written =
-      subst (λ (d : Result Verdict ViewError). Shows contents failures old new d (names, lines) first pair) (sym written.0) (is, written.1)
+  pub shows_from : (names : List (List ℕ)) (lines : List LineView) (origin : Origin) (pair : Pair) (turned : Turned) (shown : Shown) (done : Result Verdict ViewError) → IsKeptFrom (names, lines) origin pair turned → HasSteps turned shown → IsShown names (first_of origin) (chart_lines lines) (place_of pair.earlier) (place_of pair.receive) shown
+      → Writes contents failures old new (chart_lines lines) pair shown done → Shows contents failures old new done (names, lines) origin pair
+  shows_from names lines origin pair turned (founds.Replay plan) (Ok Enforced) kept has is written = absurd written
+  shows_from names lines origin pair turned (founds.Replay plan) (Ok Race) kept has is written =
+      (plan, (is.0, is.1, is.2, ordered_from (names, lines) origin pair turned plan kept has), written.0, written.1)
+  shows_from names lines origin pair turned (founds.Replay plan) (Ok Hidden) kept has is written =
+      (plan, (is.0, is.1, is.2, ordered_from (names, lines) origin pair turned plan kept has), written.0, written.1)
+  shows_from names lines origin pair turned (founds.Replay plan) (Err error) kept has is written =
+      subst (λ (e : ViewError). Shows contents failures old new (Err e) (names, lines) origin pair) (sym written.0)
+      (plan, (is.0, is.1, is.2, ordered_from (names, lines) origin pair turned plan kept has), written.1)
+  shows_from names lines origin pair turned founds.Enforced done kept has is written =
+      subst (λ (d : Result Verdict ViewError). Shows contents failures old new d (names, lines) origin pair) (sym written.0) (is, written.1)
+  shows_from names lines origin pair turned (founds.TooManySlots k) done kept has is written =
+      subst (λ (d : Result Verdict ViewError). Shows contents failures old new d (names, lines) origin pair) (sym written.0) (is, written.1)
 
   -- what is shown for the pair that is asked about
-  pub finds_from : (named : Named) (first : ℕ) (instance : List ℕ) (e r : ℕ) (pair : Pair) (done : Result Verdict ViewError) → IsAskedFor named instance e r (Ok pair) → Shows contents failures old new done named first pair
-      → Finds contents failures old new done named first instance e r
-  finds_from named first instance e r pair (Ok verdict) asked shows = (pair, asked.0, asked.1, shows)
-  finds_from named first instance e r pair (Err (Program Usage)) asked shows = absurd shows
-  finds_from named first instance e r pair (Err (Program File)) asked shows = absurd shows
-  finds_from named first instance e r pair (Err (Program Memory)) asked shows = shows
-  finds_from named first instance e r pair (Err (Program (Text fault))) asked shows = absurd shows
-  finds_from named first instance e r pair (Err (Program (ReceiveWithoutSend p index))) asked shows = absurd shows
-  finds_from named first instance e r pair (Err (Program (NameMismatch p index))) asked shows = absurd shows
-  finds_from named first instance e r pair (Err (Program Cyclic)) asked shows = absurd shows
-  finds_from named first instance e r pair (Err (Program Write)) asked shows = (pair, asked.0, asked.1, shows)
-  finds_from named first instance e r pair (Err NoSuchEvent) asked shows = absurd shows
-  finds_from named first instance e r pair (Err NotAPair) asked shows = absurd shows
-  finds_from named first instance e r pair (Err (ManySlots k)) asked shows = (pair, asked.0, asked.1, shows)
+  pub finds_from : (named : Named) (origin : Origin) (instance : List ℕ) (e r : ℕ) (pair : Pair) (done : Result Verdict ViewError) → IsAskedFor named instance e r (Ok pair) → Shows contents failures old new done named origin pair
+      → Finds contents failures old new done named origin instance e r
+  finds_from named origin instance e r pair (Ok verdict) asked shows = (pair, asked.0, asked.1, shows)
+  finds_from named origin instance e r pair (Err (Program Usage)) asked shows = absurd shows
+  finds_from named origin instance e r pair (Err (Program File)) asked shows = absurd shows
+  finds_from named origin instance e r pair (Err (Program Memory)) asked shows = shows
+  finds_from named origin instance e r pair (Err (Program (Text fault))) asked shows = absurd shows
+  finds_from named origin instance e r pair (Err (Program (ReceiveWithoutSend p index))) asked shows = absurd shows
+  finds_from named origin instance e r pair (Err (Program (NameMismatch p index))) asked shows = absurd shows
+  finds_from named origin instance e r pair (Err (Program Cyclic)) asked shows = absurd shows
+  finds_from named origin instance e r pair (Err (Program Write)) asked shows = (pair, asked.0, asked.1, shows)
+  finds_from named origin instance e r pair (Err NoSuchEvent) asked shows = absurd shows
+  finds_from named origin instance e r pair (Err NotAPair) asked shows = absurd shows
+  finds_from named origin instance e r pair (Err (ManySlots k)) asked shows = (pair, asked.0, asked.1, shows)
 
   -- the same of what a schedule comes to
-  pub finds_of : (plan : Plan) (o : OutcomeView) (instance : List ℕ) (e r : ℕ) (done : Result Verdict ViewError) → IsOutcome plan o → Finds contents failures old new done (o.names, o.chart) plan.capacity instance e r
+  pub finds_of : (plan : Plan) (o : OutcomeView) (instance : List ℕ) (e r : ℕ) (done : Result Verdict ViewError) → IsOutcome plan o → Finds contents failures old new done (o.names, o.chart) (recorded plan) instance e r
       → FindsOf contents failures old new done plan instance e r
   finds_of plan o instance e r (Ok verdict) is finds = (o, is, finds)
   finds_of plan o instance e r (Err (Program Usage)) is finds = (o, is, finds)
@@ -107,18 +120,18 @@ no_slots names lines instance e r k is = by_instance (instance_said names instan
     by_instance (Some p) h = slots_on p (chart_lines lines p) e r k h
 
 -- where the pair isn't found, nothing is written
-pub not_found : {S : Type 0} (contents : S → Option (List ℕ)) (failures : S → ℕ) (old : S) (named : Named) (first : ℕ) (instance : List ℕ) (e r : ℕ) (error : ViewError) → IsAskedFor named instance e r (Err error) → Finds contents failures old old (Err error) named first instance e r
-not_found contents failures old named first instance e r (Program Usage) asked = absurd asked
-not_found contents failures old named first instance e r (Program File) asked = absurd asked
-not_found contents failures old named first instance e r (Program Memory) asked = refl
-not_found contents failures old named first instance e r (Program (Text fault)) asked = absurd asked
-not_found contents failures old named first instance e r (Program (ReceiveWithoutSend p index)) asked = (asked, refl)
-not_found contents failures old named first instance e r (Program (NameMismatch p index)) asked = (asked, refl)
-not_found contents failures old named first instance e r (Program Cyclic) asked = (asked, refl)
-not_found contents failures old named first instance e r (Program Write) asked = absurd asked
-not_found contents failures old named first instance e r NoSuchEvent asked = (asked.0, refl)
-not_found contents failures old named first instance e r NotAPair asked = (asked.0, refl)
-not_found contents failures old named first instance e r (ManySlots k) asked = absurd (no_slots named.0 named.1 instance e r k asked.0)
+pub not_found : {S : Type 0} (contents : S → Option (List ℕ)) (failures : S → ℕ) (old : S) (named : Named) (origin : Origin) (instance : List ℕ) (e r : ℕ) (error : ViewError) → IsAskedFor named instance e r (Err error) → Finds contents failures old old (Err error) named origin instance e r
+not_found contents failures old named origin instance e r (Program Usage) asked = absurd asked
+not_found contents failures old named origin instance e r (Program File) asked = absurd asked
+not_found contents failures old named origin instance e r (Program Memory) asked = refl
+not_found contents failures old named origin instance e r (Program (Text fault)) asked = absurd asked
+not_found contents failures old named origin instance e r (Program (ReceiveWithoutSend p index)) asked = (asked, refl)
+not_found contents failures old named origin instance e r (Program (NameMismatch p index)) asked = (asked, refl)
+not_found contents failures old named origin instance e r (Program Cyclic) asked = (asked, refl)
+not_found contents failures old named origin instance e r (Program Write) asked = absurd asked
+not_found contents failures old named origin instance e r NoSuchEvent asked = (asked.0, refl)
+not_found contents failures old named origin instance e r NotAPair asked = (asked.0, refl)
+not_found contents failures old named origin instance e r (ManySlots k) asked = absurd (no_slots named.0 named.1 instance e r k asked.0)
 
 -- what a witness comes to, by what was told of it
 pub answered_as : {T : Type 0} (err_contents : T → Option (List ℕ)) (err_failures : T → ℕ) (does : Result Verdict ViewError → Type 0) (closes : Bool) (err_old err_new : T) (status : ℕ) (done : Result Verdict ViewError) → does done

@@ -1,12 +1,12 @@
 -- What is explained of the chart that a text says.
 use Rattle.std.proofs.Common.{ℕ, List, Option, Result, Ok, Err}
-use Rattle.tasks.specs.declared.error.ProgramError.TheVariants.{Usage, File, Memory, Text, ReceiveWithoutSend, NameMismatch, Cyclic, Write}
-use Rattle.tasks.specs.Tasks.{Named}
+use Rattle.files.specs.declared.error.ProgramError.TheVariants.{Usage, File, Memory, Text, ReceiveWithoutSend, NameMismatch, Cyclic, Write}
+use Rattle.files.specs.Files.{Named}
 use Rattle.views.specs.declared.error.ViewError.{ViewError}
 use Rattle.views.specs.declared.error.ViewError.TheVariants.{Program, NoSuchEvent, NotAPair, ManySlots}
 use Rattle.views.specs.declared.verdict.Verdict.{Verdict}
 use Rattle.views.specs.Explaining.{Explains}
-use Rattle.tasks.specs.Files.{Says}
+use Rattle.files.specs.Files.{Says}
 use Rattle.views.specs.Views.{Whys}
 
 module _ {S : Type 0} (contents : S → Option (List ℕ)) (failures : S → ℕ) (bytes : List ℕ) (named : Named) (says : Says bytes named) (instance : List ℕ) (e r : ℕ) (old new : S) where

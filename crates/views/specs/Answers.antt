@@ -1,6 +1,6 @@
 -- What is printed on standard error.
 use Rattle.std.specs.Prelude.{ℕ, Bool, true, false, List, [], ◌++◌, None, Some, codes}
-use Rattle.tasks.specs.Refusals as refusals
+use Rattle.files.specs.Refusals as refusals
 use Rattle.views.specs.declared.error.ViewError.{ViewError}
 use Rattle.views.specs.declared.error.ViewError.TheVariants.{Program, NoSuchEvent, NotAPair, ManySlots}
 use Rattle.views.specs.declared.verdict.Verdict.{Verdict}

@@ -10,8 +10,8 @@ use Rattle.causes.specs.declared.link.Link.{Link}
 use Rattle.causes.specs.Chains.{IsShortestChain}
 use Rattle.causes.specs.Pasts.{IsPast}
 use Rattle.msc_text.specs.Writing.{Puts, Breaks}
-use Rattle.tasks.specs.declared.error.ProgramError.TheVariants as errors
-use Rattle.tasks.specs.Tasks.{Named, IsRefused}
+use Rattle.files.specs.declared.error.ProgramError.TheVariants as errors
+use Rattle.files.specs.Files.{Named, IsRefused}
 use Rattle.views.specs.declared.error.ViewError.{ViewError}
 use Rattle.views.specs.declared.error.ViewError.TheVariants.{Program, ManySlots}
 use Rattle.views.specs.declared.pair.Pair.{Pair}
@@ -32,20 +32,25 @@ abbrev pub AreInOneRegion : Chart → Pair → Bool → Type 0
 AreInOneRegion c pair are = (m : Event) × (chart_event c (place_of pair.earlier) ≡ Some m)
     × (is_in (region_of_event (chart_event c (place_of pair.receive))) m ≡ are)
 
--- what explains that the receive needn't come after the event
-abbrev pub AreRaceSayings : Chart → Pair → List Saying → Type 0
-AreRaceSayings c pair sayings = (q : ℕ) × (counts : List ℕ) × IsReceiveFrom c q (place_of pair.receive)
-    × IsPast c (place_of pair.receive) counts
+-- what explains, in a chart of n lines, that the receive needn't come after the event
+abbrev pub AreRaceSayings : ℕ → Chart → Pair → List Saying → Type 0
+AreRaceSayings n c pair sayings = (q : ℕ) × (counts : List ℕ) × IsReceiveFrom c q (place_of pair.receive)
+    × IsPast n c (place_of pair.receive) counts
     × (sayings ≡ race_sayings (c pair.receive.instance) pair.receive.instance pair.receive.index q counts)
 
+-- that explains it in one way
+abbrev pub OneExplanationLaw : Type 0
+OneExplanationLaw = (n : ℕ) (c : Chart) (pair : Pair) (a b : List Saying) → AreRaceSayings n c pair a
+    → AreRaceSayings n c pair b → a ≡ b
+
 -- what the pair is, and what explains it
-abbrev pub IsExplained : Chart → Pair → Verdict → List Saying → Type 0
-IsExplained c pair Enforced sayings = (links : List Link) × Before c (place_of pair.earlier) (place_of pair.receive)
+abbrev pub IsExplained : ℕ → Chart → Pair → Verdict → List Saying → Type 0
+IsExplained n c pair Enforced sayings = (links : List Link) × Before c (place_of pair.earlier) (place_of pair.receive)
     × IsShortestChain c (place_of pair.earlier) (place_of pair.receive) links × (sayings ≡ chain_sayings links)
-IsExplained c pair Race sayings = (Before c (place_of pair.earlier) (place_of pair.receive) → ⊥)
-    × AreInOneRegion c pair false × AreRaceSayings c pair sayings
-IsExplained c pair Hidden sayings = (Before c (place_of pair.earlier) (place_of pair.receive) → ⊥)
-    × AreInOneRegion c pair true × AreRaceSayings c pair sayings
+IsExplained n c pair Race sayings = (Before c (place_of pair.earlier) (place_of pair.receive) → ⊥)
+    × AreInOneRegion c pair false × AreRaceSayings n c pair sayings
+IsExplained n c pair Hidden sayings = (Before c (place_of pair.earlier) (place_of pair.receive) → ⊥)
+    × AreInOneRegion c pair true × AreRaceSayings n c pair sayings
 
 -- the text of these lines, for a pair of the chart
 abbrev pub sayings_text : Named → Pair → List Saying → List ℕ
@@ -58,13 +63,13 @@ module _ {S : Type 0} (contents : S → Option (List ℕ)) (failures : S → ℕ
   abbrev pub Explains : S → S → Result Verdict ViewError → Named → List ℕ → ℕ → ℕ → Type 0
   Explains old new (Ok verdict) named instance e r = (pair : Pair) × (sayings : List Saying)
       × (pair_of named.0 named.1 instance e r ≡ Ok pair) × IsPossible (length named.1) (chart_lines named.1)
-      × IsExplained (chart_lines named.1) pair verdict sayings
+      × IsExplained (length named.1) (chart_lines named.1) pair verdict sayings
       × Puts contents failures old new (sayings_text named pair sayings)
   Explains old new (Err (Program errors.Memory)) named instance e r = new ≡ old
   Explains old new (Err (Program errors.Write)) named instance e r =
       (pair : Pair) × (verdict : Verdict) × (sayings : List Saying)
       × (pair_of named.0 named.1 instance e r ≡ Ok pair) × IsPossible (length named.1) (chart_lines named.1)
-      × IsExplained (chart_lines named.1) pair verdict sayings
+      × IsExplained (length named.1) (chart_lines named.1) pair verdict sayings
       × Breaks contents failures old new (sayings_text named pair sayings)
   Explains old new (Err (Program error)) named instance e r = IsRefused error named × (new ≡ old)
   Explains old new (Err (ManySlots slots)) named instance e r = ⊥

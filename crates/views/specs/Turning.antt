@@ -4,13 +4,20 @@ use Rattle.chart.specs.Charts.{Chart, chart_lines, IsPossible}
 use Rattle.closure.specs.Faults.{place_of}
 use Rattle.msc_text.specs.Writing.{Puts, Breaks}
 use Rattle.real_races.specs.OtherRuns.{CanBeOvertaken, CanBeOvertakenWithin}
-use Rattle.schedule.specs.declared.schedule.TheConstants.{MAX_CAPACITY}
+use Rattle.chart.specs.declared.history.TheConstants.{MAX_CAPACITY}
 use Rattle.schedule.specs.Plans.{Plan}
 use Rattle.schedule.specs.ScheduleText.{schedule_text}
-use Rattle.tasks.specs.declared.error.ProgramError.TheVariants as errors
-use Rattle.tasks.specs.Tasks.{Named, IsRefused}
+use Rattle.files.specs.declared.error.ProgramError.TheVariants as errors
+use Rattle.files.specs.Files.{Named, IsRefused}
+use Rattle.plain_replayer.specs.Recorded.{IsRecorded}
+use Rattle.turned_runs.specs.Runs.{IsLeastRun}
+use Rattle.turned_runs.specs.Schedules.{commands_of}
 use Rattle.turned_runs.specs.Showing.{ShowsTurn}
-use Rattle.turned_runs.specs.Turns.{IsLeastTurn}
+use Rattle.turned_runs.specs.Turns.{IsLeastTurn, IsKept}
+use Rattle.turned_runs.specs.declared.scheduling.TheConstants.{FIRST_LINE}
+use Rattle.turned_runs.specs.declared.turning.Turned.{Turned}
+use Rattle.witness.specs.Orders.{IsInOrder}
+use Rattle.witness.specs.declared.step.Step.{Step}
 use Rattle.turned_runs.specs.declared.showing.Shown.{Shown}
 use Rattle.turned_runs.specs.declared.showing.Shown.TheVariants as founds
 use Rattle.views.specs.declared.error.ViewError.{ViewError}
@@ -30,18 +37,48 @@ IsAskedFor named instance e r (Err (Program error)) = IsRefused error named
 IsAskedFor named instance e r (Err error) = (pair_of named.0 named.1 instance e r ≡ Err error)
     × IsPossible (length named.1) (chart_lines named.1)
 
+-- what a witness is made from: the run that a schedule's accepted commands make, or one of the chart's lines as drawn
+pub data Origin : Type 0 where
+  recorded : Plan → Origin
+  drawn : Origin
+
+-- from how many slots on there may be a witness
+abbrev pub first_of : Origin → ℕ
+first_of (recorded plan) = plan.capacity
+first_of drawn = 1
+
+-- the steps are such a run, of the chart over the fewest slots
+abbrev pub IsFrom : Named → Origin → List Step → Type 0
+IsFrom named (recorded plan) steps = IsRecorded plan steps
+IsFrom named drawn steps = (k : ℕ) × IsLeastRun (length named.1) k (chart_lines named.1) steps
+
+-- what was found has first the steps of such a run that have to come with the pair's receive, and then the others, each
+-- in the order that they had
+abbrev pub IsKeptFrom : Named → Origin → Pair → Turned → Type 0
+IsKeptFrom named origin pair turned = (steps : List Step) × IsFrom named origin steps
+    × IsKept steps (place_of pair.receive) turned
+
+-- the same of the plan's commands
+abbrev pub IsOrdered : Named → Origin → Pair → Plan → Type 0
+IsOrdered named origin pair plan = (steps : List Step) × (run : List Step) × IsFrom named origin steps
+    × IsInOrder plan.capacity steps (place_of pair.receive) run × (plan.commands ≡ commands_of FIRST_LINE run)
+
 -- the plan has these instances, refuses nothing, and means a run of the chart's events and causes in which the pair's
--- receive comes before its earlier event, with the least number of slots from `first` on
-abbrev pub IsWitness : Named → ℕ → Pair → Plan → Type 0
-IsWitness (names, lines) first pair plan = (plan.names ≡ names)
+-- receive comes before its earlier event, with the least number of slots; what needn't come with the receive is as it
+-- was
+abbrev pub IsWitness : Named → Origin → Pair → Plan → Type 0
+IsWitness (names, lines) origin pair plan = (plan.names ≡ names)
     × ShowsTurn (length names) (chart_lines lines) (place_of pair.earlier) (place_of pair.receive) plan
-    × IsLeastTurn (length names) first plan.capacity (chart_lines lines) (place_of pair.earlier) (place_of pair.receive)
+    × IsLeastTurn (length names) (first_of origin) plan.capacity (chart_lines lines)
+    (place_of pair.earlier) (place_of pair.receive)
+    × IsOrdered (names, lines) origin pair plan
 
 -- such a run needs k slots at least, more than lanes may have
-abbrev pub NeedsSlots : Named → ℕ → Pair → ℕ → Type 0
-NeedsSlots (names, lines) first pair k = (MAX_CAPACITY < k)
+abbrev pub NeedsSlots : Named → Origin → Pair → ℕ → Type 0
+NeedsSlots (names, lines) origin pair k = (MAX_CAPACITY < k)
     × CanBeOvertakenWithin (length names) k (chart_lines lines) (place_of pair.earlier) (place_of pair.receive)
-    × IsLeastTurn (length names) first k (chart_lines lines) (place_of pair.earlier) (place_of pair.receive)
+    × IsLeastTurn (length names) (first_of origin) k (chart_lines lines)
+    (place_of pair.earlier) (place_of pair.receive)
 
 module _ {S : Type 0} (contents : S → Option (List ℕ)) (failures : S → ℕ) where
   -- what is written of a schedule, by what the answer is
@@ -62,16 +99,16 @@ module _ {S : Type 0} (contents : S → Option (List ℕ)) (failures : S → ℕ
 
   -- for a pair of the chart: the text of a witness was written, or a beginning of it, where a put failed; or nothing,
   -- where no run turns the pair round, where each needs too many slots, or where memory ran out
-  abbrev pub Shows : S → S → Result Verdict ViewError → Named → ℕ → Pair → Type 0
-  Shows old new (Ok Enforced) named first pair =
+  abbrev pub Shows : S → S → Result Verdict ViewError → Named → Origin → Pair → Type 0
+  Shows old new (Ok Enforced) named origin pair =
       (CanBeOvertaken (length named.0) (chart_lines named.1) (place_of pair.earlier) (place_of pair.receive) → ⊥)
       × (new ≡ old)
-  Shows old new (Ok Race) named first pair = (plan : Plan) × IsWitness named first pair plan
+  Shows old new (Ok Race) named origin pair = (plan : Plan) × IsWitness named origin pair plan
       × AreInOneRegion (chart_lines named.1) pair false × Puts contents failures old new (schedule_text plan)
-  Shows old new (Ok Hidden) named first pair = (plan : Plan) × IsWitness named first pair plan
+  Shows old new (Ok Hidden) named origin pair = (plan : Plan) × IsWitness named origin pair plan
       × AreInOneRegion (chart_lines named.1) pair true × Puts contents failures old new (schedule_text plan)
-  Shows old new (Err (Program errors.Memory)) named first pair = new ≡ old
-  Shows old new (Err (Program errors.Write)) named first pair =
-      (plan : Plan) × IsWitness named first pair plan × Breaks contents failures old new (schedule_text plan)
-  Shows old new (Err (ManySlots k)) named first pair = NeedsSlots named first pair k × (new ≡ old)
-  Shows old new (Err error) named first pair = ⊥
+  Shows old new (Err (Program errors.Memory)) named origin pair = new ≡ old
+  Shows old new (Err (Program errors.Write)) named origin pair =
+      (plan : Plan) × IsWitness named origin pair plan × Breaks contents failures old new (schedule_text plan)
+  Shows old new (Err (ManySlots k)) named origin pair = NeedsSlots named origin pair k × (new ≡ old)
+  Shows old new (Err error) named origin pair = ⊥

@@ -1,14 +1,14 @@
 -- What the program does with the bytes of a file.
 use Rattle.std.specs.Prelude.{◌≡◌, ℕ, ◌⊎◌, List, Option, Result, Ok, Err}
-use Rattle.tasks.specs.declared.error.ProgramError.TheVariants as errors
-use Rattle.tasks.specs.Refusals.{Tried}
-use Rattle.tasks.specs.Tasks.{Named}
+use Rattle.files.specs.declared.error.ProgramError.TheVariants as errors
+use Rattle.files.specs.Refusals.{Tried}
+use Rattle.files.specs.Files.{Named}
 use Rattle.views.specs.declared.error.ViewError.{ViewError}
 use Rattle.views.specs.declared.error.ViewError.TheVariants.{Program}
 use Rattle.views.specs.declared.verdict.Verdict.{Verdict}
 use Rattle.views.specs.Answers.{told_of, refusal_text}
 use Rattle.views.specs.Explaining.{Explains}
-use Rattle.tasks.specs.Files.{Says, HasFault}
+use Rattle.files.specs.Files.{Says, HasFault}
 use Rattle.views.specs.Verdicts.{code_of}
 
 module _ {S : Type 0} (contents : S → Option (List ℕ)) (failures : S → ℕ) where

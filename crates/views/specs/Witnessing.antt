@@ -10,18 +10,19 @@ use Rattle.schedule.specs.declared.command.Action.TheVariants.{Send, Receive, An
 use Rattle.schedule.specs.declared.command.Command.{Command}
 use Rattle.schedule.specs.Plans.{Plan}
 use Rattle.schedule.specs.Reading.{schedule_of}
-use Rattle.tasks.specs.declared.error.ProgramError.{ProgramError}
-use Rattle.tasks.specs.declared.error.ProgramError.TheVariants as errors
-use Rattle.tasks.specs.Refusals.{Tried}
-use Rattle.tasks.specs.Tasks.{Named, IsRefused, Reads}
+use Rattle.files.specs.declared.error.ProgramError.{ProgramError}
+use Rattle.files.specs.declared.error.ProgramError.TheVariants as errors
+use Rattle.files.specs.Refusals.{Tried}
+use Rattle.files.specs.Files.{Named, IsRefused, Reads}
 use Rattle.views.specs.declared.error.ViewError.{ViewError}
 use Rattle.views.specs.declared.error.ViewError.TheVariants.{Program, NoSuchEvent, NotAPair}
 use Rattle.views.specs.declared.pair.Pair.{Pair}
 use Rattle.views.specs.declared.verdict.Verdict.{Verdict}
 use Rattle.views.specs.Answers.{told_of_witness, refusal_text}
-use Rattle.tasks.specs.Files.{is_schedule}
+use Rattle.files.specs.Files.{is_schedule}
 use Rattle.views.specs.Pairs.{pair_of}
-use Rattle.views.specs.Turning.{Shows}
+use Rattle.views.specs.Turning.{Origin, Shows}
+use Rattle.views.specs.Turning.Origin.{recorded, drawn}
 use Rattle.views.specs.Verdicts.{code_of}
 
 -- it closes a lane
@@ -38,27 +39,27 @@ abbrev pub has_closes : Plan → Bool
 has_closes plan = list_any (λ (c : Command). is_close c.action) plan.commands
 
 module _ {S : Type 0} (contents : S → Option (List ℕ)) (failures : S → ℕ) where
-  -- what is written for two events of a chart, with slots from `first` on: a witness, or none was found; or nothing,
-  -- where the chart is not possible, where there is no such pair, or where memory ran out
-  abbrev pub Finds : S → S → Result Verdict ViewError → Named → ℕ → List ℕ → ℕ → ℕ → Type 0
-  Finds old new (Err (Program errors.Memory)) named first instance e r = new ≡ old
-  Finds old new (Err (Program errors.Write)) named first instance e r =
+  -- what is written for two events of a chart: a witness, or none was found; or nothing, where the chart is not
+  -- possible, where there is no such pair, or where memory ran out
+  abbrev pub Finds : S → S → Result Verdict ViewError → Named → Origin → List ℕ → ℕ → ℕ → Type 0
+  Finds old new (Err (Program errors.Memory)) named origin instance e r = new ≡ old
+  Finds old new (Err (Program errors.Write)) named origin instance e r =
       (pair : Pair) × (pair_of named.0 named.1 instance e r ≡ Ok pair)
       × IsPossible (length named.1) (chart_lines named.1) × Shows contents failures old new
-      (Err (Program errors.Write)) named first pair
-  Finds old new (Err (Program error)) named first instance e r = IsRefused error named × (new ≡ old)
-  Finds old new (Err NoSuchEvent) named first instance e r = (pair_of named.0 named.1 instance e r ≡ Err NoSuchEvent)
+      (Err (Program errors.Write)) named origin pair
+  Finds old new (Err (Program error)) named origin instance e r = IsRefused error named × (new ≡ old)
+  Finds old new (Err NoSuchEvent) named origin instance e r = (pair_of named.0 named.1 instance e r ≡ Err NoSuchEvent)
       × (new ≡ old)
-  Finds old new (Err NotAPair) named first instance e r = (pair_of named.0 named.1 instance e r ≡ Err NotAPair)
+  Finds old new (Err NotAPair) named origin instance e r = (pair_of named.0 named.1 instance e r ≡ Err NotAPair)
       × (new ≡ old)
-  Finds old new done named first instance e r = (pair : Pair) × (pair_of named.0 named.1 instance e r ≡ Ok pair)
-      × IsPossible (length named.1) (chart_lines named.1) × Shows contents failures old new done named first pair
+  Finds old new done named origin instance e r = (pair : Pair) × (pair_of named.0 named.1 instance e r ≡ Ok pair)
+      × IsPossible (length named.1) (chart_lines named.1) × Shows contents failures old new done named origin pair
 
-  -- the same for two events of the chart that a schedule comes to, with slots from its own capacity on
+  -- the same for two events of the chart that a schedule comes to
   abbrev pub FindsOf : S → S → Result Verdict ViewError → Plan → List ℕ → ℕ → ℕ → Type 0
   FindsOf old new (Err (Program errors.Memory)) plan instance e r = new ≡ old
   FindsOf old new done plan instance e r = (o : OutcomeView) × IsOutcome plan o
-      × Finds old new done (o.names, o.chart) plan.capacity instance e r
+      × Finds old new done (o.names, o.chart) (recorded plan) instance e r
 
 -- the exit status, and what is told on standard error: where it was done, or the line of a refusal, of which a failed
 -- write may leave a beginning
@@ -90,7 +91,7 @@ module _ {S T : Type 0} (contents : S → Option (List ℕ)) (failures : S → �
   -- to a chart
   abbrev pub AnswersChart : S → S → T → T → ℕ → Result Named Fault → List ℕ → ℕ → ℕ → Type 0
   AnswersChart old new err_old err_new status said instance e r =
-      AnswersRead (λ named done. Finds contents failures old new done named 1 instance e r)
+      AnswersRead (λ named done. Finds contents failures old new done named drawn instance e r)
       (λ named. false) old new err_old err_new status said
 
   -- to a text of one kind or the other

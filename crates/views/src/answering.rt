@@ -1,14 +1,14 @@
 //! Refusals, and what is told beside an answer, as text on standard error.
 ghost use Rattle.std.specs.Prelude.{◌≡◌, IfErr, IfOk};
 ghost use Rattle.msc_text.specs.Writing.{Wrote, Adds};
-ghost use Rattle.tasks.specs.Refusals.{Tried};
+ghost use Rattle.files.specs.Refusals.{Tried};
 ghost use Rattle.views.specs.Answers.{told_of, enforced_text, told_of_closes, told_of_witness, refusal_text};
 ghost use Rattle.views.specs.Verdicts.{code_of};
 
 use crate::error::ViewError;
 use crate::verdict::Verdict;
+use files::refused_by;
 use msc_text::{Out, TextBuffer, WriteError};
-use tasks::refused_by;
 
 /// Prints the line of a refusal, and answers the exit status, which is 2 whether or not the line could be written.
 pub fn refused<V: Out>(error: &ViewError, err: &mut V) -> u8
@@ -16,7 +16,7 @@ pub fn refused<V: Out>(error: &ViewError, err: &mut V) -> u8
     ensures line { Tried V.contents V.failures err.old err.new (refusal_text error.now) }
 {
     match error {
-        ViewError::Program(cause) => tasks::refused(cause, err),
+        ViewError::Program(cause) => files::refused(cause, err),
         ViewError::NoSuchEvent => refused_by(b"F31 NoSuchEvent", None, err),
         ViewError::NotAPair => refused_by(b"F32 NotAPair", None, err),
         ViewError::ManySlots(slots) => refused_by(b"F33 ManySlots", Some(*slots), err),

@@ -1,6 +1,6 @@
 //! What the program refuses.
 
-use tasks::ProgramError;
+use files::ProgramError;
 use thiserror::Error;
 
 /// Why the program did not do what it was asked to: the first of these that applies.

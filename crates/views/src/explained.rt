@@ -2,7 +2,8 @@
 ghost use Rattle.std.specs.Prelude.{◌≡◌, ◌≤◌, length, IfOk};
 ghost use Rattle.chart.specs.declared.instance.TheConstants.{MAX_INSTANCES};
 ghost use Rattle.chart.specs.Charts.{chart_lines};
-ghost use Rattle.views.specs.Explaining.{IsPair, AreInOneRegion, AreRaceSayings, IsExplained, Explains};
+ghost use Rattle.views.specs.Explaining.{IsPair, AreInOneRegion, AreRaceSayings, OneExplanationLaw};
+ghost use Rattle.views.specs.Explaining.{IsExplained, Explains};
 
 use crate::error::ViewError;
 use crate::explaining::{OwnLine, chain_sayings, race_sayings};
@@ -12,9 +13,9 @@ use crate::verdict::Verdict;
 use causes::{past, shortest_chain};
 use chart::{Chart, Line, Names};
 use closure::Closure;
+use files::{ProgramError, closure_of};
 use msc_text::Out;
 use std::alloc::{AllocError, Global};
-use tasks::{ProgramError, closure_of};
 
 /// Whether the two events of a pair are in one coregion.
 pub(crate) fn are_in_one_region(lines: &[Line], pair: &Pair) -> bool
@@ -34,7 +35,8 @@ fn explain_race(
 ) -> Result<Vec<Saying>, AllocError>
     requires limit { length closure.now ≤ MAX_INSTANCES }
     requires pair { IsPair (chart_lines closure.now) pair.now }
-    ensures { IfOk result (λ sayings. AreRaceSayings (chart_lines closure.now) pair.now sayings.items) }
+    ensures { IfOk result (λ sayings. AreRaceSayings (length closure.now) (chart_lines closure.now) pair.now
+        sayings.items) }
 {
     let counts = past(closure, &pair.receive)?;
     let events = events_of(closure.lines(), pair.receive.instance);
@@ -57,7 +59,8 @@ fn explain(
 ) -> Result<(Verdict, Vec<Saying>), AllocError>
     requires limit { length closure.now ≤ MAX_INSTANCES }
     requires pair { IsPair (chart_lines closure.now) pair.now }
-    ensures { IfOk result (λ told. IsExplained (chart_lines closure.now) pair.now told.0 told.1.items) }
+    ensures { IfOk result (λ told. IsExplained (length closure.now) (chart_lines closure.now) pair.now told.0
+        told.1.items) }
 {
     match shortest_chain(alloc, closure, &pair.earlier, &pair.receive)? {
         Some(links) => {
@@ -97,3 +100,8 @@ pub(crate) fn why_in<W: Out>(
         Err(_) => Err(ViewError::Program(ProgramError::Write)),
     }
 }
+
+/// What explains a race is one: the numbers that are told are the only ones.
+pub fn one_explanation_law()
+    ensures { OneExplanationLaw }
+{}

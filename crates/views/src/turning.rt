@@ -3,7 +3,7 @@ ghost use Rattle.std.specs.Prelude.{◌≡◌, ◌≤◌, ℕ, length};
 ghost use Rattle.closure.specs.Faults.{place_of};
 ghost use Rattle.chart.specs.Charts.{chart_lines};
 ghost use Rattle.views.specs.Explaining.{IsPair};
-ghost use Rattle.views.specs.Turning.{IsAskedFor, Writes, Shows};
+ghost use Rattle.views.specs.Turning.{Origin, first_of, IsKeptFrom, IsAskedFor, Writes, Shows};
 ghost use Rattle.turned_runs.specs.Turns.{IsTurned};
 
 use crate::error::ViewError;
@@ -11,9 +11,9 @@ use crate::explained::are_in_one_region;
 use crate::pair::{Asked, Pair, pair_in};
 use crate::verdict::Verdict;
 use chart::{Chart, Line, Names};
+use files::{ProgramError, closure_of};
 use msc_text::Out;
 use std::alloc::Global;
-use tasks::{ProgramError, closure_of};
 use turned_runs::{Shown, Turned, show};
 
 /// Writes the schedule of a run that was found, and answers what the pair is then. F33: it needs more than 64 slots.
@@ -50,7 +50,7 @@ pub(crate) fn pair_of_possible(
     pair_in(names, chart.lines(), asked)
 }
 
-/// Writes what was found for a pair of the chart, where slots are counted from so many on.
+/// Writes what was found for a pair of the chart.
 pub(crate) fn write_turned<W: Out>(
     alloc: Global,
     names: &Names,
@@ -63,9 +63,10 @@ pub(crate) fn write_turned<W: Out>(
     requires pair { IsPair (chart_lines chart.now) pair.now }
     requires turned { (first : ℕ) × (1 ≤ first) × IsTurned (length names.now) first (chart_lines chart.now)
         (place_of pair.now.earlier) (place_of pair.now.receive) turned.now }
-    ensures { (first : ℕ) → 1 ≤ first → IsTurned (length names.now) first (chart_lines chart.now)
-        (place_of pair.now.earlier) (place_of pair.now.receive) turned.now
-        → Shows W.contents W.failures out.old out.new result (names.now, chart.now) first pair.now }
+    ensures { (origin : Origin) → 1 ≤ first_of origin → IsTurned (length names.now) (first_of origin)
+        (chart_lines chart.now) (place_of pair.now.earlier) (place_of pair.now.receive) turned.now
+        → IsKeptFrom (names.now, chart.now) origin pair.now turned.now
+        → Shows W.contents W.failures out.old out.new result (names.now, chart.now) origin pair.now }
 {
     let lines = chart.lines();
     match show(alloc, names, turned) {

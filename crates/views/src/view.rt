@@ -1,6 +1,6 @@
 //! What the program does with the bytes of a file.
 ghost use Rattle.std.specs.Prelude.{◌≡◌, true, false};
-ghost use Rattle.tasks.specs.Files.{is_schedule};
+ghost use Rattle.files.specs.Files.{is_schedule};
 ghost use Rattle.views.specs.Views.{Whys, AnswersWhy};
 
 use crate::answering::answered;
@@ -8,10 +8,10 @@ use crate::error::ViewError;
 use crate::explained::why_in;
 use crate::pair::Asked;
 use crate::verdict::Verdict;
+use files::{ProgramError, chart_in, is_schedule, schedule_in};
 use msc_text::Out;
 use replayer::replay;
 use std::alloc::Global;
-use tasks::{ProgramError, chart_in, is_schedule, schedule_in};
 
 /// Explains two events of what the schedule comes to that the text says.
 fn why_schedule<W: Out>(

@@ -4,6 +4,7 @@ ghost use Rattle.schedule.specs.Reading.{schedule_of};
 ghost use Rattle.msc_reader.specs.Reading.{chart_of};
 ghost use Rattle.views.specs.Witnessing.{is_close, has_closes, Finds, FindsOf, AnswersSchedule, AnswersChart};
 ghost use Rattle.views.specs.Witnessing.{AnswersWitness};
+ghost use Rattle.views.specs.Turning.Origin.{drawn};
 
 use crate::answering::{refused, witnessed};
 use crate::error::ViewError;
@@ -11,11 +12,11 @@ use crate::pair::Asked;
 use crate::turning::{pair_of_possible, write_turned};
 use crate::verdict::Verdict;
 use chart::{Chart, Names};
+use files::{ProgramError, chart_in, is_schedule, schedule_in};
 use msc_text::Out;
 use replayer::replay;
 use schedule::{Action, Schedule};
 use std::alloc::Global;
-use tasks::{ProgramError, chart_in, is_schedule, schedule_in};
 use turned_runs::{overtake_of_chart, overtake_of_schedule};
 
 fn is_close(action: &Action) -> bool
@@ -47,8 +48,8 @@ fn witness_chart<W: Out>(
     out: &mut W,
 ) -> Result<Verdict, ViewError>
     requires { length names.now ≡ length chart.now }
-    ensures { Finds W.contents W.failures out.old out.new result (names.now, chart.now) 1 asked.now.instance.now
-        asked.now.earlier asked.now.receive }
+    ensures { Finds W.contents W.failures out.old out.new result (names.now, chart.now) drawn
+        asked.now.instance.now asked.now.earlier asked.now.receive }
 {
     let pair = pair_of_possible(alloc, names, chart, asked)?;
     let Ok(turned) = overtake_of_chart(alloc, chart, pair.receive, pair.earlier) else {
@@ -57,7 +58,8 @@ fn witness_chart<W: Out>(
     write_turned(alloc, names, chart, &turned, &pair, out)
 }
 
-/// The same for two events of the chart that a schedule comes to. What needn't move stays in the recorded order.
+/// The same for two events of the chart that a schedule comes to. What needn't come with the receive stays in the
+/// recorded order.
 fn witness_schedule<W: Out>(
     alloc: Global,
     schedule: &Schedule,

@@ -1,10 +1,11 @@
 //! Runs of boards on threads, with their audits.
-ghost use Rattle.instances.specs.Whole.{IsGathered};
+ghost use Rattle.std.specs.Prelude.{IfOk};
+ghost use Rattle.instances.specs.Laws.{IsAccepted};
 
-use agreement::audit_run;
 use anyhow::bail;
 use behaviour::Behaviour;
 use board::{Board, Gathered};
+use closure::audit;
 use instances::{End, Gate, Run, run};
 use std::alloc::Global;
 use std::thread::Threads;
@@ -47,16 +48,16 @@ impl Passed {
     }
 }
 
-/// The run, whose reports are audited. Each instance has stopped in it.
+/// The run, whose chart and reports an audit accepted. Each instance has stopped in it.
 fn audited(alloc: Global, ran: Run) -> anyhow::Result<Run>
-    requires gathered { IsGathered ran }
+    ensures { IfOk result (λ ran. IsAccepted ran.gathered) }
 {
     for end in ran.ends.iter() {
         if *end != End::Stopped {
             bail!("an instance didn't stop");
         }
     }
-    match audit_run(alloc, &ran) {
+    match audit(alloc, &ran.gathered.chart, ran.gathered.reports.as_slice()) {
         Ok(()) => Ok(ran),
         Err(_) => bail!("the audit doesn't accept it"),
     }

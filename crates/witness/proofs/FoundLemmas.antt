@@ -1,5 +1,5 @@
 -- What is found for a receive and another step of a run.
-use Rattle.std.proofs.Common.{◌≡◌, ℕ, ◌+◌, ◌≤◌, ◌⊎◌, inl, true, false, List, [], ◌∷◌, length, take, drop, Some, refl, sym, ap, ap₂, ◌∙◌, subst, subst₂, arith}
+use Rattle.std.proofs.Common.{◌≡◌, ℕ, ◌+◌, ◌≤◌, ◌⊎◌, inl, true, false, not, List, [], ◌∷◌, ◌++◌, length, take, drop, Some, refl, sym, ap, ap₂, ◌∙◌, subst, subst₂, arith}
 use Rattle.std.specs.Prelude.{slice_get, slice_index_or}
 use Rattle.std.proofs.lemmas.Option.{slice_get_read, slice_get_within, same_Some}
 use Rattle.std.proofs.lemmas.Bool.{leb-true, le-leb, false≢true}
@@ -20,7 +20,9 @@ use Rattle.real_races.proofs.Slots.{is_run, comes_first_there, wants_up}
 use Rattle.witness.specs.declared.step.Step.{Step}
 use Rattle.witness.specs.declared.step.Step.TheVariants.{Send, Receive}
 use Rattle.witness.specs.declared.turned.Turned.{Turned}
-use Rattle.witness.specs.Steps.{AreTurned, occurrence_of, after, history_of, turn_of, place_after, is_within, with_step, nothing}
+use Rattle.witness.specs.Orders.{picked, IsInOrder}
+use Rattle.witness.specs.Steps.{AreTurned, occurrence_of, after, history_of, turn_of, place_after, is_within, with_step, nothing, comes}
+use Rattle.witness.proofs.PickLemmas.{comes-is}
 use Rattle.witness.proofs.StepLemmas.{after-append, history-next}
 
 -- a history goes on by steps
@@ -88,6 +90,13 @@ module _ (n k : ℕ) (steps : List Step) (legal : IsLegal n k (history_of steps)
         let s = its_send i a b c is in
         sound n k (history_of steps) legal s.0 (next_place (history_of (take i steps)) a) s.1 (place_after steps j x) (within-at its_wanted j x at_j (subst (λ w. is_within w x (turn_of (history_of (take j steps)) x) ≡ true) same_wanted within))
 
+    -- the other way round: the receive, and what is before it, are wanted
+    pub wanted_up : (place_after steps j x ≡ place_after steps i (Receive a b c)) ⊎ BeforeWithin k (chart_of (history_of steps)) (place_after steps j x) (place_after steps i (Receive a b c)) → is_within all_wanted x (turn_of (history_of (take j steps)) x) ≡ true
+    wanted_up up =
+        let s = its_send i a b c is in
+        subst (λ w. is_within w x (turn_of (history_of (take j steps)) x) ≡ true) (sym same_wanted)
+        (at-within its_wanted j x at_j (wants_up n k (history_of steps) legal s.0 (next_place (history_of (take i steps)) a) s.1 (place_after steps j x) up))
+
     pub found_run : is_within all_wanted x (turn_of (history_of (take j steps)) x) ≡ false → (run : List Step) → history_of run ≡ parted all_wanted.sends all_wanted.receives (history_of steps) (history_of steps)
         → IsRunWithin n k (chart_of (history_of steps)) (history_of run) × IsOvertaken (chart_of (history_of steps)) (history_of run) (place_after steps j x) (place_after steps i (Receive a b c))
     found_run outside run made =
@@ -121,3 +130,18 @@ with_step-at k x y t u same turn = ap₂ (λ a b. with_step k nothing a b) same 
 
 pub is_within-at : (w v : Wanted) (x y : Step) (t u : ℕ) → w ≡ v → x ≡ y → t ≡ u → is_within w x t ≡ is_within v y u
 is_within-at w v x y t u wants same turn = ap₂ (λ a b. is_within w a b) same turn ∙ ap (λ a. is_within a y u) wants
+
+-- the run has what is wanted first, so its steps are in that order
+pub in_order : (n k : ℕ) (steps : List Step) → IsLegal n k (history_of steps) → (i a b c : ℕ) → slice_get steps i ≡ Some (Receive a b c) → (w : Wanted) → w ≡ wanted k (history_of steps) (with_step k nothing (Receive a b c) (turn_of (history_of (take i steps)) (Receive a b c))) → (run : List Step)
+    → run ≡ picked (comes w steps) steps (length steps) ++ picked (λ j. not (comes w steps j)) steps (length steps) → IsInOrder k steps (place_after steps i (Receive a b c)) run
+in_order n k steps legal i a b c is w wants run made = record {
+  first = comes w steps;
+  right = λ j x at_j.
+      let here = comes-is w steps j x (turn_of (history_of (take j steps)) x) at_j refl (is_within w x (turn_of (history_of (take j steps)) x)) refl in
+      let told : comes w steps j ≡ is_within (wanted k (history_of steps) (with_step k nothing (Receive a b c) (turn_of (history_of (take i steps)) (Receive a b c)))) x (turn_of (history_of (take j steps)) x) =
+      here ∙ ap (λ v. is_within v x (turn_of (history_of (take j steps)) x)) wants in (
+        λ its. found_none n k steps legal i a b c is j x at_j (sym told ∙ its),
+        λ up. told ∙ wanted_up n k steps legal i a b c is j x at_j up,
+      );
+  order = made;
+}

@@ -1,4 +1,5 @@
 pub mod FoundLemmas
+pub mod PickLemmas
 pub mod StepLemmas
 pub mod TableLemmas
 pub mod WalkLemmas

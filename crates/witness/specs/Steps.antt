@@ -117,3 +117,11 @@ abbrev pub IsFound : ℕ → ℕ → List Occurrence → Place → Place → Opt
 IsFound n k h e r None = (e ≡ r) ⊎ BeforeWithin k (chart_of h) e r
 IsFound n k h e r (Some run) = IsRunWithin n k (chart_of h) (history_of run)
     × IsOvertaken (chart_of h) (history_of run) e r
+
+-- the step of this number is among what is wanted
+abbrev pub comes_so : Wanted → List Step → ℕ → Option Step → Bool
+comes_so w steps i None = false
+comes_so w steps i (Some x) = is_within w x (turn_of (history_of (take i steps)) x)
+
+abbrev pub comes : Wanted → List Step → ℕ → Bool
+comes w steps i = comes_so w steps i (slice_get steps i)

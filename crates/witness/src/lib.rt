@@ -6,7 +6,8 @@
 //!
 //! What is promised, unless an allocation is refused: the answer is a run within the same slots in which the receive
 //! overtakes the event, or it is none, and then the event is before the receive where lanes have so many slots, so that
-//! no such run has them the other way round (`real_races::slots_law`).
+//! no such run has them the other way round (`real_races::slots_law`). The run has first the receive and what is before
+//! it in this sense, and then the others, both in the order that they had.
 #![tactic(auto)]
 
 mod counts;

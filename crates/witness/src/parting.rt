@@ -1,7 +1,8 @@
 //! A run with what has to come put first.
-ghost use Rattle.std.specs.Prelude.{◌≡◌, length, IfOk, All};
+ghost use Rattle.std.specs.Prelude.{◌≡◌, ◌++◌, length, not, IfOk, All};
 ghost use Rattle.real_races.specs.Walks.{Wanted, parted};
-ghost use Rattle.witness.specs.Steps.{history_of, AreTurned, StandFor, IsOutside};
+ghost use Rattle.witness.specs.Orders.{picked};
+ghost use Rattle.witness.specs.Steps.{history_of, AreTurned, StandFor, IsOutside, comes};
 
 use crate::needs::Needs;
 use crate::step::Step;
@@ -20,6 +21,9 @@ pub fn part(
     requires { AreTurned steps.now (length steps.now) turned.now }
     ensures history { IfOk result (λ run. (w : Wanted) → StandFor needs.now.sends needs.now.receives needs.now.lines w
         → history_of run.items ≡ parted w.sends w.receives (history_of steps.now) (history_of steps.now)) }
+    ensures order { IfOk result (λ run. (w : Wanted) → StandFor needs.now.sends needs.now.receives needs.now.lines w
+        → run.items ≡ picked (comes w steps.now) steps.now (length steps.now)
+        ++ picked (λ i. not (comes w steps.now i)) steps.now (length steps.now)) }
     ensures outside { IfOk result (λ run. All IsOutside run.items) }
 {
     let mut first = Vec::new(alloc);

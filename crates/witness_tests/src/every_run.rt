@@ -2,13 +2,13 @@
 
 use crate::recorded::{event_no, found, steps_of};
 use crate::runs::{Moved, Told, as_other_run, events_of, is_witness, overtakes};
-use chart::{Chart, EventNo, Report};
+use chart::{Chart, EventNo, MAX_CAPACITY, Report};
 use closure::Closure;
 use plain_replayer::plain_replay;
 use rand_core::SeedableRng;
 use rand_core::utils::NextWord;
 use rand_pcg::Lcg64Xsh32;
-use schedule::{MAX_CAPACITY, Schedule};
+use schedule::Schedule;
 use std::alloc::{AllocError, Global};
 use std::process::Abort;
 use std::test::Fail;

@@ -2,12 +2,12 @@
 
 use crate::recorded::{found, number_of, steps_of};
 use crate::runs::is_witness;
-use chart::Report;
+use chart::{MAX_CAPACITY, Report};
 use plain_replayer::plain_replay;
 use rand_core::SeedableRng;
 use rand_core::utils::NextWord;
 use rand_pcg::Lcg64Xsh32;
-use schedule::{MAX_CAPACITY, Schedule};
+use schedule::Schedule;
 use std::alloc::{AllocError, Global};
 use std::process::Abort;
 use std::test::Fail;

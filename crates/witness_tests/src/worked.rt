@@ -3,8 +3,9 @@
 use crate::every_run::finds_all;
 use crate::recorded::{found, number_of, steps_of};
 use crate::runs::is_witness;
+use chart::MAX_CAPACITY;
 use plain_replayer::plain_replay;
-use schedule::{MAX_CAPACITY, Schedule};
+use schedule::Schedule;
 use std::alloc::Global;
 use std::process::Abort;
 use std::test::Fail;

@@ -1,6 +1,6 @@
-use Rattle.std.proofs.Common.{subst, ◌∙◌, ap, sym}
+use Rattle.std.proofs.Common.{subst}
 use Rattle.causes.specs.Reaching.{TellsSteps, IsNearest}
-use Rattle.causes.proofs.Nearest.{nearest-other, nearest-first, nearest-fewer, nearest-as_before}
+use Rattle.causes.proofs.Nearest.{nearest-other, nearest-fewer, nearest-as_before}
 use Rattle.causes.proofs.chaining.better.Goals as goal
 
 pub returns-in-None : goal.returns-in-None

@@ -1,6 +1,6 @@
 use Rattle.std.proofs.Common.{sym, subst}
-use Rattle.tasks.specs.Tasks.{Named}
-use Rattle.tasks.specs.Files.{SaysSo}
+use Rattle.files.specs.Files.{Named}
+use Rattle.files.specs.Files.{SaysSo}
 use Rattle.formats.specs.Drawing.{Draws}
 use Rattle.formats.proofs.DrawingLemmas.{done_from}
 use Rattle.formats.proofs.drawing.draw_chart_in.Goals as goal

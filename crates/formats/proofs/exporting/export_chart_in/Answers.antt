@@ -1,6 +1,6 @@
 use Rattle.std.proofs.Common.{sym, subst}
-use Rattle.tasks.specs.Tasks.{Named}
-use Rattle.tasks.specs.Files.{SaysSo}
+use Rattle.files.specs.Files.{Named}
+use Rattle.files.specs.Files.{SaysSo}
 use Rattle.formats.specs.Exporting.{Exports}
 use Rattle.formats.proofs.DrawingLemmas.{done_from}
 use Rattle.formats.proofs.exporting.export_chart_in.Goals as goal

@@ -1,7 +1,7 @@
 use Rattle.std.proofs.Common.{ℕ, List, refl, sym, subst}
 use Rattle.chart.specs.Charts.{LineView}
-use Rattle.tasks.specs.Tasks.{Named}
-use Rattle.tasks.specs.Files.{SaysSo}
+use Rattle.files.specs.Files.{Named}
+use Rattle.files.specs.Files.{SaysSo}
 use Rattle.formats.specs.Exporting.{Exports}
 use Rattle.formats.proofs.DrawingLemmas.{done_from}
 use Rattle.formats.proofs.exporting.export_schedule.Goals as goal

@@ -1,6 +1,6 @@
 use Rattle.std.proofs.Common.{◌≡◌, ◌+◌, length, ap, ◌∙◌}
 use Rattle.line_recorder.specs.Recorders.{after_send}
-use Rattle.line_recorder.proofs.EntryLemmas.{length-with_entry}
+use Rattle.clock.proofs.EntryLemmas.{length-with_entry}
 use Rattle.recorder_pair.proofs.Partnering.{sent, received}
 use Rattle.recorder_pair.proofs.pair.pass.Goals as goal
 

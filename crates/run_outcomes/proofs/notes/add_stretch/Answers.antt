@@ -1,7 +1,7 @@
-use Rattle.std.proofs.Common.{replicate, List, sym, subst}
+use Rattle.std.proofs.Common.{List, sym, subst}
 use Rattle.instances.specs.declared.turn.Turn.{Turn}
 use Rattle.run_outcomes.specs.Passing.{Passes}
-use Rattle.run_outcomes.proofs.Passing.{passes-none, passes-then, replicate-more}
+use Rattle.run_outcomes.proofs.Passing.{passes-then, replicate-more}
 use Rattle.run_outcomes.proofs.notes.add_stretch.Goals as goal
 
 pub loop-preserved : goal.loop-preserved

@@ -1,5 +1,6 @@
-use Rattle.std.proofs.Common.{◌≡◌, length, refl, ap, ◌∙◌}
-use Rattle.run_outcomes.proofs.Boards.{is_run_of, fit_for, unfit_for}
+use Rattle.std.proofs.Common.{◌≡◌, length, sym, ap, ◌∙◌, arith}
+use Rattle.run_outcomes.specs.OwnScripts.{IsTurns}
+use Rattle.run_outcomes.proofs.Boards.{is_run_of, fit_for, unfit_for, fit_alone}
 use Rattle.run_outcomes.proofs.running.run_schedule.Goals as goal
 
 pub returns-in-Ok-run : goal.returns-in-Ok-run
@@ -24,14 +25,15 @@ returns-in-Ok-run g c =
       err = tt;
     }
 
-pub returns-in-Err-Unfit-clause-err : goal.returns-in-Err-Unfit-clause-err
-returns-in-Err-Unfit-clause-err g c =
+pub unreachable-requires : goal.unreachable-requires
+unreachable-requires g c =
     let plan = c.args.schedule.now in
     let size : c.in-Ok.board.board.size ≡ length plan.names =
     c.in-Ok.ensures.made.size ∙ c.len-instances.ensures.value ∙ ap length c.names.ensures.value in
-    let unrun = rw c.in-Err-Unfit.field-0-is at c.in-Err-Unfit.ensures.err in (
-      refl,
-      unrun.1,
-      unfit_for plan c.in-Ok-posts.posts.items c.in-Ok.board.board (length c.args.behaviours.items) c.args.turns
-          c.in-Ok-posts.ensures.ok.1 size c.names.ensures.plan unrun.2,
-    )
+    let unrun = rw c.in-Err-Unfit.field-0-is at c.in-Err-Unfit.ensures.err in
+    let unfit = unfit_for plan c.in-Ok-posts.posts.items c.in-Ok.board.board (length c.args.behaviours.items) c.args.turns
+    c.in-Ok-posts.ensures.ok.1 size c.names.ensures.plan unrun.2 in
+    let as_many = sym c.args.behaviours.ok.0 ∙ sym c.len.ensures ∙ c.if-len-instances.false ∙ c.len-instances.ensures.value
+    ∙ ap length c.names.ensures.value in
+    let some : IsTurns c.args.turns = (omega arith, c.if-turns-gt-MAX_TURNS.false) in
+    fit_alone plan (length c.args.behaviours.items) c.args.turns as_many some unfit

@@ -5,8 +5,8 @@ use Rattle.instances.proofs.Boards.{one-board-each}
 use Rattle.timed_requests.proofs.by_hand.exchange.Goals as goal
 
 -- each job gives its post back at its board
-pub audited-requires : goal.audited-requires
-audited-requires g c =
+pub gathered-requires : goal.gathered-requires
+gathered-requires g c =
     let posts = c.in_ok-posts.posts in
     let left = c.in_ok-left.left in
     one-board-each posts.items left.items (sym left.ok.0 ∙ c.in_ok-left.ensures.len ∙ posts.ok.0)

@@ -3,6 +3,7 @@ use Rattle.chart.specs.declared.instance.TheConstants.{MAX_INSTANCES}
 use Rattle.chart.specs.Charts.{chart_lines}
 use Rattle.closure.proofs.RunLemmas.{left}
 use Rattle.witness.specs.Steps.{history_of, HavePassed}
+use Rattle.turned_runs.specs.Runs.{IsInTurn, last_line}
 use Rattle.turned_runs.proofs.GoingOn.{IsGoing}
 use Rattle.turned_runs.proofs.running.run_within.Given as goal
 
@@ -13,6 +14,8 @@ invariant-loop-step l =
       passed : HavePassed l.going.passed.sends l.going.passed.receives (history_of l.steps.items);
       whole : length l.going.made ≡ MAX_INSTANCES;
       hint : l.line < length l.lines;
+      last : l.line ≡ last_line (history_of l.steps.items);
+      turn : IsInTurn (chart_lines l.lines) (length l.lines) l.slots (history_of l.steps.items);
     }
 
 abbrev pub decreases-loop-step : goal.decreases-loop-step

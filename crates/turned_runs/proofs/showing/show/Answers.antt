@@ -2,12 +2,14 @@ use Rattle.std.proofs.Common.{◌≡◌, length, sym, ap, ◌∙◌, subst}
 use Rattle.std.specs.Prelude.{All}
 use Rattle.schedule.specs.Plans.{Plan}
 use Rattle.witness.specs.Steps.{history_of, IsOutside}
+use Rattle.turned_runs.specs.declared.scheduling.TheConstants.{FIRST_LINE}
+use Rattle.turned_runs.specs.Schedules.{commands_of}
 use Rattle.turned_runs.specs.Turns.{IsLeastTurn}
 use Rattle.turned_runs.proofs.TurnLemmas.{shows_turn}
 use Rattle.turned_runs.proofs.showing.show.Goals as goal
 
-pub returns-in_ok-schedule-in-Some : goal.returns-in_ok-schedule-in-Some
-returns-in_ok-schedule-in-Some c = λ first lines e r one found.
+pub returns-in_ok-schedule-in-Some-clause-shown : goal.returns-in_ok-schedule-in-Some-clause-shown
+returns-in_ok-schedule-in-Some-clause-shown c = λ first lines e r one found.
     let n = length c.args.names.now in
     let w = rw c.in-Run.is at found in
     let plan = c.in_ok-schedule-in-Some.schedule in
@@ -18,3 +20,9 @@ returns-in_ok-schedule-in-Some c = λ first lines e r one found.
       shows_turn n c.in-Run.slots lines e r plan c.in-Run.steps.items capacity (means.0 ∙ ap history_of c.as_slice.ensures.value) means.1 w.0,
       subst (λ k. IsLeastTurn n first k lines e r) (sym capacity) w.1,
     )
+
+pub returns-in_ok-schedule-in-Some-clause-steps : goal.returns-in_ok-schedule-in-Some-clause-steps
+returns-in_ok-schedule-in-Some-clause-steps c =
+    let plan = c.in_ok-schedule-in-Some.schedule in
+    let parts = c.in_ok-schedule-in-Some.ensures.parts in
+    rw c.in-Run.is (ap (λ (p : Plan). p.capacity) parts ∙ c.in-Some.ensures.1, ap (λ (p : Plan). p.commands) parts ∙ ap (commands_of FIRST_LINE) c.as_slice.ensures.value)

@@ -1,9 +1,10 @@
-use Rattle.std.proofs.Common.{sym, subst}
-use Rattle.chart.specs.Histories.{chart_of}
+use Rattle.std.proofs.Common.{ℕ, sym, subst}
+use Rattle.std.proofs.lemmas.Result.{IfOk-weaker}
+use Rattle.chart.specs.Histories.{chart_of, IsLegal}
 use Rattle.chart.specs.Charts.{IsReceiveFrom}
 use Rattle.chart.proofs.Belongs.{IsEvent-from_event}
 use Rattle.witness.specs.Steps.{history_of}
-use Rattle.turned_runs.specs.Turns.{place_of}
+use Rattle.turned_runs.specs.Turns.{place_of, IsKept}
 use Rattle.turned_runs.proofs.StepsMade.{receive-by}
 use Rattle.turned_runs.proofs.turning.overtake_in_run.Goals as goal
 
@@ -17,3 +18,10 @@ overtake_of_run-requires-clause-receive c =
     let its = c.number_of-receive.ensures in
     receive-by c.args.steps.now c.number_of-receive.result c.requires.receive.0 its.0 its.1
     (subst (IsReceiveFrom (chart_of (history_of c.args.steps.now)) c.requires.receive.0) (sym its.2) c.requires.receive.1)
+
+pub returns-clause-order : goal.returns-clause-order
+returns-clause-order c =
+    let steps = c.args.steps.now in
+    let its = c.number_of-receive.ensures in
+    IfOk-weaker c.overtake_of_run.result _ (λ turned. (n : ℕ) → IsLegal n c.args.slots (history_of steps) → IsKept steps (place_of c.args.receive) turned)
+    (λ turned kept n legal. subst (λ r. IsKept steps r turned) its.2 (kept n its.0 legal its.1)) c.overtake_of_run.ensures.order

@@ -1,12 +1,14 @@
-use Rattle.std.proofs.Common.{length, sym, subst}
+use Rattle.std.proofs.Common.{ℕ, List, length, sym, subst}
 use Rattle.std.proofs.Math.Path.{fun_ext}
 use Rattle.std.proofs.lemmas.Result.{IfOk-weaker}
 use Rattle.chart.specs.Charts.{chart_lines, IsReceiveFrom}
 use Rattle.chart.specs.Histories.{chart_of, IsLegal}
 use Rattle.chart.specs.Places.{IsEvent}
+use Rattle.witness.specs.declared.step.Step.{Step}
 use Rattle.witness.specs.Steps.{history_of}
 use Rattle.turned_runs.specs.declared.turning.Turned.{Turned}
-use Rattle.turned_runs.specs.Turns.{place_of, IsTurned}
+use Rattle.turned_runs.specs.Runs.{IsLeastRun}
+use Rattle.turned_runs.specs.Turns.{place_of, IsTurned, IsKept}
 use Rattle.turned_runs.proofs.TurnLemmas.{turned_of_drawn}
 use Rattle.turned_runs.proofs.turning.overtake_of_chart.Goals as goal
 
@@ -27,8 +29,8 @@ overtake_in_run-requires-clause-earlier c =
     subst (λ steps. IsEvent (chart_of (history_of steps)) (place_of c.args.earlier)) (sym c.as_slice.ensures.value)
     (subst (λ d. IsEvent d (place_of c.args.earlier)) (sym (fun_ext c.in_ok-base.ensures.drawn.chart)) c.requires.earlier)
 
-pub returns : goal.returns
-returns c =
+pub returns-clause-turned : goal.returns-clause-turned
+returns-clause-turned c =
     let n = length c.args.chart.now in
     let k = c.in_ok-base.base.slots in
     let lines = chart_lines c.args.chart.now in
@@ -37,4 +39,13 @@ returns c =
     let steps = c.in_ok-base.base.steps.items in
     IfOk-weaker _ _ (IsTurned n 1 lines e r)
     (λ (turned : Turned) found. turned_of_drawn n k lines e r steps turned c.in_ok-base.ensures (found n c.in_ok-base.ensures.drawn.legal))
-    (rw c.as_slice.ensures.value at c.overtake_in_run.ensures)
+    (rw c.as_slice.ensures.value at c.overtake_in_run.ensures.turned)
+
+pub returns-clause-order : goal.returns-clause-order
+returns-clause-order c =
+    let n = length c.args.chart.now in
+    let k = c.in_ok-base.base.slots in
+    let steps = c.in_ok-base.base.steps.items in
+    IfOk-weaker _ _ (λ (turned : Turned). (l : ℕ) × (run : List Step) × IsLeastRun n l (chart_lines c.args.chart.now) run × IsKept run (place_of c.args.receive) turned)
+    (λ (turned : Turned) kept. (k, steps, c.in_ok-base.ensures, kept n c.in_ok-base.ensures.drawn.legal))
+    (rw c.as_slice.ensures.value at c.overtake_in_run.ensures.order)

@@ -4,6 +4,7 @@ use Rattle.chart.specs.declared.line.TheConstants.{MAX_EVENTS}
 use Rattle.chart.specs.Histories.{chart_of, IsLegal}
 use Rattle.real_races.specs.OtherRuns.{CanBeOvertakenWithin}
 use Rattle.witness.specs.declared.step.Step.{Step}
+use Rattle.witness.specs.Orders.{IsInOrder}
 use Rattle.witness.specs.Steps.{history_of, place_after}
 use Rattle.turned_runs.specs.Turns.{TurnsRound}
 use Rattle.turned_runs.proofs.turning.overtake_of_run.Given as goal
@@ -14,6 +15,7 @@ invariant-loop-least l =
       begun : l.slots ≤ l.least;
       order : l.least ≤ l.most;
       limit : l.most ≤ MAX_EVENTS;
+      kept : (n : ℕ) (y : Step) → IsLegal n l.slots (history_of l.steps) → slice_get l.steps l.receive ≡ Some y → IsInOrder l.most l.steps (place_after l.steps l.receive y) l.run.items;
       found : (n : ℕ) (x y : Step) → IsLegal n l.slots (history_of l.steps) → slice_get l.steps l.earlier ≡ Some x → slice_get l.steps l.receive ≡ Some y → TurnsRound n l.most (chart_of (history_of l.steps)) (place_after l.steps l.earlier x) (place_after l.steps l.receive y) l.run.items;
       none : (n : ℕ) (x y : Step) → IsLegal n l.slots (history_of l.steps) → slice_get l.steps l.earlier ≡ Some x → slice_get l.steps l.receive ≡ Some y
           → (k : ℕ) → l.slots ≤ k → k < l.least → CanBeOvertakenWithin n k (chart_of (history_of l.steps)) (place_after l.steps l.earlier x) (place_after l.steps l.receive y) → ⊥;

@@ -3,7 +3,7 @@ use Rattle.chart.specs.Charts.{IsReceiveFrom}
 use Rattle.chart.specs.Histories.{chart_of, IsLegal}
 use Rattle.chart.specs.Places.{IsEvent}
 use Rattle.witness.specs.Steps.{history_of}
-use Rattle.turned_runs.specs.Turns.{place_of, IsTurned}
+use Rattle.turned_runs.specs.Turns.{place_of, IsTurned, IsKept}
 use Rattle.turned_runs.proofs.TurnLemmas.{recorded_chart}
 use Rattle.turned_runs.proofs.turning.overtake_of_schedule.Goals as goal
 
@@ -25,8 +25,8 @@ overtake_in_run-requires-clause-earlier c =
     let whole = recorded_chart c.args.schedule.now c.in_ok-steps.steps.items c.in_ok-steps.ensures in
     subst (λ steps. IsEvent (chart_of (history_of steps)) e) (sym c.as_slice.ensures.value) (subst (λ d. IsEvent d e) (sym whole) c.requires.earlier)
 
-pub returns : goal.returns
-returns c =
+pub returns-clause-turned : goal.returns-clause-turned
+returns-clause-turned c =
     let plan = c.args.schedule.now in
     let n = length plan.names in
     let e = place_of c.args.earlier in
@@ -34,5 +34,12 @@ returns c =
     let turned = c.in_ok-turned.turned in
     let slots = c.slots-slots.ensures.value ∙ c.capacity.ensures in
     let legal = subst₂ (λ k steps. IsLegal n k (history_of steps)) (sym slots) (sym c.as_slice.ensures.value) c.in_ok-steps.ensures.legal in
-    let found = subst₂ (λ k steps. IsTurned n k (chart_of (history_of steps)) e r turned) slots c.as_slice.ensures.value (c.in_ok-turned.ensures n legal) in
+    let found = subst₂ (λ k steps. IsTurned n k (chart_of (history_of steps)) e r turned) slots c.as_slice.ensures.value (c.in_ok-turned.ensures.turned n legal) in
     subst (λ d. IsTurned n plan.capacity d e r turned) (recorded_chart plan c.in_ok-steps.steps.items c.in_ok-steps.ensures) found
+
+pub returns-clause-order : goal.returns-clause-order
+returns-clause-order c =
+    let n = length c.args.schedule.now.names in
+    let slots = c.slots-slots.ensures.value ∙ c.capacity.ensures in
+    let legal = subst₂ (λ k steps. IsLegal n k (history_of steps)) (sym slots) (sym c.as_slice.ensures.value) c.in_ok-steps.ensures.legal in
+    (c.in_ok-steps.steps.items, c.in_ok-steps.ensures, subst (λ steps. IsKept steps (place_of c.args.receive) c.in_ok-turned.turned) c.as_slice.ensures.value (c.in_ok-turned.ensures.order n legal))

@@ -1,5 +1,5 @@
 use Rattle.std.proofs.Common.{sym, subst}
-use Rattle.tasks.specs.Refusals.{Tried}
+use Rattle.files.specs.Refusals.{Tried}
 use Rattle.views.specs.declared.error.ViewError.{ViewError}
 use Rattle.views.specs.Answers.{refusal_text}
 use Rattle.views.proofs.answering.refused.Goals as goal

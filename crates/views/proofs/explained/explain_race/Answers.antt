@@ -23,6 +23,6 @@ returns c =
     let event = IsEvent-from_passes d (is_receive_from c.requires.pair.receive.0) (place_of c.args.pair.now.receive) c.requires.pair.receive.1 in
     let m = c.index-events-receive.result in
     let here : ith (d p) c.args.pair.now.receive.index ≡ Some m = subst (λ (l : List Event). ith l c.args.pair.now.receive.index ≡ Some m) same (ith_read events c.args.pair.now.receive.index m event.0 (let e = ap (λ (l : List Event). length l) same in omega (arith, e, event.1)) c.index-events-receive.is) in
-    IfOk-weaker c.race_sayings.result _ (λ sayings. AreRaceSayings d c.args.pair.now sayings.items)
-    (λ sayings made. explained_by d c.args.pair.now m c.in_ok-counts.counts sayings.items c.partner.result c.requires.pair.receive here c.partner.ensures c.in_ok-counts.ensures.past
+    IfOk-weaker c.race_sayings.result _ (λ sayings. AreRaceSayings (length c.args.closure.now) d c.args.pair.now sayings.items)
+    (λ sayings made. explained_by (length c.args.closure.now) d c.args.pair.now m c.in_ok-counts.counts sayings.items c.partner.result c.requires.pair.receive here c.partner.ensures c.in_ok-counts.ensures
     (subst (λ (l : List Event). sayings.items ≡ race_sayings l p c.args.pair.now.receive.index c.partner.result c.in_ok-counts.counts) same made)) c.race_sayings.ensures

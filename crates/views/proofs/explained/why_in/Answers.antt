@@ -1,4 +1,4 @@
-use Rattle.std.proofs.Common.{◌≡◌, List, Ok, sym, ap, ◌∙◌, subst}
+use Rattle.std.proofs.Common.{◌≡◌, List, length, Ok, sym, ap, ◌∙◌, subst}
 use Rattle.std.specs.List.{flat_map}
 use Rattle.chart.specs.declared.event.Event.{Event}
 use Rattle.chart.specs.Charts.{LineView, chart_lines}
@@ -27,7 +27,7 @@ returns-in-Ok-write_sayings g c =
       c.in-Ok.sayings.items,
       is,
       c.in_ok-closure.ensures.possible,
-      subst (λ (l : List LineView). IsExplained (chart_lines l) pair c.in-Ok.verdict c.in-Ok.sayings.items) c.in_ok-closure.ensures.closure c.in-Ok.ensures,
+      subst (λ (l : List LineView). IsExplained (length l) (chart_lines l) pair c.in-Ok.verdict c.in-Ok.sayings.items) c.in_ok-closure.ensures.closure c.in-Ok.ensures,
       subst (λ (l : List Event). Puts g.W.Out.contents g.W.Out.failures c.args.out.now c.write_sayings.new.out (flat_map (saying_text names l) c.in-Ok.sayings.items)) events
           (subst (λ (l : List Saying). Puts g.W.Out.contents g.W.Out.failures c.args.out.now c.write_sayings.new.out (flat_map (saying_text names c.events_of-events.result.now) l)) c.as_slice.ensures.value c.in-Ok-write_sayings.ensures),
     )
@@ -44,7 +44,7 @@ returns g c =
       c.in-Ok.sayings.items,
       is,
       c.in_ok-closure.ensures.possible,
-      subst (λ (l : List LineView). IsExplained (chart_lines l) pair c.in-Ok.verdict c.in-Ok.sayings.items) c.in_ok-closure.ensures.closure c.in-Ok.ensures,
+      subst (λ (l : List LineView). IsExplained (length l) (chart_lines l) pair c.in-Ok.verdict c.in-Ok.sayings.items) c.in_ok-closure.ensures.closure c.in-Ok.ensures,
       subst (λ (l : List Event). Breaks g.W.Out.contents g.W.Out.failures c.args.out.now c.write_sayings.new.out (flat_map (saying_text names l) c.in-Ok.sayings.items)) events
           (subst (λ (l : List Saying). Breaks g.W.Out.contents g.W.Out.failures c.args.out.now c.write_sayings.new.out (flat_map (saying_text names c.events_of-events.result.now) l)) c.as_slice.ensures.value c.in-Err.ensures),
     )

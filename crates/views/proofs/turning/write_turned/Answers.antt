@@ -1,6 +1,6 @@
 use Rattle.std.proofs.Common.{List, subst, arith}
 use Rattle.chart.specs.Charts.{LineView, chart_lines}
-use Rattle.views.specs.Turning.{Writes}
+use Rattle.views.specs.Turning.{first_of, Writes}
 use Rattle.views.proofs.TurningLemmas.{shows_from}
 use Rattle.views.proofs.turning.write_turned.Goals as goal
 
@@ -8,8 +8,8 @@ pub show-requires-clause-several : goal.show-requires-clause-several
 show-requires-clause-several g c = let several = c.lines-lines.ensures.chart.several in omega (arith, several, c.requires.named)
 
 pub returns-in-Ok : goal.returns-in-Ok
-returns-in-Ok g c first begun is =
+returns-in-Ok g c origin begun is kept =
     let contents = g.W.Out.contents in
     let failures = g.W.Out.failures in
-    shows_from contents failures c.args.out.now c.write_shown.new.out c.args.names.now c.args.chart.now first c.args.pair.now c.in-Ok.shown c.write_shown.result (c.in-Ok.ensures first (chart_lines c.args.chart.now) _ _ begun is)
+    shows_from contents failures c.args.out.now c.write_shown.new.out c.args.names.now c.args.chart.now origin c.args.pair.now c.args.turned.now c.in-Ok.shown c.write_shown.result kept c.in-Ok.ensures.steps (c.in-Ok.ensures.shown (first_of origin) (chart_lines c.args.chart.now) _ _ begun is)
     (subst (λ (l : List LineView). Writes contents failures c.args.out.now c.write_shown.new.out (chart_lines l) c.args.pair.now c.in-Ok.shown c.write_shown.result) c.lines-lines.ensures.value c.write_shown.ensures)

@@ -1,6 +1,6 @@
 use Rattle.std.proofs.Common.{sym, subst}
-use Rattle.tasks.specs.Tasks.{Named}
-use Rattle.tasks.specs.Files.{SaysSo}
+use Rattle.files.specs.Files.{Named}
+use Rattle.files.specs.Files.{SaysSo}
 use Rattle.views.proofs.ViewLemmas.{whys_from}
 use Rattle.views.proofs.view.why_chart.Goals as goal
 

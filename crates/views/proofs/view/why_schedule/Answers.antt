@@ -1,8 +1,8 @@
 use Rattle.std.proofs.Common.{ℕ, List, refl, sym, subst}
 use Rattle.chart.specs.Charts.{LineView}
-use Rattle.tasks.specs.Tasks.{Named}
+use Rattle.files.specs.Files.{Named}
 use Rattle.views.specs.Explaining.{Explains}
-use Rattle.tasks.specs.Files.{SaysSo}
+use Rattle.files.specs.Files.{SaysSo}
 use Rattle.views.proofs.ViewLemmas.{whys_from}
 use Rattle.views.proofs.view.why_schedule.Goals as goal
 

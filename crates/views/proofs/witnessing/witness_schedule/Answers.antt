@@ -5,6 +5,7 @@ use Rattle.closure.specs.Faults.{place_of}
 use Rattle.turned_runs.specs.Turns.{IsTurned}
 use Rattle.views.specs.Explaining.{IsPair}
 use Rattle.views.specs.Turning.{IsAskedFor, Shows}
+use Rattle.views.specs.Turning.Origin.{recorded}
 use Rattle.views.proofs.PairLemmas.{IsPair-from_words}
 use Rattle.views.proofs.TurningLemmas.{finds_from, finds_of, not_found}
 use Rattle.views.proofs.witnessing.witness_schedule.Goals as goal
@@ -18,7 +19,7 @@ returns-in_err-pair g c =
     let p = err_from_is_err_and c.from_residual.result c.from_residual.ensures.1 in
     let not_asked = subst₂ (λ (ns : List (List ℕ)) (ls : List LineView). IsAskedFor (ns, ls) asked.instance.now asked.earlier asked.receive (Err error)) c.names.ensures c.chart.ensures.value c.in_err-pair.ensures in
     rw (p.1, p.2) (finds_of g.W.Out.contents g.W.Out.failures c.args.out.now c.args.out.now plan o asked.instance.now asked.earlier asked.receive (Err error) c.in-Ok.ensures
-    (not_found g.W.Out.contents g.W.Out.failures c.args.out.now (o.names, o.chart) plan.capacity asked.instance.now asked.earlier asked.receive error not_asked))
+    (not_found g.W.Out.contents g.W.Out.failures c.args.out.now (o.names, o.chart) (recorded plan) asked.instance.now asked.earlier asked.receive error not_asked))
 
 pub overtake_of_schedule-requires-clause-receive : goal.overtake_of_schedule-requires-clause-receive
 overtake_of_schedule-requires-clause-receive g c =
@@ -39,7 +40,7 @@ write_turned-requires-clause-turned g c =
       capacity,
       omega (arith, c.slots.ensures.first, c.slots.ensures.value, c.capacity.ensures),
       subst₂ (λ (ns : List (List ℕ)) (ls : List LineView). IsTurned (length ns) capacity (chart_lines ls) (place_of pair.earlier) (place_of pair.receive) c.in-Ok-overtake_of_schedule.turned)
-          (sym (c.names-2.ensures ∙ c.in-Ok.ensures.names)) (sym (c.chart-2.ensures.value ∙ c.in-Ok.ensures.chart)) c.in-Ok-overtake_of_schedule.ensures,
+          (sym (c.names-2.ensures ∙ c.in-Ok.ensures.names)) (sym (c.chart-2.ensures.value ∙ c.in-Ok.ensures.chart)) c.in-Ok-overtake_of_schedule.ensures.turned,
     )
 
 pub returns : goal.returns
@@ -52,9 +53,9 @@ returns g c =
     let pair = c.in_ok-pair.pair in
     let done = c.write_turned.result in
     let turned = subst₂ (λ (ns : List (List ℕ)) (ls : List LineView). IsTurned (length ns) plan.capacity (chart_lines ls) (place_of pair.earlier) (place_of pair.receive) c.in-Ok-overtake_of_schedule.turned)
-    (sym (c.names-2.ensures ∙ c.in-Ok.ensures.names)) (sym (c.chart-2.ensures.value ∙ c.in-Ok.ensures.chart)) c.in-Ok-overtake_of_schedule.ensures in
-    let shows = subst₂ (λ (ns : List (List ℕ)) (ls : List LineView). Shows contents failures c.args.out.now c.write_turned.new.out done (ns, ls) plan.capacity pair) c.names-2.ensures c.chart-2.ensures.value
-    (c.write_turned.ensures plan.capacity (omega (arith, c.slots.ensures.first, c.slots.ensures.value, c.capacity.ensures)) turned) in
+    (sym (c.names-2.ensures ∙ c.in-Ok.ensures.names)) (sym (c.chart-2.ensures.value ∙ c.in-Ok.ensures.chart)) c.in-Ok-overtake_of_schedule.ensures.turned in
+    let shows = subst₂ (λ (ns : List (List ℕ)) (ls : List LineView). Shows contents failures c.args.out.now c.write_turned.new.out done (ns, ls) (recorded plan) pair) c.names-2.ensures c.chart-2.ensures.value
+    (c.write_turned.ensures (recorded plan) (omega (arith, c.slots.ensures.first, c.slots.ensures.value, c.capacity.ensures)) turned c.in-Ok-overtake_of_schedule.ensures.order) in
     let is_asked = subst₂ (λ (ns : List (List ℕ)) (ls : List LineView). IsAskedFor (ns, ls) asked.instance.now asked.earlier asked.receive (Ok pair)) c.names.ensures c.chart.ensures.value c.in_ok-pair.ensures in
     finds_of contents failures c.args.out.now c.write_turned.new.out plan o asked.instance.now asked.earlier asked.receive done c.in-Ok.ensures
-    (finds_from contents failures c.args.out.now c.write_turned.new.out (o.names, o.chart) plan.capacity asked.instance.now asked.earlier asked.receive pair done is_asked shows)
+    (finds_from contents failures c.args.out.now c.write_turned.new.out (o.names, o.chart) (recorded plan) asked.instance.now asked.earlier asked.receive pair done is_asked shows)

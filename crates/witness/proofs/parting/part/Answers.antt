@@ -1,8 +1,10 @@
-use Rattle.std.proofs.Common.{◌≡◌, ◌++◌, [], ◌∷◌, cond, length, take, take_all, refl, sym, ap, ap₂, ◌∙◌, subst, arith}
+use Rattle.std.proofs.Common.{◌≡◌, ◌++◌, [], ◌∷◌, cond, not, length, take, take_all, refl, sym, ap, ap₂, ◌∙◌, subst, arith}
 use Rattle.std.proofs.lemmas.Option.{slice_get_read, same_Some}
 use Rattle.std.proofs.lemmas.List.Elements.{All-append, All-push}
 use Rattle.real_races.specs.Walks.{inner, outer}
-use Rattle.witness.specs.Steps.{occurrence_of, history_of, outside_regions, IsOutside}
+use Rattle.witness.specs.Orders.{picked}
+use Rattle.witness.specs.Steps.{occurrence_of, history_of, outside_regions, IsOutside, comes}
+use Rattle.witness.proofs.PickLemmas.{picked-taken, picked-left, comes-is}
 use Rattle.witness.proofs.StepLemmas.{after-append, after-onto, outside_regions-outside}
 use Rattle.witness.proofs.WalkLemmas.{inner-next, outer-next}
 use Rattle.witness.proofs.parting.part.Goals as goal
@@ -37,6 +39,26 @@ loop-place-preserved c =
               rw b.others-is (ap history_of b.in_ok-push-2.ensures.items ∙ after-append [] c.loop-place.others.items (y ∷ []) ∙ ap₂ (λ a f. occurrence_of a ∷ f) said old.1 ∙ sym (others ∙ ap (λ has. cond has (outer w.sends w.receives h) (occurrence_of (outside_regions t.step) ∷ outer w.sends w.receives h)) b.if-has.false)),
             )
           ];
+      picked = λ w stand.
+          let steps = c.args.steps.now in
+          let j = c.loop-place.place in
+          let old = c.loop-place.invariant.picked w stand in
+          let t = c.index-turned-place.result in
+          let y = c.outside_regions-step.result in
+          let its = c.requires.each j t (slice_get_read c.args.turned.now (length c.args.turned.now) j t refl (omega (arith, c.requires.whole, c.loop-place-test.true)) c.index-turned-place.is) in
+          let is = slice_get_read steps (length steps) j c.index-steps-place.result refl (omega (arith, c.loop-place-test.true)) c.index-steps-place.is in
+          let said : y ≡ outside_regions t.step = c.outside_regions-step.ensures ∙ ap outside_regions (sym (same_Some t.step c.index-steps-place.result (sym its.0 ∙ is))) in
+          let has = comes-is w steps j t.step t.turn its.0 its.1 c.has.result (c.has.ensures w stand) in
+          elim c.if-has.branch [
+            | then-has+in_ok-push b ↦ (
+              rw (b.first-is, b.in_ok-push.ensures.items) (picked-taken (comes w steps) steps c.loop-place.first.items j t.step y its.0 said (has ∙ b.if-has.true) old.0),
+              rw b.others-is (picked-left (λ i. not (comes w steps i)) steps c.loop-place.others.items j (ap not (has ∙ b.if-has.true)) old.1),
+            )
+            | else-has+in_ok-push-2 b ↦ (
+              rw b.first-is (picked-left (comes w steps) steps c.loop-place.first.items j (has ∙ b.if-has.false) old.0),
+              rw (b.others-is, b.in_ok-push-2.ensures.items) (picked-taken (λ i. not (comes w steps i)) steps c.loop-place.others.items j t.step y its.0 said (ap not (has ∙ b.if-has.false)) old.1),
+            )
+          ];
       first = elim c.if-has.branch [
         | then-has+in_ok-push b ↦ rw (b.first-is, b.in_ok-push.ensures.items) (All-push IsOutside c.loop-place.first.items y c.loop-place.invariant.first outside)
         | else-has+in_ok-push-2 b ↦ rw b.first-is c.loop-place.invariant.first
@@ -58,3 +80,11 @@ pub returns-clause-outside : goal.returns-clause-outside
 returns-clause-outside c =
     rw (c.in_ok-extend_from_slice.ensures.items, c.as_slice.ensures.value)
     (All-append IsOutside c.loop-place.first.items c.loop-place.others.items c.loop-place.invariant.first c.loop-place.invariant.others)
+
+pub returns-clause-order : goal.returns-clause-order
+returns-clause-order c = λ w stand.
+    let steps = c.args.steps.now in
+    let last = c.loop-place.invariant.picked w stand in
+    let many : c.loop-place.place ≡ length steps = omega (arith, c.loop-place-test.false, c.loop-place.auto.place-end) in
+    c.in_ok-extend_from_slice.ensures.items ∙ ap (λ ys. c.loop-place.first.items ++ ys) c.as_slice.ensures.value
+    ∙ ap₂ (λ xs ys. xs ++ ys) (last.0 ∙ ap (picked (comes w steps) steps) many) (last.1 ∙ ap (picked (λ i. not (comes w steps i)) steps) many)

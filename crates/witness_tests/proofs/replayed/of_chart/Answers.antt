@@ -10,4 +10,4 @@ show-requires-clause-turned g c =
     let e = place_of c.args.earlier in
     let r = place_of c.args.receive in
     let named : length chart ≡ length c.args.names.now = omega (arith, c.len.ensures.value, ap length c.lines.ensures.value, c.if-len-lines.false) in
-    (1, lines, e, r, subst (λ n. IsTurned n 1 lines e r c.in_ok-turned.turned) named c.in_ok-turned.ensures)
+    (1, lines, e, r, subst (λ n. IsTurned n 1 lines e r c.in_ok-turned.turned) named c.in_ok-turned.ensures.turned)

@@ -12,5 +12,5 @@ show-requires-clause-turned g c =
     let lines = chart_lines (history_lines (length plan.names) (meaning plan).run.history) in
     let e = place_of c.args.earlier in
     let r = place_of c.args.receive in
-    let found = IfOk-at_ok (IsTurned (length plan.names) plan.capacity lines e r) c.expect-turned.ensures c.overtake_of_schedule.ensures in
+    let found = IfOk-at_ok (IsTurned (length plan.names) plan.capacity lines e r) c.expect-turned.ensures c.overtake_of_schedule.ensures.turned in
     (plan.capacity, lines, e, r, subst (λ names. IsTurned (length names) plan.capacity lines e r c.expect-turned.result) (sym c.names.ensures.value) found)

@@ -1,0 +1,24 @@
+-- What a receiver records of the first message that is out with it (this project's profile; differences between clocks
+-- as Singhal and Kshemkalyani 1992 have them).
+use Rattle.std.specs.Prelude.{◌≡◌, ℕ, List, ◌∷◌, length}
+use Rattle.chart.specs.Events.{MayHaveRegion}
+use Rattle.chart.specs.Reports.{ReportView}
+use Rattle.clock.specs.Diffs.{apply_diff}
+use Rattle.line_recorder.specs.Recorders.{RecorderView, after_receive, IsReportOf}
+use Rattle.board_table.specs.declared.packet.Packet.{Packet}
+use Rattle.board_table.specs.Layout.{LaneView}
+
+-- the recorder is the receiver's, and its next event may have this coregion
+pub record IsReady (l : LaneView) (region : ℕ) (recorder : RecorderView) : Type 0 where
+  pub its : recorder.line.instance ≡ l.receiver
+  pub knows : length recorder.knowledge ≡ l.instances
+  pub region_fits : MayHaveRegion recorder.line.events region
+
+-- the recorder has recorded the receive of the first of these packets over the base, with this report, and this is
+-- its clock
+pub record IsRecorded (packets : List Packet) (base : List ℕ) (from region : ℕ) (old : RecorderView)
+    (report : ReportView) (clock : List ℕ) (new : RecorderView) : Type 0 where
+  pub clock_is : (x : Packet) (xs : List Packet) → packets ≡ x ∷ xs → apply_diff base x.diff ≡ clock
+  pub recorded : (x : Packet) (xs : List Packet) → packets ≡ x ∷ xs
+      → new ≡ after_receive old from x.message.name region clock report
+  pub report_is : IsReportOf old from region clock report

@@ -1,0 +1,113 @@
+//! Command lines of `mscview` that are understood, and those that aren't.
+use view_line::{CommandLineError, Draw, Export, Import, Pair, Question, Request, requested};
+
+/// Words that aren't a command line.
+static MISSED: [&[&str]; 22] = [
+    &["mscview"],
+    &["mscview", "help"],
+    &["mscview", "--help"],
+    &["mscview", "--version"],
+    &["mscview", "Why", "f", "a", "1", "2"],
+    &["mscview", "why", "f", "a", "1"],
+    &["mscview", "why", "f", "a", "1", "2", "3"],
+    &["mscview", "why", "--help"],
+    &["mscview", "draw"],
+    &["mscview", "draw", "--numbers"],
+    &["mscview", "draw", "f", "g"],
+    &["mscview", "draw", "f", "--only"],
+    &["mscview", "draw", "f", "--onl", "a"],
+    &["mscview", "draw", "f", "--names"],
+    &["mscview", "draw", "--help"],
+    &["mscview", "draw", "f", "--numbers", "--numbers"],
+    &["mscview", "export", "f"],
+    &["mscview", "export", "--to", "mscgen"],
+    &["mscview", "export", "f", "--to"],
+    &["mscview", "export", "f", "--from", "mscgen"],
+    &["mscview", "import", "f"],
+    &["mscview", "import", "f", "--to", "mscgen"],
+];
+
+#[test]
+fn words_that_are_missed(rt: HostRuntime) {
+    for words in MISSED {
+        assert!(rt; matches!(requested(rt.alloc(), words), Err(CommandLineError::Usage)));
+    }
+}
+
+#[test]
+fn words_of_a_race_line(rt: HostRuntime) {
+    let words = ["mscview", "why", "a file", "client", "2", "3"];
+    assert!(rt;
+        matches!(
+            requested(rt.alloc(), &words),
+            Ok(Request::Pair(Pair {
+                question: Question::Why,
+                file: "a file",
+                instance: "client",
+                earlier: "2",
+                receive: "3",
+            }))
+        )
+    );
+}
+
+#[test]
+fn words_of_a_picture(rt: HostRuntime) {
+    let words = ["mscview", "draw", "a file"];
+    assert!(rt;
+        matches!(
+            requested(rt.alloc(), &words),
+            Ok(Request::Draw(Draw {
+                only: None,
+                events: None,
+                numbers: false,
+                file: "a file",
+            }))
+        )
+    );
+    let words = [
+        "mscview",
+        "draw",
+        "--only",
+        "client,east",
+        "--events",
+        "2..7",
+        "--numbers",
+        "a file",
+    ];
+    assert!(rt;
+        matches!(
+            requested(rt.alloc(), &words),
+            Ok(Request::Draw(Draw {
+                only: Some("client,east"),
+                events: Some("2..7"),
+                numbers: true,
+                file: "a file",
+            }))
+        )
+    );
+}
+
+#[test]
+fn words_of_other_tools(rt: HostRuntime) {
+    let words = ["mscview", "export", "--to", "mscgen", "a file"];
+    assert!(rt;
+        matches!(
+            requested(rt.alloc(), &words),
+            Ok(Request::Export(Export {
+                to: "mscgen",
+                file: "a file",
+            }))
+        )
+    );
+    let words = ["mscview", "import", "--from", "plantuml", "a file"];
+    assert!(rt;
+        matches!(
+            requested(rt.alloc(), &words),
+            Ok(Request::Import(Import {
+                from: "plantuml",
+                file: "a file",
+            }))
+        )
+    );
+}

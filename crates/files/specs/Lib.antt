@@ -1,0 +1,4 @@
+pub use Rattle.msc_text.specs.Writing
+pub mod Files
+pub mod Refusals
+pub mod Numbers

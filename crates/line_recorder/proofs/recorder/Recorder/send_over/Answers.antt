@@ -1,0 +1,15 @@
+use Rattle.std.proofs.Common.{◌≡◌, ℕ, List, ◌+◌, ap, ◌∙◌}
+use Rattle.clock.specs.Clocks.{with_entry}
+use Rattle.clock.proofs.EntryLemmas.{stamped_back}
+use Rattle.line_recorder.proofs.recorder.Recorder.send_over.Goals as goal
+
+pub returns-in_default-clause-err : goal.returns-in_default-clause-err
+returns-in_default-clause-err c =
+    let back : c.set_back.new.knowledge ≡ c.self.inside.knowledge = c.set_back.ensures.value ∙ ap (λ (x : List ℕ). with_entry x c.instance-own.result c.entry-before.result) c.stamp.ensures.value ∙ stamped_back c.self.inside.knowledge c.instance-own.result (c.len-2.result + 1) c.entry-before.result c.entry-before.ensures in
+    rw back c.self.view_is
+
+pub returns-in_default-push-clause-err : goal.returns-in_default-push-clause-err
+returns-in_default-push-clause-err c =
+    let back : c.set_back-in_default-push.new.knowledge ≡ c.self.inside.knowledge = c.set_back-in_default-push.ensures.value ∙ ap (λ (x : List ℕ). with_entry x c.instance-own.result c.entry-before.result) c.stamp.ensures.value ∙ stamped_back c.self.inside.knowledge c.instance-own.result (c.len-2.result + 1) c.entry-before.result c.entry-before.ensures in
+    let line : c.push.new.self ≡ c.self.inside.line = c.in_default-push.ensures.err in
+    rw (back, line) c.self.view_is
