@@ -1,0 +1,27 @@
+-- What a label is called, once others were given their names.
+use Rattle.std.specs.Prelude.{◌≡◌, ℕ, ◌+◌, ◌-◌, ◌≤◌, ◌<◌, Bool, true, false, List, ◌++◌, length, take, codes, decimal, bytes_eq, MatchBool}
+use Rattle.std.specs.List.{list_any}
+use Rattle.chart.specs.declared.name.TheConstants.{MAX_NAME}
+
+-- the name was given to a label
+abbrev pub is_given : List (List ℕ) → List ℕ → Bool
+is_given names name = list_any (bytes_eq name) names
+
+-- the number as what stands behind a word
+abbrev pub suffix : ℕ → List ℕ
+suffix number = codes "_" ++ decimal number
+
+-- the word with the number behind it, the word cut so that the whole is no longer than a name may be
+unfoldable pub numbered : List ℕ → ℕ → List ℕ
+numbered word number = take (MAX_NAME - length (suffix number)) word ++ suffix number
+
+-- the number is the least from 2 on that makes the word a name that no label has
+pub record IsLeastFree (names : List (List ℕ)) (word : List ℕ) (number : ℕ) : Type 0 where
+  pub from_two : 2 ≤ number
+  pub free : is_given names (numbered word number) ≡ false
+  pub least : (k : ℕ) → 2 ≤ k → k < number → is_given names (numbered word k) ≡ true
+
+-- a label that is spelled so is called so: by its spelling where no label has that, else by it and the least number
+abbrev pub IsCalled : List (List ℕ) → List ℕ → List ℕ → Type 0
+IsCalled names word name =
+    MatchBool (is_given names word) ((number : ℕ) × (name ≡ numbered word number) × IsLeastFree names word number) (name ≡ word)

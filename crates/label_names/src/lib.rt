@@ -1,0 +1,17 @@
+//! Names for the labels of sequence diagrams: what a label is spelled as, and names that never collide.
+//!
+//! What is promised:
+//!
+//! - A label that is a name stays as it is, and what any label is spelled as is a name ([`spelled`], [`spelled_law`]).
+//! - What a new label is called no label before it is called ([`GivenNames::give`], [`called_law`]): its spelling, or
+//!   where another label has that, the spelling with the least number from 2 on that makes it free.
+//! - Memory is taken for spellings and for the names that were given.
+#![tactic(auto)]
+
+
+
+mod spelling;
+
+
+
+pub use spelling::spelled;
