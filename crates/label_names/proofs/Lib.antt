@@ -2,3 +2,4 @@ pub mod Bytes
 pub mod Joins
 pub mod Reserved
 pub mod Spellings
+
