@@ -4,7 +4,7 @@ use Rattle.std.specs.List.{list_all, slice_split, onto_first, join_with_byte}
 use Rattle.std.proofs.lemmas.List.Folds.{list_all-append}
 use Rattle.chart.specs.Names.{is_name_byte}
 
-pub are_names : List (List ℕ) → Bool
+abbrev pub are_names : List (List ℕ) → Bool
 are_names parts = list_all (list_all is_name_byte) parts
 
 pub both : (a b : Bool) → (a && b) ≡ true → (a ≡ true) × (b ≡ true)
@@ -12,18 +12,15 @@ both true b e = (refl, e)
 both false b e = absurd (grind (arith, e))
 
 onto : (x : ℕ) (parts : List (List ℕ)) → is_name_byte x ≡ true → are_names parts ≡ true → are_names (onto_first x parts) ≡ true
-unfolding are_names
 onto x [] e h = rw e refl
 onto x (part ∷ parts) e h = rw e h
 
 cut : (x : ℕ) (parts : List (List ℕ)) (b : Bool) → is_name_byte x ≡ b → are_names parts ≡ true → are_names (cond (not b) ([] ∷ parts) (onto_first x parts)) ≡ true
-unfolding are_names
 cut x parts false e h = h
 cut x parts true e h = onto x parts e h
 
 -- what stands between other characters has the bytes of names
 pub parts_are_names : (label : List ℕ) → are_names (slice_split (λ b. not (is_name_byte b)) label) ≡ true
-unfolding are_names
 parts_are_names [] = refl
 parts_are_names (x ∷ label) = cut x _ (is_name_byte x) refl (parts_are_names label)
 
@@ -37,7 +34,6 @@ all_filtered p q (x ∷ xs) h = let e = both _ _ h in kept p q x xs (q x) e.0 (a
 
 -- and so have they with a _ between each two
 pub joined_names : (parts : List (List ℕ)) → are_names parts ≡ true → list_all is_name_byte (join_with_byte 95 parts) ≡ true
-unfolding are_names
 joined_names [] h = refl
 joined_names (x ∷ []) h = (both _ _ h).0
 joined_names (x ∷ y ∷ parts) h =

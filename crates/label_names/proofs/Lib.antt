@@ -2,4 +2,4 @@ pub mod Bytes
 pub mod Joins
 pub mod Reserved
 pub mod Spellings
-
+pub mod Kept

@@ -63,7 +63,7 @@ word_is_name word h l e =
 -- what a label's words make
 pub joined_names_alone : (label : List ℕ) → list_all is_name_byte (joined label) ≡ true
 unfolding joined
-joined_names_alone label = joined_names (words label) (all_filtered _ _ _ (parts_are_names label))
+joined_names_alone label = joined_names (words label) (all_filtered (list_all is_name_byte) (λ word. nat_lt 0 (length word)) (slice_split (λ b. not (is_name_byte b)) label) (parts_are_names label))
 
 front : (bytes : List ℕ) (b : Bool) → begins_with_letter bytes ≡ b → list_all is_name_byte bytes ≡ true → IsWord (cond b bytes (codes "n_" ++ bytes))
 front bytes true e h = (e, h)

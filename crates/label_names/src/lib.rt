@@ -8,10 +8,8 @@
 //! - Memory is taken for spellings and for the names that were given.
 #![tactic(auto)]
 
-
-
+mod laws;
 mod spelling;
 
-
-
+pub use laws::spelled_law;
 pub use spelling::spelled;
