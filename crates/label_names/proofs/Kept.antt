@@ -1,5 +1,5 @@
 -- A name stays as it is.
-use Rattle.std.proofs.Common.{◌≡◌, ℕ, suc, ◌+◌, ◌≤◌, Bool, true, false, not, ◌==◌, cond, List, [], ◌∷◌, Option, None, Some, Result, Ok, Err, length, nat_lt, lt-ltb, refl, sym, ap, ◌∙◌, arith, subst}
+use Rattle.std.proofs.Common.{◌≡◌, ℕ, suc, ◌+◌, ◌≤◌, Bool, true, false, not, ◌==◌, cond, List, [], ◌∷◌, Option, None, Some, Result, Ok, Err, length, nat_lt, lt-ltb, ne_eqb, refl, sym, ap, ◌∙◌, arith, subst}
 use Rattle.std.specs.Prelude.{position, option_map}
 use Rattle.std.specs.List.{list_all, slice_split, onto_first, join_with_byte, prefix_len}
 use Rattle.std.proofs.lemmas.Bool.Decides.{nat_tests}
@@ -71,10 +71,17 @@ first b bytes true e h =
     (e, rw (letter_is_name b e, some_other bytes (nat_lt (prefix_len (λ x. not (not (is_name_byte x))) bytes) (length bytes)) refl rest) refl)
 first b bytes false e h = absurd (grind (arith, rw e at h))
 
--- a name is a word
+-- bytes with no fault are a word
 sound_is_word : (word : List ℕ) → bad_place word ≡ None → (length word == 0) ≡ false → IsWord word
 sound_is_word [] h z = absurd (grind (arith, z))
 sound_is_word (b ∷ bytes) h z = first b bytes (is_letter b) refl h
+
+-- a name is a word
+pub name_is_word : (word : List ℕ) → IsName word → IsWord word
+name_is_word [] h = refused [] Empty (empty_told [] refl) h
+name_is_word (b ∷ bytes) h =
+    let some : (length (b ∷ bytes) == 0) ≡ false = ne_eqb _ 0 (λ e. absurd (omega (arith, e))) in
+    sound_is_word (b ∷ bytes) (at_front (b ∷ bytes) (length (b ∷ bytes) == 0) refl h).1 some
 
 reserved_told : (word : List ℕ) (b : Bool) → is_reserved word ≡ b → IsWord word → nat_lt MAX_NAME (length word) ≡ false → IsName word → b ≡ false
 reserved_told word true e w l h = refused word Reserved (word_told word w ∙ rw (l, e) refl) h

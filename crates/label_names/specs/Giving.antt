@@ -21,7 +21,10 @@ pub record IsLeastFree (names : List (List ℕ)) (word : List ℕ) (number : ℕ
   pub free : is_given names (numbered word number) ≡ false
   pub least : (k : ℕ) → 2 ≤ k → k < number → is_given names (numbered word k) ≡ true
 
+-- the name is the word with the least number that makes it free
+abbrev pub IsFreeNumbered : List (List ℕ) → List ℕ → List ℕ → Type 0
+IsFreeNumbered names word name = (number : ℕ) × (name ≡ numbered word number) × IsLeastFree names word number
+
 -- a label that is spelled so is called so: by its spelling where no label has that, else by it and the least number
 abbrev pub IsCalled : List (List ℕ) → List ℕ → List ℕ → Type 0
-IsCalled names word name =
-    MatchBool (is_given names word) ((number : ℕ) × (name ≡ numbered word number) × IsLeastFree names word number) (name ≡ word)
+IsCalled names word name = MatchBool (is_given names word) (IsFreeNumbered names word name) (name ≡ word)

@@ -8,6 +8,7 @@
 //! - Memory is taken for spellings and for the names that were given.
 #![tactic(auto)]
 
+mod giving;
 mod laws;
 mod spelling;
 

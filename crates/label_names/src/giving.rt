@@ -1,0 +1,104 @@
+//! The names that labels are given.
+
+ghost use Rattle.std.specs.Prelude.{◌≡◌, ◌++◌, ◌∷◌, [], ◌<◌, ◌^◌, length, take, IfOk, OnErr, codes, decimal};
+ghost use Rattle.chart.specs.Names.{IsName};
+ghost use Rattle.label_names.specs.Giving.{IsCalled, IsFreeNumbered, is_given, numbered};
+
+use chart::{MAX_NAME, Name};
+use indexmap::IndexSet;
+use itoa::Buffer;
+use std::alloc::{AllocError, Global};
+use std::marker::Model;
+
+/// At most so many of the first bytes.
+fn front(bytes: &[u8], room: usize) -> &[u8]
+    ensures { result.now ≡ take room bytes.now }
+{
+    if room < bytes.len() {
+        &bytes[..room]
+    } else {
+        bytes
+    }
+}
+
+/// The word with the number behind it.
+fn numbered(alloc: Global, word: &Name, number: u64) -> Result<Name, AllocError>
+    ensures { IfOk result (λ name. name ≡ numbered word.now number) }
+{
+    let mut buffer = Buffer::new();
+    let digits = buffer.format(number).as_bytes();
+    let front = front(word.as_bytes(), MAX_NAME - 1 - digits.len());
+    let mut bytes = Vec::from_slice(alloc, front)?;
+    bytes.push(b'_')?;
+    bytes.extend_from_slice(digits)?;
+    Ok(Name::new(bytes.as_slice()).unwrap())
+}
+
+/// The names that labels were given, in the order of the labels. A contract sees the list.
+#[derive(Debug, Drop)]
+pub struct GivenNames {
+    names: IndexSet<Name>,
+}
+
+impl Model for GivenNames {
+    ghost use Rattle.std.specs.Prelude.{ℕ, List};
+
+    ghost Value = { List (List ℕ) };
+
+    ghost view = { λ g. g.names.keys };
+}
+
+impl GivenNames {
+    /// No names. It takes no memory.
+    pub fn new(alloc: Global) -> GivenNames
+        ensures { result ≡ [] }
+    {
+        GivenNames {
+            names: IndexSet::new(alloc),
+        }
+    }
+
+    /// Whether a label has the name.
+    pub fn is_given(&self, name: &Name) -> bool
+        ensures { result ≡ is_given self.now name.now }
+    {
+        self.names.contains(name)
+    }
+
+    /// The word with the least number from 2 on that no label has behind it.
+    fn numbered_free(&self, alloc: Global, word: &Name) -> Result<Name, AllocError>
+        ensures { IfOk result (IsFreeNumbered self.now word.now) }
+    {
+        let mut number = 2;
+        let mut name = numbered(alloc, word, number)?;
+        while self.is_given(&name) {
+            number += 1;
+            name = numbered(alloc, word, number)?;
+        }
+        Ok(name)
+    }
+
+    /// Gives a new label that is spelled so its name: the word, or where a label has that, the word with the least
+    /// number from 2 on that makes it free. It fails only where there is no memory, and then leaves the names as they
+    /// were.
+    pub fn give(&mut self, alloc: Global, word: Name) -> Result<Name, AllocError>
+        ensures called { IfOk result (IsCalled self.old word) }
+        ensures given { IfOk result (λ name. self.new ≡ self.old ++ name ∷ []) }
+        ensures refused { OnErr result (self.new ≡ self.old) }
+    {
+        let name = self.free_name(alloc, word)?;
+        self.names.insert(name)?;
+        Ok(name)
+    }
+
+    /// What a new label is called that is spelled so.
+    fn free_name(&self, alloc: Global, word: Name) -> Result<Name, AllocError>
+        ensures { IfOk result (IsCalled self.now word) }
+    {
+        if self.is_given(&word) {
+            self.numbered_free(alloc, &word)
+        } else {
+            Ok(word)
+        }
+    }
+}
