@@ -1,7 +1,6 @@
 -- Among more numbers than there are names one is free.
-use Rattle.std.proofs.Common.{◌≡◌, ℕ, zero, suc, ◌+◌, ◌-◌, ◌^◌, ◌≤◌, ◌<◌, Bool, true, false, not, ◌||◌, cond, List, [], ◌∷◌, length, get_or, nat_lt, refl, sym, ap, ◌∙◌, subst, arith}
+use Rattle.std.proofs.Common.{◌≡◌, ℕ, suc, ◌+◌, ◌-◌, ◌^◌, ◌≤◌, ◌<◌, Bool, true, false, ◌||◌, cond, List, [], ◌∷◌, length, get_or, refl, sym, ap, ◌∙◌, arith}
 use Rattle.std.specs.Prelude.{bytes_eq}
-use Rattle.std.specs.List.{list_any, position_or_len, prefix_len}
 use Rattle.std.proofs.lemmas.Slice.Eq.{bytes_eq-Decides}
 use Rattle.indexmap.proofs.IndexTableLemmas.Probe.{pigeonhole}
 use Rattle.label_names.specs.Giving.{is_given, numbered}
@@ -29,9 +28,9 @@ taken_fit names word number small taken =
     let at = λ (i : ℕ). place names (numbered word (i + 2)) in
     let into : (i : ℕ) → i < number - 2 → at i < length names = λ i l. (at_place names (numbered word (i + 2)) [] (taken (i + 2) (omega arith) (omega arith))).0 in
     let one : (i j : ℕ) → i < number - 2 → j < number - 2 → at i ≡ at j → i ≡ j = λ i j l m e.
-        let first = (at_place names (numbered word (i + 2)) [] (taken (i + 2) (omega arith) (omega arith))).1 in
-        let second = (at_place names (numbered word (j + 2)) [] (taken (j + 2) (omega arith) (omega arith))).1 in
-        let same = numbered_apart word (i + 2) (j + 2) (omega arith) (omega arith) (sym first ∙ ap (λ p. get_or names p []) e ∙ second) in
-        (omega (arith, same)) in
+    let first = (at_place names (numbered word (i + 2)) [] (taken (i + 2) (omega arith) (omega arith))).1 in
+    let second = (at_place names (numbered word (j + 2)) [] (taken (j + 2) (omega arith) (omega arith))).1 in
+    let same = numbered_apart word (i + 2) (j + 2) (omega arith) (omega arith) (sym first ∙ ap (λ p. get_or names p []) e ∙ second) in
+    (omega (arith, same)) in
     let all = pigeonhole (number - 2) (length names) at into one in
     omega (arith, all)

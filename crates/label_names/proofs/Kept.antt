@@ -1,14 +1,14 @@
 -- A name stays as it is.
-use Rattle.std.proofs.Common.{◌≡◌, ℕ, suc, ◌+◌, ◌≤◌, Bool, true, false, not, ◌==◌, cond, List, [], ◌∷◌, Option, None, Some, Result, Ok, Err, length, nat_lt, lt-ltb, ne_eqb, refl, sym, ap, ◌∙◌, arith, subst}
+use Rattle.std.proofs.Common.{◌≡◌, ℕ, ◌+◌, Bool, true, false, not, ◌==◌, cond, List, [], ◌∷◌, Option, None, Some, Result, Ok, Err, length, nat_lt, lt-ltb, ne_eqb, refl, sym, ap, ◌∙◌, arith}
 use Rattle.std.specs.Prelude.{position, option_map}
-use Rattle.std.specs.List.{list_all, slice_split, onto_first, join_with_byte, prefix_len}
+use Rattle.std.specs.List.{list_all, slice_split, onto_first, prefix_len}
 use Rattle.std.proofs.lemmas.Bool.Decides.{nat_tests}
 use Rattle.chart.specs.Names.{is_letter, is_name_byte, bad_place, name_of, IsName}
 use Rattle.chart.specs.Keywords.{is_reserved}
 use Rattle.chart.specs.declared.name.NameError.{NameError}
 use Rattle.chart.specs.declared.name.NameError.TheVariants.{Empty, TooLong, BadByte, Reserved}
 use Rattle.chart.specs.declared.name.TheConstants.{MAX_NAME}
-use Rattle.label_names.specs.Spelling.{words, joined, begins_with_letter, IsWord, fronted, unreserved, shortened, spelled}
+use Rattle.label_names.specs.Spelling.{joined, IsWord, fronted, unreserved, shortened, spelled}
 use Rattle.label_names.proofs.Bytes.{both}
 use Rattle.label_names.proofs.Spellings.{word_told}
 

@@ -1,5 +1,5 @@
 -- Words with numbers behind them: they are names, and no two of a word are the same.
-use Rattle.std.proofs.Common.{◌≡◌, ℕ, zero, suc, ◌+◌, ◌-◌, ◌^◌, ◌≤◌, ◌<◌, ◌⊎◌, inl, inr, Bool, true, false, not, ◌&&◌, ◌||◌, ◌==◌, cond, List, [], ◌∷◌, ◌++◌, length, take, reverse, codes, decimal, nat_lt, nat_le, lt-ltb, refl, sym, ap, ◌∙◌, subst, arith}
+use Rattle.std.proofs.Common.{◌≡◌, ℕ, zero, suc, ◌-◌, ◌^◌, ◌≤◌, ◌<◌, ◌⊎◌, inl, inr, Bool, true, false, not, ◌==◌, cond, List, [], ◌∷◌, ◌++◌, length, take, reverse, codes, decimal, refl, sym, ap, ◌∙◌, subst, arith}
 use Rattle.std.specs.List.{list_all}
 use Rattle.std.specs.Str.Parse.{AllDigits, digits_value}
 use Rattle.std.proofs.Math.Seq.{take_all}
@@ -114,7 +114,7 @@ numbered_is_name word number h l =
     let more : MAX_NAME - length (suffix number) ≡ suc (31 - length (suffix number)) = omega (arith, digits, size) in
     let begins : begins_with_letter (front ++ suffix number) ≡ true = subst (λ k. begins_with_letter (take k word ++ suffix number) ≡ true) (sym more) first in
     let names : list_all is_name_byte (front ++ suffix number) ≡ true =
-      list_all-append is_name_byte front (suffix number) ∙ rw (all_taken (MAX_NAME - length (suffix number)) word h.1, digits_are_names (decimal number) (digits_decimal own number l)) refl in
+    list_all-append is_name_byte front (suffix number) ∙ rw (all_taken (MAX_NAME - length (suffix number)) word h.1, digits_are_names (decimal number) (digits_decimal own number l)) refl in
     word_is_name (front ++ suffix number) (begins, names) within (with_line front (decimal number) (is_reserved (front ++ 95 ∷ decimal number)) refl)
 
 -- as many of the word's bytes as there are, or as fit

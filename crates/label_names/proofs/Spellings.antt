@@ -1,17 +1,16 @@
 -- What a label is spelled as is a name, and a name stays as it is.
-use Rattle.std.proofs.Common.{◌≡◌, ℕ, zero, suc, ◌+◌, ◌-◌, ◌≤◌, ◌<◌, Bool, true, false, not, ◌&&◌, ◌==◌, ne_eqb, cond, List, [], ◌∷◌, ◌++◌, Option, None, Some, Result, Ok, Err, length, take, drop, filter, codes, nat_lt, ltb-true, refl, sym, ap, ◌∙◌, arith, subst}
-use Rattle.std.specs.Prelude.{position, option_map, if◌then◌else◌}
-use Rattle.std.specs.List.{list_all, slice_split, onto_first, join_with_byte, position_or_len, prefix_len}
+use Rattle.std.proofs.Common.{◌≡◌, ℕ, zero, suc, ◌-◌, ◌≤◌, ◌<◌, Bool, true, false, not, ◌==◌, ne_eqb, cond, List, [], ◌∷◌, ◌++◌, None, Result, Ok, Err, length, take, drop, codes, nat_lt, ltb-true, refl, sym, ap, ◌∙◌, arith}
+use Rattle.std.specs.List.{list_all, slice_split, prefix_len}
 use Rattle.std.proofs.lemmas.List.{length-take, length-drop, length-append}
 use Rattle.std.proofs.lemmas.Bool.Decides.{nat_tests}
 use Rattle.std.proofs.lemmas.List.Folds.{list_all-append}
-use Rattle.chart.specs.Names.{is_letter, is_name_byte, bad_place, name_of, IsName}
+use Rattle.chart.specs.Names.{is_name_byte, bad_place, name_of, IsName}
 use Rattle.chart.specs.Keywords.{is_reserved}
 use Rattle.chart.specs.declared.name.NameError.{NameError}
 use Rattle.chart.specs.declared.name.NameError.TheVariants.{Empty, TooLong, BadByte, Reserved}
 use Rattle.chart.specs.declared.name.TheConstants.{MAX_NAME}
 use Rattle.label_names.specs.Spelling.{words, joined, begins_with_letter, IsWord, fronted, unreserved, shortened, spelled}
-use Rattle.label_names.proofs.Bytes.{both, are_names, parts_are_names, all_filtered, joined_names}
+use Rattle.label_names.proofs.Bytes.{both, parts_are_names, all_filtered, joined_names}
 use Rattle.label_names.proofs.Reserved.{reserved_short, reserved_behind}
 
 none_bad : (bytes : List ℕ) → list_all is_name_byte bytes ≡ true → prefix_len (λ x. not (not (is_name_byte x))) bytes ≡ length bytes
@@ -112,10 +111,10 @@ short word true e h r =
     let end = length-drop (length word - 15) word in
     let cut = take 15 word ++ codes "__" ++ drop (length word - 15) word in
     let within : length cut ≡ 32 =
-      length-append (take 15 word ++ codes "__") (drop (length word - 15) word) ∙ omega (arith, size, begin, end, length-append (take 15 word) (codes "__")) in
+    length-append (take 15 word ++ codes "__") (drop (length word - 15) word) ∙ omega (arith, size, begin, end, length-append (take 15 word) (codes "__")) in
     let names : list_all is_name_byte cut ≡ true =
-      list_all-append is_name_byte (take 15 word ++ codes "__") (drop (length word - 15) word)
-      ∙ rw (list_all-append is_name_byte (take 15 word) (codes "__"), all_taken 15 word h.1, all_dropped (length word - 15) word h.1) refl in
+    list_all-append is_name_byte (take 15 word ++ codes "__") (drop (length word - 15) word)
+    ∙ rw (list_all-append is_name_byte (take 15 word) (codes "__"), all_taken 15 word h.1, all_dropped (length word - 15) word h.1) refl in
     let begins : begins_with_letter cut ≡ true = begins_before (take 15 word ++ codes "__") (drop (length word - 15) word) (begins_taken word (codes "__") h.0) in
     word_is_name cut (begins, names) (omega (arith, within)) (not_reserved cut (is_reserved cut) refl (omega (arith, within)))
 short word false e h r = word_is_name word h (grind (arith, nat_tests)) r

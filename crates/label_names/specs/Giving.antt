@@ -1,5 +1,5 @@
 -- What a label is called, once others were given their names.
-use Rattle.std.specs.Prelude.{◌≡◌, ℕ, ◌+◌, ◌-◌, ◌≤◌, ◌<◌, Bool, true, false, List, ◌++◌, length, take, codes, decimal, bytes_eq, MatchBool}
+use Rattle.std.specs.Prelude.{◌≡◌, ℕ, ◌-◌, ◌≤◌, ◌<◌, Bool, true, false, List, ◌++◌, length, take, codes, decimal, bytes_eq, MatchBool}
 use Rattle.std.specs.List.{list_any}
 use Rattle.chart.specs.declared.name.TheConstants.{MAX_NAME}
 

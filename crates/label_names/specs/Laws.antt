@@ -12,10 +12,6 @@ SpelledIsName = (label : List ℕ) → IsName (spelled label)
 abbrev pub NamesStay : Type 0
 NamesStay = (label : List ℕ) → IsName label → spelled label ≡ label
 
--- what a label is called is a name
-abbrev pub CalledIsName : Type 0
-CalledIsName = (names : List (List ℕ)) (label name : List ℕ) → IsCalled names (spelled label) name → IsName name
-
--- no label before it is called the same
+-- what a new label is called no label before it is called
 abbrev pub CalledIsFresh : Type 0
-CalledIsFresh = (names : List (List ℕ)) (label name : List ℕ) → IsCalled names (spelled label) name → is_given names name ≡ false
+CalledIsFresh = (names : List (List ℕ)) (word name : List ℕ) → IsCalled names word name → is_given names name ≡ false

@@ -1,6 +1,6 @@
 //! The names that labels are given.
 
-ghost use Rattle.std.specs.Prelude.{◌≡◌, ◌++◌, ◌∷◌, [], ◌<◌, ◌^◌, length, take, IfOk, OnErr, codes, decimal};
+ghost use Rattle.std.specs.Prelude.{◌≡◌, ◌++◌, ◌∷◌, [], ◌<◌, ◌==◌, ◌^◌, length, take, IfOk, OnErr, codes, decimal};
 ghost use Rattle.chart.specs.Names.{IsName};
 ghost use Rattle.label_names.specs.Giving.{IsCalled, IsFreeNumbered, is_given, numbered};
 
@@ -58,6 +58,21 @@ impl GivenNames {
         }
     }
 
+    /// How many there are.
+    pub fn len(&self) -> usize
+        ensures value { result ≡ length self.now }
+        ensures small { result < 2 ^ 63 }
+    {
+        self.names.len()
+    }
+
+    /// Whether there are none.
+    pub fn is_empty(&self) -> bool
+        ensures { result ≡ (length self.now == 0) }
+    {
+        self.len() == 0
+    }
+
     /// Whether a label has the name.
     pub fn is_given(&self, name: &Name) -> bool
         ensures { result ≡ is_given self.now name.now }
@@ -69,13 +84,14 @@ impl GivenNames {
     fn numbered_free(&self, alloc: Global, word: &Name) -> Result<Name, AllocError>
         ensures { IfOk result (IsFreeNumbered self.now word.now) }
     {
-        let mut number = 2;
-        let mut name = numbered(alloc, word, number)?;
-        while self.is_given(&name) {
-            number += 1;
-            name = numbered(alloc, word, number)?;
+        // (of more numbers than there are names one is free)
+        for number in 2..self.len() + 3 {
+            let name = numbered(alloc, word, number as u64)?;
+            if !self.is_given(&name) {
+                return Ok(name);
+            }
         }
-        Ok(name)
+        unreachable!()
     }
 
     /// Gives a new label that is spelled so its name: the word, or where a label has that, the word with the least

@@ -12,5 +12,6 @@ mod giving;
 mod laws;
 mod spelling;
 
-pub use laws::spelled_law;
+pub use giving::GivenNames;
+pub use laws::{called_law, spelled_law};
 pub use spelling::spelled;

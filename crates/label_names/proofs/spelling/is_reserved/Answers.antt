@@ -1,4 +1,4 @@
-use Rattle.std.proofs.Common.{◌≡◌, true, false, Err, sym, ap, ◌∙◌, rules, List, ℕ}
+use Rattle.std.proofs.Common.{Err, sym, ap, ◌∙◌, rules}
 use Rattle.label_names.proofs.Spellings.{tells_reserved, reserved_told}
 use Rattle.label_names.proofs.spelling.is_reserved.Goals as goal
 

@@ -1,11 +1,11 @@
-use Rattle.std.proofs.Common.{◌≡◌, not, ℕ, Bool, List, ◌∷◌, [], ◌++◌, nat_lt, Bor, sym, ◌∙◌, map, ap, arith, length, subst, rules, ◌<◌}
+use Rattle.std.proofs.Common.{◌≡◌, not, ℕ, List, ◌∷◌, [], ◌++◌, Bor, sym, ◌∙◌, map, ap, length, subst, rules, ◌<◌}
 use Rattle.std.specs.List.{join_with_byte}
 use Rattle.std.proofs.lemmas.List.{map-append, append_assoc, nil_from_length}
 use Rattle.std.proofs.lemmas.Iterator.Splits.{YieldsList-from_slice_split}
 use Rattle.std.proofs.lemmas.Iterator.Consumers.{YieldsList-end}
 use Rattle.chart.specs.Names.{is_name_byte}
 use Rattle.label_names.specs.Spelling.{joined}
-use Rattle.label_names.proofs.Joins.{filled, join_empty, join_first, join_later}
+use Rattle.label_names.proofs.Joins.{filled, join_first, join_later}
 use Rattle.label_names.proofs.spelling.joined.Goals as goal
 use Rattle.label_names.proofs.spelling.joined.Goals.{then-not-is_empty+in_ok-push, else-not-is_empty}
 
@@ -16,14 +16,14 @@ loop-word-preserved c =
     let full : 0 < length word.now = search rules in
     rw (map-append (λ (w : Bor (List ℕ)). w.now) c.loop-word.yielded (word ∷ []))
     (elim c.if-not-is_empty.branch [
-      then-not-is_empty+in_ok-push w ↦
-        c.in_ok-extend_from_slice.ensures.items ∙ ap (λ v. v.items ++ word.now) w.joined-is ∙ ap (λ l. l ++ word.now) w.in_ok-push.ensures.items
-        ∙ append_assoc c.loop-word.joined.items (95 ∷ []) word.now ∙ ap (λ l. l ++ 95 ∷ word.now) c.loop-word.invariant
-        ∙ sym (join_later 95 parts word.now full (subst (λ l. 0 < length l) c.loop-word.invariant (search rules)))
-    | else-not-is_empty w ↦
-        let none : length c.loop-word.joined.items ≡ 0 = search rules in
-        c.in_ok-extend_from_slice.ensures.items ∙ ap (λ v. v.items ++ word.now) w.joined-is ∙ ap (λ l. l ++ word.now) (nil_from_length c.loop-word.joined.items none)
-        ∙ sym (join_first 95 parts word.now full (ap length (sym c.loop-word.invariant) ∙ none))
+      | then-not-is_empty+in_ok-push w ↦
+          c.in_ok-extend_from_slice.ensures.items ∙ ap (λ v. v.items ++ word.now) w.joined-is ∙ ap (λ l. l ++ word.now) w.in_ok-push.ensures.items
+          ∙ append_assoc c.loop-word.joined.items (95 ∷ []) word.now ∙ ap (λ l. l ++ 95 ∷ word.now) c.loop-word.invariant
+          ∙ sym (join_later 95 parts word.now full (subst (λ l. 0 < length l) c.loop-word.invariant (search rules)))
+      | else-not-is_empty w ↦
+          let none : length c.loop-word.joined.items ≡ 0 = search rules in
+          c.in_ok-extend_from_slice.ensures.items ∙ ap (λ v. v.items ++ word.now) w.joined-is ∙ ap (λ l. l ++ word.now) (nil_from_length c.loop-word.joined.items none)
+          ∙ sym (join_first 95 parts word.now full (ap length (sym c.loop-word.invariant) ∙ none))
     ])
 
 pub returns : goal.returns

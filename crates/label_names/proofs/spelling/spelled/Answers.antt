@@ -1,6 +1,6 @@
-use Rattle.std.proofs.Common.{◌≡◌, sym, ap, ◌∙◌, subst, refl, rules, List, ℕ}
-use Rattle.chart.specs.Names.{IsName, name_of}
-use Rattle.label_names.specs.Spelling.{IsWord, joined, fronted, unreserved, shortened, spelled}
+use Rattle.std.proofs.Common.{sym, ap, ◌∙◌, subst, refl, rules}
+use Rattle.chart.specs.Names.{name_of}
+use Rattle.label_names.specs.Spelling.{IsWord, fronted, unreserved, shortened, spelled}
 use Rattle.label_names.proofs.Spellings.{fronted_is_word, joined_names_alone, spelled_is_name}
 use Rattle.label_names.proofs.spelling.spelled.Goals as goal
 

@@ -1,0 +1,11 @@
+use Rattle.std.proofs.Common.{◌≡◌, ℕ, Bool, true, false, List, ap, ◌∙◌, refl}
+use Rattle.std.specs.Prelude.{MatchBool}
+use Rattle.label_names.specs.Giving.{is_given, IsFreeNumbered}
+use Rattle.label_names.proofs.laws.called_law.Goals as goal
+
+fresh : (names : List (List ℕ)) (word name : List ℕ) (b : Bool) → is_given names word ≡ b → MatchBool b (IsFreeNumbered names word name) (name ≡ word) → is_given names name ≡ false
+fresh names word name true e h = ap (is_given names) h.1 ∙ h.2.free
+fresh names word name false e h = ap (is_given names) h ∙ e
+
+pub returns : goal.returns
+returns c = λ names word name h. fresh names word name (is_given names word) refl h
