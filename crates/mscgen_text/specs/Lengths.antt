@@ -24,7 +24,11 @@ unfoldable pub comment_length : List ℕ → ℕ
 comment_length [] = 0
 comment_length (b ∷ bs) = if starts_with nat_eq (b ∷ bs) (codes "*/") then 2 else suc (comment_length bs)
 
--- how many bytes stand before the quotation mark that ends a text: the first one with no backslash before it
+-- the byte ends a text in quotation marks: it is one, and no backslash stands before it
+abbrev pub is_closing : ℕ → ℕ → Bool
+is_closing before b = b == 34 && not (before == 92)
+
+-- how many bytes stand before the quotation mark that ends a text
 unfoldable pub closing : ℕ → List ℕ → Option ℕ
 closing before [] = None
-closing before (b ∷ bs) = if b == 34 && not (before == 92) then Some 0 else option_map suc (closing b bs)
+closing before (b ∷ bs) = if is_closing before b then Some 0 else option_map suc (closing b bs)

@@ -1,5 +1,5 @@
 -- The words, texts and signs of an mscgen text, each with its place (mscgen 0.20's documentation of its language).
-use Rattle.std.specs.Prelude.{ℕ, zero, suc, ◌+◌, ◌-◌, ◌==◌, List, [], ◌∷◌, ◌++◌, codes, length, take, drop}
+use Rattle.std.specs.Prelude.{ℕ, zero, suc, ◌-◌, List, [], ◌∷◌, ◌++◌, codes, length, take, drop}
 use Rattle.std.specs.Prelude.{Option, None, Some, if◌then◌else◌}
 use Rattle.mscgen_text.specs.Pieces.{piece_at, begins}
 use Rattle.mscgen_text.specs.Places.{start, behind}
@@ -73,10 +73,10 @@ first_token place bytes =
 -- the tokens of at most so many pieces, the first of which stands here
 abbrev pub tokens_from : ℕ → Place → List ℕ → List TokenView
 tokens_from zero place bytes = []
-tokens_from (suc n) place bytes =
-    if length bytes == 0 then [] else
-    (first_token place bytes
-    ++ tokens_from n (behind place (take (piece_at bytes).length bytes)) (drop (piece_at bytes).length bytes))
+tokens_from (suc n) place [] = []
+tokens_from (suc n) place (b ∷ bs) =
+    first_token place (b ∷ bs)
+    ++ tokens_from n (behind place (take (piece_at (b ∷ bs)).length (b ∷ bs))) (drop (piece_at (b ∷ bs)).length (b ∷ bs))
 
 -- how many bytes a byte order mark has, if the text begins with one
 unfoldable pub mark_length : List ℕ → ℕ

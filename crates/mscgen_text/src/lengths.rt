@@ -2,6 +2,7 @@
 ghost use Rattle.std.specs.Prelude.{◌≡◌, ◌≤◌, ◌<◌, ◌==◌, not, length, position, IfSome, IsTrue, nat_eq};
 ghost use Rattle.std.specs.List.{starts_with};
 ghost use Rattle.mscgen_text.specs.Lengths.{is_blank, is_word_byte, word_length, line_length, comment_length, closing};
+ghost use Rattle.mscgen_text.specs.Lengths.{is_closing};
 
 pub(crate) fn is_blank(byte: u8) -> bool
     ensures { result ≡ is_blank byte }
@@ -67,29 +68,45 @@ pub(crate) fn line_length(bytes: &[u8]) -> usize
 }
 
 /// How many bytes a comment has behind its `/*`.
+#[tactic(auto, unfolding(crate::specs::Lengths::comment_length))]
 pub(crate) fn comment_length(bytes: &[u8]) -> usize
     ensures value { result ≡ comment_length bytes.now }
     ensures within { result ≤ length bytes.now }
 {
-    for place in 0..bytes.len() {
-        if begins(&bytes[place..], b"*/") {
-            return place + 2;
+    let mut passed = 0;
+    let mut rest = bytes;
+    'bytes: while let [_, others @ ..] = rest {
+        if begins(rest, b"*/") {
+            return passed + 2;
         }
+        passed += 1;
+        rest = others;
     }
-    bytes.len()
+    passed
+}
+
+fn is_closing(before: u8, byte: u8) -> bool
+    ensures { result ≡ is_closing before byte }
+{
+    byte == b'"' && before != b'\\'
 }
 
 /// How many bytes stand before the quotation mark that ends a text, by the byte before them.
+#[tactic(auto, unfolding(crate::specs::Lengths::closing), using(crate::proofs::ByteLoops::moved_on))]
 pub(crate) fn closing(first: u8, bytes: &[u8]) -> Option<usize>
     ensures value { result ≡ closing first bytes.now }
     ensures within { IfSome result (λ place. place < length bytes.now) }
 {
     let mut before = first;
-    for (place, byte) in bytes.iter().enumerate() {
-        if *byte == b'"' && before != b'\\' {
-            return Some(place);
+    let mut passed = 0;
+    let mut rest = bytes;
+    'bytes: while let [byte, others @ ..] = rest {
+        if is_closing(before, *byte) {
+            return Some(passed);
         }
         before = *byte;
+        passed += 1;
+        rest = others;
     }
     None
 }

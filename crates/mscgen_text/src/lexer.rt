@@ -48,14 +48,15 @@ pub fn tokens_of(alloc: Global, text: &[u8]) -> Result<Vec<Token<'_>>, AllocErro
     ensures { IfOk result (λ tokens. map seen tokens.items ≡ tokens_of text.now) }
 {
     let mut tokens = Vec::new(alloc);
-    let mark = mark_length(text);
-    let mut place = START.behind(&text[..mark]);
-    let mut rest = &text[mark..];
-    while !rest.is_empty() {
+    let (mark, behind_mark) = text.split_at(mark_length(text));
+    let mut place = START.behind(mark);
+    let mut rest = behind_mark;
+    'pieces: while !rest.is_empty() {
         let piece = piece_at(rest);
         add_first(piece, place, rest, &mut tokens)?;
-        place = place.behind(&rest[..piece.length]);
-        rest = &rest[piece.length..];
+        let (passed, left) = rest.split_at(piece.length);
+        place = place.behind(passed);
+        rest = left;
     }
     Ok(tokens)
 }
