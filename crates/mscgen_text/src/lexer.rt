@@ -51,7 +51,7 @@ pub fn tokens_of(alloc: Global, text: &[u8]) -> Result<Vec<Token<'_>>, AllocErro
     let (mark, behind_mark) = text.split_at(mark_length(text));
     let mut place = START.behind(mark);
     let mut rest = behind_mark;
-    'pieces: while !rest.is_empty() {
+    'pieces: while let [_, ..] = rest {
         let piece = piece_at(rest);
         add_first(piece, place, rest, &mut tokens)?;
         let (passed, left) = rest.split_at(piece.length);
