@@ -8,5 +8,5 @@ use Rattle.mscgen_text.proofs.words.is_spelled.Goals as goal
 pub returns : goal.returns
 unfolding is_spelled
 returns c =
-    same_from_decides _ _ (c.eq_ignore_ascii_case.ensures.0, c.eq_ignore_ascii_case.ensures.1)
+    same_from_decides _ _ c.eq_ignore_ascii_case.ensures.test
     (bytes_eq-Decides (map to_ascii_lowercase c.args.word.now) (map to_ascii_lowercase c.args.known.now))
