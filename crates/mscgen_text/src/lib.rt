@@ -1,29 +1,18 @@
-//! Texts of mscgen 0.20, read by their grammar.
+//! The tokens of mscgen 0.20's texts.
+//!
+//! What is promised ([`tokens_of`]): the text's bytes decide the tokens, each with its kind, its line, its column and the
+//! text from there on. Blanks and comments are none, and what can't be read is a token of its own.
 #![tactic(auto)]
 
-mod arc;
-mod attributes;
-mod chart;
-mod entity;
-mod fault;
 mod lengths;
 mod lexer;
-mod msc;
 mod piece;
 mod place;
-mod reading;
 mod relation;
 mod signs;
-mod stop;
 mod token;
-mod words;
 
-pub use arc::{Arc, ArcKind};
-pub use chart::Msc;
-pub use entity::Entity;
-pub use fault::{Fault, MscgenError, printable};
 pub use lexer::tokens_of;
-pub use msc::read;
 pub use place::Place;
 pub use relation::Relation;
 pub use token::{Kind, Token};

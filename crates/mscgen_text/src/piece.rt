@@ -3,7 +3,9 @@ ghost use Rattle.std.specs.Prelude.{◌≡◌, ◌≤◌, ◌<◌, length, ◌+�
 ghost use Rattle.mscgen_text.specs.Pieces.{piece_at, text_by, word_or_unknown};
 ghost use Rattle.mscgen_text.specs.Lengths.{closing};
 
-use crate::lengths::{begins, closing, comment_length, is_blank, is_word_byte, line_length, word_length};
+use crate::lengths::{
+    begins, closing, comment_length, is_blank, is_word_byte, line_length, word_length,
+};
 use crate::relation::Relation;
 use crate::signs::sign_at;
 

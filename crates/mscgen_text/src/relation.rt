@@ -15,8 +15,4 @@ pub enum Relation {
     Both,
     /// A line without a head.
     Line,
-    /// A box round two entities and those between them.
-    Box,
-    /// A note at two entities and those between them.
-    Note,
 }
