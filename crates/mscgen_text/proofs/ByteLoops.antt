@@ -1,5 +1,5 @@
 -- Loops over bytes: what is left of them, a byte at a time.
-use Rattle.std.proofs.Common.{◌≡◌, ℕ, zero, suc, ◌+◌, ◌<◌, ◌≤◌, arith, List, [], ◌∷◌, length, drop, get_or, Option, None, Some, option_map, refl, ap, ◌∙◌, add-one}
+use Rattle.std.proofs.Common.{◌≡◌, ℕ, zero, suc, ◌+◌, ◌<◌, ◌≤◌, arith, List, [], ◌∷◌, length, drop, get_or, Option, None, Some, option_map, refl, ap, add-one}
 use Rattle.std.proofs.Math.Seq.{drop-cons}
 use Rattle.mscgen_text.specs.Places.{behind, behind_byte}
 use Rattle.mscgen_text.specs.declared.place.Place.{Place}

@@ -1,5 +1,5 @@
 -- Each sign has a byte at least.
-use Rattle.std.proofs.Common.{◌≡◌, ℕ, ◌<◌, suc, Bool, true, false, List, [], ◌∷◌, length, refl, IfSome, Option, None, Some, arith, if◌then◌else◌}
+use Rattle.std.proofs.Common.{◌≡◌, ℕ, ◌<◌, Bool, true, false, List, [], ◌∷◌, length, refl, IfSome, Option, None, Some, arith, if◌then◌else◌}
 use Rattle.std.specs.List.{starts_with}
 use Rattle.std.specs.Prelude.{nat_eq, ◌&&◌}
 use Rattle.mscgen_text.specs.Signs.{Spelled, first_spelled, marks, long_signs, short_signs, or_else, sign_at}

@@ -1,5 +1,5 @@
 -- How many bytes words, comments and texts in quotation marks have.
-use Rattle.std.specs.Prelude.{ℕ, suc, ◌+◌, Bool, not, ◌&&◌, ◌||◌, ◌==◌, nat_le, List, [], ◌∷◌, codes, length}
+use Rattle.std.specs.Prelude.{ℕ, suc, Bool, not, ◌&&◌, ◌||◌, ◌==◌, nat_le, List, [], ◌∷◌, codes, length}
 use Rattle.std.specs.Prelude.{position, Option, None, Some, option_map, unwrap_or, nat_eq, if◌then◌else◌}
 use Rattle.std.specs.List.{starts_with}
 

@@ -1,5 +1,5 @@
 -- The pieces of a text: blanks, comments, words, texts in quotation marks and signs.
-use Rattle.std.specs.Prelude.{ℕ, suc, ◌+◌, ◌==◌, Bool, ◌||◌, List, [], ◌∷◌, codes, length, drop, Option, None, Some}
+use Rattle.std.specs.Prelude.{ℕ, ◌+◌, ◌==◌, Bool, ◌||◌, List, [], ◌∷◌, codes, length, drop, Option, None, Some}
 use Rattle.std.specs.Prelude.{nat_eq, if◌then◌else◌}
 use Rattle.std.specs.List.{starts_with}
 use Rattle.mscgen_text.specs.Lengths.{is_blank, is_word_byte, word_length, line_length, comment_length, closing}

@@ -1,5 +1,5 @@
 -- The words, texts and signs of an mscgen text, each with its place (mscgen 0.20's documentation of its language).
-use Rattle.std.specs.Prelude.{ℕ, zero, suc, ◌-◌, List, [], ◌∷◌, ◌++◌, codes, length, take, drop}
+use Rattle.std.specs.Prelude.{ℕ, zero, suc, ◌-◌, List, [], ◌∷◌, ◌++◌, length, take, drop}
 use Rattle.std.specs.Prelude.{Option, None, Some, if◌then◌else◌}
 use Rattle.mscgen_text.specs.Pieces.{piece_at, begins}
 use Rattle.mscgen_text.specs.Places.{start, behind}
