@@ -1,0 +1,3 @@
+pub mod ByteLoops
+pub mod SignLemmas
+pub mod TokenLoops
