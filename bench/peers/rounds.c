@@ -32,12 +32,14 @@ struct load {
   size_t messages;
 };
 
-/* What an instance has passed, and what the reports of its receives have. */
+/* An instance: what it is to pass, what it has passed, and what the reports of its receives have. */
 struct player {
   const struct board *board;
   const struct load *load;
   size_t own;
+  size_t to_send[MAX_INSTANCES];
   size_t sent[MAX_INSTANCES];
+  size_t to_get[MAX_INSTANCES];
   size_t got[MAX_INSTANCES];
   size_t left;
   uint64_t listed;
@@ -116,12 +118,11 @@ static bool may_send(const struct player *player, size_t to) {
 static size_t step(struct player *player) {
   size_t passed = 0;
   for (size_t other = 0; other < player->load->instances && !player->failed; other++) {
-    if (player->got[other] < share(player->load, other, player->own) && receive_one(player, other)) {
+    if (player->got[other] < player->to_get[other] && receive_one(player, other)) {
       player->got[other]++;
       passed++;
     }
-    if (player->sent[other] < share(player->load, player->own, other) && may_send(player, other) &&
-        send_one(player, other)) {
+    if (player->sent[other] < player->to_send[other] && may_send(player, other) && send_one(player, other)) {
       player->sent[other]++;
       passed++;
     }
@@ -199,8 +200,10 @@ static bool run_round(const struct load *load) {
   for (size_t own = 0; own < load->instances; own++) {
     players[own] = (struct player){.board = &board, .load = load, .own = own};
     for (size_t other = 0; other < load->instances; other++) {
-      players[own].left += share(load, own, other) + share(load, other, own);
-      messages += share(load, other, own);
+      players[own].to_send[other] = share(load, own, other);
+      players[own].to_get[other] = share(load, other, own);
+      players[own].left += players[own].to_send[other] + players[own].to_get[other];
+      messages += players[own].to_get[other];
     }
   }
   uint64_t took = load->pattern == BURST ? run_bursts(players, load)
