@@ -1,19 +1,24 @@
 //! What a message costs over a board's lanes, beside the kit's rings: on threads that pass messages at once, and in
-//! bursts on one thread, where two recorders pass the same messages too. With the word `time` it tells the times, and
-//! else only which messages it would time.
+//! bursts on one thread, where two recorders pass the same messages too. With the word `time` it tells the times, with
+//! `round` and eight words more those of single rounds over a board or over rings by hand, and else only which messages
+//! it would time.
 #![tactic(auto)]
 
 mod bursts;
+mod ends;
 mod load;
 mod looks;
 mod pattern;
 mod ports;
+mod rings;
+mod rounds;
 mod timing;
 
 use bursts::{MESSAGES, run_bursts, run_recorders};
 use load::{Calls, Load};
 use looks::looks;
 use pattern::Pattern;
+use rounds::{Peer, Plan, Traffic, run_round};
 use std::convert::AsStr;
 use std::env;
 use std::rt::Env;
@@ -25,6 +30,14 @@ use timing::{Over, run_pattern};
 const RUNS: usize = 15;
 
 const PATTERNS: [Pattern; 3] = [Pattern::OneWay, Pattern::Replies, Pattern::AllToAll];
+
+/// Rounds of 4,000 messages by turns: their traffic, instances and slots.
+const ROUNDS: [(Traffic, usize, usize); 4] = [
+    (Traffic::Burst, 32, 8),
+    (Traffic::OneWay, 2, 64),
+    (Traffic::PingPong, 2, 1),
+    (Traffic::AllToAll, 4, 8),
+];
 
 /// The nanoseconds that a message takes, by the median of these runs.
 fn median(mut took: Vec<u64>, messages: u64) -> anyhow::Result<u64> {
@@ -133,14 +146,120 @@ fn tell<R: Threads + Sync + Clock + AllocGlobal + Print>(
     tell_bursts(rt, load)
 }
 
-/// Whether the one word after the program's name is `time`.
-fn asks_for_times<R: Env + AllocGlobal>(rt: &R) -> anyhow::Result<bool> {
-    let words: Vec<String> = env::args(rt)?.collect(rt.alloc())?;
-    Ok(matches!(words.as_slice(), [_, word] if word.as_str() == "time"))
+/// Passes rounds by turns, and tells how many messages came and what their reports list, which the traffic decides.
+fn tell_reports<R: Threads + Sync + Clock + AllocGlobal + Print>(
+    rt: &R,
+    peer: Peer,
+) -> anyhow::Result<()> {
+    for (traffic, instances, capacity) in ROUNDS {
+        let plan = Plan {
+            traffic,
+            on_threads: false,
+            instances,
+            capacity,
+            body: 0,
+            messages: 4000,
+        };
+        let outcome = run_round(rt, rt.alloc(), peer, &plan)?;
+        let messages = outcome.messages;
+        let listed = outcome.seen.listed;
+        let firsts = outcome.seen.firsts;
+        println!(rt; "{traffic},{peer},{instances},{capacity},{messages},{listed},{firsts}")?;
+    }
+    Ok(())
 }
 
-fn main(rt: HostRuntime) -> anyhow::Result<()> {
-    let timed = asks_for_times(&rt)?;
+/// What the words after the program's name ask for.
+#[derive(Clone, Copy)]
+enum Asked {
+    /// Which messages would be timed.
+    Messages,
+    /// The times of all loads.
+    Times,
+    /// So many rounds of a plan.
+    Rounds { peer: Peer, plan: Plan, rounds: u64 },
+}
+
+fn peer_in(word: &str) -> Option<Peer> {
+    if word == "board" {
+        Some(Peer::Board)
+    } else if word == "rings" {
+        Some(Peer::Rings)
+    } else {
+        None
+    }
+}
+
+fn traffic_in(word: &str) -> Option<Traffic> {
+    if word == "burst" {
+        Some(Traffic::Burst)
+    } else if word == "one_way" {
+        Some(Traffic::OneWay)
+    } else if word == "ping_pong" {
+        Some(Traffic::PingPong)
+    } else if word == "all_to_all" {
+        Some(Traffic::AllToAll)
+    } else {
+        None
+    }
+}
+
+/// What the words of a round ask for: PEER TRAFFIC threads|turns INSTANCES SLOTS BODY MESSAGES ROUNDS.
+fn rounds_in(words: &[String]) -> anyhow::Result<Asked> {
+    let [peer, traffic, how, instances, slots, body, messages, rounds] = words else {
+        anyhow::bail!("a round has eight words");
+    };
+    let (Some(peer), Some(traffic)) = (peer_in(peer.as_str()), traffic_in(traffic.as_str())) else {
+        anyhow::bail!("board or rings, and burst, one_way, ping_pong or all_to_all");
+    };
+    let plan = Plan {
+        traffic,
+        on_threads: how.as_str() == "threads",
+        instances: instances.as_str().parse()?,
+        capacity: slots.as_str().parse()?,
+        body: body.as_str().parse()?,
+        messages: messages.as_str().parse()?,
+    };
+    Ok(Asked::Rounds {
+        peer,
+        plan,
+        rounds: rounds.as_str().parse()?,
+    })
+}
+
+/// What is asked for.
+fn read_words<R: Env + AllocGlobal>(rt: &R) -> anyhow::Result<Asked> {
+    let words: Vec<String> = env::args(rt)?.collect(rt.alloc())?;
+    match words.as_slice() {
+        [_, word] if word.as_str() == "time" => Ok(Asked::Times),
+        [_, word, rest @ ..] if word.as_str() == "round" => rounds_in(rest),
+        _ => Ok(Asked::Messages),
+    }
+}
+
+/// Runs so many rounds, and tells of each the nanoseconds, how many messages came, and what their reports list.
+fn tell_rounds<R: Threads + Sync + Clock + AllocGlobal + Print>(
+    rt: &R,
+    peer: Peer,
+    plan: &Plan,
+    rounds: u64,
+) -> anyhow::Result<()> {
+    for _ in 0..rounds {
+        let outcome = run_round(rt, rt.alloc(), peer, plan)?;
+        let nanoseconds = outcome.nanoseconds;
+        let messages = outcome.messages;
+        let listed = outcome.seen.listed;
+        let firsts = outcome.seen.firsts;
+        println!(rt; "{nanoseconds} {messages} {listed} {firsts}")?;
+    }
+    Ok(())
+}
+
+/// Tells of all loads, with their times or without.
+fn tell_all<R: Threads + Sync + Clock + AllocGlobal + Print>(
+    rt: &R,
+    timed: bool,
+) -> anyhow::Result<()> {
     if timed {
         println!(rt;
             "pattern,calls,capacity,body,messages,board ns,rings ns,recorders ns,percent,looks"
@@ -152,7 +271,7 @@ fn main(rt: HostRuntime) -> anyhow::Result<()> {
         for capacity in [1, 8, 64] {
             for body in [0, 64] {
                 tell(
-                    &rt,
+                    rt,
                     timed,
                     Load {
                         capacity,
@@ -164,4 +283,17 @@ fn main(rt: HostRuntime) -> anyhow::Result<()> {
         }
     }
     Ok(())
+}
+
+fn main(rt: HostRuntime) -> anyhow::Result<()> {
+    match read_words(&rt)? {
+        Asked::Messages => {
+            tell_all(&rt, false)?;
+            println!(rt; "traffic,peer,instances,capacity,messages,listed,firsts")?;
+            tell_reports(&rt, Peer::Board)?;
+            tell_reports(&rt, Peer::Rings)
+        }
+        Asked::Times => tell_all(&rt, true),
+        Asked::Rounds { peer, plan, rounds } => tell_rounds(&rt, peer, &plan, rounds),
+    }
 }

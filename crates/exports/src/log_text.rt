@@ -42,7 +42,7 @@ fn add_entry<W: Out>(
     clock: &Clock,
     instance: InstanceNo,
 ) -> Result<(), WriteError>
-    ensures { Adds W.contents W.failures text.old text.new result (entry_text export.now clock.now instance) }
+    ensures { Adds W.sink text.old text.new result (entry_text export.now clock.now instance) }
 {
     add_quoted(text, export.names(), instance)?;
     text.add(Word::Colon.as_bytes())?;
@@ -56,7 +56,7 @@ fn add_next_entry<W: Out>(
     clock: &Clock,
     instance: InstanceNo,
 ) -> Result<(), WriteError>
-    ensures { Adds W.contents W.failures text.old text.new result (next_entry export.now clock.now instance) }
+    ensures { Adds W.sink text.old text.new result (next_entry export.now clock.now instance) }
 {
     text.add(Word::Comma.as_bytes())?;
     add_entry(text, export, clock, instance)
@@ -69,7 +69,7 @@ fn add_other_entry<W: Out>(
     stamped: &Stamped,
     line: &Line,
 ) -> Result<(), WriteError>
-    ensures { Adds W.contents W.failures text.old text.new result (other_entry export.now stamped.now line.now) }
+    ensures { Adds W.sink text.old text.new result (other_entry export.now stamped.now line.now) }
 {
     let instance = line.instance();
     if instance == stamped.event.instance || entry_in(&stamped.clock, instance) == 0 {
@@ -84,7 +84,7 @@ fn add_other_entries<W: Out>(
     stamped: &Stamped,
     lines: &[Line],
 ) -> Result<(), WriteError>
-    ensures { Adds W.contents W.failures text.old text.new result
+    ensures { Adds W.sink text.old text.new result
         (flat_map (other_entry export.now stamped.now) lines.now) }
 {
     for line in lines {
@@ -100,7 +100,7 @@ fn add_clock<W: Out>(
     export: &Export<'_>,
     stamped: &Stamped,
 ) -> Result<(), WriteError>
-    ensures { Adds W.contents W.failures text.old text.new result (clock_text export.now stamped.now) }
+    ensures { Adds W.sink text.old text.new result (clock_text export.now stamped.now) }
 {
     text.add(Word::ClockStart.as_bytes())?;
     add_entry(text, export, &stamped.clock, stamped.event.instance)?;
@@ -111,7 +111,7 @@ fn add_clock<W: Out>(
 /// Adds the earlier events that a receive may come before.
 #[tactic(auto, using(msc_text::proofs::Writes::joining), unfolding(crate::specs::LogText::races_said))]
 fn add_races_said<W: Out>(text: &mut TextBuffer<'_, W>, report: &Report) -> Result<(), WriteError>
-    ensures { Adds W.contents W.failures text.old text.new result (races_said report.now (counted report.now)) }
+    ensures { Adds W.sink text.old text.new result (races_said report.now (counted report.now)) }
 {
     let earlier = report.earlier();
     text.add(Word::Comma.as_bytes())?;
@@ -125,7 +125,7 @@ fn add_races_of<W: Out>(
     text: &mut TextBuffer<'_, W>,
     report: Option<&Report>,
 ) -> Result<(), WriteError>
-    ensures { Adds W.contents W.failures text.old text.new result
+    ensures { Adds W.sink text.old text.new result
         (races_of (option_map (λ r. r.now) report.entry)) }
 {
     match report {
@@ -141,7 +141,7 @@ fn add_sent<W: Out>(
     to: InstanceNo,
     name: &Name,
 ) -> Result<(), WriteError>
-    ensures { Adds W.contents W.failures text.old text.new result (sent_text export.now to name.now) }
+    ensures { Adds W.sink text.old text.new result (sent_text export.now to name.now) }
 {
     text.add(Word::Out.as_bytes())?;
     text.add(name.as_bytes())?;
@@ -157,7 +157,7 @@ fn add_received<W: Out>(
     from: InstanceNo,
     name: &Name,
 ) -> Result<(), WriteError>
-    ensures { Adds W.contents W.failures text.old text.new result
+    ensures { Adds W.sink text.old text.new result
         (received_text export.now stamped.now from name.now) }
 {
     text.add(Word::In.as_bytes())?;
@@ -174,7 +174,7 @@ fn add_event<W: Out>(
     stamped: &Stamped,
     event: Option<Event>,
 ) -> Result<(), WriteError>
-    ensures { Adds W.contents W.failures text.old text.new result (event_text export.now stamped.now event) }
+    ensures { Adds W.sink text.old text.new result (event_text export.now stamped.now event) }
 {
     let Some(event) = event else {
         return text.add(b"");
@@ -192,7 +192,7 @@ fn add_log_line<W: Out>(
     export: &Export<'_>,
     stamped: &Stamped,
 ) -> Result<(), WriteError>
-    ensures { Adds W.contents W.failures text.old text.new result (log_line export.now stamped.now) }
+    ensures { Adds W.sink text.old text.new result (log_line export.now stamped.now) }
 {
     add_name(text, export.names(), stamped.event.instance)?;
     add_clock(text, export, stamped)?;
@@ -205,7 +205,7 @@ fn add_log_lines<W: Out>(
     export: &Export<'_>,
     log: &[Stamped],
 ) -> Result<(), WriteError>
-    ensures { Adds W.contents W.failures text.old text.new result (flat_map (log_line export.now) log.now) }
+    ensures { Adds W.sink text.old text.new result (flat_map (log_line export.now) log.now) }
 {
     for stamped in log {
         add_log_line(text, export, stamped)?;
@@ -220,7 +220,7 @@ fn add_log<W: Out>(
     export: &Export<'_>,
     log: &Log,
 ) -> Result<(), WriteError>
-    ensures { Adds W.contents W.failures text.old text.new result (log_text export.now log.now) }
+    ensures { Adds W.sink text.old text.new result (log_text export.now log.now) }
 {
     text.add(log_start())?;
     add_log_lines(text, export, log.entries())
@@ -230,7 +230,7 @@ fn add_log<W: Out>(
 /// beginning of the text was written, and no other put is tried.
 #[tactic(auto, using(msc_text::proofs::Writes::joining))]
 pub fn write_log<W: Out>(export: &Export<'_>, log: &Log, out: &mut W) -> Result<(), WriteError>
-    ensures { Wrote W.contents W.failures out.old out.new result (log_text export.now log.now) }
+    ensures { Wrote W.sink out.old out.new result (log_text export.now log.now) }
 {
     let mut text = TextBuffer::new(out);
     add_log(&mut text, export, log)?;

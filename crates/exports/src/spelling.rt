@@ -90,7 +90,7 @@ pub(crate) fn add_name<W: Out>(
     names: &Names,
     instance: InstanceNo,
 ) -> Result<(), WriteError>
-    ensures { Adds W.contents W.failures text.old text.new result (name_at names.now instance) }
+    ensures { Adds W.sink text.old text.new result (name_at names.now instance) }
 {
     if instance.place() < names.len() {
         let name = named(names, instance);
@@ -106,7 +106,7 @@ pub(crate) fn add_quoted<W: Out>(
     names: &Names,
     instance: InstanceNo,
 ) -> Result<(), WriteError>
-    ensures { Adds W.contents W.failures text.old text.new result (quoted (name_at names.now instance)) }
+    ensures { Adds W.sink text.old text.new result (quoted (name_at names.now instance)) }
 {
     text.add(Word::Quote.as_bytes())?;
     add_name(text, names, instance)?;
@@ -118,7 +118,7 @@ fn add_numbered<W: Out>(
     text: &mut TextBuffer<'_, W>,
     instance: InstanceNo,
 ) -> Result<(), WriteError>
-    ensures { Adds W.contents W.failures text.old text.new result (numbered instance) }
+    ensures { Adds W.sink text.old text.new result (numbered instance) }
 {
     text.add(Word::Number.as_bytes())?;
     text.add_number(instance.number() as u64)
@@ -130,7 +130,7 @@ pub(crate) fn add_who<W: Out>(
     export: &Export<'_>,
     instance: InstanceNo,
 ) -> Result<(), WriteError>
-    ensures { Adds W.contents W.failures text.old text.new result (who export.now instance) }
+    ensures { Adds W.sink text.old text.new result (who export.now instance) }
 {
     match export.tool() {
         Tool::Mscgen | Tool::PlantUml => add_quoted(text, export.names(), instance),
@@ -148,7 +148,7 @@ fn add_arrow<W: Out>(
     to: InstanceNo,
     name: &Name,
 ) -> Result<(), WriteError>
-    ensures { Adds W.contents W.failures text.old text.new result (arrow export.now sign.now from to name.now) }
+    ensures { Adds W.sink text.old text.new result (arrow export.now sign.now from to name.now) }
 {
     text.add(indent(export.tool()))?;
     add_who(text, export, from)?;
@@ -168,7 +168,7 @@ fn add_whole_arrow<W: Out>(
     to: InstanceNo,
     name: &Name,
 ) -> Result<(), WriteError>
-    ensures { Adds W.contents W.failures text.old text.new result
+    ensures { Adds W.sink text.old text.new result
         (whole_arrow export.now sign.now from to name.now) }
 {
     add_arrow(text, export, sign, from, to, name)?;
@@ -185,7 +185,7 @@ fn add_late_arrow<W: Out>(
     name: &Name,
     rows: u32,
 ) -> Result<(), WriteError>
-    ensures { Adds W.contents W.failures text.old text.new result (late_arrow export.now from to name.now rows) }
+    ensures { Adds W.sink text.old text.new result (late_arrow export.now from to name.now rows) }
 {
     add_arrow(text, export, arrow_sign(export.tool()), from, to, name)?;
     text.add(Word::ArcSkip.as_bytes())?;
@@ -196,7 +196,7 @@ fn add_late_arrow<W: Out>(
 /// Adds a row of mscgen without anything.
 #[tactic(auto, unfolding(crate::specs::Spelling::space))]
 pub(crate) fn add_space<W: Out>(text: &mut TextBuffer<'_, W>) -> Result<(), WriteError>
-    ensures { Adds W.contents W.failures text.old text.new result space }
+    ensures { Adds W.sink text.old text.new result space }
 {
     text.add(b"  |||;\n")
 }
@@ -207,7 +207,7 @@ fn add_between<W: Out>(
     export: &Export<'_>,
     at: InstanceNo,
 ) -> Result<(), WriteError>
-    ensures { Adds W.contents W.failures text.old text.new result (between export.now at) }
+    ensures { Adds W.sink text.old text.new result (between export.now at) }
 {
     add_who(text, export, at)?;
     text.add(Word::Note.as_bytes())
@@ -219,7 +219,7 @@ fn add_note_place<W: Out>(
     export: &Export<'_>,
     at: InstanceNo,
 ) -> Result<(), WriteError>
-    ensures { Adds W.contents W.failures text.old text.new result (note_place export.now.tool export.now at) }
+    ensures { Adds W.sink text.old text.new result (note_place export.now.tool export.now at) }
 {
     match export.tool() {
         Tool::Mscgen => add_between(text, export, at),
@@ -234,7 +234,7 @@ fn add_note_start<W: Out>(
     export: &Export<'_>,
     at: InstanceNo,
 ) -> Result<(), WriteError>
-    ensures { Adds W.contents W.failures text.old text.new result (note_start export.now at) }
+    ensures { Adds W.sink text.old text.new result (note_start export.now at) }
 {
     text.add(indent(export.tool()))?;
     text.add(note_front(export.tool()))?;
@@ -252,7 +252,7 @@ fn add_sending<W: Out>(
     to: InstanceNo,
     name: &Name,
 ) -> Result<(), WriteError>
-    ensures { Adds W.contents W.failures text.old text.new result (sending export.now at to name.now) }
+    ensures { Adds W.sink text.old text.new result (sending export.now at to name.now) }
 {
     add_note_start(text, export, at)?;
     text.add(Word::Out.as_bytes())?;
@@ -271,7 +271,7 @@ fn add_receiving<W: Out>(
     from: InstanceNo,
     name: &Name,
 ) -> Result<(), WriteError>
-    ensures { Adds W.contents W.failures text.old text.new result (receiving export.now at from name.now) }
+    ensures { Adds W.sink text.old text.new result (receiving export.now at from name.now) }
 {
     add_note_start(text, export, at)?;
     text.add(Word::In.as_bytes())?;
@@ -288,7 +288,7 @@ pub(crate) fn add_races<W: Out>(
     export: &Export<'_>,
     report: &Report,
 ) -> Result<(), WriteError>
-    ensures { Adds W.contents W.failures text.old text.new result (races export.now report.now (counted report.now)) }
+    ensures { Adds W.sink text.old text.new result (races export.now report.now (counted report.now)) }
 {
     let earlier = report.earlier();
     add_note_start(text, export, report.receive().instance)?;
@@ -304,7 +304,7 @@ pub(crate) fn add_saying<W: Out>(
     export: &Export<'_>,
     saying: &Saying,
 ) -> Result<(), WriteError>
-    ensures { Adds W.contents W.failures text.old text.new result (saying_text export.now saying.now) }
+    ensures { Adds W.sink text.old text.new result (saying_text export.now saying.now) }
 {
     let tool = export.tool();
     match saying {

@@ -67,7 +67,7 @@ fn add_in_mscgen<W: Out>(
     export: &Export<'_>,
     instance: InstanceNo,
 ) -> Result<(), WriteError>
-    ensures { Adds W.contents W.failures text.old text.new result (in_mscgen export.now instance) }
+    ensures { Adds W.sink text.old text.new result (in_mscgen export.now instance) }
 {
     text.add(comma_before(instance))?;
     add_who(text, export, instance)
@@ -79,7 +79,7 @@ fn add_in_plantuml<W: Out>(
     export: &Export<'_>,
     instance: InstanceNo,
 ) -> Result<(), WriteError>
-    ensures { Adds W.contents W.failures text.old text.new result (in_plantuml export.now instance) }
+    ensures { Adds W.sink text.old text.new result (in_plantuml export.now instance) }
 {
     text.add(Word::Participant.as_bytes())?;
     add_who(text, export, instance)?;
@@ -92,7 +92,7 @@ fn add_in_mermaid<W: Out>(
     export: &Export<'_>,
     instance: InstanceNo,
 ) -> Result<(), WriteError>
-    ensures { Adds W.contents W.failures text.old text.new result (in_mermaid export.now instance) }
+    ensures { Adds W.sink text.old text.new result (in_mermaid export.now instance) }
 {
     text.add(indent(export.tool()))?;
     text.add(Word::Participant.as_bytes())?;
@@ -108,7 +108,7 @@ fn add_participant<W: Out>(
     export: &Export<'_>,
     line: &Line,
 ) -> Result<(), WriteError>
-    ensures { Adds W.contents W.failures text.old text.new result (participant export.now line.now) }
+    ensures { Adds W.sink text.old text.new result (participant export.now line.now) }
 {
     let instance = line.instance();
     match export.tool() {
@@ -123,7 +123,7 @@ fn add_participants<W: Out>(
     export: &Export<'_>,
     lines: &[Line],
 ) -> Result<(), WriteError>
-    ensures { Adds W.contents W.failures text.old text.new result (flat_map (participant export.now) lines.now) }
+    ensures { Adds W.sink text.old text.new result (flat_map (participant export.now) lines.now) }
 {
     for line in lines {
         add_participant(text, export, line)?;
@@ -137,7 +137,7 @@ fn add_note<W: Out>(
     export: &Export<'_>,
     report: Option<&Report>,
 ) -> Result<(), WriteError>
-    ensures { Adds W.contents W.failures text.old text.new result
+    ensures { Adds W.sink text.old text.new result
         (note_text export.now (option_map (λ r. r.now) report.entry)) }
 {
     match report {
@@ -162,7 +162,7 @@ fn add_row<W: Out>(
     export: &Export<'_>,
     row: &Row,
 ) -> Result<(), WriteError>
-    ensures { Adds W.contents W.failures text.old text.new result (row_text export.now row.now) }
+    ensures { Adds W.sink text.old text.new result (row_text export.now row.now) }
 {
     add_saying(text, export, &saying_of(export, row))?;
     add_note(text, export, export.note_of(&noted(row)))
@@ -173,7 +173,7 @@ fn add_rows<W: Out>(
     export: &Export<'_>,
     rows: &[Row],
 ) -> Result<(), WriteError>
-    ensures { Adds W.contents W.failures text.old text.new result (flat_map (row_text export.now) rows.now) }
+    ensures { Adds W.sink text.old text.new result (flat_map (row_text export.now) rows.now) }
 {
     for row in rows {
         add_row(text, export, row)?;
@@ -183,7 +183,7 @@ fn add_rows<W: Out>(
 
 /// Adds what stands in place of rows.
 fn add_no_rows<W: Out>(text: &mut TextBuffer<'_, W>, tool: Tool) -> Result<(), WriteError>
-    ensures { Adds W.contents W.failures text.old text.new result (no_rows tool) }
+    ensures { Adds W.sink text.old text.new result (no_rows tool) }
 {
     match tool {
         Tool::Mscgen => add_space(text),
@@ -192,7 +192,7 @@ fn add_no_rows<W: Out>(text: &mut TextBuffer<'_, W>, tool: Tool) -> Result<(), W
 }
 
 fn add_all_rows<W: Out>(text: &mut TextBuffer<'_, W>, export: &Export<'_>) -> Result<(), WriteError>
-    ensures { Adds W.contents W.failures text.old text.new result (rows_text export.now) }
+    ensures { Adds W.sink text.old text.new result (rows_text export.now) }
 {
     if export.rows().is_empty() {
         add_no_rows(text, export.tool())
@@ -204,7 +204,7 @@ fn add_all_rows<W: Out>(text: &mut TextBuffer<'_, W>, export: &Export<'_>) -> Re
 /// Adds the whole text.
 #[tactic(auto, using(msc_text::proofs::Writes::joining), unfolding(crate::specs::ExportText::export_text))]
 fn add_export<W: Out>(text: &mut TextBuffer<'_, W>, export: &Export<'_>) -> Result<(), WriteError>
-    ensures { Adds W.contents W.failures text.old text.new result (export_text export.now) }
+    ensures { Adds W.sink text.old text.new result (export_text export.now) }
 {
     text.add(start(export.tool()))?;
     add_participants(text, export, export.lines())?;
@@ -217,7 +217,7 @@ fn add_export<W: Out>(text: &mut TextBuffer<'_, W>, export: &Export<'_>) -> Resu
 /// written, and no other put is tried.
 #[tactic(auto, using(msc_text::proofs::Writes::joining))]
 pub fn write_export<W: Out>(export: &Export<'_>, out: &mut W) -> Result<(), WriteError>
-    ensures { Wrote W.contents W.failures out.old out.new result (export_text export.now) }
+    ensures { Wrote W.sink out.old out.new result (export_text export.now) }
 {
     let mut text = TextBuffer::new(out);
     add_export(&mut text, export)?;

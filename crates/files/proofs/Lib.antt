@@ -1,1 +1,3 @@
 pub mod Numerals
+pub mod TextLemmas
+pub mod PartLemmas

@@ -1,13 +1,14 @@
 -- What a file says: a schedule's run, or a chart, told by its first word; and which charts are refused.
 use Rattle.std.specs.Prelude.{◌≡◌, ℕ, Bool, true, false, List, [], ◌∷◌, bytes_eq, codes, Result, Ok, Err}
+use Rattle.std.specs.Prelude.{if◌then◌else◌}
+use Rattle.std.specs.List.{list_any, flat_map}
 use Rattle.chart.specs.Charts.{LineView, chart_lines}
 use Rattle.closure.specs.Faults.{Refuses}
 use Rattle.closure.specs.declared.error.ChartError.TheVariants as faults
 use Rattle.msc_reader.specs.Reading.{chart_of}
 use Rattle.msc_text.specs.ChartText.{name_at}
-use Rattle.msc_text.specs.Lines.{lines_of, words_of}
+use Rattle.msc_text.specs.Lines.{lines_of, words_of, ended}
 use Rattle.msc_text.specs.declared.fault.Fault.{Fault}
-use Rattle.outcomes.specs.Outcomes.{OutcomeView, IsOutcome}
 use Rattle.schedule.specs.Plans.{Plan}
 use Rattle.schedule.specs.Reading.{schedule_of}
 use Rattle.files.specs.declared.error.ProgramError.{ProgramError}
@@ -38,24 +39,24 @@ begins_so (line ∷ lines) = begins_schedule (words_of line)
 abbrev pub is_schedule : List ℕ → Bool
 is_schedule bytes = begins_so (lines_of bytes)
 
--- the chart of what a schedule comes to, with its instances' names
-abbrev pub ComesTo : Result Plan Fault → Named → Type 0
-ComesTo said named = (plan : Plan) × (o : OutcomeView) × (said ≡ Ok plan) × IsOutcome plan o
-    × (named ≡ (o.names, o.chart))
+-- the line ends a chart
+abbrev pub ends_chart : List ℕ → Bool
+ends_chart line = bytes_eq line (codes "endmsc;")
 
--- a text of this kind says the chart
-abbrev pub SaysSo : Bool → List ℕ → Named → Type 0
-SaysSo true bytes named = ComesTo (schedule_of bytes) named
-SaysSo false bytes named = chart_of bytes ≡ Ok named
+-- some lines, up to the first that ends a chart, and with it
+abbrev pub through_end : List (List ℕ) → List (List ℕ)
+through_end [] = []
+through_end (line ∷ lines) = line ∷ (if ends_chart line then [] else through_end lines)
 
--- the text says the chart: it is a schedule that comes to it, or its own text
-abbrev pub Says : List ℕ → Named → Type 0
-Says bytes named = SaysSo (is_schedule bytes) bytes named
+-- What of a file is a chart's text: all through the line that ends it. Behind it a file may have more, as what `mscrun`
+-- prints does. Where no line ends a chart, all of it is.
+abbrev pub chart_part : List ℕ → List ℕ
+chart_part bytes = if list_any ends_chart (lines_of bytes) then flat_map ended (through_end (lines_of bytes)) else bytes
 
 -- a text of this kind has the fault
 abbrev pub HasFaultSo : Bool → List ℕ → Fault → Type 0
 HasFaultSo true bytes fault = schedule_of bytes ≡ Err fault
-HasFaultSo false bytes fault = chart_of bytes ≡ Err fault
+HasFaultSo false bytes fault = chart_of (chart_part bytes) ≡ Err fault
 
 abbrev pub HasFault : List ℕ → Fault → Type 0
 HasFault bytes fault = HasFaultSo (is_schedule bytes) bytes fault

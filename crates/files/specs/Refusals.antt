@@ -2,6 +2,7 @@
 use Rattle.std.specs.Prelude.{ℕ, List, [], ◌++◌, ◌⊎◌, Option, None, Some, codes, decimal}
 use Rattle.chart.specs.declared.name.NameError.{NameError}
 use Rattle.chart.specs.declared.name.NameError.TheVariants.{Empty, TooLong, BadByte, Reserved}
+use Rattle.msc_text.specs.Outs.{Sink}
 use Rattle.msc_text.specs.declared.fault.Cause.{Cause}
 use Rattle.msc_text.specs.declared.fault.Cause.TheVariants.{Name, LineFull, Instances, Capacity, ToItself, Syntax}
 use Rattle.msc_text.specs.declared.fault.Cause.TheVariants.{Duplicate, UnknownInstance}
@@ -96,5 +97,5 @@ unfoldable pub labelled_text : List ℕ → Option ℕ → List ℕ
 labelled_text name number = start_text ++ (name ++ (number_detail number ++ end_text))
 
 -- a text was written, or a beginning of it where a put failed
-abbrev pub Tried : {S : Type 0} → (S → Option (List ℕ)) → (S → ℕ) → S → S → List ℕ → Type 0
-Tried contents failures old new text = Puts contents failures old new text ⊎ Breaks contents failures old new text
+abbrev pub Tried : {S : Type 0} → (S → Sink) → S → S → List ℕ → Type 0
+Tried sink old new text = Puts sink old new text ⊎ Breaks sink old new text

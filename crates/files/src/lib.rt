@@ -9,16 +9,23 @@
 //! - [`number_in`] reads exactly the words of digits alone whose number has 64 bits.
 #![tactic(auto)]
 
+mod answer;
+mod chart_part;
 mod charts;
 mod error;
 mod kind;
 mod number;
 mod refusal;
 mod schedules;
+mod source;
+mod text;
 
+pub use answer::{Answer, answered, tell};
 pub use charts::{chart_in, closure_of};
 pub use error::ProgramError;
 pub use kind::is_schedule;
 pub use number::number_in;
 pub use refusal::{refused, refused_by};
 pub use schedules::schedule_in;
+pub use source::Source;
+pub use text::{NamedChart, Text};

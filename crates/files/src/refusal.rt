@@ -56,7 +56,7 @@ fn label(error: &ProgramError) -> &'static [u8]
 
 #[tactic(auto, unfolding(crate::specs::Refusals::behind_space))]
 fn add_number<W: Out>(text: &mut TextBuffer<'_, W>, number: u64) -> Result<(), WriteError>
-    ensures { Adds W.contents W.failures text.old text.new result (behind_space number) }
+    ensures { Adds W.sink text.old text.new result (behind_space number) }
 {
     let mut buffer = Buffer::new();
     let digits = buffer.format(number).as_bytes();
@@ -69,7 +69,7 @@ fn add_cause_detail<W: Out>(
     line: u64,
     cause: Cause,
 ) -> Result<(), WriteError>
-    ensures { Adds W.contents W.failures text.old text.new result (cause_detail line cause) }
+    ensures { Adds W.sink text.old text.new result (cause_detail line cause) }
 {
     match cause {
         Cause::Instances | Cause::Capacity => text.add(b""),
@@ -87,7 +87,7 @@ fn add_event<W: Out>(
     instance: &Name,
     index: u32,
 ) -> Result<(), WriteError>
-    ensures { Adds W.contents W.failures text.old text.new result (event_detail instance.now index) }
+    ensures { Adds W.sink text.old text.new result (event_detail instance.now index) }
 {
     let mut buffer = Buffer::new();
     let digits = buffer.format(index).as_bytes();
@@ -96,7 +96,7 @@ fn add_event<W: Out>(
 
 #[tactic(auto, unfolding(crate::specs::Refusals::detail))]
 fn add_detail<W: Out>(text: &mut TextBuffer<'_, W>, error: &ProgramError) -> Result<(), WriteError>
-    ensures { Adds W.contents W.failures text.old text.new result (detail error.now) }
+    ensures { Adds W.sink text.old text.new result (detail error.now) }
 {
     match error {
         ProgramError::Text(Fault::Line(line, cause)) => { add_cause_detail(text, *line, *cause) }
@@ -108,21 +108,21 @@ fn add_detail<W: Out>(text: &mut TextBuffer<'_, W>, error: &ProgramError) -> Res
 
 #[tactic(auto, unfolding(crate::specs::Refusals::start_text))]
 fn add_start<W: Out>(text: &mut TextBuffer<'_, W>) -> Result<(), WriteError>
-    ensures { Adds W.contents W.failures text.old text.new result start_text }
+    ensures { Adds W.sink text.old text.new result start_text }
 {
     text.add(b"refused: ")
 }
 
 #[tactic(auto, unfolding(crate::specs::Refusals::end_text))]
 fn add_end<W: Out>(text: &mut TextBuffer<'_, W>) -> Result<(), WriteError>
-    ensures { Adds W.contents W.failures text.old text.new result end_text }
+    ensures { Adds W.sink text.old text.new result end_text }
 {
     text.add(b"\n")
 }
 
 #[tactic(auto, using(msc_text::proofs::Writes::joining), unfolding(crate::specs::Refusals::refusal_text))]
 fn add_refusal<W: Out>(text: &mut TextBuffer<'_, W>, error: &ProgramError) -> Result<(), WriteError>
-    ensures { Adds W.contents W.failures text.old text.new result (refusal_text error.now) }
+    ensures { Adds W.sink text.old text.new result (refusal_text error.now) }
 {
     add_start(text)?;
     text.add(label(error))?;
@@ -132,7 +132,7 @@ fn add_refusal<W: Out>(text: &mut TextBuffer<'_, W>, error: &ProgramError) -> Re
 
 #[tactic(auto, using(msc_text::proofs::Writes::joining))]
 fn write_refusal<W: Out>(error: &ProgramError, out: &mut W) -> Result<(), WriteError>
-    ensures { Wrote W.contents W.failures out.old out.new result (refusal_text error.now) }
+    ensures { Wrote W.sink out.old out.new result (refusal_text error.now) }
 {
     let mut text = TextBuffer::new(out);
     add_refusal(&mut text, error)?;
@@ -142,7 +142,7 @@ fn write_refusal<W: Out>(error: &ProgramError, out: &mut W) -> Result<(), WriteE
 /// Prints the line of a refusal, and answers the exit status, which is 2 whether or not the line could be written.
 pub fn refused<V: Out>(error: &ProgramError, err: &mut V) -> u8
     ensures status { result ≡ 2 }
-    ensures line { Tried V.contents V.failures err.old err.new (refusal_text error.now) }
+    ensures line { Tried V.sink err.old err.new (refusal_text error.now) }
 {
     let _ = write_refusal(error, err);
     2
@@ -152,7 +152,7 @@ fn add_number_if<W: Out>(
     text: &mut TextBuffer<'_, W>,
     number: Option<u64>,
 ) -> Result<(), WriteError>
-    ensures { Adds W.contents W.failures text.old text.new result (number_detail number) }
+    ensures { Adds W.sink text.old text.new result (number_detail number) }
 {
     match number {
         Some(number) => add_number(text, number),
@@ -166,7 +166,7 @@ fn add_labelled<W: Out>(
     label: &[u8],
     number: Option<u64>,
 ) -> Result<(), WriteError>
-    ensures { Adds W.contents W.failures text.old text.new result (labelled_text label.now number) }
+    ensures { Adds W.sink text.old text.new result (labelled_text label.now number) }
 {
     add_start(text)?;
     text.add(label)?;
@@ -176,7 +176,7 @@ fn add_labelled<W: Out>(
 
 #[tactic(auto, using(msc_text::proofs::Writes::joining))]
 fn write_labelled<W: Out>(label: &[u8], number: Option<u64>, out: &mut W) -> Result<(), WriteError>
-    ensures { Wrote W.contents W.failures out.old out.new result (labelled_text label.now number) }
+    ensures { Wrote W.sink out.old out.new result (labelled_text label.now number) }
 {
     let mut text = TextBuffer::new(out);
     add_labelled(&mut text, label, number)?;
@@ -187,7 +187,7 @@ fn write_labelled<W: Out>(label: &[u8], number: Option<u64>, out: &mut W) -> Res
 /// where it has one, and answers the exit status, which is 2 whether or not the line could be written.
 pub fn refused_by<V: Out>(label: &[u8], number: Option<u64>, err: &mut V) -> u8
     ensures status { result ≡ 2 }
-    ensures line { Tried V.contents V.failures err.old err.new (labelled_text label.now number) }
+    ensures line { Tried V.sink err.old err.new (labelled_text label.now number) }
 {
     let _ = write_labelled(label, number, err);
     2

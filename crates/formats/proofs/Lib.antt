@@ -1,4 +1,4 @@
 pub mod ColumnLemmas
-pub mod DrawingLemmas
 pub mod ImportingLemmas
+pub mod RefusedLemmas
 pub mod SpanLemmas

@@ -1,5 +1,6 @@
 -- What is printed on standard error.
-use Rattle.std.specs.Prelude.{ℕ, List, None, codes}
+use Rattle.std.specs.Prelude.{ℕ, List, None, codes, Result}
+use Rattle.files.specs.Answers.{Said, refusal, said_of}
 use Rattle.files.specs.Refusals as refusals
 use Rattle.formats.specs.declared.error.FormatError.{FormatError}
 use Rattle.formats.specs.declared.error.FormatError.TheVariants.{Program, NoSuchName}
@@ -8,3 +9,11 @@ use Rattle.formats.specs.declared.error.FormatError.TheVariants.{Program, NoSuch
 abbrev pub refusal_text : FormatError → List ℕ
 refusal_text (Program cause) = refusals.refusal_text cause
 refusal_text NoSuchName = refusals.labelled_text (codes "F34 NoSuchName") None
+
+-- what is said of a refusal
+abbrev pub error_said : FormatError → Said
+error_said error = refusal (refusal_text error)
+
+-- what is said of a picture that was drawn: nothing
+abbrev pub drawn_said : Result (Unit {0}) FormatError → Said
+drawn_said = said_of (λ done. record { status = 0; told = None }) error_said

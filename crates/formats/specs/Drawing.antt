@@ -1,36 +1,26 @@
 -- What is drawn of a file.
 use Rattle.std.specs.Prelude.{◌≡◌, ℕ, ◌⊎◌, List, length, Option, option_map, Result, Ok, Err}
 use Rattle.chart.specs.declared.instance.EventNo.{EventNo}
-use Rattle.chart.specs.Charts.{LineView, chart_lines, IsPossible}
+use Rattle.chart.specs.Charts.{chart_lines, IsPossible}
 use Rattle.chart.specs.Reports.{ReportView, AreReports}
 use Rattle.layout.specs.declared.row.Row.{Row}
-use Rattle.layout.specs.Layouts.{IsLayout}
-use Rattle.layout.specs.Ends.{AreEnds}
+use Rattle.msc_text.specs.Outs.{Sink}
 use Rattle.msc_text.specs.Writing.{Puts, Breaks}
 use Rattle.pictures.specs.Pictures.{PictureView}
 use Rattle.pictures.specs.PictureText.{picture_text}
 use Rattle.pictures.specs.Preparing.{IsPictureOf}
 use Rattle.files.specs.declared.error.ProgramError.TheVariants as errors
-use Rattle.files.specs.Refusals.{Tried}
+use Rattle.files.specs.Texts.{OfFile, named_of}
 use Rattle.files.specs.Files.{Named, IsRefused}
 use Rattle.formats.specs.declared.drawing.Wanted.{Wanted}
 use Rattle.formats.specs.declared.error.FormatError.{FormatError}
 use Rattle.formats.specs.declared.error.FormatError.TheVariants.{Program, NoSuchName}
-use Rattle.formats.specs.Answers.{refusal_text}
 use Rattle.formats.specs.Columns.{AreColumns}
-use Rattle.formats.specs.Texts.{OfText}
+use Rattle.formats.specs.Preparing.{IsPrepared}
 
 -- the bytes that name the columns, if there are some
 abbrev pub only_of : Wanted → Option (List ℕ)
 only_of wanted = option_map (λ bytes. bytes.now) wanted.only
-
--- the rows draw the chart with these lines, the table has the other ends of its messages, and the reports are those of
--- its receives
-pub record IsPrepared (lines : List LineView) (rows : List Row) (ends : List (List (Option EventNo)))
-    (reports : List ReportView) : Type 0 where
-  pub layout : IsLayout lines rows
-  pub messages : AreEnds (chart_lines lines) ends
-  pub races : AreReports lines reports
 
 -- the picture is that of what is wanted of the chart, which is possible
 pub record IsWanted (wanted : Wanted) (named : Named) (picture : PictureView) : Type 0 where
@@ -40,33 +30,26 @@ pub record IsWanted (wanted : Wanted) (named : Named) (picture : PictureView) : 
   pub reports : List ReportView
   pub named_so : AreColumns named.0 (only_of wanted) columns
   pub possible : IsPossible (length named.1) (chart_lines named.1)
-  pub prepared : IsPrepared named.1 rows ends reports
+  pub prepared : IsPrepared named.1 rows ends
+  pub races : AreReports named.1 reports
   pub drawn : IsPictureOf wanted.file.now named.0 named.1 rows reports ends columns wanted.events.first
       wanted.events.last wanted.numbers picture
 
-module _ {S : Type 0} (contents : S → Option (List ℕ)) (failures : S → ℕ) where
+module _ {S : Type 0} (sink : S → Sink) where
   -- the picture was written; or a beginning of it, where a put failed; or nothing, where there are no such columns,
   -- where the chart is not possible, or where memory ran out
   abbrev pub Draws : S → S → Result (Unit {0}) FormatError → Wanted → Named → Type 0
   Draws old new (Ok done) wanted named = (picture : PictureView) × IsWanted wanted named picture
-      × Puts contents failures old new (picture_text picture)
+      × Puts sink old new (picture_text picture)
   Draws old new (Err NoSuchName) wanted named =
       ((columns : List ℕ) → AreColumns named.0 (only_of wanted) columns → ⊥) × (new ≡ old)
   Draws old new (Err (Program errors.Memory)) wanted named = new ≡ old
   Draws old new (Err (Program errors.Write)) wanted named = (picture : PictureView) × IsWanted wanted named picture
-      × Breaks contents failures old new (picture_text picture)
+      × Breaks sink old new (picture_text picture)
   Draws old new (Err (Program error)) wanted named = (columns : List ℕ) × AreColumns named.0 (only_of wanted) columns
       × IsRefused error named × (new ≡ old)
 
   -- the same for the chart that the bytes say; or nothing was written, where the bytes have a fault
-  abbrev pub DrawsText : S → S → Result (Unit {0}) FormatError → Wanted → List ℕ → Type 0
-  DrawsText old new done wanted bytes = OfText old new (λ result named. Draws old new result wanted named) done bytes
-
--- what is answered: it is drawn and nothing is said, or it is refused with status 2 and a line, of which a failed write
--- may leave a beginning
-abbrev pub Answers : {S T : Type 0} → (S → Option (List ℕ)) → (S → ℕ) → (T → Option (List ℕ)) → (T → ℕ) → S → S → T → T
-    → ℕ → Wanted → List ℕ → Type 0
-Answers contents failures err_contents err_failures old new err_old err_new status wanted bytes =
-    (DrawsText contents failures old new (Ok tt) wanted bytes × (status ≡ 0) × (err_new ≡ err_old))
-    ⊎ ((error : FormatError) × DrawsText contents failures old new (Err error) wanted bytes × (status ≡ 2)
-    × Tried err_contents err_failures err_old err_new (refusal_text error))
+  abbrev pub DrawsText : S → S → Wanted → List ℕ → Result (Unit {0}) FormatError → Type 0
+  DrawsText old new wanted bytes =
+      OfFile Program (λ source done. Draws old new done wanted (named_of source)) old new bytes

@@ -1,11 +1,11 @@
 -- What is exported of a file.
-use Rattle.std.specs.Prelude.{◌≡◌, ℕ, Bool, false, ◌++◌, ◌⊎◌, List, [], length, nat_lt, codes, Option, Result, Ok, Err}
+use Rattle.std.specs.Prelude.{◌≡◌, ℕ, Bool, false, ◌||◌, ◌++◌, List, [], length, nat_lt, codes, Option, None, Some, Result, Ok, Err}
 use Rattle.std.specs.Prelude.{if◌then◌else◌}
 use Rattle.std.specs.List.{list_any}
 use Rattle.chart.specs.declared.instance.EventNo.{EventNo}
 use Rattle.chart.specs.Charts.{LineView, chart_lines, IsPossible}
 use Rattle.chart.specs.Events.{greatest_region}
-use Rattle.chart.specs.Reports.{ReportView}
+use Rattle.chart.specs.Reports.{ReportView, AreReports}
 use Rattle.tool_text.specs.declared.saying.Tool.{Tool}
 use Rattle.tool_text.specs.declared.saying.Tool.TheVariants.{PlantUml}
 use Rattle.exports.specs.Clocks.{log_of}
@@ -15,18 +15,19 @@ use Rattle.exports.specs.LogText.{log_text}
 use Rattle.exports.specs.Preparing.{IsExportOf}
 use Rattle.exports.specs.Sayings.{has_parted}
 use Rattle.layout.specs.declared.row.Row.{Row}
+use Rattle.msc_text.specs.Outs.{Sink}
 use Rattle.msc_text.specs.Writing.{Puts, Breaks}
 use Rattle.files.specs.declared.error.ProgramError.TheVariants as errors
-use Rattle.files.specs.Refusals.{Tried}
+use Rattle.files.specs.Answers.{Said, said_of}
+use Rattle.files.specs.Texts.{OfFile, named_of}
 use Rattle.files.specs.Files.{Named, IsRefused}
 use Rattle.formats.specs.declared.error.FormatError.{FormatError}
 use Rattle.formats.specs.declared.error.FormatError.TheVariants.{Program, NoSuchName}
 use Rattle.formats.specs.declared.exporting.Told.{Told}
 use Rattle.formats.specs.declared.target.Target.{Target}
 use Rattle.formats.specs.declared.target.Target.TheVariants.{Diagram, ShiViz}
-use Rattle.formats.specs.Answers.{refusal_text}
-use Rattle.formats.specs.Drawing.{IsPrepared}
-use Rattle.formats.specs.Texts.{OfText}
+use Rattle.formats.specs.Answers.{error_said}
+use Rattle.formats.specs.Preparing.{IsPrepared}
 
 -- the tool that an export is for; a log is the same for each
 abbrev pub tool_of : Target → Tool
@@ -58,8 +59,11 @@ parted_text parted = if parted then codes "a message that isn't level is two not
 unfoldable pub regions_text : Bool → List ℕ
 regions_text regions = if regions then codes "coregions are left out\n" else []
 
-unfoldable pub told_text : Told → List ℕ
-told_text told = parted_text told.parted ++ regions_text told.regions
+unfoldable pub both_text : Told → List ℕ
+both_text told = parted_text told.parted ++ regions_text told.regions
+
+abbrev pub told_text : Told → Option (List ℕ)
+told_text told = if told.parted || told.regions then Some (both_text told) else None
 
 -- the export is that of the chart, which is possible
 pub record IsExported (target : Target) (named : Named) (v : ExportView) : Type 0 where
@@ -67,40 +71,38 @@ pub record IsExported (target : Target) (named : Named) (v : ExportView) : Type 
   pub ends : List (List (Option EventNo))
   pub reports : List ReportView
   pub possible : IsPossible (length named.1) (chart_lines named.1)
-  pub prepared : IsPrepared named.1 rows ends reports
+  pub prepared : IsPrepared named.1 rows ends
+  pub races : AreReports named.1 reports
   pub is : IsExportOf (tool_of target) named.0 named.1 rows reports ends v
 
-module _ {S : Type 0} (contents : S → Option (List ℕ)) (failures : S → ℕ) where
+module _ {S : Type 0} (sink : S → Sink) where
   -- a text was written; or a beginning of it, where a put failed; or nothing, where memory ran out
   abbrev pub Writes : S → S → Result (Unit {0}) FormatError → List ℕ → Type 0
-  Writes old new (Ok done) text = Puts contents failures old new text
+  Writes old new (Ok done) text = Puts sink old new text
   Writes old new (Err NoSuchName) text = ⊥
   Writes old new (Err (Program errors.Memory)) text = new ≡ old
-  Writes old new (Err (Program errors.Write)) text = Breaks contents failures old new text
+  Writes old new (Err (Program errors.Write)) text = Breaks sink old new text
   Writes old new (Err (Program error)) text = ⊥
 
   -- the text was written; or a beginning of it, where a put failed; or nothing, where the chart is not possible or
   -- memory ran out
   abbrev pub Exports : S → S → Result Told FormatError → Target → Named → Type 0
   Exports old new (Ok told) target named = (v : ExportView) × IsExported target named v × (told ≡ told_of target v)
-      × Puts contents failures old new (text_of target v)
+      × Puts sink old new (text_of target v)
   Exports old new (Err NoSuchName) target named = ⊥
   Exports old new (Err (Program errors.Memory)) target named = new ≡ old
   Exports old new (Err (Program errors.Write)) target named = (v : ExportView) × IsExported target named v
-      × Breaks contents failures old new (text_of target v)
+      × Breaks sink old new (text_of target v)
   Exports old new (Err (Program error)) target named = IsRefused error named × (new ≡ old)
 
-  -- the same for the chart that the bytes say
-  abbrev pub ExportsText : S → S → Result Told FormatError → Target → List ℕ → Type 0
-  ExportsText old new done target bytes = OfText old new (λ result named. Exports old new result target named) done
-      bytes
+  -- the same for the chart that the bytes say; or nothing was written, where the bytes have a fault
+  abbrev pub ExportsText : S → S → Target → List ℕ → Result Told FormatError → Type 0
+  ExportsText old new target bytes =
+      OfFile Program (λ source done. Exports old new done target (named_of source)) old new bytes
 
--- what is answered: it is written, and what isn't told by it is said; or it is refused with status 2 and a line. Of
--- what is said a failed write may leave a beginning
-abbrev pub AnswersExport : {S T : Type 0} → (S → Option (List ℕ)) → (S → ℕ) → (T → Option (List ℕ)) → (T → ℕ) → S → S
-    → T → T → ℕ → Target → List ℕ → Type 0
-AnswersExport contents failures err_contents err_failures old new err_old err_new status target bytes =
-    ((told : Told) × ExportsText contents failures old new (Ok told) target bytes × (status ≡ 0)
-    × Tried err_contents err_failures err_old err_new (told_text told))
-    ⊎ ((error : FormatError) × ExportsText contents failures old new (Err error) target bytes × (status ≡ 2)
-    × Tried err_contents err_failures err_old err_new (refusal_text error))
+-- what is said of what was exported
+abbrev pub told_said : Told → Said
+told_said told = record { status = 0; told = told_text told }
+
+abbrev pub export_said : Result Told FormatError → Said
+export_said = said_of told_said error_said

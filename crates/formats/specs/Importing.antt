@@ -9,6 +9,7 @@ use Rattle.imports.specs.declared.reading.Told.{Told}
 use Rattle.imports.specs.Faults.{Fails}
 use Rattle.imports.specs.Finishing.{imported_view}
 use Rattle.imports.specs.Importing.{imported}
+use Rattle.msc_text.specs.Outs.{Sink}
 use Rattle.msc_text.specs.ChartText.{chart_text}
 use Rattle.msc_text.specs.Writing.{Puts, Breaks}
 use Rattle.files.specs.declared.error.ProgramError.TheVariants as errors
@@ -45,22 +46,22 @@ notes_text has_notes = if has_notes then codes "notes are left out\n" else []
 unfoldable pub kept_text : List Told → Bool → List ℕ
 kept_text told has_notes = flat_map told_line told ++ notes_text has_notes
 
-module _ {S : Type 0} (contents : S → Option (List ℕ)) (failures : S → ℕ) where
+module _ {S : Type 0} (sink : S → Sink) where
   -- the text of the chart was written that is read of the bytes; or a beginning of it, where a put failed; or nothing,
   -- where the bytes have a fault or memory ran out
   abbrev pub Imports : S → S → Result Imported Untranslated → Tool → List ℕ → Type 0
   Imports old new (Ok chart) tool bytes = (imported tool bytes ≡ Ok (imported_view chart))
-      × Puts contents failures old new (chart_text chart.names chart.chart)
+      × Puts sink old new (chart_text chart.names chart.chart)
   Imports old new (Err (Diagram error)) tool bytes = Fails error (imported tool bytes) × (new ≡ old)
   Imports old new (Err Write) tool bytes = (chart : Imported) × (imported tool bytes ≡ Ok (imported_view chart))
-      × Breaks contents failures old new (chart_text chart.names chart.chart)
+      × Breaks sink old new (chart_text chart.names chart.chart)
 
 -- what is answered: it is written, and what the chart doesn't keep is said; or it is refused with status 2 and a line.
 -- Of what is said a failed write may leave a beginning
-abbrev pub AnswersImport : {S T : Type 0} → (S → Option (List ℕ)) → (S → ℕ) → (T → Option (List ℕ)) → (T → ℕ) → S → S
+abbrev pub AnswersImport : {S T : Type 0} → (S → Sink) → (T → Sink) → S → S
     → T → T → ℕ → Tool → List ℕ → Type 0
-AnswersImport contents failures err_contents err_failures old new err_old err_new status tool bytes =
-    ((chart : Imported) × Imports contents failures old new (Ok chart) tool bytes × (status ≡ 0)
-    × Tried err_contents err_failures err_old err_new (kept_text chart.told.items chart.has_notes))
-    ⊎ ((error : Untranslated) × Imports contents failures old new (Err error) tool bytes × (status ≡ 2)
-    × Tried err_contents err_failures err_old err_new (untranslated_text error))
+AnswersImport sink err_sink old new err_old err_new status tool bytes =
+    ((chart : Imported) × Imports sink old new (Ok chart) tool bytes × (status ≡ 0)
+    × Tried err_sink err_old err_new (kept_text chart.told.items chart.has_notes))
+    ⊎ ((error : Untranslated) × Imports sink old new (Err error) tool bytes × (status ≡ 2)
+    × Tried err_sink err_old err_new (untranslated_text error))

@@ -3,6 +3,6 @@ pub mod Columns
 pub mod Drawing
 pub mod Exporting
 pub mod Importing
+pub mod Preparing
 pub mod Spans
 pub mod Targets
-pub mod Texts

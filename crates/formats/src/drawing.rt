@@ -1,25 +1,24 @@
 //! What `mscview draw` does with the bytes of a file.
-ghost use Rattle.std.specs.Prelude.{◌≡◌, ◌≤◌, length, true, false, IfOk, IfErr};
+ghost use Rattle.std.specs.Prelude.{◌≡◌, ◌≤◌, length};
 ghost use Rattle.chart.specs.declared.instance.TheConstants.{MAX_INSTANCES};
 ghost use Rattle.chart.specs.Charts.{chart_lines, IsPossible};
-ghost use Rattle.files.specs.Files.{is_schedule};
-ghost use Rattle.files.specs.Refusals.{Tried};
-ghost use Rattle.formats.specs.Answers.{refusal_text};
+ghost use Rattle.chart.specs.Reports.{AreReports};
+ghost use Rattle.files.specs.Answers.{Answers};
+ghost use Rattle.files.specs.Texts.{named_of};
+ghost use Rattle.formats.specs.Answers.{drawn_said};
 ghost use Rattle.formats.specs.Columns.{AreColumns};
-ghost use Rattle.formats.specs.Drawing.{only_of, IsPrepared, Draws, DrawsText, Answers};
+ghost use Rattle.formats.specs.Drawing.{only_of, Draws, DrawsText};
 
-use crate::answering::refused;
 use crate::columns::columns_in;
 use crate::error::FormatError;
 use crate::events::Events;
-use chart::{Chart, InstanceNo, Names, Report};
+use crate::preparing::{Reports, prepare};
+use chart::{InstanceNo, Names, Report};
 use closure::Closure;
-use files::{ProgramError, chart_in, closure_of, is_schedule, schedule_in};
-use layout::{Ends, Layout, layout};
+use files::{ProgramError, Source, Text, answered, closure_of};
 use msc_text::Out;
-use pictures::{Part, Picture, Source, write_picture};
-use replayer::replay;
-use std::alloc::{AllocError, Global};
+use pictures::{Part, Picture, write_picture};
+use std::alloc::Global;
 
 /// What of a file is to be drawn, and how.
 #[derive(Clone, Copy, Debug)]
@@ -33,52 +32,32 @@ pub struct Wanted<'a> {
     pub numbers: bool,
 }
 
-/// What a picture is drawn from, beside the chart itself.
-#[derive(Drop)]
-pub(crate) struct Prepared {
-    pub(crate) layout: Layout,
-    pub(crate) ends: Ends,
-    pub(crate) reports: Vec<Report>,
-}
-
-/// What a picture of the chart is drawn from.
-pub(crate) fn prepare(alloc: Global, closure: &Closure<'_>) -> Result<Prepared, AllocError>
-    ensures { IfOk result (λ p. IsPrepared closure.now p.layout p.ends p.reports.items) }
-{
-    let layout = layout(alloc, closure)?;
-    let ends = Ends::of(alloc, closure)?;
-    let reports = closure.races()?;
-    Ok(Prepared {
-        layout,
-        ends,
-        reports,
-    })
-}
-
 /// Draws these columns of a possible chart. All memory is taken before the first byte is written.
 fn draw_columns<W: Out>(
     alloc: Global,
     names: &Names,
     closure: &Closure<'_>,
+    reports: &[Report],
     columns: &[InstanceNo],
     wanted: &Wanted<'_>,
     out: &mut W,
 ) -> Result<(), FormatError>
     requires limit { length columns.now ≤ MAX_INSTANCES }
     requires columns { AreColumns names.now (only_of wanted.now) columns.now }
+    requires reports { AreReports closure.now reports.now }
     requires possible { IsPossible (length closure.now) (chart_lines closure.now) }
-    ensures { Draws W.contents W.failures out.old out.new result wanted.now (names.now, closure.now) }
+    ensures { Draws W.sink out.old out.new result wanted.now (names.now, closure.now) }
 {
     let Ok(prepared) = prepare(alloc, closure) else {
         return Err(FormatError::Program(ProgramError::Memory));
     };
-    let source = Source {
+    let drawn = pictures::Source {
         file: wanted.file,
         names,
         closure,
         layout: &prepared.layout,
         ends: &prepared.ends,
-        reports: prepared.reports.as_slice(),
+        reports,
     };
     let part = Part {
         drawn: columns,
@@ -86,7 +65,7 @@ fn draw_columns<W: Out>(
         last: wanted.events.last,
         numbers: wanted.numbers,
     };
-    let Ok(picture) = Picture::of(alloc, source, part) else {
+    let Ok(picture) = Picture::of(alloc, drawn, part) else {
         return Err(FormatError::Program(ProgramError::Memory));
     };
     match write_picture(&picture, out) {
@@ -97,78 +76,43 @@ fn draw_columns<W: Out>(
 
 /// Draws what is wanted of the chart. F34: a name of `--only` is none of the chart's, or is there twice. Then F16, F17
 /// or F18 refuses a chart that isn't possible.
-fn draw_chart<W: Out>(
+fn draw_source<W: Out>(
     alloc: Global,
-    names: &Names,
-    chart: &Chart,
+    source: &Source<'_>,
     wanted: &Wanted<'_>,
     out: &mut W,
 ) -> Result<(), FormatError>
-    requires { length names.now ≡ length chart.now }
-    ensures { Draws W.contents W.failures out.old out.new result wanted.now (names.now, chart.now) }
+    ensures { Draws W.sink out.old out.new result wanted.now (named_of source.now) }
 {
+    let names = source.names();
     let columns = columns_in(alloc, names, wanted.only)?;
-    let closure = closure_of(alloc, names, chart)?;
-    draw_columns(alloc, names, &closure, columns.as_slice(), wanted, out)
-}
-
-/// Draws what the schedule comes to that the text says.
-fn draw_schedule<W: Out>(
-    alloc: Global,
-    text: &[u8],
-    wanted: &Wanted<'_>,
-    out: &mut W,
-) -> Result<(), FormatError>
-    requires { is_schedule text.now ≡ true }
-    ensures { DrawsText W.contents W.failures out.old out.new result wanted.now text.now }
-{
-    let schedule = schedule_in(alloc, text)?;
-    let Ok(outcome) = replay(alloc, &schedule) else {
+    let closure = closure_of(alloc, names, source.chart())?;
+    let Ok(reports) = Reports::of(source, &closure) else {
         return Err(FormatError::Program(ProgramError::Memory));
     };
-    draw_chart(alloc, outcome.names(), outcome.chart(), wanted, out)
-}
-
-/// Draws the chart that the text says.
-fn draw_chart_in<W: Out>(
-    alloc: Global,
-    text: &[u8],
-    wanted: &Wanted<'_>,
-    out: &mut W,
-) -> Result<(), FormatError>
-    requires { is_schedule text.now ≡ false }
-    ensures { DrawsText W.contents W.failures out.old out.new result wanted.now text.now }
-{
-    let (names, chart) = chart_in(alloc, text)?;
-    draw_chart(alloc, &names, &chart, wanted, out)
+    draw_columns(
+        alloc,
+        names,
+        &closure,
+        reports.as_slice(),
+        columns.as_slice(),
+        wanted,
+        out,
+    )
 }
 
 /// Draws what the file says.
 fn draw_text<W: Out>(
     alloc: Global,
-    text: &[u8],
+    bytes: &[u8],
     wanted: &Wanted<'_>,
     out: &mut W,
 ) -> Result<(), FormatError>
-    ensures { DrawsText W.contents W.failures out.old out.new result wanted.now text.now }
+    ensures { DrawsText W.sink out.old out.new wanted.now bytes.now result }
 {
-    if is_schedule(text) {
-        draw_schedule(alloc, text, wanted, out)
-    } else {
-        draw_chart_in(alloc, text, wanted, out)
-    }
-}
-
-/// The exit status of what was drawn, or of what is refused now.
-fn answered<V: Out>(done: Result<(), FormatError>, err: &mut V) -> u8
-    ensures ok { IfOk done (λ _. (result ≡ 0) × (err.new ≡ err.old)) }
-    ensures err { IfErr done (λ error. (result ≡ 2) × Tried V.contents V.failures err.old err.new
-        (refusal_text error)) }
-{
-    match done {
-        Ok(()) => 0,
-        Err(error) => refused(&error, err),
-    }
+    let text = Text::read(alloc, bytes)?;
+    let source = Source::of(alloc, &text)?;
+    draw_source(alloc, &source, wanted, out)
 }
 
 /// Writes a picture, as SVG text, of the chart that the bytes of a file say, or of what the schedule comes to that they
@@ -178,13 +122,12 @@ fn answered<V: Out>(done: Result<(), FormatError>, err: &mut V) -> u8
 /// nothing.
 pub fn draw<W: Out, V: Out>(
     alloc: Global,
-    text: &[u8],
+    bytes: &[u8],
     wanted: &Wanted<'_>,
     out: &mut W,
     err: &mut V,
 ) -> u8
-    ensures { Answers W.contents W.failures V.contents V.failures out.old out.new err.old err.new result wanted.now
-        text.now }
+    ensures { Answers (DrawsText W.sink out.old out.new wanted.now bytes.now) drawn_said V.sink err.old err.new result }
 {
-    answered(draw_text(alloc, text, wanted, out), err)
+    answered(&draw_text(alloc, bytes, wanted, out), err)
 }

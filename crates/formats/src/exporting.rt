@@ -1,24 +1,22 @@
 //! What `mscview export` does with the bytes of a file.
-ghost use Rattle.std.specs.Prelude.{◌≡◌, length, true, false, IfOk, IfErr};
+ghost use Rattle.std.specs.Prelude.{◌≡◌, length};
 ghost use Rattle.std.specs.List.{list_any};
 ghost use Rattle.chart.specs.Charts.{chart_lines, IsPossible};
+ghost use Rattle.chart.specs.Reports.{AreReports};
 ghost use Rattle.msc_text.specs.Writing.{Wrote, Adds};
-ghost use Rattle.files.specs.Files.{is_schedule};
-ghost use Rattle.files.specs.Refusals.{Tried};
-ghost use Rattle.formats.specs.Answers.{refusal_text};
-ghost use Rattle.formats.specs.Exporting.{tool_of, text_of, has_region, has_parted_in, told_of, parted_text};
-ghost use Rattle.formats.specs.Exporting.{regions_text, told_text, Writes, Exports, ExportsText, AnswersExport};
+ghost use Rattle.files.specs.Answers.{Answers};
+ghost use Rattle.files.specs.Texts.{named_of};
+ghost use Rattle.formats.specs.Exporting.{tool_of, text_of, has_region, has_parted_in, parted_text, regions_text};
+ghost use Rattle.formats.specs.Exporting.{both_text, told_said, export_said, Writes, Exports, ExportsText};
 
-use crate::answering::refused;
-use crate::drawing::prepare;
 use crate::error::FormatError;
+use crate::preparing::{Reports, prepare};
 use crate::target::Target;
-use chart::{Chart, Line, Names};
+use chart::{Line, Names, Report};
 use closure::Closure;
 use exports::{Drawn, Export, Log, has_parted, write_export, write_log};
-use files::{ProgramError, chart_in, closure_of, is_schedule, schedule_in};
+use files::{Answer, ProgramError, Source, Text, answered, closure_of};
 use msc_text::{Out, TextBuffer, WriteError};
-use replayer::replay;
 use std::alloc::Global;
 use tool_text::Tool;
 
@@ -65,7 +63,7 @@ fn write_text<W: Out>(
     export: &Export<'_>,
     out: &mut W,
 ) -> Result<(), FormatError>
-    ensures { Writes W.contents W.failures out.old out.new result (text_of target export.now) }
+    ensures { Writes W.sink out.old out.new result (text_of target export.now) }
 {
     let written = match target {
         Target::Diagram(_) => write_export(export, out),
@@ -87,11 +85,13 @@ fn export_closure<W: Out>(
     alloc: Global,
     names: &Names,
     closure: &Closure<'_>,
+    reports: &[Report],
     target: Target,
     out: &mut W,
 ) -> Result<Told, FormatError>
-    requires { IsPossible (length closure.now) (chart_lines closure.now) }
-    ensures { Exports W.contents W.failures out.old out.new result target (names.now, closure.now) }
+    requires reports { AreReports closure.now reports.now }
+    requires possible { IsPossible (length closure.now) (chart_lines closure.now) }
+    ensures { Exports W.sink out.old out.new result target (names.now, closure.now) }
 {
     let Ok(prepared) = prepare(alloc, closure) else {
         return Err(FormatError::Program(ProgramError::Memory));
@@ -101,7 +101,7 @@ fn export_closure<W: Out>(
         closure,
         layout: &prepared.layout,
         ends: &prepared.ends,
-        reports: prepared.reports.as_slice(),
+        reports,
     };
     let Ok(export) = Export::of(alloc, tool_of(target), drawn) else {
         return Err(FormatError::Program(ProgramError::Memory));
@@ -114,65 +114,34 @@ fn export_closure<W: Out>(
 }
 
 /// Exports the chart. F16, F17 or F18 refuses one that isn't possible.
-fn export_chart<W: Out>(
+fn export_source<W: Out>(
     alloc: Global,
-    names: &Names,
-    chart: &Chart,
+    source: &Source<'_>,
     target: Target,
     out: &mut W,
 ) -> Result<Told, FormatError>
-    requires { length names.now ≡ length chart.now }
-    ensures { Exports W.contents W.failures out.old out.new result target (names.now, chart.now) }
+    ensures { Exports W.sink out.old out.new result target (named_of source.now) }
 {
-    let closure = closure_of(alloc, names, chart)?;
-    export_closure(alloc, names, &closure, target, out)
-}
-
-/// Exports what the schedule comes to that the text says.
-fn export_schedule<W: Out>(
-    alloc: Global,
-    text: &[u8],
-    target: Target,
-    out: &mut W,
-) -> Result<Told, FormatError>
-    requires { is_schedule text.now ≡ true }
-    ensures { ExportsText W.contents W.failures out.old out.new result target text.now }
-{
-    let schedule = schedule_in(alloc, text)?;
-    let Ok(outcome) = replay(alloc, &schedule) else {
+    let names = source.names();
+    let closure = closure_of(alloc, names, source.chart())?;
+    let Ok(reports) = Reports::of(source, &closure) else {
         return Err(FormatError::Program(ProgramError::Memory));
     };
-    export_chart(alloc, outcome.names(), outcome.chart(), target, out)
-}
-
-/// Exports the chart that the text says.
-fn export_chart_in<W: Out>(
-    alloc: Global,
-    text: &[u8],
-    target: Target,
-    out: &mut W,
-) -> Result<Told, FormatError>
-    requires { is_schedule text.now ≡ false }
-    ensures { ExportsText W.contents W.failures out.old out.new result target text.now }
-{
-    let (names, chart) = chart_in(alloc, text)?;
-    export_chart(alloc, &names, &chart, target, out)
+    export_closure(alloc, names, &closure, reports.as_slice(), target, out)
 }
 
 /// Exports what the file says.
 fn export_text<W: Out>(
     alloc: Global,
-    text: &[u8],
+    bytes: &[u8],
     target: Target,
     out: &mut W,
 ) -> Result<Told, FormatError>
-    ensures { ExportsText W.contents W.failures out.old out.new result target text.now }
+    ensures { ExportsText W.sink out.old out.new target bytes.now result }
 {
-    if is_schedule(text) {
-        export_schedule(alloc, text, target, out)
-    } else {
-        export_chart_in(alloc, text, target, out)
-    }
+    let text = Text::read(alloc, bytes)?;
+    let source = Source::of(alloc, &text)?;
+    export_source(alloc, &source, target, out)
 }
 
 #[tactic(auto, unfolding(crate::specs::Exporting::parted_text))]
@@ -198,35 +167,35 @@ fn regions_text(regions: bool) -> &'static [u8]
 }
 
 /// Adds what is to be told.
-#[tactic(auto, using(msc_text::proofs::Writes::joining), unfolding(crate::specs::Exporting::told_text))]
-fn add_told<V: Out>(text: &mut TextBuffer<'_, V>, told: Told) -> Result<(), WriteError>
-    ensures { Adds V.contents V.failures text.old text.new result (told_text told) }
+#[tactic(auto, using(msc_text::proofs::Writes::joining), unfolding(crate::specs::Exporting::both_text))]
+fn add_both<V: Out>(text: &mut TextBuffer<'_, V>, told: Told) -> Result<(), WriteError>
+    ensures { Adds V.sink text.old text.new result (both_text told) }
 {
     text.add(parted_text(told.parted))?;
     text.add(regions_text(told.regions))
 }
 
 #[tactic(auto, using(msc_text::proofs::Writes::joining))]
-fn write_told<V: Out>(told: Told, err: &mut V) -> Result<(), WriteError>
-    ensures { Wrote V.contents V.failures err.old err.new result (told_text told) }
+fn write_both<V: Out>(told: Told, err: &mut V) -> Result<(), WriteError>
+    ensures { Wrote V.sink err.old err.new result (both_text told) }
 {
     let mut text = TextBuffer::new(err);
-    add_told(&mut text, told)?;
+    add_both(&mut text, told)?;
     text.finish()
 }
 
-/// The exit status of what was exported, or of what is refused now.
-fn answered<V: Out>(done: Result<Told, FormatError>, err: &mut V) -> u8
-    ensures ok { IfOk done (λ told. (result ≡ 0) × Tried V.contents V.failures err.old err.new (told_text told)) }
-    ensures err { IfErr done (λ error. (result ≡ 2) × Tried V.contents V.failures err.old err.new
-        (refusal_text error)) }
-{
-    match done {
-        Ok(told) => {
-            let _ = write_told(told, err);
-            0
+/// What the text of a tool doesn't tell.
+impl Answer for Told {
+    ghost said = { told_said };
+
+    fn status(&self) -> u8 {
+        0
+    }
+
+    fn tell<V: Out>(&self, err: &mut V) {
+        if self.parted || self.regions {
+            let _ = write_both(*self, err);
         }
-        Err(error) => refused(&error, err),
     }
 }
 
@@ -236,13 +205,12 @@ fn answered<V: Out>(done: Result<Told, FormatError>, err: &mut V) -> u8
 /// written to `out` before a refusal, but where writing to it failed (F24). A failed write to `err` changes nothing.
 pub fn export<W: Out, V: Out>(
     alloc: Global,
-    text: &[u8],
+    bytes: &[u8],
     target: Target,
     out: &mut W,
     err: &mut V,
 ) -> u8
-    ensures { AnswersExport W.contents W.failures V.contents V.failures out.old out.new err.old err.new result target
-        text.now }
+    ensures { Answers (ExportsText W.sink out.old out.new target bytes.now) export_said V.sink err.old err.new result }
 {
-    answered(export_text(alloc, text, target, out), err)
+    answered(&export_text(alloc, bytes, target, out), err)
 }

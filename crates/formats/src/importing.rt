@@ -32,7 +32,7 @@ fn translate<W: Out>(
     text: &[u8],
     out: &mut W,
 ) -> Result<Imported, Untranslated>
-    ensures { Imports W.contents W.failures out.old out.new result tool text.now }
+    ensures { Imports W.sink out.old out.new result tool text.now }
 {
     let imported = match imports::import(alloc, tool, text) {
         Ok(imported) => imported,
@@ -51,7 +51,7 @@ fn add_not_read<V: Out>(
     line: u64,
     what: &[u8],
 ) -> Result<(), WriteError>
-    ensures { Adds V.contents V.failures text.old text.new result (not_read_text line what.now) }
+    ensures { Adds V.sink text.old text.new result (not_read_text line what.now) }
 {
     add_pieces(
         text,
@@ -67,7 +67,7 @@ fn add_not_read<V: Out>(
 
 #[tactic(auto, using(msc_text::proofs::Writes::joining))]
 fn write_not_read<V: Out>(line: u64, what: &[u8], err: &mut V) -> Result<(), WriteError>
-    ensures { Wrote V.contents V.failures err.old err.new result (not_read_text line what.now) }
+    ensures { Wrote V.sink err.old err.new result (not_read_text line what.now) }
 {
     let mut text = TextBuffer::new(err);
     add_not_read(&mut text, line, what)?;
@@ -77,7 +77,7 @@ fn write_not_read<V: Out>(line: u64, what: &[u8], err: &mut V) -> Result<(), Wri
 /// Prints the line of F35, and answers the exit status.
 fn refused_line<V: Out>(line: u64, unread: Unread, err: &mut V) -> u8
     ensures status { result ≡ 2 }
-    ensures line { Tried V.contents V.failures err.old err.new (not_read_text line (word_of unread)) }
+    ensures line { Tried V.sink err.old err.new (not_read_text line (word_of unread)) }
 {
     let _ = write_not_read(line, unread.as_str().as_bytes(), err);
     2
@@ -86,7 +86,7 @@ fn refused_line<V: Out>(line: u64, unread: Unread, err: &mut V) -> u8
 /// Prints the line of F36, and answers the exit status.
 fn refused_row<V: Out>(line: u64, err: &mut V) -> u8
     ensures status { result ≡ 2 }
-    ensures line { Tried V.contents V.failures err.old err.new (same_row_text line) }
+    ensures line { Tried V.sink err.old err.new (same_row_text line) }
 {
     refused_by(b"F36 SameRow", Some(line), err)
 }
@@ -94,7 +94,7 @@ fn refused_row<V: Out>(line: u64, err: &mut V) -> u8
 /// Prints the line of a refusal, and answers the exit status, which is 2 whether or not the line could be written.
 fn refused_diagram<V: Out>(error: &Untranslated, err: &mut V) -> u8
     ensures status { result ≡ 2 }
-    ensures line { Tried V.contents V.failures err.old err.new (untranslated_text error.now) }
+    ensures line { Tried V.sink err.old err.new (untranslated_text error.now) }
 {
     match error {
         Untranslated::Write => refused(&ProgramError::Write, err),
@@ -112,7 +112,7 @@ fn refused_diagram<V: Out>(error: &Untranslated, err: &mut V) -> u8
 /// Adds the line of a label that became another name.
 #[tactic(auto, unfolding(crate::specs::Importing::told_line))]
 fn add_told_line<V: Out>(text: &mut TextBuffer<'_, V>, told: &Told) -> Result<(), WriteError>
-    ensures { Adds V.contents V.failures text.old text.new result (told_line told.now) }
+    ensures { Adds V.sink text.old text.new result (told_line told.now) }
 {
     add_pieces(
         text,
@@ -127,7 +127,7 @@ fn add_told_line<V: Out>(text: &mut TextBuffer<'_, V>, told: &Told) -> Result<()
 }
 
 fn add_told_lines<V: Out>(text: &mut TextBuffer<'_, V>, told: &[Told]) -> Result<(), WriteError>
-    ensures { Adds V.contents V.failures text.old text.new result (flat_map told_line told.now) }
+    ensures { Adds V.sink text.old text.new result (flat_map told_line told.now) }
 {
     for label in told {
         add_told_line(text, label)?;
@@ -153,7 +153,7 @@ fn add_kept<V: Out>(
     told: &[Told],
     has_notes: bool,
 ) -> Result<(), WriteError>
-    ensures { Adds V.contents V.failures text.old text.new result (kept_text told.now has_notes) }
+    ensures { Adds V.sink text.old text.new result (kept_text told.now has_notes) }
 {
     add_told_lines(text, told)?;
     text.add(notes_text(has_notes))
@@ -161,7 +161,7 @@ fn add_kept<V: Out>(
 
 #[tactic(auto, using(msc_text::proofs::Writes::joining))]
 fn write_kept<V: Out>(told: &[Told], has_notes: bool, err: &mut V) -> Result<(), WriteError>
-    ensures { Wrote V.contents V.failures err.old err.new result (kept_text told.now has_notes) }
+    ensures { Wrote V.sink err.old err.new result (kept_text told.now has_notes) }
 {
     let mut text = TextBuffer::new(err);
     add_kept(&mut text, told, has_notes)?;
@@ -170,9 +170,9 @@ fn write_kept<V: Out>(told: &[Told], has_notes: bool, err: &mut V) -> Result<(),
 
 /// The exit status of what was imported, or of what is refused now.
 fn answered<V: Out>(done: Result<Imported, Untranslated>, err: &mut V) -> u8
-    ensures ok { IfOk done (λ imported. (result ≡ 0) × Tried V.contents V.failures err.old err.new
+    ensures ok { IfOk done (λ imported. (result ≡ 0) × Tried V.sink err.old err.new
         (kept_text imported.told.items imported.has_notes)) }
-    ensures err { IfErr done (λ error. (result ≡ 2) × Tried V.contents V.failures err.old err.new
+    ensures err { IfErr done (λ error. (result ≡ 2) × Tried V.sink err.old err.new
         (untranslated_text error)) }
 {
     match done {
@@ -196,7 +196,7 @@ pub fn import<W: Out, V: Out>(
     out: &mut W,
     err: &mut V,
 ) -> u8
-    ensures { AnswersImport W.contents W.failures V.contents V.failures out.old out.new err.old err.new result tool
+    ensures { AnswersImport W.sink V.sink out.old out.new err.old err.new result tool
         text.now }
 {
     answered(translate(alloc, tool, text, out), err)

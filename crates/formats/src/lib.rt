@@ -25,6 +25,7 @@ mod error;
 mod events;
 mod exporting;
 mod importing;
+mod preparing;
 mod target;
 
 pub use answering::refused;

@@ -5,3 +5,7 @@ pub mod Spellings
 pub mod Kept
 pub mod Numbered
 pub mod Free
+pub mod Called
+pub mod Tables
+pub mod Labellings
+pub mod Labelled

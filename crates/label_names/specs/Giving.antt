@@ -1,5 +1,5 @@
 -- What a label is called, once others were given their names.
-use Rattle.std.specs.Prelude.{◌≡◌, ℕ, ◌-◌, ◌≤◌, ◌<◌, Bool, true, false, List, ◌++◌, length, take, codes, decimal, bytes_eq, MatchBool}
+use Rattle.std.specs.Prelude.{◌≡◌, ℕ, zero, suc, ◌+◌, ◌-◌, ◌≤◌, ◌<◌, Bool, true, false, List, ◌++◌, length, take, codes, decimal, bytes_eq, MatchBool, if◌then◌else◌}
 use Rattle.std.specs.List.{list_any}
 use Rattle.chart.specs.declared.name.TheConstants.{MAX_NAME}
 
@@ -28,3 +28,12 @@ IsFreeNumbered names word name = (number : ℕ) × (name ≡ numbered word numbe
 -- a label that is spelled so is called so: by its spelling where no label has that, else by it and the least number
 abbrev pub IsCalled : List (List ℕ) → List ℕ → List ℕ → Type 0
 IsCalled names word name = MatchBool (is_given names word) (IsFreeNumbered names word name) (name ≡ word)
+
+-- the first number from this one on that makes the word free; after so many that don't it is the next one
+unfoldable pub free_from : List (List ℕ) → List ℕ → ℕ → ℕ → ℕ
+free_from names word zero number = number
+free_from names word (suc more) number = if is_given names (numbered word number) then free_from names word more (number + 1) else number
+
+-- what a label is called that is spelled so. Of more numbers than there are names one makes the word free
+unfoldable pub called : List (List ℕ) → List ℕ → List ℕ
+called names word = if is_given names word then numbered word (free_from names word (length names) 2) else word

@@ -1,3 +1,5 @@
 pub mod Giving
+pub mod Hints
+pub mod Labels
 pub mod Laws
 pub mod Spelling

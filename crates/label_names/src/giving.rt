@@ -1,11 +1,12 @@
 //! The names that labels are given.
 
-ghost use Rattle.std.specs.Prelude.{◌≡◌, ◌++◌, ◌∷◌, [], ◌<◌, ◌==◌, ◌^◌, length, take, IfOk, OnErr, codes, decimal};
+ghost use Rattle.std.specs.Prelude.{◌≡◌, ◌++◌, ◌∷◌, [], ◌≤◌, ◌<◌, ◌==◌, ◌^◌, length, take, IfOk, OnErr, codes, decimal};
 ghost use Rattle.chart.specs.Names.{IsName};
-ghost use Rattle.label_names.specs.Giving.{IsCalled, IsFreeNumbered, is_given, numbered};
+ghost use Rattle.label_names.specs.Giving.{IsCalled, IsFreeNumbered, IsLeastFree, is_given, numbered, free_from, called};
+ghost use Rattle.label_names.specs.Hints.{AreTaken};
 
 use chart::{MAX_NAME, Name};
-use indexmap::IndexSet;
+use indexmap::{IndexMap, IndexSet};
 use itoa::Buffer;
 use std::alloc::{AllocError, Global};
 use std::marker::Model;
@@ -38,14 +39,19 @@ fn numbered(alloc: Global, word: &Name, number: u64) -> Result<Name, AllocError>
 #[derive(Debug, Drop)]
 pub struct GivenNames {
     names: IndexSet<Name>,
+    /// For words that were given more than once, from which number on to look for a free one.
+    hints: IndexMap<Name, u64>,
 }
 
 impl Model for GivenNames {
     ghost use Rattle.std.specs.Prelude.{ℕ, List};
+    ghost use Rattle.label_names.specs.Hints.{AreHints};
 
     ghost Value = { List (List ℕ) };
 
     ghost view = { λ g. g.names.keys };
+
+    ghost invariant = { λ g. AreHints g.names.keys g.hints.entries };
 }
 
 impl GivenNames {
@@ -55,6 +61,7 @@ impl GivenNames {
     {
         GivenNames {
             names: IndexSet::new(alloc),
+            hints: IndexMap::new(alloc),
         }
     }
 
@@ -80,18 +87,47 @@ impl GivenNames {
         self.names.contains(name)
     }
 
-    /// The word with the least number from 2 on that no label has behind it.
-    fn numbered_free(&self, alloc: Global, word: &Name) -> Result<Name, AllocError>
-        ensures { IfOk result (IsFreeNumbered self.now word.now) }
+    /// The names.
+    pub fn as_slice(&self) -> &[Name]
+        ensures { result.now ≡ self.now }
+    {
+        self.names.as_slice()
+    }
+
+    /// From which number on to look for one that makes the word free.
+    fn first_number(&self, word: &Name) -> u64
+        ensures two { 2 ≤ result }
+        ensures taken { AreTaken self.now word.now result }
+    {
+        match self.hints.get(word) {
+            Some(number) => *number,
+            None => 2,
+        }
+    }
+
+    /// The least number from 2 on that makes the word free.
+    fn free_number(&self, alloc: Global, word: &Name) -> Result<u64, AllocError>
+        ensures least { IfOk result (IsLeastFree self.now word.now) }
+        ensures value { IfOk result (λ number. number ≡ free_from self.now word.now (length self.now) 2) }
     {
         // (of more numbers than there are names one is free)
-        for number in 2..self.len() + 3 {
-            let name = numbered(alloc, word, number as u64)?;
-            if !self.is_given(&name) {
-                return Ok(name);
+        for number in self.first_number(word)..self.len() as u64 + 3 {
+            if !self.is_given(&numbered(alloc, word, number)?) {
+                return Ok(number);
             }
         }
         unreachable!()
+    }
+
+    /// The word with the least number that makes it free, which is kept for the next label that is spelled so.
+    fn numbered_free(&mut self, alloc: Global, word: Name) -> Result<Name, AllocError>
+        ensures free { IfOk result (IsFreeNumbered self.old word) }
+        ensures value { IfOk result (λ name. name ≡ numbered word (free_from self.old word (length self.old) 2)) }
+        ensures same { self.new ≡ self.old }
+    {
+        let number = self.free_number(alloc, &word)?;
+        self.hints.insert(word, number)?;
+        numbered(alloc, &word, number)
     }
 
     /// Gives a new label that is spelled so its name: the word, or where a label has that, the word with the least
@@ -99,6 +135,7 @@ impl GivenNames {
     /// were.
     pub fn give(&mut self, alloc: Global, word: Name) -> Result<Name, AllocError>
         ensures called { IfOk result (IsCalled self.old word) }
+        ensures value { IfOk result (λ name. name ≡ called self.old word) }
         ensures given { IfOk result (λ name. self.new ≡ self.old ++ name ∷ []) }
         ensures refused { OnErr result (self.new ≡ self.old) }
     {
@@ -108,11 +145,14 @@ impl GivenNames {
     }
 
     /// What a new label is called that is spelled so.
-    fn free_name(&self, alloc: Global, word: Name) -> Result<Name, AllocError>
-        ensures { IfOk result (IsCalled self.now word) }
+    #[tactic(auto, unfolding(crate::specs::Giving::called))]
+    fn free_name(&mut self, alloc: Global, word: Name) -> Result<Name, AllocError>
+        ensures called { IfOk result (IsCalled self.old word) }
+        ensures value { IfOk result (λ name. name ≡ called self.old word) }
+        ensures same { self.new ≡ self.old }
     {
         if self.is_given(&word) {
-            self.numbered_free(alloc, &word)
+            self.numbered_free(alloc, word)
         } else {
             Ok(word)
         }

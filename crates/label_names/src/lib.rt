@@ -9,9 +9,11 @@
 #![tactic(auto)]
 
 mod giving;
+mod labels;
 mod laws;
 mod spelling;
 
 pub use giving::GivenNames;
-pub use laws::{called_law, spelled_law};
+pub use labels::{LabelNames, is_told};
+pub use laws::{called_law, labels_law, spelled_law};
 pub use spelling::spelled;

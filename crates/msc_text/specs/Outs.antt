@@ -1,5 +1,11 @@
 -- What a contract sees of each type that takes a text.
-use Rattle.std.specs.Prelude.{ℕ, ◌+◌, ◌-◌, ◌^◌, min, List}
+use Rattle.std.specs.Prelude.{ℕ, ◌+◌, ◌-◌, ◌^◌, min, List, Option}
+
+-- what is known of what a text is written to: its bytes, where it tells them, and how many puts have failed, a count
+-- that stops at u64::MAX
+pub record Sink : Type 0 where
+  pub contents : Option (List ℕ)
+  pub failures : ℕ
 
 -- a text in memory, and how many puts have failed
 pub record Stored : Type 0 where

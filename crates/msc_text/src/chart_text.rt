@@ -28,7 +28,7 @@ pub fn named(names: &Names, instance: InstanceNo) -> Name
 /// Adds a line of one word.
 #[tactic(auto, unfolding(crate::specs::ChartText::lone_line))]
 fn add_lone<W: Out>(text: &mut TextBuffer<'_, W>, word: Keyword) -> Result<(), WriteError>
-    ensures { Adds W.contents W.failures text.old text.new result (lone_line word) }
+    ensures { Adds W.sink text.old text.new result (lone_line word) }
 {
     text.add_all(&[word.as_bytes(), b";\n"])
 }
@@ -40,7 +40,7 @@ fn add_ending<W: Out>(
     before: u32,
     region: u32,
 ) -> Result<(), WriteError>
-    ensures { Adds W.contents W.failures text.old text.new result (ending before region) }
+    ensures { Adds W.sink text.old text.new result (ending before region) }
 {
     if before == region || before == 0 {
         return text.add(&[]);
@@ -55,7 +55,7 @@ fn add_beginning<W: Out>(
     before: u32,
     region: u32,
 ) -> Result<(), WriteError>
-    ensures { Adds W.contents W.failures text.old text.new result (beginning before region) }
+    ensures { Adds W.sink text.old text.new result (beginning before region) }
 {
     if before == region || region == 0 {
         return text.add(&[]);
@@ -72,7 +72,7 @@ fn add_event_line<W: Out>(
     side: Keyword,
     partner: Name,
 ) -> Result<(), WriteError>
-    ensures { Adds W.contents W.failures text.old text.new result (event_line direction message side partner) }
+    ensures { Adds W.sink text.old text.new result (event_line direction message side partner) }
 {
     text.add_all(&[
         direction.as_bytes(),
@@ -94,7 +94,7 @@ fn add_event<W: Out>(
     event: &Event,
 ) -> Result<(), WriteError>
     requires { partner_of event.now ≤ length names.now }
-    ensures { Adds W.contents W.failures text.old text.new result (event_text names.now event.now) }
+    ensures { Adds W.sink text.old text.new result (event_text names.now event.now) }
 {
     match event {
         Event::Send { to, name } => {
@@ -115,7 +115,7 @@ fn add_event_lines<W: Out>(
     event: &Event,
 ) -> Result<(), WriteError>
     requires { partner_of event.now ≤ length names.now }
-    ensures { Adds W.contents W.failures text.old text.new result (event_lines_text names.now before event.now) }
+    ensures { Adds W.sink text.old text.new result (event_lines_text names.now before event.now) }
 {
     let region = event.region();
     add_ending(text, before, region)?;
@@ -130,7 +130,7 @@ fn add_events<W: Out>(
     events: &[Event],
 ) -> Result<(), WriteError>
     requires { All (λ m. partner_of m ≤ length names.now) events.now }
-    ensures { Adds W.contents W.failures text.old text.new result (events_text names.now 0 events.now) }
+    ensures { Adds W.sink text.old text.new result (events_text names.now 0 events.now) }
 {
     let mut before = 0;
     for event in events {
@@ -147,7 +147,7 @@ fn add_head<W: Out>(
     instance: InstanceNo,
 ) -> Result<(), WriteError>
     requires { instance ≤ length names.now }
-    ensures { Adds W.contents W.failures text.old text.new result (head_text names.now instance) }
+    ensures { Adds W.sink text.old text.new result (head_text names.now instance) }
 {
     let name = named(names, instance);
     text.add_all(&[Keyword::Instance.as_bytes(), b" ", name.as_bytes(), b";\n"])
@@ -155,7 +155,7 @@ fn add_head<W: Out>(
 
 #[tactic(auto, unfolding(crate::specs::ChartText::foot_text))]
 fn add_foot<W: Out>(text: &mut TextBuffer<'_, W>) -> Result<(), WriteError>
-    ensures { Adds W.contents W.failures text.old text.new result foot_text }
+    ensures { Adds W.sink text.old text.new result foot_text }
 {
     add_lone(text, Keyword::EndInstance)
 }
@@ -169,7 +169,7 @@ fn add_line<W: Out>(
 ) -> Result<(), WriteError>
     requires instance { line.now.instance ≤ length names.now }
     requires partners { All (λ m. partner_of m ≤ length names.now) line.now.events }
-    ensures { Adds W.contents W.failures text.old text.new result (line_text names.now line.now) }
+    ensures { Adds W.sink text.old text.new result (line_text names.now line.now) }
 {
     add_head(text, names, line.instance())?;
     add_events(text, names, line.events())?;
@@ -183,7 +183,7 @@ fn add_lines<W: Out>(
 ) -> Result<(), WriteError>
     requires instances { All (λ l. l.instance ≤ length names.now) lines.now }
     requires partners { HasPartners (length names.now) lines.now }
-    ensures { Adds W.contents W.failures text.old text.new result (flat_map (line_text names.now) lines.now) }
+    ensures { Adds W.sink text.old text.new result (flat_map (line_text names.now) lines.now) }
 {
     for line in lines {
         add_line(text, names, line)?;
@@ -201,14 +201,14 @@ pub fn chart_name() -> &'static [u8]
 
 #[tactic(auto, unfolding(crate::specs::ChartText::begin_text))]
 fn add_begin<W: Out>(text: &mut TextBuffer<'_, W>) -> Result<(), WriteError>
-    ensures { Adds W.contents W.failures text.old text.new result begin_text }
+    ensures { Adds W.sink text.old text.new result begin_text }
 {
     text.add_all(&[Keyword::Msc.as_bytes(), b" ", chart_name(), b";\n"])
 }
 
 #[tactic(auto, unfolding(crate::specs::ChartText::end_text))]
 fn add_end<W: Out>(text: &mut TextBuffer<'_, W>) -> Result<(), WriteError>
-    ensures { Adds W.contents W.failures text.old text.new result end_text }
+    ensures { Adds W.sink text.old text.new result end_text }
 {
     add_lone(text, Keyword::EndMsc)
 }
@@ -223,7 +223,7 @@ pub fn add_chart<W: Out>(
     chart: &Chart,
 ) -> Result<(), WriteError>
     requires { length names.now ≡ length chart.now }
-    ensures { Adds W.contents W.failures text.old text.new result (chart_text names.now chart.now) }
+    ensures { Adds W.sink text.old text.new result (chart_text names.now chart.now) }
 {
     add_begin(text)?;
     add_lines(text, names, chart.lines())?;
@@ -237,7 +237,7 @@ pub fn add_chart<W: Out>(
 #[tactic(auto, using(crate::proofs::Writes::joining))]
 pub fn write<W: Out>(names: &Names, chart: &Chart, out: &mut W) -> Result<(), WriteError>
     requires { length names.now ≡ length chart.now }
-    ensures { Wrote W.contents W.failures out.old out.new result (chart_text names.now chart.now) }
+    ensures { Wrote W.sink out.old out.new result (chart_text names.now chart.now) }
 {
     let mut text = TextBuffer::new(out);
     add_chart(&mut text, names, chart)?;

@@ -1,7 +1,7 @@
 //! Where a text is put.
-ghost use Rattle.std.specs.Prelude.{◌≡◌, ◌≤◌, ◌<◌, ℕ, List, [], take, length, Option, None, Some, IfOk, OnErr};
+ghost use Rattle.std.specs.Prelude.{◌≡◌, ◌≤◌, ◌<◌, [], take, length, Some, IfOk, OnErr};
 ghost use Rattle.std.specs.Io.KnownBytes.{Appends};
-ghost use Rattle.msc_text.specs.Outs.{Stored, Streamed, one_more};
+ghost use Rattle.msc_text.specs.Outs.{Sink, Stored, Streamed, one_more};
 
 use crate::retrying::write_some;
 use std::alloc::Global;
@@ -25,20 +25,17 @@ pub enum OutFault {
 
 /// What takes the bytes of a text, some at a time.
 pub trait Out {
-    /// The bytes that it holds, where it tells them.
-    ghost contents: { Self → Option (List ℕ) } = { λ _. None };
-
-    /// How many puts have failed, a count that stops at `u64::MAX`.
-    ghost failures: { Self → ℕ };
+    /// What is known of it: its bytes, where it tells them, and how many puts have failed.
+    ghost sink: { Self → Sink };
 
     /// Takes a beginning of the bytes, and answers how many they are: of a piece that isn't empty at least
     /// one byte. A fault takes none.
     fn put(&mut self, bytes: &[u8]) -> Result<usize, OutFault>
         ensures count { IfOk result (λ k. (k ≤ length bytes.now) × (0 < length bytes.now → 1 ≤ k)) }
-        ensures taken { IfOk result (λ k. Appends (contents self.old) (contents self.new) (take k bytes.now)
-            × (failures self.new ≡ failures self.old)) }
-        ensures fault { OnErr result (Appends (contents self.old) (contents self.new) []
-            × (failures self.new ≡ one_more (failures self.old))) };
+        ensures taken { IfOk result (λ k. Appends (sink self.old).contents (sink self.new).contents (take k bytes.now)
+            × ((sink self.new).failures ≡ (sink self.old).failures)) }
+        ensures fault { OnErr result (Appends (sink self.old).contents (sink self.new).contents []
+            × ((sink self.new).failures ≡ one_more (sink self.old).failures)) };
 }
 
 /// An [`Out`] over memory, which tells its bytes. A put fails where there is no memory left for it.
@@ -80,9 +77,7 @@ impl MemoryOut {
 }
 
 impl Out for MemoryOut {
-    ghost contents = { λ out. Some out.bytes };
-
-    ghost failures = { λ out. out.failures };
+    ghost sink = { λ out. record { contents = Some out.bytes; failures = out.failures } };
 
     fn put(&mut self, bytes: &[u8]) -> Result<usize, OutFault> {
         match self.bytes.extend_from_slice(bytes) {
@@ -131,9 +126,7 @@ impl<W> StreamOut<W> {
 }
 
 impl<W: Write> Out for StreamOut<W> {
-    ghost contents = { λ out. W.contents out.writer };
-
-    ghost failures = { λ out. out.failures };
+    ghost sink = { λ out. record { contents = W.contents out.writer; failures = out.failures } };
 
     fn put(&mut self, bytes: &[u8]) -> Result<usize, OutFault> {
         if bytes.is_empty() {

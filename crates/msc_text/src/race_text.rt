@@ -51,7 +51,7 @@ impl RaceLines {
     /// Adds the line with the number of this earlier event.
     #[tactic(auto, unfolding(crate::specs::RaceText::race_line))]
     fn add<W: Out>(&self, text: &mut TextBuffer<'_, W>, earlier: EventNo) -> Result<(), WriteError>
-        ensures { Adds W.contents W.failures text.old text.new result (race_line self.now.front self.now.end earlier) }
+        ensures { Adds W.sink text.old text.new result (race_line self.now.front self.now.end earlier) }
     {
         let mut digits = Buffer::new();
         let index = digits.format(earlier.index).as_bytes();
@@ -65,7 +65,7 @@ impl RaceLines {
         earlier: &EventRange,
     ) -> Result<(), WriteError>
         requires { IsRange earlier.now }
-        ensures { Adds W.contents W.failures text.old text.new result
+        ensures { Adds W.sink text.old text.new result
             (flat_map (race_line self.now.front self.now.end) (events_of earlier.now)) }
     {
         for number in 0..earlier.count {
@@ -81,7 +81,7 @@ impl RaceLines {
         earlier: &[EventRange],
     ) -> Result<(), WriteError>
         requires { All IsRange earlier.now }
-        ensures { Adds W.contents W.failures text.old text.new result
+        ensures { Adds W.sink text.old text.new result
             (flat_map (race_line self.now.front self.now.end) (events_in earlier.now)) }
     {
         for range in earlier {
@@ -101,7 +101,7 @@ impl RaceLines {
     ) -> Result<(), WriteError>
         requires named { receive.instance ≤ length names.now }
         requires ranges { All IsRange earlier.now }
-        ensures { Adds W.contents W.failures text.old text.new result
+        ensures { Adds W.sink text.old text.new result
             (report_text names.now (record { receive = receive; earlier = events_in earlier.now })) }
     {
         self.set(named(names, receive.instance), receive.index);
@@ -117,7 +117,7 @@ pub fn add_races<W: Out>(
     reports: &[Report],
 ) -> Result<(), WriteError>
     requires { AreNamed names.now reports.now }
-    ensures { Adds W.contents W.failures text.old text.new result (races_text names.now reports.now) }
+    ensures { Adds W.sink text.old text.new result (races_text names.now reports.now) }
 {
     let mut lines = RaceLines::new();
     for report in reports {

@@ -27,7 +27,7 @@ pub struct TextBuffer<'a, W> {
 
 /// Puts all of the bytes, in as many calls as it takes.
 fn put_all<W: Out>(out: &mut W, bytes: &[u8]) -> Result<(), WriteError>
-    ensures { Wrote W.contents W.failures out.old out.new result bytes.now }
+    ensures { Wrote W.sink out.old out.new result bytes.now }
 {
     let mut rest = bytes;
     while !rest.is_empty() {
@@ -51,7 +51,7 @@ impl<'a, W: Out> TextBuffer<'a, W> {
 
     /// Adds the piece to the text.
     pub fn add(&mut self, piece: &[u8]) -> Result<(), WriteError>
-        ensures { Adds W.contents W.failures self.old self.new result piece.now }
+        ensures { Adds W.sink self.old self.new result piece.now }
     {
         if piece.len() <= self.held.room() {
             self.held.push(piece);
@@ -72,7 +72,7 @@ impl<'a, W: Out> TextBuffer<'a, W> {
         second: &[u8],
         third: &[u8],
     ) -> Result<(), WriteError>
-        ensures { Adds W.contents W.failures self.old self.new result (first.now ++ (second.now ++ third.now)) }
+        ensures { Adds W.sink self.old self.new result (first.now ++ (second.now ++ third.now)) }
     {
         self.add(first)?;
         self.add(second)?;
@@ -81,7 +81,7 @@ impl<'a, W: Out> TextBuffer<'a, W> {
 
     /// Adds three pieces to the text, in their order: most often by one look at the room.
     pub fn add_three(&mut self, first: &[u8], second: &[u8], third: &[u8]) -> Result<(), WriteError>
-        ensures { Adds W.contents W.failures self.old self.new result (first.now ++ (second.now ++ third.now)) }
+        ensures { Adds W.sink self.old self.new result (first.now ++ (second.now ++ third.now)) }
     {
         let room = self.held.room();
         if first.len() <= room
@@ -98,7 +98,7 @@ impl<'a, W: Out> TextBuffer<'a, W> {
 
     /// Adds the pieces to the text, in their order.
     pub fn add_all(&mut self, pieces: &[&[u8]]) -> Result<(), WriteError>
-        ensures { Adds W.contents W.failures self.old self.new result (flat_map (λ p. p.now) pieces.now) }
+        ensures { Adds W.sink self.old self.new result (flat_map (λ p. p.now) pieces.now) }
     {
         for piece in pieces {
             self.add(piece)?;
@@ -108,7 +108,7 @@ impl<'a, W: Out> TextBuffer<'a, W> {
 
     /// Adds the number to the text, in decimal.
     pub fn add_number(&mut self, number: u64) -> Result<(), WriteError>
-        ensures { Adds W.contents W.failures self.old self.new result (decimal number) }
+        ensures { Adds W.sink self.old self.new result (decimal number) }
     {
         let mut buffer = Buffer::new();
         self.add(buffer.format(number).as_bytes())
@@ -116,7 +116,7 @@ impl<'a, W: Out> TextBuffer<'a, W> {
 
     /// Puts all that is held.
     pub fn finish(&mut self) -> Result<(), WriteError>
-        ensures wrote { Wrote W.contents W.failures self.old.out.now self.new.out.now result self.old.held }
+        ensures wrote { Wrote W.sink self.old.out.now self.new.out.now result self.old.held }
         ensures empty { self.new.held ≡ [] }
         ensures same_out { self.new.out.ghost_name ≡ self.old.out.ghost_name }
     {

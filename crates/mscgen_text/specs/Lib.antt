@@ -1,5 +1,12 @@
+pub mod Arcs
+pub mod Attributes
+pub mod Charts
+pub mod Faults
 pub mod Lengths
 pub mod Pieces
 pub mod Places
+pub mod Reading
 pub mod Signs
+pub mod Stops
 pub mod Tokens
+pub mod Words

@@ -1,18 +1,34 @@
-//! The tokens of mscgen 0.20's texts.
+//! Texts of mscgen 0.20, read by their grammar.
 //!
-//! What is promised ([`tokens_of`]): the text's bytes decide the tokens, each with its kind, its line, its column and the
-//! text from there on. Blanks and comments are none, and what can't be read is a token of its own.
+//! What is promised ([`read`]): a text is read exactly where it is in mscgen's language, and what it says is a function
+//! of its bytes: the entities, and the arcs of each row with their attributes. Any other text gets its first fault,
+//! with the line, the column and the words there. The tokens are a function of the bytes too ([`tokens_of`]), each with
+//! its kind, its place and the text from there on; blanks and comments are none. Memory is refused at a growth alone.
 #![tactic(auto)]
 
+mod arc;
+mod attributes;
+mod chart;
+mod entity;
+mod fault;
 mod lengths;
 mod lexer;
+mod msc;
 mod piece;
 mod place;
+mod reading;
 mod relation;
 mod signs;
+mod stop;
 mod token;
+mod words;
 
+pub use arc::{Arc, ArcKind};
+pub use chart::Msc;
+pub use entity::Entity;
+pub use fault::{Fault, MscgenError, printable};
 pub use lexer::tokens_of;
+pub use msc::read;
 pub use place::Place;
 pub use relation::Relation;
 pub use token::{Kind, Token};

@@ -15,4 +15,8 @@ pub enum Relation {
     Both,
     /// A line without a head.
     Line,
+    /// A box round two entities and those between them.
+    Box,
+    /// A note at two entities and those between them.
+    Note,
 }

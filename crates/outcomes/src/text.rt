@@ -27,7 +27,7 @@ fn word_of(word: &Word) -> &[u8]
 
 #[tactic(auto, unfolding(crate::specs::OutcomeText::note_text))]
 fn add_note<W: Out>(text: &mut TextBuffer<'_, W>, note: &Note) -> Result<(), WriteError>
-    ensures { Adds W.contents W.failures text.old text.new result (note_text note.now) }
+    ensures { Adds W.sink text.old text.new result (note_text note.now) }
 {
     let mut buffer = Buffer::new();
     let line = buffer.format(note.line).as_bytes();
@@ -35,7 +35,7 @@ fn add_note<W: Out>(text: &mut TextBuffer<'_, W>, note: &Note) -> Result<(), Wri
 }
 
 fn add_notes<W: Out>(text: &mut TextBuffer<'_, W>, notes: &[Note]) -> Result<(), WriteError>
-    ensures { Adds W.contents W.failures text.old text.new result (flat_map note_text notes.now) }
+    ensures { Adds W.sink text.old text.new result (flat_map note_text notes.now) }
 {
     for note in notes {
         add_note(text, note)?;
@@ -49,7 +49,7 @@ pub fn add_outcome<W: Out>(
     text: &mut TextBuffer<'_, W>,
     outcome: &Outcome<'_>,
 ) -> Result<(), WriteError>
-    ensures { Adds W.contents W.failures text.old text.new result (outcome_text outcome.now) }
+    ensures { Adds W.sink text.old text.new result (outcome_text outcome.now) }
 {
     let names = outcome.names();
     let chart = outcome.chart();
@@ -66,7 +66,7 @@ impl Outcome<'_> {
     /// Where a put fails (F24), a beginning of the text was written, and no other put is tried.
     #[tactic(auto, using(msc_text::proofs::Writes::joining))]
     pub fn write<W: Out>(&self, out: &mut W) -> Result<(), WriteError>
-        ensures { Wrote W.contents W.failures out.old out.new result (outcome_text self.now) }
+        ensures { Wrote W.sink out.old out.new result (outcome_text self.now) }
     {
         let mut text = TextBuffer::new(out);
         add_outcome(&mut text, self)?;

@@ -47,7 +47,7 @@ fn add_part<W: Out>(
     cell: Option<Cell>,
     region: u32,
 ) -> Result<(), WriteError>
-    ensures { Adds W.contents W.failures text.old text.new result (part x life cell region) }
+    ensures { Adds W.sink text.old text.new result (part x life cell region) }
 {
     let Some(cell) = cell else {
         return text.add(b"");
@@ -85,7 +85,7 @@ fn add_life_end<W: Out>(
     life: Life,
     bottom: u64,
 ) -> Result<(), WriteError>
-    ensures { Adds W.contents W.failures text.old text.new result (life_end x life bottom) }
+    ensures { Adds W.sink text.old text.new result (life_end x life bottom) }
 {
     if life.region == 0 {
         return add_segment(text, 0, x, life.start, bottom);
@@ -104,7 +104,7 @@ fn add_lifeline<W: Out>(
     events: &[Event],
 ) -> Result<(), WriteError>
     requires { length events.now ≤ MAX_EVENTS }
-    ensures { Adds W.contents W.failures text.old text.new result (lifeline picture.now instance x events.now) }
+    ensures { Adds W.sink text.old text.new result (lifeline picture.now instance x events.now) }
 {
     let mut life = Life {
         region: 0,
@@ -129,7 +129,7 @@ fn add_head<W: Out>(
     instance: InstanceNo,
     left: u32,
 ) -> Result<(), WriteError>
-    ensures { Adds W.contents W.failures text.old text.new result (head picture.now instance left) }
+    ensures { Adds W.sink text.old text.new result (head picture.now instance left) }
 {
     let span = picture.span();
     let width = 2 * u64::from(span) + 48;
@@ -146,7 +146,7 @@ fn add_column_at<W: Out>(
     instance: InstanceNo,
     left: u32,
 ) -> Result<(), WriteError>
-    ensures { Adds W.contents W.failures text.old text.new result (column_at picture.now instance left) }
+    ensures { Adds W.sink text.old text.new result (column_at picture.now instance left) }
 {
     let span = picture.span();
     add_head(text, picture, instance, left)?;
@@ -164,7 +164,7 @@ fn add_column<W: Out>(
     picture: &Picture<'_>,
     instance: InstanceNo,
 ) -> Result<(), WriteError>
-    ensures { Adds W.contents W.failures text.old text.new result (column_text picture.now instance) }
+    ensures { Adds W.sink text.old text.new result (column_text picture.now instance) }
 {
     match picture.left_of(instance) {
         Some(left) => add_column_at(text, picture, instance, left),
@@ -178,7 +178,7 @@ pub(crate) fn add_columns<W: Out>(
     picture: &Picture<'_>,
     drawn: &[InstanceNo],
 ) -> Result<(), WriteError>
-    ensures { Adds W.contents W.failures text.old text.new result (flat_map (column_text picture.now) drawn.now) }
+    ensures { Adds W.sink text.old text.new result (flat_map (column_text picture.now) drawn.now) }
 {
     for instance in drawn {
         add_column(text, picture, *instance)?;

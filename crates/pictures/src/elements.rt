@@ -16,7 +16,7 @@ pub(crate) fn add_arrow<W: Out>(
     from: Spot,
     to: Spot,
 ) -> Result<(), WriteError>
-    ensures { Adds W.contents W.failures text.old text.new result (arrow from to) }
+    ensures { Adds W.sink text.old text.new result (arrow from to) }
 {
     add_pieces(
         text,
@@ -37,7 +37,7 @@ pub(crate) fn add_arrow<W: Out>(
 /// Adds a small open circle.
 #[tactic(auto, unfolding(crate::specs::Elements::ring))]
 pub(crate) fn add_ring<W: Out>(text: &mut TextBuffer<'_, W>, at: Spot) -> Result<(), WriteError>
-    ensures { Adds W.contents W.failures text.old text.new result (ring at) }
+    ensures { Adds W.sink text.old text.new result (ring at) }
 {
     add_pieces(
         text,
@@ -57,7 +57,7 @@ pub(crate) fn add_label_start<W: Out>(
     text: &mut TextBuffer<'_, W>,
     at: Spot,
 ) -> Result<(), WriteError>
-    ensures { Adds W.contents W.failures text.old text.new result (label_start at) }
+    ensures { Adds W.sink text.old text.new result (label_start at) }
 {
     add_pieces(
         text,
@@ -74,7 +74,7 @@ pub(crate) fn add_label_start<W: Out>(
 /// Adds the end of a label.
 #[tactic(auto, unfolding(crate::specs::Elements::label_end))]
 pub(crate) fn add_label_end<W: Out>(text: &mut TextBuffer<'_, W>) -> Result<(), WriteError>
-    ensures { Adds W.contents W.failures text.old text.new result label_end }
+    ensures { Adds W.sink text.old text.new result label_end }
 {
     text.add(b"</text>\n")
 }
@@ -86,7 +86,7 @@ pub(crate) fn add_number<W: Out>(
     at: Spot,
     number: u64,
 ) -> Result<(), WriteError>
-    ensures { Adds W.contents W.failures text.old text.new result (number_text at number) }
+    ensures { Adds W.sink text.old text.new result (number_text at number) }
 {
     add_pieces(
         text,
@@ -110,7 +110,7 @@ fn add_solid<W: Out>(
     from: u64,
     to: u64,
 ) -> Result<(), WriteError>
-    ensures { Adds W.contents W.failures text.old text.new result (solid x from to) }
+    ensures { Adds W.sink text.old text.new result (solid x from to) }
 {
     add_pieces(
         text,
@@ -134,7 +134,7 @@ fn add_dashed<W: Out>(
     from: u64,
     to: u64,
 ) -> Result<(), WriteError>
-    ensures { Adds W.contents W.failures text.old text.new result (dashed x from to) }
+    ensures { Adds W.sink text.old text.new result (dashed x from to) }
 {
     add_pieces(
         text,
@@ -159,7 +159,7 @@ pub(crate) fn add_segment<W: Out>(
     from: u64,
     to: u64,
 ) -> Result<(), WriteError>
-    ensures { Adds W.contents W.failures text.old text.new result (segment region x from to) }
+    ensures { Adds W.sink text.old text.new result (segment region x from to) }
 {
     if region == 0 {
         add_solid(text, x, from, to)
@@ -174,7 +174,7 @@ pub(crate) fn add_dot_start<W: Out>(
     text: &mut TextBuffer<'_, W>,
     at: Spot,
 ) -> Result<(), WriteError>
-    ensures { Adds W.contents W.failures text.old text.new result (dot_start at) }
+    ensures { Adds W.sink text.old text.new result (dot_start at) }
 {
     add_pieces(
         text,
@@ -191,7 +191,7 @@ pub(crate) fn add_dot_start<W: Out>(
 /// Adds the end of a receive's dot.
 #[tactic(auto, unfolding(crate::specs::Elements::dot_end))]
 pub(crate) fn add_dot_end<W: Out>(text: &mut TextBuffer<'_, W>) -> Result<(), WriteError>
-    ensures { Adds W.contents W.failures text.old text.new result dot_end }
+    ensures { Adds W.sink text.old text.new result dot_end }
 {
     text.add(b"</title></circle>\n")
 }
@@ -204,7 +204,7 @@ pub(crate) fn add_bracket_start<W: Out>(
     to: Spot,
     receive: u64,
 ) -> Result<(), WriteError>
-    ensures { Adds W.contents W.failures text.old text.new result (bracket_start from to receive) }
+    ensures { Adds W.sink text.old text.new result (bracket_start from to receive) }
 {
     add_pieces(
         text,
@@ -229,7 +229,7 @@ pub(crate) fn add_bracket_start<W: Out>(
 /// Adds the end of a bracket.
 #[tactic(auto, unfolding(crate::specs::Elements::bracket_end))]
 pub(crate) fn add_bracket_end<W: Out>(text: &mut TextBuffer<'_, W>) -> Result<(), WriteError>
-    ensures { Adds W.contents W.failures text.old text.new result bracket_end }
+    ensures { Adds W.sink text.old text.new result bracket_end }
 {
     text.add(b"</title></path>\n")
 }
@@ -242,7 +242,7 @@ pub(crate) fn add_box_start<W: Out>(
     width: u64,
     x: u64,
 ) -> Result<(), WriteError>
-    ensures { Adds W.contents W.failures text.old text.new result (box_start left width x) }
+    ensures { Adds W.sink text.old text.new result (box_start left width x) }
 {
     add_pieces(
         text,
@@ -261,7 +261,7 @@ pub(crate) fn add_box_start<W: Out>(
 /// Adds the end of a lifeline, which begins here.
 #[tactic(auto, unfolding(crate::specs::Elements::foot))]
 pub(crate) fn add_foot<W: Out>(text: &mut TextBuffer<'_, W>, from: Spot) -> Result<(), WriteError>
-    ensures { Adds W.contents W.failures text.old text.new result (foot from) }
+    ensures { Adds W.sink text.old text.new result (foot from) }
 {
     add_pieces(
         text,

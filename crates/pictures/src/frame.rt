@@ -16,7 +16,7 @@ use text_parts::{Piece, add_pieces};
 /// fetched: the font is whichever the reader's program has.
 #[tactic(auto, unfolding(crate::specs::PictureText::styles))]
 fn add_styles<W: Out>(text: &mut TextBuffer<'_, W>) -> Result<(), WriteError>
-    ensures { Adds W.contents W.failures text.old text.new result styles }
+    ensures { Adds W.sink text.old text.new result styles }
 {
     add_pieces(
         text,
@@ -40,7 +40,7 @@ fn add_styles<W: Out>(text: &mut TextBuffer<'_, W>) -> Result<(), WriteError>
 /// Adds arrow heads, and the ends of coregions.
 #[tactic(auto, unfolding(crate::specs::PictureText::markers))]
 fn add_markers<W: Out>(text: &mut TextBuffer<'_, W>) -> Result<(), WriteError>
-    ensures { Adds W.contents W.failures text.old text.new result markers }
+    ensures { Adds W.sink text.old text.new result markers }
 {
     add_pieces(
         text,
@@ -60,7 +60,7 @@ fn add_markers<W: Out>(text: &mut TextBuffer<'_, W>) -> Result<(), WriteError>
 /// Adds what the marks mean.
 #[tactic(auto, unfolding(crate::specs::PictureText::legend))]
 fn add_legend<W: Out>(text: &mut TextBuffer<'_, W>) -> Result<(), WriteError>
-    ensures { Adds W.contents W.failures text.old text.new result legend }
+    ensures { Adds W.sink text.old text.new result legend }
 {
     add_pieces(
         text,
@@ -90,7 +90,7 @@ fn add_svg_start<W: Out>(
     width: u64,
     height: u64,
 ) -> Result<(), WriteError>
-    ensures { Adds W.contents W.failures text.old text.new result (svg_start width height) }
+    ensures { Adds W.sink text.old text.new result (svg_start width height) }
 {
     add_pieces(
         text,
@@ -110,7 +110,7 @@ fn add_svg_start<W: Out>(
 
 #[tactic(auto, unfolding(crate::specs::PictureText::title))]
 fn add_title<W: Out>(text: &mut TextBuffer<'_, W>, file: &[u8]) -> Result<(), WriteError>
-    ensures { Adds W.contents W.failures text.old text.new result (title file.now) }
+    ensures { Adds W.sink text.old text.new result (title file.now) }
 {
     add_pieces(
         text,
@@ -124,7 +124,7 @@ fn add_title<W: Out>(text: &mut TextBuffer<'_, W>, file: &[u8]) -> Result<(), Wr
 
 #[tactic(auto, unfolding(crate::specs::PictureText::heading))]
 fn add_heading<W: Out>(text: &mut TextBuffer<'_, W>, file: &[u8]) -> Result<(), WriteError>
-    ensures { Adds W.contents W.failures text.old text.new result (heading file.now) }
+    ensures { Adds W.sink text.old text.new result (heading file.now) }
 {
     add_pieces(
         text,
@@ -139,7 +139,7 @@ fn add_heading<W: Out>(text: &mut TextBuffer<'_, W>, file: &[u8]) -> Result<(), 
 /// Adds what stands above the columns.
 #[tactic(auto, using(msc_text::proofs::Writes::joining), unfolding(crate::specs::PictureText::top))]
 fn add_top<W: Out>(text: &mut TextBuffer<'_, W>, picture: &Picture<'_>) -> Result<(), WriteError>
-    ensures { Adds W.contents W.failures text.old text.new result (top picture.now) }
+    ensures { Adds W.sink text.old text.new result (top picture.now) }
 {
     let width = u64::from(picture.width());
     add_svg_start(text, width, height(picture.count()) + 116)?;
@@ -152,7 +152,7 @@ fn add_top<W: Out>(text: &mut TextBuffer<'_, W>, picture: &Picture<'_>) -> Resul
 /// Adds the beginning of a group of elements that begins at this height.
 #[tactic(auto, unfolding(crate::specs::PictureText::group_start))]
 fn add_group_start<W: Out>(text: &mut TextBuffer<'_, W>, y: u64) -> Result<(), WriteError>
-    ensures { Adds W.contents W.failures text.old text.new result (group_start y) }
+    ensures { Adds W.sink text.old text.new result (group_start y) }
 {
     add_pieces(
         text,
@@ -167,7 +167,7 @@ fn add_group_start<W: Out>(text: &mut TextBuffer<'_, W>, y: u64) -> Result<(), W
 /// Adds the end of the group, and that of the picture.
 #[tactic(auto, unfolding(crate::specs::PictureText::svg_end))]
 fn add_svg_end<W: Out>(text: &mut TextBuffer<'_, W>) -> Result<(), WriteError>
-    ensures { Adds W.contents W.failures text.old text.new result svg_end }
+    ensures { Adds W.sink text.old text.new result svg_end }
 {
     text.add(b"</g>\n</svg>\n")
 }
@@ -175,7 +175,7 @@ fn add_svg_end<W: Out>(text: &mut TextBuffer<'_, W>) -> Result<(), WriteError>
 /// Adds what stands below the columns.
 #[tactic(auto, using(msc_text::proofs::Writes::joining), unfolding(crate::specs::PictureText::bottom))]
 fn add_bottom<W: Out>(text: &mut TextBuffer<'_, W>, count: u32) -> Result<(), WriteError>
-    ensures { Adds W.contents W.failures text.old text.new result (bottom count) }
+    ensures { Adds W.sink text.old text.new result (bottom count) }
 {
     add_group_start(text, height(count) + 32)?;
     add_legend(text)?;
@@ -188,7 +188,7 @@ fn add_picture<W: Out>(
     text: &mut TextBuffer<'_, W>,
     picture: &Picture<'_>,
 ) -> Result<(), WriteError>
-    ensures { Adds W.contents W.failures text.old text.new result (picture_text picture.now) }
+    ensures { Adds W.sink text.old text.new result (picture_text picture.now) }
 {
     add_top(text, picture)?;
     add_columns(text, picture, picture.drawn())?;
@@ -201,7 +201,7 @@ fn add_picture<W: Out>(
 /// written, and no other put is tried.
 #[tactic(auto, using(msc_text::proofs::Writes::joining))]
 pub fn write_picture<W: Out>(picture: &Picture<'_>, out: &mut W) -> Result<(), WriteError>
-    ensures { Wrote W.contents W.failures out.old out.new result (picture_text picture.now) }
+    ensures { Wrote W.sink out.old out.new result (picture_text picture.now) }
 {
     let mut text = TextBuffer::new(out);
     add_picture(&mut text, picture)?;

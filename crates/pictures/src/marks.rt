@@ -23,7 +23,7 @@ fn add_dot<W: Out>(
     ranges: &[EventRange],
 ) -> Result<(), WriteError>
     requires { All IsRange ranges.now }
-    ensures { Adds W.contents W.failures text.old text.new result (dot at events ranges.now) }
+    ensures { Adds W.sink text.old text.new result (dot at events ranges.now) }
 {
     add_dot_start(text, at)?;
     add_amount(text, events)?;
@@ -62,7 +62,7 @@ fn add_bracket_between<W: Out>(
     to: Cell,
 ) -> Result<(), WriteError>
     requires { IsRange range.now }
-    ensures { Adds W.contents W.failures text.old text.new result (bracket_between span receive range.now from to) }
+    ensures { Adds W.sink text.old text.new result (bracket_between span receive range.now from to) }
 {
     let start = upper_left(span, receive, from);
     let end = lower_right(span, receive, to);
@@ -102,7 +102,7 @@ fn add_bracket<W: Out>(
     range: &EventRange,
 ) -> Result<(), WriteError>
     requires { IsRange range.now }
-    ensures { Adds W.contents W.failures text.old text.new result (bracket_text picture.now receive range.now) }
+    ensures { Adds W.sink text.old text.new result (bracket_text picture.now receive range.now) }
 {
     let from = picture.cell_of(&first_drawn(picture, range));
     let to = picture.cell_of(&last_drawn(picture, range));
@@ -121,7 +121,7 @@ fn add_brackets<W: Out>(
     ranges: &[EventRange],
 ) -> Result<(), WriteError>
     requires { All IsRange ranges.now }
-    ensures { Adds W.contents W.failures text.old text.new result
+    ensures { Adds W.sink text.old text.new result
         (flat_map (bracket_text picture.now receive) ranges.now) }
 {
     for range in ranges {
@@ -139,7 +139,7 @@ fn add_marked<W: Out>(
     cell: Cell,
     earlier: &EventRanges,
 ) -> Result<(), WriteError>
-    ensures { Adds W.contents W.failures text.old text.new result (marked picture.now receive cell earlier.now) }
+    ensures { Adds W.sink text.old text.new result (marked picture.now receive cell earlier.now) }
 {
     let ranges = earlier.as_slice();
     let at = on_line(picture.span(), cell);
@@ -153,7 +153,7 @@ fn add_report<W: Out>(
     picture: &Picture<'_>,
     report: &Report,
 ) -> Result<(), WriteError>
-    ensures { Adds W.contents W.failures text.old text.new result (marks picture.now report.now) }
+    ensures { Adds W.sink text.old text.new result (marks picture.now report.now) }
 {
     let receive = report.receive();
     let number = receive.index;
@@ -172,7 +172,7 @@ pub(crate) fn add_marks<W: Out>(
     picture: &Picture<'_>,
     reports: &[Report],
 ) -> Result<(), WriteError>
-    ensures { Adds W.contents W.failures text.old text.new result (flat_map (marks picture.now) reports.now) }
+    ensures { Adds W.sink text.old text.new result (flat_map (marks picture.now) reports.now) }
 {
     for report in reports {
         add_report(text, picture, report)?;

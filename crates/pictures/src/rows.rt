@@ -38,7 +38,7 @@ fn add_message_name<W: Out>(
     picture: &Picture<'_>,
     event: &EventNo,
 ) -> Result<(), WriteError>
-    ensures { Adds W.contents W.failures text.old text.new result (message_name picture.now event.now) }
+    ensures { Adds W.sink text.old text.new result (message_name picture.now event.now) }
 {
     match picture.event_of(event) {
         Some(found) => {
@@ -55,7 +55,7 @@ pub(crate) fn add_instance_name<W: Out>(
     picture: &Picture<'_>,
     instance: InstanceNo,
 ) -> Result<(), WriteError>
-    ensures { Adds W.contents W.failures text.old text.new result (name_at picture.now.names instance) }
+    ensures { Adds W.sink text.old text.new result (name_at picture.now.names instance) }
 {
     let names = picture.names();
     if instance.place() < names.len() {
@@ -73,7 +73,7 @@ fn add_number_at<W: Out>(
     event: &EventNo,
     cell: Cell,
 ) -> Result<(), WriteError>
-    ensures { Adds W.contents W.failures text.old text.new result (number_at picture.now event.now cell) }
+    ensures { Adds W.sink text.old text.new result (number_at picture.now event.now cell) }
 {
     if !picture.has_numbers() {
         return text.add(b"");
@@ -90,7 +90,7 @@ fn add_label<W: Out>(
     event: &EventNo,
     at: Spot,
 ) -> Result<(), WriteError>
-    ensures { Adds W.contents W.failures text.old text.new result (label picture.now event.now at) }
+    ensures { Adds W.sink text.old text.new result (label picture.now event.now at) }
 {
     add_label_start(text, at)?;
     add_message_name(text, picture, event)?;
@@ -107,7 +107,7 @@ fn add_cut_label<W: Out>(
     other: InstanceNo,
     at: Spot,
 ) -> Result<(), WriteError>
-    ensures { Adds W.contents W.failures text.old text.new result (cut_label picture.now event.now side other at) }
+    ensures { Adds W.sink text.old text.new result (cut_label picture.now event.now side other at) }
 {
     add_label_start(text, at)?;
     add_message_name(text, picture, event)?;
@@ -125,7 +125,7 @@ fn add_leaving<W: Out>(
     to: InstanceNo,
     cell: Cell,
 ) -> Result<(), WriteError>
-    ensures { Adds W.contents W.failures text.old text.new result (leaving picture.now event.now to cell) }
+    ensures { Adds W.sink text.old text.new result (leaving picture.now event.now to cell) }
 {
     let span = picture.span();
     add_arrow(text, on_line(span, cell), aside(span, cell))?;
@@ -149,7 +149,7 @@ fn add_coming<W: Out>(
     from: InstanceNo,
     cell: Cell,
 ) -> Result<(), WriteError>
-    ensures { Adds W.contents W.failures text.old text.new result (coming picture.now event.now from cell) }
+    ensures { Adds W.sink text.old text.new result (coming picture.now event.now from cell) }
 {
     let span = picture.span();
     add_arrow(text, aside(span, cell), on_line(span, cell))?;
@@ -173,7 +173,7 @@ fn add_message<W: Out>(
     from: Cell,
     to: Cell,
 ) -> Result<(), WriteError>
-    ensures { Adds W.contents W.failures text.old text.new result (message picture.now event.now from to) }
+    ensures { Adds W.sink text.old text.new result (message picture.now event.now from to) }
 {
     let span = picture.span();
     add_arrow(text, on_line(span, from), on_line(span, to))?;
@@ -189,7 +189,7 @@ fn add_toward<W: Out>(
     cell: Cell,
     left: u32,
 ) -> Result<(), WriteError>
-    ensures { Adds W.contents W.failures text.old text.new result (toward span cell left) }
+    ensures { Adds W.sink text.old text.new result (toward span cell left) }
 {
     let (tip, circle) = waiting_ends(span, cell, left);
     add_arrow(text, on_line(span, cell), tip)?;
@@ -217,7 +217,7 @@ fn add_waiting<W: Out>(
     cell: Cell,
     left: u32,
 ) -> Result<(), WriteError>
-    ensures { Adds W.contents W.failures text.old text.new result (waiting picture.now event.now cell left) }
+    ensures { Adds W.sink text.old text.new result (waiting picture.now event.now cell left) }
 {
     add_toward(text, picture.span(), cell, left)?;
     add_label(text, picture, event, label_spot(picture.span(), cell, left))?;
@@ -234,7 +234,7 @@ fn add_both<W: Out>(
     from: Cell,
     to: Cell,
 ) -> Result<(), WriteError>
-    ensures { Adds W.contents W.failures text.old text.new result (both picture.now send.now receive.now from to) }
+    ensures { Adds W.sink text.old text.new result (both picture.now send.now receive.now from to) }
 {
     add_message(text, picture, send, from, to)?;
     add_number_at(text, picture, send, from)?;
@@ -248,7 +248,7 @@ fn add_level<W: Out>(
     send: &EventNo,
     receive: &EventNo,
 ) -> Result<(), WriteError>
-    ensures { Adds W.contents W.failures text.old text.new result
+    ensures { Adds W.sink text.old text.new result
         (level picture.now send.now receive.now (cell_of picture.now send.now) (cell_of picture.now receive.now)) }
 {
     match (picture.cell_of(send), picture.cell_of(receive)) {
@@ -268,7 +268,7 @@ fn add_slanted<W: Out>(
     from: Cell,
     to: Cell,
 ) -> Result<(), WriteError>
-    ensures { Adds W.contents W.failures text.old text.new result (slanted picture.now event.now from to) }
+    ensures { Adds W.sink text.old text.new result (slanted picture.now event.now from to) }
 {
     add_message(text, picture, event, from, to)?;
     add_number_at(text, picture, event, from)
@@ -282,7 +282,7 @@ fn add_sent<W: Out>(
     to: InstanceNo,
     cell: Cell,
 ) -> Result<(), WriteError>
-    ensures { Adds W.contents W.failures text.old text.new result
+    ensures { Adds W.sink text.old text.new result
         (sent picture.now event.now to cell (end_of picture.now event.now)) }
 {
     match picture.end_of(event) {
@@ -315,7 +315,7 @@ fn add_received<W: Out>(
     from: InstanceNo,
     cell: Cell,
 ) -> Result<(), WriteError>
-    ensures { Adds W.contents W.failures text.old text.new result (received picture.now event.now from cell) }
+    ensures { Adds W.sink text.old text.new result (received picture.now event.now from cell) }
 {
     if has_end(picture, event) {
         add_number_at(text, picture, event, cell)
@@ -330,7 +330,7 @@ fn add_alone<W: Out>(
     picture: &Picture<'_>,
     event: &EventNo,
 ) -> Result<(), WriteError>
-    ensures { Adds W.contents W.failures text.old text.new result
+    ensures { Adds W.sink text.old text.new result
         (alone picture.now event.now (cell_of picture.now event.now) (event_of picture.now event.now)) }
 {
     let Some(cell) = picture.cell_of(event) else {
@@ -350,7 +350,7 @@ fn add_row<W: Out>(
     picture: &Picture<'_>,
     row: &Row,
 ) -> Result<(), WriteError>
-    ensures { Adds W.contents W.failures text.old text.new result (row_text picture.now row.now) }
+    ensures { Adds W.sink text.old text.new result (row_text picture.now row.now) }
 {
     match row {
         Row::Message { send, receive } => add_level(text, picture, send, receive),
@@ -364,7 +364,7 @@ pub(crate) fn add_rows<W: Out>(
     picture: &Picture<'_>,
     rows: &[Row],
 ) -> Result<(), WriteError>
-    ensures { Adds W.contents W.failures text.old text.new result (flat_map (row_text picture.now) rows.now) }
+    ensures { Adds W.sink text.old text.new result (flat_map (row_text picture.now) rows.now) }
 {
     for row in rows {
         add_row(text, picture, row)?;

@@ -11,13 +11,13 @@ use outcomes::add_outcome;
 
 #[tactic(auto, unfolding(crate::specs::RunText::spent_text))]
 fn add_name<W: Out>(text: &mut TextBuffer<'_, W>, name: &Name) -> Result<(), WriteError>
-    ensures { Adds W.contents W.failures text.old text.new result (spent_text name.now) }
+    ensures { Adds W.sink text.old text.new result (spent_text name.now) }
 {
     text.add_all(&[b"spent ", name.as_bytes(), b"\n"])
 }
 
 fn add_spent<W: Out>(text: &mut TextBuffer<'_, W>, names: &[Name]) -> Result<(), WriteError>
-    ensures { Adds W.contents W.failures text.old text.new result (flat_map spent_text names.now) }
+    ensures { Adds W.sink text.old text.new result (flat_map spent_text names.now) }
 {
     for name in names {
         add_name(text, name)?;
@@ -27,7 +27,7 @@ fn add_spent<W: Out>(text: &mut TextBuffer<'_, W>, names: &[Name]) -> Result<(),
 
 #[tactic(auto, using(msc_text::proofs::Writes::joining), unfolding(crate::specs::RunText::run_text))]
 fn add_run<W: Out>(text: &mut TextBuffer<'_, W>, run: &RunOutcome<'_>) -> Result<(), WriteError>
-    ensures { Adds W.contents W.failures text.old text.new result (run_text run.now) }
+    ensures { Adds W.sink text.old text.new result (run_text run.now) }
 {
     add_outcome(text, run.outcome())?;
     add_spent(text, run.spent())
@@ -38,7 +38,7 @@ impl RunOutcome<'_> {
     /// Where a put fails (F24), a beginning of the text was written, and no other put is tried.
     #[tactic(auto, using(msc_text::proofs::Writes::joining))]
     pub fn write<W: Out>(&self, out: &mut W) -> Result<(), WriteError>
-        ensures { Wrote W.contents W.failures out.old out.new result (run_text self.now) }
+        ensures { Wrote W.sink out.old out.new result (run_text self.now) }
     {
         let mut text = TextBuffer::new(out);
         add_run(&mut text, self)?;

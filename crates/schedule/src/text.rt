@@ -19,21 +19,21 @@ use msc_text::{Out, TextBuffer, WriteError, named};
 /// Adds a space and the word.
 #[tactic(auto, unfolding(crate::specs::WrittenLines::behind_space))]
 fn add_word<W: Out>(text: &mut TextBuffer<'_, W>, word: &[u8]) -> Result<(), WriteError>
-    ensures { Adds W.contents W.failures text.old text.new result (behind_space word.now) }
+    ensures { Adds W.sink text.old text.new result (behind_space word.now) }
 {
     text.add_all(&[b" ", word])
 }
 
 #[tactic(auto, unfolding(crate::specs::WrittenLines::line_end))]
 fn add_line_end<W: Out>(text: &mut TextBuffer<'_, W>) -> Result<(), WriteError>
-    ensures { Adds W.contents W.failures text.old text.new result line_end }
+    ensures { Adds W.sink text.old text.new result line_end }
 {
     text.add(b"\n")
 }
 
 /// Adds each of the names, behind a space.
 fn add_names<W: Out>(text: &mut TextBuffer<'_, W>, names: &Names) -> Result<(), WriteError>
-    ensures { Adds W.contents W.failures text.old text.new result (flat_map behind_space names.now) }
+    ensures { Adds W.sink text.old text.new result (flat_map behind_space names.now) }
 {
     for place in 0..names.len() {
         let name = named(names, InstanceNo::at_place(place));
@@ -45,7 +45,7 @@ fn add_names<W: Out>(text: &mut TextBuffer<'_, W>, names: &Names) -> Result<(), 
 /// Adds line 1.
 #[tactic(auto, using(msc_text::proofs::Writes::joining), unfolding(crate::specs::WrittenLines::line_of))]
 fn add_instances<W: Out>(text: &mut TextBuffer<'_, W>, names: &Names) -> Result<(), WriteError>
-    ensures { Adds W.contents W.failures text.old text.new result (line_of (written keywords.Instances) names.now) }
+    ensures { Adds W.sink text.old text.new result (line_of (written keywords.Instances) names.now) }
 {
     text.add(ScheduleWord::Instances.as_bytes())?;
     add_names(text, names)?;
@@ -55,7 +55,7 @@ fn add_instances<W: Out>(text: &mut TextBuffer<'_, W>, names: &Names) -> Result<
 /// Adds line 2.
 #[tactic(auto, using(msc_text::proofs::Writes::joining), unfolding(crate::specs::WrittenLines::capacity_text))]
 fn add_capacity<W: Out>(text: &mut TextBuffer<'_, W>, capacity: Capacity) -> Result<(), WriteError>
-    ensures { Adds W.contents W.failures text.old text.new result (capacity_text capacity) }
+    ensures { Adds W.sink text.old text.new result (capacity_text capacity) }
 {
     let mut buffer = Buffer::new();
     let number = buffer.format(capacity.slots()).as_bytes();
@@ -73,7 +73,7 @@ fn add_with_partner<W: Out>(
     partner: InstanceNo,
 ) -> Result<(), WriteError>
     requires { partner ≤ length names.now }
-    ensures { Adds W.contents W.failures text.old text.new result
+    ensures { Adds W.sink text.old text.new result
         (flat_map behind_space (written word ∷ name_at names.now partner ∷ [])) }
 {
     let name = named(names, partner);
@@ -89,7 +89,7 @@ fn add_action<W: Out>(
     action: &Action,
 ) -> Result<(), WriteError>
     requires { HasPartner (length names.now) actor action.now }
-    ensures { Adds W.contents W.failures text.old text.new result
+    ensures { Adds W.sink text.old text.new result
         (flat_map behind_space (action_words names.now action.now)) }
 {
     match action {
@@ -120,7 +120,7 @@ fn add_command<W: Out>(
     command: &Command,
 ) -> Result<(), WriteError>
     requires { IsAmong (length names.now) command.now }
-    ensures { Adds W.contents W.failures text.old text.new result (command_text names.now command.now) }
+    ensures { Adds W.sink text.old text.new result (command_text names.now command.now) }
 {
     let actor = named(names, command.actor);
     text.add(actor.as_bytes())?;
@@ -134,7 +134,7 @@ fn add_commands<W: Out>(
     commands: &[Command],
 ) -> Result<(), WriteError>
     requires { All (IsAmong (length names.now)) commands.now }
-    ensures { Adds W.contents W.failures text.old text.new result (flat_map (command_text names.now) commands.now) }
+    ensures { Adds W.sink text.old text.new result (flat_map (command_text names.now) commands.now) }
 {
     for command in commands {
         add_command(text, names, command)?;
@@ -145,7 +145,7 @@ fn add_commands<W: Out>(
 /// Adds the three parts of a schedule's text.
 #[tactic(auto, using(msc_text::proofs::Writes::joining), unfolding(crate::specs::WrittenLines::plan_text))]
 fn add_schedule<W: Out>(text: &mut TextBuffer<'_, W>, schedule: &Schedule) -> Result<(), WriteError>
-    ensures { Adds W.contents W.failures text.old text.new result (plan_text schedule.now) }
+    ensures { Adds W.sink text.old text.new result (plan_text schedule.now) }
 {
     let names = schedule.names();
     add_instances(text, names)?;
@@ -156,7 +156,7 @@ fn add_schedule<W: Out>(text: &mut TextBuffer<'_, W>, schedule: &Schedule) -> Re
 /// Writes the three parts.
 #[tactic(auto, using(msc_text::proofs::Writes::joining))]
 fn write_lines<W: Out>(schedule: &Schedule, out: &mut W) -> Result<(), WriteError>
-    ensures { Wrote W.contents W.failures out.old out.new result (plan_text schedule.now) }
+    ensures { Wrote W.sink out.old out.new result (plan_text schedule.now) }
 {
     let mut text = TextBuffer::new(out);
     add_schedule(&mut text, schedule)?;
@@ -167,7 +167,7 @@ impl Schedule {
     /// Writes the schedule's text: its commands come one after the other from line 3 on, whatever lines they had. It
     /// takes no memory. Where a put fails (F24), a beginning of the text was written, and no other put is tried.
     pub fn write<W: Out>(&self, out: &mut W) -> Result<(), WriteError>
-        ensures { Wrote W.contents W.failures out.old out.new result (schedule_text self.now) }
+        ensures { Wrote W.sink out.old out.new result (schedule_text self.now) }
     {
         write_lines(self, out)
     }

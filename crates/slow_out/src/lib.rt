@@ -57,9 +57,7 @@ impl SlowOut {
 impl Out for SlowOut {
     ghost use Rattle.std.specs.Prelude.{Some};
 
-    ghost contents = { λ out. Some out.taken };
-
-    ghost failures = { λ out. out.failures };
+    ghost sink = { λ out. record { contents = Some out.taken; failures = out.failures } };
 
     fn put(&mut self, bytes: &[u8]) -> Result<usize, OutFault> {
         if bytes.is_empty() {

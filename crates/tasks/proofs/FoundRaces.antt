@@ -11,6 +11,7 @@ use Rattle.std.proofs.lemmas.List.{flat_map_more}
 use Rattle.std.proofs.lemmas.List.Folds.{list_any-append}
 use Rattle.std.proofs.lemmas.List.Concat.{flat_map-append}
 use Rattle.chart.specs.Reports.{ReportView, has_races}
+use Rattle.msc_text.specs.Outs.{Sink}
 use Rattle.msc_text.specs.RaceText.{report_text, races_text}
 use Rattle.msc_text.specs.Writing.{Buffers, Breaks, Stops, Adds, Wrote}
 use Rattle.msc_text.specs.declared.text_buffer.TextBuffer.{TextBuffer}
@@ -42,21 +43,21 @@ not_none (suc n) = ap not (false_from_ne_true (suc n == 0) (λ none. let same : 
 pub has_events_is : (ranges : List EventRange) → All IsRange ranges → not (length ranges == 0) ≡ nat_lt 0 (length (events_in ranges))
 has_events_is ranges each = ap not (none_of ranges each) ∙ not_none (length (events_in ranges))
 
-module _ {S : Type 0} {contents : S → Option (List ℕ)} {failures : S → ℕ} (names : List (List ℕ)) where
+module _ {S : Type 0} {sink : S → Sink} (names : List (List ℕ)) where
   -- the lines of one receive more were added
-  pub adds_one : {a b c : TextBuffer S} (reports : List ReportView) (report : ReportView) → Buffers contents failures a b (races_text names reports) → Buffers contents failures b c (report_text names report)
-      → Buffers contents failures a c (races_text names (reports ++ report ∷ []))
-  adds_one {a} {b} {c} reports report p q = subst (Buffers contents failures a c) (one_more_text names reports report) (buffers_then p q)
+  pub adds_one : {a b c : TextBuffer S} (reports : List ReportView) (report : ReportView) → Buffers sink a b (races_text names reports) → Buffers sink b c (report_text names report)
+      → Buffers sink a c (races_text names (reports ++ report ∷ []))
+  adds_one {a} {b} {c} reports report p q = subst (Buffers sink a c) (one_more_text names reports report) (buffers_then p q)
 
   -- where they stop, all the text stops, whatever comes later
-  pub stops_at_one : {T E : Type 0} {a b c : TextBuffer S} (r : Result T E) (reports : List ReportView) (report : ReportView) (more : List ReportView) → is_err r ≡ true → Buffers contents failures a b (races_text names reports)
-      → Stops contents failures b c (report_text names report) → Adds contents failures a c r (races_text names ((reports ++ report ∷ []) ++ more))
+  pub stops_at_one : {T E : Type 0} {a b c : TextBuffer S} (r : Result T E) (reports : List ReportView) (report : ReportView) (more : List ReportView) → is_err r ≡ true → Buffers sink a b (races_text names reports)
+      → Stops sink b c (report_text names report) → Adds sink a c r (races_text names ((reports ++ report ∷ []) ++ more))
   stops_at_one {a = a} {b} {c} r reports report more failed p q =
-      let stopped = subst (Stops contents failures a c) (one_more_text names reports report) (stops_then p q) in
-      subst (Adds contents failures a c r) (sym (flat_map-append (report_text names) (reports ++ report ∷ []) more)) (adds_early r (races_text names more) failed stopped)
+      let stopped = subst (Stops sink a c) (one_more_text names reports report) (stops_then p q) in
+      subst (Adds sink a c r) (sym (flat_map-append (report_text names) (reports ++ report ∷ []) more)) (adds_early r (races_text names more) failed stopped)
 
-module _ {S : Type 0} {contents : S → Option (List ℕ)} {failures : S → ℕ} where
+module _ {S : Type 0} {sink : S → Sink} where
   -- where the end of a text can't be put, the text is written as far as that
-  pub wrote_failed : {T E : Type 0} {a b : TextBuffer S} {s : List ℕ} (start c : S) (r : Result T E) → is_err r ≡ true → a.out.now ≡ start → a.held ≡ [] → Buffers contents failures a b s → Breaks contents failures b.out.now c b.held → Wrote contents failures start c r s
+  pub wrote_failed : {T E : Type 0} {a b : TextBuffer S} {s : List ℕ} (start c : S) (r : Result T E) → is_err r ≡ true → a.out.now ≡ start → a.held ≡ [] → Buffers sink a b s → Breaks sink b.out.now c b.held → Wrote sink start c r s
   wrote_failed start c (Ok x) failed begun none p q = cc
   wrote_failed {T} {E} start c (Err e) failed begun none p q = wrote_then {T = T} {E = E} start c (Err e) begun none p q

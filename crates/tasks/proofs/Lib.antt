@@ -1,3 +1,2 @@
 pub mod FoundRaces
 pub mod ShownRuns
-pub mod Answered

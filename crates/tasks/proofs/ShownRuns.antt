@@ -1,6 +1,7 @@
 -- What is written of a run of a schedule's own scripts.
 use Rattle.std.proofs.Common.{◌≡◌, ℕ, List, Option, Result, Ok, Err}
 use Rattle.instances.specs.declared.outcome.Run.{Run}
+use Rattle.msc_text.specs.Outs.{Sink}
 use Rattle.msc_text.specs.declared.fault.Fault.{Fault}
 use Rattle.run_outcomes.specs.OwnScripts.{AreScriptRuns}
 use Rattle.schedule.specs.Plans.{Plan}
@@ -9,16 +10,16 @@ use Rattle.files.specs.declared.error.ProgramError.TheVariants as errors
 use Rattle.tasks.specs.declared.status.Status.{Status}
 use Rattle.tasks.specs.Showing.{Shows, RunsScripts}
 
-pub runs-shown : {S : Type 0} (contents : S → Option (List ℕ)) (failures : S → ℕ) (plan : Plan) (run : Run) (turns : ℕ)
+pub runs-shown : {S : Type 0} (sink : S → Sink) (plan : Plan) (run : Run) (turns : ℕ)
     (old new : S) (done : Result Status ProgramError) (said : Result Plan Fault) → said ≡ Ok plan
-    → AreScriptRuns plan turns run → Shows contents failures plan run old new done
-    → RunsScripts contents failures turns old new done said
-runs-shown contents failures plan run turns old new (Ok status) said is runs shows = (plan, run, is, runs, shows)
-runs-shown contents failures plan run turns old new (Err errors.Memory) said is runs shows = shows
-runs-shown contents failures plan run turns old new (Err errors.Write) said is runs shows = (plan, run, is, runs, shows)
-runs-shown contents failures plan run turns old new (Err errors.Usage) said is runs shows = absurd shows
-runs-shown contents failures plan run turns old new (Err errors.File) said is runs shows = absurd shows
-runs-shown contents failures plan run turns old new (Err (errors.Text fault)) said is runs shows = absurd shows
-runs-shown contents failures plan run turns old new (Err (errors.ReceiveWithoutSend instance index)) said is runs shows = absurd shows
-runs-shown contents failures plan run turns old new (Err (errors.NameMismatch instance index)) said is runs shows = absurd shows
-runs-shown contents failures plan run turns old new (Err errors.Cyclic) said is runs shows = absurd shows
+    → AreScriptRuns plan turns run → Shows sink plan run old new done
+    → RunsScripts sink turns old new done said
+runs-shown sink plan run turns old new (Ok status) said is runs shows = (plan, run, is, runs, shows)
+runs-shown sink plan run turns old new (Err errors.Memory) said is runs shows = shows
+runs-shown sink plan run turns old new (Err errors.Write) said is runs shows = (plan, run, is, runs, shows)
+runs-shown sink plan run turns old new (Err errors.Usage) said is runs shows = absurd shows
+runs-shown sink plan run turns old new (Err errors.File) said is runs shows = absurd shows
+runs-shown sink plan run turns old new (Err (errors.Text fault)) said is runs shows = absurd shows
+runs-shown sink plan run turns old new (Err (errors.ReceiveWithoutSend instance index)) said is runs shows = absurd shows
+runs-shown sink plan run turns old new (Err (errors.NameMismatch instance index)) said is runs shows = absurd shows
+runs-shown sink plan run turns old new (Err errors.Cyclic) said is runs shows = absurd shows

@@ -35,7 +35,7 @@ fn add_found<W: Out>(
 ) -> Result<bool, WriteError>
     requires reporter { HaveReported reporter.lines reporter.line reporter.place [] }
     requires named { length names.now ≡ length reporter.lines }
-    ensures { HasAdded W.contents W.failures text.old text.new names.now reporter.entry.lines result }
+    ensures { HasAdded W.sink text.old text.new names.now reporter.entry.lines result }
 {
     let mut reporter = reporter;
     let mut lines = RaceLines::new();
@@ -53,7 +53,7 @@ fn add_found<W: Out>(
 fn write<W: Out>(names: &Names, reporter: Reporter<'_>, out: &mut W) -> Result<bool, WriteError>
     requires reporter { HaveReported reporter.lines reporter.line reporter.place [] }
     requires named { length names.now ≡ length reporter.lines }
-    ensures { HasWritten W.contents W.failures out.old out.new names.now reporter.entry.lines result }
+    ensures { HasWritten W.sink out.old out.new names.now reporter.entry.lines result }
 {
     let mut text = TextBuffer::new(out);
     let has_races = add_found(&mut text, names, reporter)?;
@@ -65,7 +65,7 @@ fn write<W: Out>(names: &Names, reporter: Reporter<'_>, out: &mut W) -> Result<b
 ///
 /// All memory is taken before the first race is written.
 pub fn check<W: Out>(alloc: Global, text: &[u8], out: &mut W) -> Result<Status, ProgramError>
-    ensures { Checks W.contents W.failures out.old out.new result (chart_of text.now) }
+    ensures { Checks W.sink out.old out.new result (chart_of text.now) }
 {
     let (names, chart) = chart_in(alloc, text)?;
     let closure = closure_of(alloc, &names, &chart)?;

@@ -12,7 +12,6 @@
 //! - [`turns_in`] reads exactly the words of digits alone whose number is one of turns that a run may have.
 #![tactic(auto)]
 
-mod answering;
 mod checking;
 mod replaying;
 mod showing;

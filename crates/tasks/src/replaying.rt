@@ -33,7 +33,7 @@ fn replay_and_write<W: Out>(
     out: &mut W,
 ) -> Result<Status, ProgramError>
     ensures { (said : Result Plan Fault) → said ≡ Ok schedule.now
-        → Replays W.contents W.failures out.old out.new result said }
+        → Replays W.sink out.old out.new result said }
 {
     let outcome = match replay(alloc, schedule) {
         Ok(outcome) => outcome,
@@ -47,7 +47,7 @@ fn replay_and_write<W: Out>(
 
 /// Replays the schedule that the text says.
 pub fn replay_text<W: Out>(alloc: Global, text: &[u8], out: &mut W) -> Result<Status, ProgramError>
-    ensures { Replays W.contents W.failures out.old out.new result (schedule_of text.now) }
+    ensures { Replays W.sink out.old out.new result (schedule_of text.now) }
 {
     let schedule = schedule_in(alloc, text)?;
     replay_and_write(alloc, &schedule, out)
@@ -60,7 +60,7 @@ pub fn replay_drawn<W: Out>(
     text: &[u8],
     out: &mut W,
 ) -> Result<Status, ProgramError>
-    ensures { Replays W.contents W.failures out.old out.new result (drawn_by seed (schedule_of text.now)) }
+    ensures { Replays W.sink out.old out.new result (drawn_by seed (schedule_of text.now)) }
 {
     let schedule = drawn_in(alloc, seed, text)?;
     replay_and_write(alloc, &schedule, out)

@@ -1,11 +1,12 @@
 //! Shows runs of schedules on threads.
 ghost use Rattle.std.specs.Prelude.{IfOk};
 ghost use Rattle.run_outcomes.specs.RunOutcomes.{IsRunOf};
-ghost use Rattle.tasks.specs.Showing.{Shows, ShowsRun, DoesOnThreads, PerformsOnThreads};
+ghost use Rattle.files.specs.Answers.{Answers};
+ghost use Rattle.tasks.specs.Showing.{Shows, ShowsRun, DoesOnThreads, unshown_said, shown_said};
+ghost use Rattle.tasks.specs.Tasks.{task_said};
 
-use crate::answering::answered;
 use crate::status::Status;
-use files::{ProgramError, refused, schedule_in};
+use files::{Answer, ProgramError, answered, schedule_in};
 use instances::{Run, RunError};
 use msc_text::Out;
 use run_outcomes::{RunOutcome, run_scripts};
@@ -21,7 +22,7 @@ fn write_run<W: Out>(
     out: &mut W,
 ) -> Result<Status, ProgramError>
     requires { IsRunOf schedule.now run }
-    ensures { Shows W.contents W.failures schedule.now run out.old out.new result }
+    ensures { Shows W.sink schedule.now run out.old out.new result }
 {
     let Ok(outcome) = RunOutcome::of(alloc, schedule, run) else {
         return Err(ProgramError::Memory);
@@ -29,6 +30,49 @@ fn write_run<W: Out>(
     match outcome.write(out) {
         Ok(()) => Ok(Status::of(outcome.has_races())),
         Err(_) => Err(ProgramError::Write),
+    }
+}
+
+/// Why nothing is shown of a run.
+#[derive(Clone, Copy, Debug)]
+enum Unshown {
+    Program(ProgramError),
+    /// F25: there were no fit posts, behaviours or turns. It is never printed.
+    Unfit,
+}
+
+impl Answer for Unshown {
+    ghost said = { unshown_said };
+
+    fn status(&self) -> u8 {
+        2
+    }
+
+    fn tell<V: Out>(&self, err: &mut V) {
+        match self {
+            Unshown::Program(error) => error.tell(err),
+            Unshown::Unfit => {}
+        }
+    }
+}
+
+/// Writes what a run comes to, if it was made.
+fn write_ran<P: Drop, B: Drop, W: Out>(
+    alloc: Global,
+    schedule: &Schedule,
+    ran: Result<Run, RunError<P, B>>,
+    out: &mut W,
+) -> Result<Status, Unshown>
+    requires { IfOk ran (IsRunOf schedule.now) }
+    ensures { ShowsRun W.sink out.old out.new schedule.now ran result }
+{
+    match ran {
+        Ok(run) => match write_run(alloc, schedule, run, out) {
+            Ok(status) => Ok(status),
+            Err(error) => Err(Unshown::Program(error)),
+        },
+        Err(RunError::Memory) => Err(Unshown::Program(ProgramError::Memory)),
+        Err(RunError::Unfit(..)) => Err(Unshown::Unfit),
     }
 }
 
@@ -47,14 +91,9 @@ pub fn show_run<P: Drop, B: Drop, W: Out, V: Out>(
     err: &mut V,
 ) -> u8
     requires { IfOk ran (IsRunOf schedule.now) }
-    ensures { ShowsRun W.contents W.failures V.contents V.failures schedule.now ran
-        out.old out.new err.old err.new result }
+    ensures { Answers (ShowsRun W.sink out.old out.new schedule.now ran) shown_said V.sink err.old err.new result }
 {
-    match ran {
-        Ok(run) => answered(write_run(alloc, schedule, run, out), err),
-        Err(RunError::Memory) => refused(&ProgramError::Memory, err),
-        Err(RunError::Unfit(..)) => 2,
-    }
+    answered(&write_ran(alloc, schedule, ran, out), err)
 }
 
 /// Runs the scripts of the schedule that the text says, and writes what they come to.
@@ -65,7 +104,7 @@ fn run_text<R: Threads + Sync, W: Out>(
     text: &[u8],
     out: &mut W,
 ) -> Result<Status, ProgramError>
-    ensures { DoesOnThreads W.contents W.failures turns text.now out.old out.new result }
+    ensures { DoesOnThreads W.sink out.old out.new turns text.now result }
 {
     let schedule = schedule_in(alloc, text)?;
     match run_scripts(rt, alloc, &schedule, turns) {
@@ -89,8 +128,7 @@ pub fn perform_on_threads<R: Threads + Sync, W: Out, V: Out>(
     out: &mut W,
     err: &mut V,
 ) -> u8
-    ensures { PerformsOnThreads W.contents W.failures V.contents V.failures turns text.now out.old out.new err.old err.new
-        result }
+    ensures { Answers (DoesOnThreads W.sink out.old out.new turns text.now) task_said V.sink err.old err.new result }
 {
-    answered(run_text(rt, alloc, turns, text, out), err)
+    answered(&run_text(rt, alloc, turns, text, out), err)
 }

@@ -1,6 +1,10 @@
 //! The exit status of a task that was done.
 ghost use Rattle.std.specs.Prelude.{◌≡◌};
 ghost use Rattle.tasks.specs.Statuses.{status_in, code_of};
+ghost use Rattle.tasks.specs.Tasks.{status_said};
+
+use files::Answer;
+use msc_text::Out;
 
 /// What a task that was done came to.
 #[derive(Clone, Copy, Debug, PartialEq, Eq)]
@@ -32,4 +36,15 @@ impl Status {
             Status::Races => 1,
         }
     }
+}
+
+/// Nothing is told beside the status.
+impl Answer for Status {
+    ghost said = { status_said };
+
+    fn status(&self) -> u8 {
+        self.code()
+    }
+
+    fn tell<V: Out>(&self, _err: &mut V) {}
 }

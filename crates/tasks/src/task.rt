@@ -1,11 +1,11 @@
 //! What the program does with the bytes of a file.
-ghost use Rattle.tasks.specs.Tasks.{Does, Performs};
+ghost use Rattle.files.specs.Answers.{Answers};
+ghost use Rattle.tasks.specs.Tasks.{Does, task_said};
 
-use crate::answering::answered;
 use crate::checking::check;
 use crate::replaying::{replay_drawn, replay_text};
 use crate::status::Status;
-use files::ProgramError;
+use files::{ProgramError, answered};
 use msc_text::Out;
 use std::alloc::Global;
 
@@ -27,7 +27,7 @@ fn do_task<W: Out>(
     text: &[u8],
     out: &mut W,
 ) -> Result<Status, ProgramError>
-    ensures { Does W.contents W.failures task.now text.now out.old out.new result }
+    ensures { Does W.sink out.old out.new task.now text.now result }
 {
     match task {
         Task::Replay => replay_text(alloc, text, out),
@@ -46,8 +46,7 @@ pub fn perform<W: Out, V: Out>(
     out: &mut W,
     err: &mut V,
 ) -> u8
-    ensures { Performs W.contents W.failures V.contents V.failures task.now text.now out.old out.new err.old err.new
-        result }
+    ensures { Answers (Does W.sink out.old out.new task.now text.now) task_said V.sink err.old err.new result }
 {
-    answered(do_task(alloc, task, text, out), err)
+    answered(&do_task(alloc, task, text, out), err)
 }

@@ -18,7 +18,7 @@ pub enum Piece<'a> {
 }
 
 fn add_piece<W: Out>(text: &mut TextBuffer<'_, W>, piece: &Piece<'_>) -> Result<(), WriteError>
-    ensures { Adds W.contents W.failures text.old text.new result (piece_text piece.now) }
+    ensures { Adds W.sink text.old text.new result (piece_text piece.now) }
 {
     match piece {
         Piece::Bytes(bytes) => text.add(bytes),
@@ -32,7 +32,7 @@ pub fn add_pieces<W: Out>(
     text: &mut TextBuffer<'_, W>,
     pieces: &[Piece<'_>],
 ) -> Result<(), WriteError>
-    ensures { Adds W.contents W.failures text.old text.new result (flat_map piece_text pieces.now) }
+    ensures { Adds W.sink text.old text.new result (flat_map piece_text pieces.now) }
 {
     for piece in pieces {
         add_piece(text, piece)?;
@@ -42,7 +42,7 @@ pub fn add_pieces<W: Out>(
 
 /// Adds a byte as it is spelled in an SVG text.
 fn add_escaped_byte<W: Out>(text: &mut TextBuffer<'_, W>, byte: u8) -> Result<(), WriteError>
-    ensures { Adds W.contents W.failures text.old text.new result (escaped_byte byte) }
+    ensures { Adds W.sink text.old text.new result (escaped_byte byte) }
 {
     match byte {
         b'&' => text.add(b"&amp;"),
@@ -57,7 +57,7 @@ fn add_escaped_byte<W: Out>(text: &mut TextBuffer<'_, W>, byte: u8) -> Result<()
 
 /// Adds bytes that may be any, as they are spelled in an SVG text.
 fn add_escaped<W: Out>(text: &mut TextBuffer<'_, W>, bytes: &[u8]) -> Result<(), WriteError>
-    ensures { Adds W.contents W.failures text.old text.new result (escaped bytes.now) }
+    ensures { Adds W.sink text.old text.new result (escaped bytes.now) }
 {
     for byte in bytes {
         add_escaped_byte(text, *byte)?;

@@ -24,7 +24,7 @@ fn kind(events: usize) -> &'static [u8]
 /// Adds how many earlier events they are. F24: a put failed.
 #[tactic(auto, using(msc_text::proofs::Writes::joining), unfolding(crate::specs::RaceWords::amount))]
 pub fn add_amount<W: Out>(text: &mut TextBuffer<'_, W>, events: usize) -> Result<(), WriteError>
-    ensures { Adds W.contents W.failures text.old text.new result (amount events) }
+    ensures { Adds W.sink text.old text.new result (amount events) }
 {
     text.add_number(events as u64)?;
     text.add(kind(events))
@@ -33,7 +33,7 @@ pub fn add_amount<W: Out>(text: &mut TextBuffer<'_, W>, events: usize) -> Result
 /// Adds the number of the last event of a range behind that of its first one.
 #[tactic(auto, unfolding(crate::specs::RaceWords::up_to))]
 fn add_up_to<W: Out>(text: &mut TextBuffer<'_, W>, first: u64, last: u64) -> Result<(), WriteError>
-    ensures { Adds W.contents W.failures text.old text.new result (up_to first last) }
+    ensures { Adds W.sink text.old text.new result (up_to first last) }
 {
     add_pieces(
         text,
@@ -49,7 +49,7 @@ fn add_up_to<W: Out>(text: &mut TextBuffer<'_, W>, first: u64, last: u64) -> Res
 #[tactic(auto, unfolding(crate::specs::RaceWords::range_text))]
 pub fn add_range<W: Out>(text: &mut TextBuffer<'_, W>, range: &EventRange) -> Result<(), WriteError>
     requires { IsRange range.now }
-    ensures { Adds W.contents W.failures text.old text.new result (range_text range.now) }
+    ensures { Adds W.sink text.old text.new result (range_text range.now) }
 {
     let last = range.event(range.count - 1);
     if range.count == 1 {
@@ -61,7 +61,7 @@ pub fn add_range<W: Out>(text: &mut TextBuffer<'_, W>, range: &EventRange) -> Re
 
 #[tactic(auto, unfolding(crate::specs::RaceWords::comma))]
 fn add_comma<W: Out>(text: &mut TextBuffer<'_, W>) -> Result<(), WriteError>
-    ensures { Adds W.contents W.failures text.old text.new result comma }
+    ensures { Adds W.sink text.old text.new result comma }
 {
     text.add(b", ")
 }
@@ -73,7 +73,7 @@ fn add_next_range<W: Out>(
     range: &EventRange,
 ) -> Result<(), WriteError>
     requires { IsRange range.now }
-    ensures { Adds W.contents W.failures text.old text.new result (next_range range.now) }
+    ensures { Adds W.sink text.old text.new result (next_range range.now) }
 {
     add_comma(text)?;
     add_range(text, range)
@@ -84,7 +84,7 @@ fn add_next_ranges<W: Out>(
     ranges: &[EventRange],
 ) -> Result<(), WriteError>
     requires { All IsRange ranges.now }
-    ensures { Adds W.contents W.failures text.old text.new result (flat_map next_range ranges.now) }
+    ensures { Adds W.sink text.old text.new result (flat_map next_range ranges.now) }
 {
     for range in ranges {
         add_next_range(text, range)?;
@@ -99,7 +99,7 @@ pub fn add_ranges<W: Out>(
     ranges: &[EventRange],
 ) -> Result<(), WriteError>
     requires { All IsRange ranges.now }
-    ensures { Adds W.contents W.failures text.old text.new result (ranges_text ranges.now) }
+    ensures { Adds W.sink text.old text.new result (ranges_text ranges.now) }
 {
     match ranges {
         [] => text.add(b""),

@@ -13,7 +13,7 @@ fn write_entry<W: Out>(
     name: &[u8],
     number: u64,
 ) -> Result<(), WriteError>
-    ensures { Adds W.contents W.failures text.old text.new result (entry_text name.now number) }
+    ensures { Adds W.sink text.old text.new result (entry_text name.now number) }
 {
     let mut buffer = Buffer::new();
     let digits = buffer.format(number).as_bytes();
@@ -25,7 +25,7 @@ fn write_entries<W: Out>(
     name: &[u8],
     numbers: &[u64],
 ) -> Result<(), WriteError>
-    ensures { Adds W.contents W.failures text.old text.new result
+    ensures { Adds W.sink text.old text.new result
         (flat_map (entry_text name.now) numbers.now) }
 {
     for number in numbers {
@@ -36,14 +36,14 @@ fn write_entries<W: Out>(
 
 #[tactic(auto, unfolding(crate::specs::Samples::title_text))]
 fn write_title<W: Out>(text: &mut TextBuffer<'_, W>, name: &[u8]) -> Result<(), WriteError>
-    ensures { Adds W.contents W.failures text.old text.new result (title_text name.now) }
+    ensures { Adds W.sink text.old text.new result (title_text name.now) }
 {
     text.add_all(&[b"sample ", name, b":\n"])
 }
 
 #[tactic(auto, unfolding(crate::specs::Samples::end_text))]
 fn write_end<W: Out>(text: &mut TextBuffer<'_, W>) -> Result<(), WriteError>
-    ensures { Adds W.contents W.failures text.old text.new result end_text }
+    ensures { Adds W.sink text.old text.new result end_text }
 {
     text.add(b"end\n")
 }
@@ -54,7 +54,7 @@ fn write_parts<W: Out>(
     name: &[u8],
     numbers: &[u64],
 ) -> Result<(), WriteError>
-    ensures { Adds W.contents W.failures text.old text.new result
+    ensures { Adds W.sink text.old text.new result
         (sample_text name.now numbers.now) }
 {
     write_title(text, name)?;
@@ -64,7 +64,7 @@ fn write_parts<W: Out>(
 
 #[tactic(auto, using(msc_text::proofs::Writes::joining))]
 pub fn write_sample<W: Out>(name: &[u8], numbers: &[u64], out: &mut W) -> Result<(), WriteError>
-    ensures { Wrote W.contents W.failures out.old out.new result (sample_text name.now numbers.now) }
+    ensures { Wrote W.sink out.old out.new result (sample_text name.now numbers.now) }
 {
     let mut text = TextBuffer::new(out);
     write_parts(&mut text, name, numbers)?;

@@ -1,5 +1,5 @@
 //! Each public function once, and a failure of each put.
-ghost use Rattle.std.specs.Prelude.{◌≡◌};
+ghost use Rattle.std.specs.Prelude.{◌≡◌, None};
 
 use crate::sample::write_sample;
 use chart::NameError;
@@ -22,7 +22,7 @@ struct Slow {
 }
 
 impl Out for Slow {
-    ghost failures = { λ out. out.failures };
+    ghost sink = { λ out. record { contents = None; failures = out.failures } };
 
     fn put(&mut self, bytes: &[u8]) -> Result<usize, OutFault> {
         if bytes.is_empty() {

@@ -2,4 +2,3 @@ pub mod Growing
 pub mod PairLemmas
 pub mod RaceLemmas
 pub mod TurningLemmas
-pub mod ViewLemmas

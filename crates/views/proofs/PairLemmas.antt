@@ -8,6 +8,7 @@ use Rattle.chart.specs.Events.{ith}
 use Rattle.chart.specs.Charts.{Chart, Place, at, chart_event, LineView, IsReceiveFrom, chart_lines}
 use Rattle.views.specs.declared.error.ViewError.{ViewError}
 use Rattle.views.specs.declared.error.ViewError.TheVariants.{NoSuchEvent, NotAPair}
+use Rattle.views.specs.declared.pair.Asked.{Asked}
 use Rattle.views.specs.declared.pair.Pair.{Pair}
 use Rattle.views.specs.Pairs.{instance_said, has_event, receives, pair_on, pair_at, pair_of}
 use Rattle.views.specs.Explaining.{IsPair}
@@ -39,9 +40,9 @@ on_line c p e r pair is =
     })
 
 -- of a chart
-pub IsPair-from_words : (names : List (List ℕ)) (lines : List LineView) (instance : List ℕ) (e r : ℕ) (pair : Pair) → pair_of names lines instance e r ≡ Ok pair → IsPair (chart_lines lines) pair
-IsPair-from_words names lines instance e r pair is = by_instance (instance_said names instance) is
+pub IsPair-from_words : (names : List (List ℕ)) (lines : List LineView) (asked : Asked) (pair : Pair) → pair_of names lines asked ≡ Ok pair → IsPair (chart_lines lines) pair
+IsPair-from_words names lines asked pair is = by_instance (instance_said names asked.instance.now) is
   where
-    by_instance : (found : Option ℕ) → pair_at found lines e r ≡ Ok pair → IsPair (chart_lines lines) pair
+    by_instance : (found : Option ℕ) → pair_at found lines asked.earlier asked.receive ≡ Ok pair → IsPair (chart_lines lines) pair
     by_instance None h = cc
-    by_instance (Some p) h = on_line (chart_lines lines) p e r pair h
+    by_instance (Some p) h = on_line (chart_lines lines) p asked.earlier asked.receive pair h

@@ -1,10 +1,13 @@
 -- What is printed on standard error.
-use Rattle.std.specs.Prelude.{ℕ, Bool, true, false, List, [], ◌++◌, None, Some, codes}
+use Rattle.std.specs.Prelude.{ℕ, Bool, true, false, List, ◌++◌, Option, None, Some, codes, Result}
+use Rattle.files.specs.Answers.{Said, refusal, said_of}
 use Rattle.files.specs.Refusals as refusals
 use Rattle.views.specs.declared.error.ViewError.{ViewError}
 use Rattle.views.specs.declared.error.ViewError.TheVariants.{Program, NoSuchEvent, NotAPair, ManySlots}
 use Rattle.views.specs.declared.verdict.Verdict.{Verdict}
 use Rattle.views.specs.declared.verdict.Verdict.TheVariants.{Enforced, Race, Hidden}
+use Rattle.views.specs.declared.verdict.Witnessed.{Witnessed}
+use Rattle.views.specs.Verdicts.{code_of}
 
 -- the line of a refusal
 abbrev pub refusal_text : ViewError → List ℕ
@@ -17,10 +20,10 @@ unfoldable pub hidden_text : List ℕ
 hidden_text = codes "a coregion hides this pair\n"
 
 -- what is told beside what explains a pair
-abbrev pub told_of : Verdict → List ℕ
-told_of Enforced = []
-told_of Race = []
-told_of Hidden = hidden_text
+abbrev pub told_of : Verdict → Option (List ℕ)
+told_of Enforced = None
+told_of Race = None
+told_of Hidden = Some hidden_text
 
 unfoldable pub closes_text : List ℕ
 closes_text = codes "closes are left out\n"
@@ -28,13 +31,37 @@ closes_text = codes "closes are left out\n"
 unfoldable pub enforced_text : List ℕ
 enforced_text = codes "enforced: each run has the two in this order\n"
 
--- whether a schedule's closes are left out
-abbrev pub told_of_closes : Bool → List ℕ
-told_of_closes true = closes_text
-told_of_closes false = []
+-- that a schedule's closes are left out
+abbrev pub told_of_closes : Bool → Option (List ℕ)
+told_of_closes true = Some closes_text
+told_of_closes false = None
+
+-- the same, and that a coregion hides the pair
+abbrev pub told_of_hidden : Bool → Option (List ℕ)
+told_of_hidden true = Some (closes_text ++ hidden_text)
+told_of_hidden false = Some hidden_text
 
 -- what is told beside a witness, or in place of one
-abbrev pub told_of_witness : Bool → Verdict → List ℕ
-told_of_witness has_closes Enforced = enforced_text
+abbrev pub told_of_witness : Bool → Verdict → Option (List ℕ)
+told_of_witness has_closes Enforced = Some enforced_text
 told_of_witness has_closes Race = told_of_closes has_closes
-told_of_witness has_closes Hidden = told_of_closes has_closes ++ hidden_text
+told_of_witness has_closes Hidden = told_of_hidden has_closes
+
+-- what is said of a pair that was explained
+abbrev pub verdict_said : Verdict → Said
+verdict_said verdict = record { status = code_of verdict; told = told_of verdict }
+
+-- of a pair for which a witness was looked for
+abbrev pub witnessed_said : Witnessed → Said
+witnessed_said witnessed =
+    record { status = code_of witnessed.verdict; told = told_of_witness witnessed.has_closes witnessed.verdict }
+
+-- of a refusal
+abbrev pub error_said : ViewError → Said
+error_said error = refusal (refusal_text error)
+
+abbrev pub why_said : Result Verdict ViewError → Said
+why_said = said_of verdict_said error_said
+
+abbrev pub witness_said : Result Witnessed ViewError → Said
+witness_said = said_of witnessed_said error_said

@@ -9,11 +9,13 @@ use Rattle.closure.specs.Faults.{place_of}
 use Rattle.causes.specs.declared.link.Link.{Link}
 use Rattle.causes.specs.Chains.{IsShortestChain}
 use Rattle.causes.specs.Pasts.{IsPast}
+use Rattle.msc_text.specs.Outs.{Sink}
 use Rattle.msc_text.specs.Writing.{Puts, Breaks}
 use Rattle.files.specs.declared.error.ProgramError.TheVariants as errors
 use Rattle.files.specs.Files.{Named, IsRefused}
 use Rattle.views.specs.declared.error.ViewError.{ViewError}
 use Rattle.views.specs.declared.error.ViewError.TheVariants.{Program, ManySlots}
+use Rattle.views.specs.declared.pair.Asked.{Asked}
 use Rattle.views.specs.declared.pair.Pair.{Pair}
 use Rattle.views.specs.declared.saying.Saying.{Saying}
 use Rattle.views.specs.declared.verdict.Verdict.{Verdict}
@@ -57,21 +59,21 @@ abbrev pub sayings_text : Named → Pair → List Saying → List ℕ
 sayings_text (names, lines) pair sayings =
     flat_map (saying_text names (chart_lines lines pair.receive.instance)) sayings
 
-module _ {S : Type 0} (contents : S → Option (List ℕ)) (failures : S → ℕ) where
+module _ {S : Type 0} (sink : S → Sink) where
   -- the lines that explain the pair were written; or a beginning of them, where a put failed; or nothing, where the
   -- chart is not possible, where there is no such pair, or where memory ran out
-  abbrev pub Explains : S → S → Result Verdict ViewError → Named → List ℕ → ℕ → ℕ → Type 0
-  Explains old new (Ok verdict) named instance e r = (pair : Pair) × (sayings : List Saying)
-      × (pair_of named.0 named.1 instance e r ≡ Ok pair) × IsPossible (length named.1) (chart_lines named.1)
+  abbrev pub Explains : S → S → Result Verdict ViewError → Named → Asked → Type 0
+  Explains old new (Ok verdict) named asked = (pair : Pair) × (sayings : List Saying)
+      × (pair_of named.0 named.1 asked ≡ Ok pair) × IsPossible (length named.1) (chart_lines named.1)
       × IsExplained (length named.1) (chart_lines named.1) pair verdict sayings
-      × Puts contents failures old new (sayings_text named pair sayings)
-  Explains old new (Err (Program errors.Memory)) named instance e r = new ≡ old
-  Explains old new (Err (Program errors.Write)) named instance e r =
+      × Puts sink old new (sayings_text named pair sayings)
+  Explains old new (Err (Program errors.Memory)) named asked = new ≡ old
+  Explains old new (Err (Program errors.Write)) named asked =
       (pair : Pair) × (verdict : Verdict) × (sayings : List Saying)
-      × (pair_of named.0 named.1 instance e r ≡ Ok pair) × IsPossible (length named.1) (chart_lines named.1)
+      × (pair_of named.0 named.1 asked ≡ Ok pair) × IsPossible (length named.1) (chart_lines named.1)
       × IsExplained (length named.1) (chart_lines named.1) pair verdict sayings
-      × Breaks contents failures old new (sayings_text named pair sayings)
-  Explains old new (Err (Program error)) named instance e r = IsRefused error named × (new ≡ old)
-  Explains old new (Err (ManySlots slots)) named instance e r = ⊥
-  Explains old new (Err error) named instance e r = (pair_of named.0 named.1 instance e r ≡ Err error)
+      × Breaks sink old new (sayings_text named pair sayings)
+  Explains old new (Err (Program error)) named asked = IsRefused error named × (new ≡ old)
+  Explains old new (Err (ManySlots slots)) named asked = ⊥
+  Explains old new (Err error) named asked = (pair_of named.0 named.1 asked ≡ Err error)
       × IsPossible (length named.1) (chart_lines named.1) × (new ≡ old)

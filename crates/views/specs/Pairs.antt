@@ -10,6 +10,7 @@ use Rattle.msc_text.specs.Lines.{name_or_cause}
 use Rattle.msc_text.specs.declared.fault.Cause.{Cause}
 use Rattle.views.specs.declared.error.ViewError.{ViewError}
 use Rattle.views.specs.declared.error.ViewError.TheVariants.{NoSuchEvent, NotAPair}
+use Rattle.views.specs.declared.pair.Asked.{Asked}
 use Rattle.views.specs.declared.pair.Pair.{Pair}
 
 -- the instance of what was read as a name
@@ -47,5 +48,5 @@ pair_at None lines e r = Err NoSuchEvent
 pair_at (Some p) lines e r = pair_on p (chart_lines lines p) e r
 
 -- the two events that are asked about, by an instance's name and two numbers
-abbrev pub pair_of : List (List ℕ) → List LineView → List ℕ → ℕ → ℕ → Result Pair ViewError
-pair_of names lines instance e r = pair_at (instance_said names instance) lines e r
+abbrev pub pair_of : List (List ℕ) → List LineView → Asked → Result Pair ViewError
+pair_of names lines asked = pair_at (instance_said names asked.instance.now) lines asked.earlier asked.receive

@@ -2,6 +2,7 @@
 use Rattle.std.specs.Prelude.{◌≡◌, ℕ, ◌<◌, true, false, List, length, Option, Result, Ok, Err}
 use Rattle.chart.specs.Charts.{Chart, chart_lines, IsPossible}
 use Rattle.closure.specs.Faults.{place_of}
+use Rattle.msc_text.specs.Outs.{Sink}
 use Rattle.msc_text.specs.Writing.{Puts, Breaks}
 use Rattle.real_races.specs.OtherRuns.{CanBeOvertaken, CanBeOvertakenWithin}
 use Rattle.chart.specs.declared.history.TheConstants.{MAX_CAPACITY}
@@ -22,6 +23,7 @@ use Rattle.turned_runs.specs.declared.showing.Shown.{Shown}
 use Rattle.turned_runs.specs.declared.showing.Shown.TheVariants as founds
 use Rattle.views.specs.declared.error.ViewError.{ViewError}
 use Rattle.views.specs.declared.error.ViewError.TheVariants.{Program, ManySlots}
+use Rattle.views.specs.declared.pair.Asked.{Asked}
 use Rattle.views.specs.declared.pair.Pair.{Pair}
 use Rattle.views.specs.declared.verdict.Verdict.{Verdict}
 use Rattle.views.specs.declared.verdict.Verdict.TheVariants.{Enforced, Race, Hidden}
@@ -29,12 +31,12 @@ use Rattle.views.specs.Explaining.{AreInOneRegion}
 use Rattle.views.specs.Pairs.{pair_of}
 
 -- the two events of a possible chart that are asked about
-abbrev pub IsAskedFor : Named → List ℕ → ℕ → ℕ → Result Pair ViewError → Type 0
-IsAskedFor named instance e r (Ok pair) = (pair_of named.0 named.1 instance e r ≡ Ok pair)
+abbrev pub IsAskedFor : Named → Asked → Result Pair ViewError → Type 0
+IsAskedFor named asked (Ok pair) = (pair_of named.0 named.1 asked ≡ Ok pair)
     × IsPossible (length named.1) (chart_lines named.1)
-IsAskedFor named instance e r (Err (Program errors.Memory)) = Unit {0}
-IsAskedFor named instance e r (Err (Program error)) = IsRefused error named
-IsAskedFor named instance e r (Err error) = (pair_of named.0 named.1 instance e r ≡ Err error)
+IsAskedFor named asked (Err (Program errors.Memory)) = Unit {0}
+IsAskedFor named asked (Err (Program error)) = IsRefused error named
+IsAskedFor named asked (Err error) = (pair_of named.0 named.1 asked ≡ Err error)
     × IsPossible (length named.1) (chart_lines named.1)
 
 -- what a witness is made from: the run that a schedule's accepted commands make, or one of the chart's lines as drawn
@@ -80,16 +82,16 @@ NeedsSlots (names, lines) origin pair k = (MAX_CAPACITY < k)
     × IsLeastTurn (length names) (first_of origin) k (chart_lines lines)
     (place_of pair.earlier) (place_of pair.receive)
 
-module _ {S : Type 0} (contents : S → Option (List ℕ)) (failures : S → ℕ) where
+module _ {S : Type 0} (sink : S → Sink) where
   -- what is written of a schedule, by what the answer is
   abbrev pub WritesPlan : S → S → Chart → Pair → Plan → Result Verdict ViewError → Type 0
   WritesPlan old new c pair plan (Ok Enforced) = ⊥
   WritesPlan old new c pair plan (Ok Race) = AreInOneRegion c pair false
-      × Puts contents failures old new (schedule_text plan)
+      × Puts sink old new (schedule_text plan)
   WritesPlan old new c pair plan (Ok Hidden) = AreInOneRegion c pair true
-      × Puts contents failures old new (schedule_text plan)
+      × Puts sink old new (schedule_text plan)
   WritesPlan old new c pair plan (Err error) = (error ≡ Program errors.Write)
-      × Breaks contents failures old new (schedule_text plan)
+      × Breaks sink old new (schedule_text plan)
 
   -- what is written of what was found
   abbrev pub Writes : S → S → Chart → Pair → Shown → Result Verdict ViewError → Type 0
@@ -104,11 +106,11 @@ module _ {S : Type 0} (contents : S → Option (List ℕ)) (failures : S → ℕ
       (CanBeOvertaken (length named.0) (chart_lines named.1) (place_of pair.earlier) (place_of pair.receive) → ⊥)
       × (new ≡ old)
   Shows old new (Ok Race) named origin pair = (plan : Plan) × IsWitness named origin pair plan
-      × AreInOneRegion (chart_lines named.1) pair false × Puts contents failures old new (schedule_text plan)
+      × AreInOneRegion (chart_lines named.1) pair false × Puts sink old new (schedule_text plan)
   Shows old new (Ok Hidden) named origin pair = (plan : Plan) × IsWitness named origin pair plan
-      × AreInOneRegion (chart_lines named.1) pair true × Puts contents failures old new (schedule_text plan)
+      × AreInOneRegion (chart_lines named.1) pair true × Puts sink old new (schedule_text plan)
   Shows old new (Err (Program errors.Memory)) named origin pair = new ≡ old
   Shows old new (Err (Program errors.Write)) named origin pair =
-      (plan : Plan) × IsWitness named origin pair plan × Breaks contents failures old new (schedule_text plan)
+      (plan : Plan) × IsWitness named origin pair plan × Breaks sink old new (schedule_text plan)
   Shows old new (Err (ManySlots k)) named origin pair = NeedsSlots named origin pair k × (new ≡ old)
   Shows old new (Err error) named origin pair = ⊥

@@ -1,29 +1,26 @@
 -- What `mscview witness` does with the bytes of a file.
-use Rattle.std.specs.Prelude.{◌≡◌, ℕ, ◌⊎◌, Bool, true, false, List, length, Option, Result, Ok, Err}
+use Rattle.std.specs.Prelude.{◌≡◌, ℕ, Bool, true, false, List, length, Result, Ok, Err}
 use Rattle.std.specs.List.{list_any}
 use Rattle.chart.specs.Charts.{chart_lines, IsPossible}
-use Rattle.msc_reader.specs.Reading.{chart_of}
-use Rattle.msc_text.specs.declared.fault.Fault.{Fault}
-use Rattle.outcomes.specs.Outcomes.{OutcomeView, IsOutcome}
+use Rattle.msc_text.specs.Outs.{Sink}
 use Rattle.schedule.specs.declared.command.Action.{Action}
 use Rattle.schedule.specs.declared.command.Action.TheVariants.{Send, Receive, Any, Close, Open, Shut}
 use Rattle.schedule.specs.declared.command.Command.{Command}
 use Rattle.schedule.specs.Plans.{Plan}
-use Rattle.schedule.specs.Reading.{schedule_of}
-use Rattle.files.specs.declared.error.ProgramError.{ProgramError}
 use Rattle.files.specs.declared.error.ProgramError.TheVariants as errors
-use Rattle.files.specs.Refusals.{Tried}
-use Rattle.files.specs.Files.{Named, IsRefused, Reads}
+use Rattle.files.specs.declared.source.Source.{Source}
+use Rattle.files.specs.declared.source.Source.TheVariants.{Run, Drawn}
+use Rattle.files.specs.Files.{Named, IsRefused}
+use Rattle.files.specs.Texts.{OfFile, named_of}
 use Rattle.views.specs.declared.error.ViewError.{ViewError}
 use Rattle.views.specs.declared.error.ViewError.TheVariants.{Program, NoSuchEvent, NotAPair}
+use Rattle.views.specs.declared.pair.Asked.{Asked}
 use Rattle.views.specs.declared.pair.Pair.{Pair}
 use Rattle.views.specs.declared.verdict.Verdict.{Verdict}
-use Rattle.views.specs.Answers.{told_of_witness, refusal_text}
-use Rattle.files.specs.Files.{is_schedule}
+use Rattle.views.specs.declared.verdict.Witnessed.{Witnessed}
 use Rattle.views.specs.Pairs.{pair_of}
 use Rattle.views.specs.Turning.{Origin, Shows}
 use Rattle.views.specs.Turning.Origin.{recorded, drawn}
-use Rattle.views.specs.Verdicts.{code_of}
 
 -- it closes a lane
 abbrev pub is_close : Action → Bool
@@ -38,70 +35,41 @@ is_close Shut = false
 abbrev pub has_closes : Plan → Bool
 has_closes plan = list_any (λ (c : Command). is_close c.action) plan.commands
 
-module _ {S : Type 0} (contents : S → Option (List ℕ)) (failures : S → ℕ) where
+module _ {S : Type 0} (sink : S → Sink) where
   -- what is written for two events of a chart: a witness, or none was found; or nothing, where the chart is not
   -- possible, where there is no such pair, or where memory ran out
-  abbrev pub Finds : S → S → Result Verdict ViewError → Named → Origin → List ℕ → ℕ → ℕ → Type 0
-  Finds old new (Err (Program errors.Memory)) named origin instance e r = new ≡ old
-  Finds old new (Err (Program errors.Write)) named origin instance e r =
-      (pair : Pair) × (pair_of named.0 named.1 instance e r ≡ Ok pair)
-      × IsPossible (length named.1) (chart_lines named.1) × Shows contents failures old new
+  abbrev pub Finds : S → S → Result Verdict ViewError → Named → Origin → Asked → Type 0
+  Finds old new (Err (Program errors.Memory)) named origin asked = new ≡ old
+  Finds old new (Err (Program errors.Write)) named origin asked =
+      (pair : Pair) × (pair_of named.0 named.1 asked ≡ Ok pair)
+      × IsPossible (length named.1) (chart_lines named.1) × Shows sink old new
       (Err (Program errors.Write)) named origin pair
-  Finds old new (Err (Program error)) named origin instance e r = IsRefused error named × (new ≡ old)
-  Finds old new (Err NoSuchEvent) named origin instance e r = (pair_of named.0 named.1 instance e r ≡ Err NoSuchEvent)
+  Finds old new (Err (Program error)) named origin asked = IsRefused error named × (new ≡ old)
+  Finds old new (Err NoSuchEvent) named origin asked = (pair_of named.0 named.1 asked ≡ Err NoSuchEvent)
       × (new ≡ old)
-  Finds old new (Err NotAPair) named origin instance e r = (pair_of named.0 named.1 instance e r ≡ Err NotAPair)
+  Finds old new (Err NotAPair) named origin asked = (pair_of named.0 named.1 asked ≡ Err NotAPair)
       × (new ≡ old)
-  Finds old new done named origin instance e r = (pair : Pair) × (pair_of named.0 named.1 instance e r ≡ Ok pair)
-      × IsPossible (length named.1) (chart_lines named.1) × Shows contents failures old new done named origin pair
+  Finds old new done named origin asked = (pair : Pair) × (pair_of named.0 named.1 asked ≡ Ok pair)
+      × IsPossible (length named.1) (chart_lines named.1) × Shows sink old new done named origin pair
 
-  -- the same for two events of the chart that a schedule comes to
-  abbrev pub FindsOf : S → S → Result Verdict ViewError → Plan → List ℕ → ℕ → ℕ → Type 0
-  FindsOf old new (Err (Program errors.Memory)) plan instance e r = new ≡ old
-  FindsOf old new done plan instance e r = (o : OutcomeView) × IsOutcome plan o
-      × Finds old new done (o.names, o.chart) (recorded plan) instance e r
+-- what a witness is made from: what a schedule's commands made, or a chart's lines as drawn
+abbrev pub origin_of : Source → Origin
+origin_of (Run schedule outcome) = recorded schedule.now
+origin_of (Drawn named) = drawn
 
--- the exit status, and what is told on standard error: where it was done, or the line of a refusal, of which a failed
--- write may leave a beginning
-abbrev pub AnsweredAs : {T : Type 0} → (T → Option (List ℕ)) → (T → ℕ) → (Result Verdict ViewError → Type 0) → Bool → T
-    → T → ℕ → Type 0
-AnsweredAs err_contents err_failures does closes err_old err_new status =
-    ((verdict : Verdict) × does (Ok verdict) × (status ≡ code_of verdict)
-    × Tried err_contents err_failures err_old err_new (told_of_witness closes verdict))
-    ⊎ ((error : ViewError) × does (Err error) × (status ≡ 2)
-    × Tried err_contents err_failures err_old err_new (refusal_text error))
+-- whether closes are left out
+abbrev pub closes_in : Source → Bool
+closes_in (Run schedule outcome) = has_closes schedule.now
+closes_in (Drawn named) = false
 
-module _ {S T : Type 0} (contents : S → Option (List ℕ)) (failures : S → ℕ) (err_contents : T
-    → Option (List ℕ)) (err_failures : T → ℕ) where
-  -- what is answered to what was read: nothing was written where it has a fault
-  abbrev pub AnswersRead : {A : Type 0} → (A → Result Verdict ViewError → Type 0) → (A → Bool) → S → S → T → T → ℕ
-      → Result A Fault → Type 0
-  AnswersRead {A} does closes old new err_old err_new status said =
-      ((error : ProgramError) × Reads {A = A} (Err error) said × (new ≡ old) × (status ≡ 2)
-      × Tried err_contents err_failures err_old err_new (refusal_text (Program error)))
-      ⊎ ((read : A) × (said ≡ Ok read) × AnsweredAs err_contents err_failures (does read)
-      (closes read) err_old err_new status)
+module _ {S : Type 0} (sink : S → Sink) where
+  -- the same for two events of a file's chart, with what is left out of it
+  abbrev pub FindsIn : S → S → Asked → Source → Result Witnessed ViewError → Type 0
+  FindsIn old new asked source (Ok witnessed) = (witnessed.has_closes ≡ closes_in source)
+      × Finds sink old new (Ok witnessed.verdict) (named_of source) (origin_of source) asked
+  FindsIn old new asked source (Err error) = Finds sink old new (Err error) (named_of source) (origin_of source) asked
 
-  -- to a schedule
-  abbrev pub AnswersSchedule : S → S → T → T → ℕ → Result Plan Fault → List ℕ → ℕ → ℕ → Type 0
-  AnswersSchedule old new err_old err_new status said instance e r =
-      AnswersRead (λ plan done. FindsOf contents failures old new done plan instance e r) has_closes old new err_old
-      err_new status said
-
-  -- to a chart
-  abbrev pub AnswersChart : S → S → T → T → ℕ → Result Named Fault → List ℕ → ℕ → ℕ → Type 0
-  AnswersChart old new err_old err_new status said instance e r =
-      AnswersRead (λ named done. Finds contents failures old new done named drawn instance e r)
-      (λ named. false) old new err_old err_new status said
-
-  -- to a text of one kind or the other
-  abbrev pub AnswersSo : Bool → S → S → T → T → ℕ → List ℕ → List ℕ → ℕ → ℕ → Type 0
-  AnswersSo true old new err_old err_new status bytes instance e r =
-      AnswersSchedule old new err_old err_new status (schedule_of bytes) instance e r
-  AnswersSo false old new err_old err_new status bytes instance e r =
-      AnswersChart old new err_old err_new status (chart_of bytes) instance e r
-
-  -- to the bytes of a file
-  abbrev pub AnswersWitness : S → S → T → T → ℕ → List ℕ → List ℕ → ℕ → ℕ → Type 0
-  AnswersWitness old new err_old err_new status bytes instance e r =
-      AnswersSo (is_schedule bytes) old new err_old err_new status bytes instance e r
+  -- a witness was written for two events of the chart that the bytes say, or none was found; or nothing was written,
+  -- where the bytes have a fault, or where memory ran out
+  abbrev pub Witnesses : S → S → List ℕ → Asked → Result Witnessed ViewError → Type 0
+  Witnesses old new bytes asked = OfFile Program (FindsIn old new asked) old new bytes

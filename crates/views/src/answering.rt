@@ -1,19 +1,20 @@
-//! Refusals, and what is told beside an answer, as text on standard error.
-ghost use Rattle.std.specs.Prelude.{◌≡◌, IfErr, IfOk};
+//! What is told on standard error: refusals, and what is told beside an answer.
+ghost use Rattle.std.specs.Prelude.{◌≡◌, ◌++◌};
 ghost use Rattle.msc_text.specs.Writing.{Wrote, Adds};
 ghost use Rattle.files.specs.Refusals.{Tried};
-ghost use Rattle.views.specs.Answers.{told_of, enforced_text, told_of_closes, told_of_witness, refusal_text};
-ghost use Rattle.views.specs.Verdicts.{code_of};
+ghost use Rattle.views.specs.Answers.{hidden_text, enforced_text, closes_text, verdict_said, witnessed_said};
+ghost use Rattle.files.specs.Answers.{Tells};
+ghost use Rattle.views.specs.Answers.{error_said, refusal_text, told_of_hidden};
 
 use crate::error::ViewError;
-use crate::verdict::Verdict;
-use files::refused_by;
+use crate::verdict::{Verdict, Witnessed};
+use files::{Answer, refused_by, tell};
 use msc_text::{Out, TextBuffer, WriteError};
 
 /// Prints the line of a refusal, and answers the exit status, which is 2 whether or not the line could be written.
 pub fn refused<V: Out>(error: &ViewError, err: &mut V) -> u8
     ensures status { result ≡ 2 }
-    ensures line { Tried V.contents V.failures err.old err.new (refusal_text error.now) }
+    ensures line { Tried V.sink err.old err.new (refusal_text error.now) }
 {
     match error {
         ViewError::Program(cause) => files::refused(cause, err),
@@ -23,116 +24,104 @@ pub fn refused<V: Out>(error: &ViewError, err: &mut V) -> u8
     }
 }
 
-/// What is told beside what explains a pair.
+impl Answer for ViewError {
+    ghost said = { error_said };
+
+    fn status(&self) -> u8 {
+        2
+    }
+
+    fn tell<V: Out>(&self, err: &mut V) {
+        let _ = refused(self, err);
+    }
+}
+
 #[tactic(auto, unfolding(crate::specs::Answers::hidden_text))]
-fn told_of(verdict: &Verdict) -> &[u8]
-    ensures { result.now ≡ told_of verdict.now }
+fn hidden_text() -> &'static [u8]
+    ensures { result.now ≡ hidden_text }
 {
-    match verdict {
-        Verdict::Enforced | Verdict::Race => b"",
-        Verdict::Hidden => b"a coregion hides this pair\n",
-    }
-}
-
-#[tactic(auto, using(msc_text::proofs::Writes::joining))]
-fn write_told<V: Out>(told: &[u8], err: &mut V) -> Result<(), WriteError>
-    ensures { Wrote V.contents V.failures err.old err.new result told.now }
-{
-    let mut text = TextBuffer::new(err);
-    text.add(told)?;
-    text.finish()
-}
-
-/// Prints what is told, or a beginning of it where that fails.
-fn tell<V: Out>(told: &[u8], err: &mut V)
-    ensures { Tried V.contents V.failures err.old err.new told.now }
-{
-    let _ = write_told(told, err);
-}
-
-/// The exit status of what was explained, with what is told beside it; or of what is refused now.
-pub(crate) fn answered<V: Out>(done: Result<Verdict, ViewError>, err: &mut V) -> u8
-    ensures ok { IfOk done (λ verdict. (result ≡ code_of verdict)
-        × Tried V.contents V.failures err.old err.new (told_of verdict)) }
-    ensures err { IfErr done (λ error. (result ≡ 2) × Tried V.contents V.failures err.old err.new
-        (refusal_text error)) }
-{
-    match done {
-        Ok(verdict) => {
-            tell(told_of(&verdict), err);
-            verdict.code()
-        }
-        Err(error) => refused(&error, err),
-    }
+    b"a coregion hides this pair\n"
 }
 
 #[tactic(auto, unfolding(crate::specs::Answers::closes_text))]
-fn told_of_closes(has_closes: bool) -> &'static [u8]
-    ensures { result.now ≡ told_of_closes has_closes }
+fn closes_text() -> &'static [u8]
+    ensures { result.now ≡ closes_text }
 {
-    if has_closes {
-        b"closes are left out\n"
-    } else {
-        b""
-    }
+    b"closes are left out\n"
 }
 
 #[tactic(auto, unfolding(crate::specs::Answers::enforced_text))]
-fn enforced_told() -> &'static [u8]
+fn enforced_text() -> &'static [u8]
     ensures { result.now ≡ enforced_text }
 {
     b"enforced: each run has the two in this order\n"
 }
 
-/// Adds what is told beside a witness, or in place of one.
-#[tactic(auto, using(msc_text::proofs::Writes::joining))]
-fn add_told<V: Out>(
-    text: &mut TextBuffer<'_, V>,
-    has_closes: bool,
-    verdict: &Verdict,
-) -> Result<(), WriteError>
-    ensures { Adds V.contents V.failures text.old text.new result (told_of_witness has_closes verdict.now) }
-{
-    match verdict {
-        Verdict::Enforced => text.add(enforced_told()),
-        Verdict::Race => text.add(told_of_closes(has_closes)),
-        Verdict::Hidden => {
-            text.add(told_of_closes(has_closes))?;
-            text.add(told_of(&Verdict::Hidden))
+/// What is told beside what explains a pair.
+impl Answer for Verdict {
+    ghost said = { verdict_said };
+
+    fn status(&self) -> u8 {
+        self.code()
+    }
+
+    fn tell<V: Out>(&self, err: &mut V) {
+        match self {
+            Verdict::Enforced | Verdict::Race => {}
+            Verdict::Hidden => tell(hidden_text(), err),
         }
     }
 }
 
 #[tactic(auto, using(msc_text::proofs::Writes::joining))]
-fn write_witness_told<V: Out>(
-    has_closes: bool,
-    verdict: &Verdict,
-    err: &mut V,
+fn add_both<V: Out>(
+    text: &mut TextBuffer<'_, V>,
+    first: &[u8],
+    second: &[u8],
 ) -> Result<(), WriteError>
-    ensures { Wrote V.contents V.failures err.old err.new result (told_of_witness has_closes verdict.now) }
+    ensures { Adds V.sink text.old text.new result (first.now ++ second.now) }
+{
+    text.add(first)?;
+    text.add(second)
+}
+
+#[tactic(auto, using(msc_text::proofs::Writes::joining))]
+fn write_both<V: Out>(first: &[u8], second: &[u8], err: &mut V) -> Result<(), WriteError>
+    ensures { Wrote V.sink err.old err.new result (first.now ++ second.now) }
 {
     let mut text = TextBuffer::new(err);
-    add_told(&mut text, has_closes, verdict)?;
+    add_both(&mut text, first, second)?;
     text.finish()
 }
 
-/// The exit status of a witness that was written, or of a pair that has none, with what is told beside it; or of what
-/// is refused now.
-pub(crate) fn witnessed<V: Out>(
-    done: Result<Verdict, ViewError>,
-    has_closes: bool,
-    err: &mut V,
-) -> u8
-    ensures ok { IfOk done (λ verdict. (result ≡ code_of verdict)
-        × Tried V.contents V.failures err.old err.new (told_of_witness has_closes verdict)) }
-    ensures err { IfErr done (λ error. (result ≡ 2) × Tried V.contents V.failures err.old err.new
-        (refusal_text error)) }
+/// Writes what is told of a pair that a coregion hides.
+fn tell_hidden<V: Out>(has_closes: bool, err: &mut V)
+    ensures { Tells V.sink err.old err.new (told_of_hidden has_closes) }
 {
-    match done {
-        Ok(verdict) => {
-            let _ = write_witness_told(has_closes, &verdict, err);
-            verdict.code()
+    if has_closes {
+        let _ = write_both(closes_text(), hidden_text(), err);
+    } else {
+        tell(hidden_text(), err);
+    }
+}
+
+/// What is told beside a witness, or in place of one.
+impl Answer for Witnessed {
+    ghost said = { witnessed_said };
+
+    fn status(&self) -> u8 {
+        self.verdict.code()
+    }
+
+    fn tell<V: Out>(&self, err: &mut V) {
+        match self.verdict {
+            Verdict::Enforced => tell(enforced_text(), err),
+            Verdict::Race => {
+                if self.has_closes {
+                    tell(closes_text(), err);
+                }
+            }
+            Verdict::Hidden => tell_hidden(self.has_closes, err),
         }
-        Err(error) => refused(&error, err),
     }
 }

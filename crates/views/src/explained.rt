@@ -85,8 +85,7 @@ pub(crate) fn why_in<W: Out>(
     out: &mut W,
 ) -> Result<Verdict, ViewError>
     requires { length names.now ≡ length chart.now }
-    ensures { Explains W.contents W.failures out.old out.new result (names.now, chart.now) asked.now.instance.now
-        asked.now.earlier asked.now.receive }
+    ensures { Explains W.sink out.old out.new result (names.now, chart.now) asked.now }
 {
     let lines = chart.lines();
     let closure = closure_of(alloc, names, chart)?;

@@ -97,7 +97,7 @@ fn pair_on(
 /// The two events that are asked about. F31: the chart has no such event. F32: the second is a send, or the first isn't
 /// an earlier one.
 pub(crate) fn pair_in(names: &Names, lines: &[Line], asked: &Asked<'_>) -> Result<Pair, ViewError>
-    ensures { result ≡ pair_of names.now lines.now asked.now.instance.now asked.now.earlier asked.now.receive }
+    ensures { result ≡ pair_of names.now lines.now asked.now }
 {
     match instance_said(names, asked.instance) {
         None => Err(ViewError::NoSuchEvent),

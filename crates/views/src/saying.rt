@@ -53,7 +53,7 @@ fn piece_of(piece: &Piece) -> &[u8]
 }
 
 fn add_piece<W: Out>(text: &mut TextBuffer<'_, W>, piece: Piece) -> Result<(), WriteError>
-    ensures { Adds W.contents W.failures text.old text.new result (piece_text piece) }
+    ensures { Adds W.sink text.old text.new result (piece_text piece) }
 {
     text.add(piece_of(&piece))
 }
@@ -64,7 +64,7 @@ fn add_name<W: Out>(
     names: &Names,
     instance: InstanceNo,
 ) -> Result<(), WriteError>
-    ensures { Adds W.contents W.failures text.old text.new result (name_at names.now instance) }
+    ensures { Adds W.sink text.old text.new result (name_at names.now instance) }
 {
     match names.name(instance) {
         Some(name) => text.add(name.as_bytes()),
@@ -74,7 +74,7 @@ fn add_name<W: Out>(
 
 #[tactic(auto, unfolding(crate::specs::SayingText::behind_space))]
 fn add_number<W: Out>(text: &mut TextBuffer<'_, W>, number: usize) -> Result<(), WriteError>
-    ensures { Adds W.contents W.failures text.old text.new result (behind_space number) }
+    ensures { Adds W.sink text.old text.new result (behind_space number) }
 {
     let mut buffer = Buffer::new();
     let digits = buffer.format(number).as_bytes();
@@ -89,7 +89,7 @@ fn add_place<W: Out>(
     instance: InstanceNo,
     number: usize,
 ) -> Result<(), WriteError>
-    ensures { Adds W.contents W.failures text.old text.new result (place_text names.now instance number) }
+    ensures { Adds W.sink text.old text.new result (place_text names.now instance number) }
 {
     add_name(text, names, instance)?;
     add_number(text, number)
@@ -104,7 +104,7 @@ fn add_told<W: Out>(
     instance: InstanceNo,
     number: usize,
 ) -> Result<(), WriteError>
-    ensures { Adds W.contents W.failures text.old text.new result (told_text names.now start instance number) }
+    ensures { Adds W.sink text.old text.new result (told_text names.now start instance number) }
 {
     add_piece(text, start)?;
     add_place(text, names, instance, number)?;
@@ -120,7 +120,7 @@ fn add_message<W: Out>(
     message: Name,
     side: Keyword,
 ) -> Result<(), WriteError>
-    ensures { Adds W.contents W.failures text.old text.new result (message_text index direction message side) }
+    ensures { Adds W.sink text.old text.new result (message_text index direction message side) }
 {
     let mut buffer = Buffer::new();
     let digits = buffer.format(index).as_bytes();
@@ -144,7 +144,7 @@ fn add_half<W: Out>(
     index: usize,
     event: &Event,
 ) -> Result<(), WriteError>
-    ensures { Adds W.contents W.failures text.old text.new result (half_text names.now index event.now) }
+    ensures { Adds W.sink text.old text.new result (half_text names.now index event.now) }
 {
     match event {
         Event::Send { to, name } => {
@@ -165,7 +165,7 @@ fn add_half_at<W: Out>(
     events: &[Event],
     index: usize,
 ) -> Result<(), WriteError>
-    ensures { Adds W.contents W.failures text.old text.new result (half_at names.now index (ith events.now index)) }
+    ensures { Adds W.sink text.old text.new result (half_at names.now index (ith events.now index)) }
 {
     if index == 0 {
         return text.add(b"");
@@ -185,7 +185,7 @@ fn add_row<W: Out>(
     was: usize,
     may: usize,
 ) -> Result<(), WriteError>
-    ensures { Adds W.contents W.failures text.old text.new result (row_text names.now events.now was may) }
+    ensures { Adds W.sink text.old text.new result (row_text names.now events.now was may) }
 {
     add_piece(text, Piece::Line)?;
     add_half_at(text, names, events, was)?;
@@ -212,7 +212,7 @@ fn add_step<W: Out>(
     names: &Names,
     link: &Link,
 ) -> Result<(), WriteError>
-    ensures { Adds W.contents W.failures text.old text.new result (step_text names.now link.now) }
+    ensures { Adds W.sink text.old text.new result (step_text names.now link.now) }
 {
     let earlier = link.earlier.index as usize;
     let later = link.later.index as usize;
@@ -231,7 +231,7 @@ fn add_saying<W: Out>(
     events: &[Event],
     saying: &Saying,
 ) -> Result<(), WriteError>
-    ensures { Adds W.contents W.failures text.old text.new result (saying_text names.now events.now saying.now) }
+    ensures { Adds W.sink text.old text.new result (saying_text names.now events.now saying.now) }
 {
     match saying {
         Saying::Before { instance, count } => {
@@ -249,7 +249,7 @@ fn add_sayings<W: Out>(
     events: &[Event],
     sayings: &[Saying],
 ) -> Result<(), WriteError>
-    ensures { Adds W.contents W.failures text.old text.new result
+    ensures { Adds W.sink text.old text.new result
         (flat_map (saying_text names.now events.now) sayings.now) }
 {
     for saying in sayings {
@@ -267,7 +267,7 @@ pub(crate) fn write_sayings<W: Out>(
     sayings: &[Saying],
     out: &mut W,
 ) -> Result<(), WriteError>
-    ensures { Wrote W.contents W.failures out.old out.new result
+    ensures { Wrote W.sink out.old out.new result
         (flat_map (saying_text names.now events.now) sayings.now) }
 {
     let mut text = TextBuffer::new(out);

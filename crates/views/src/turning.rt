@@ -24,7 +24,7 @@ fn write_shown<W: Out>(
     out: &mut W,
 ) -> Result<Verdict, ViewError>
     requires { IsPair (chart_lines lines.now) pair.now }
-    ensures { Writes W.contents W.failures out.old out.new (chart_lines lines.now) pair.now shown.now result }
+    ensures { Writes W.sink out.old out.new (chart_lines lines.now) pair.now shown.now result }
 {
     match shown {
         Shown::Enforced => Ok(Verdict::Enforced),
@@ -44,7 +44,7 @@ pub(crate) fn pair_of_possible(
     asked: &Asked<'_>,
 ) -> Result<Pair, ViewError>
     requires { length names.now ≡ length chart.now }
-    ensures { IsAskedFor (names.now, chart.now) asked.now.instance.now asked.now.earlier asked.now.receive result }
+    ensures { IsAskedFor (names.now, chart.now) asked.now result }
 {
     let _closure = closure_of(alloc, names, chart)?;
     pair_in(names, chart.lines(), asked)
@@ -66,7 +66,7 @@ pub(crate) fn write_turned<W: Out>(
     ensures { (origin : Origin) → 1 ≤ first_of origin → IsTurned (length names.now) (first_of origin)
         (chart_lines chart.now) (place_of pair.now.earlier) (place_of pair.now.receive) turned.now
         → IsKeptFrom (names.now, chart.now) origin pair.now turned.now
-        → Shows W.contents W.failures out.old out.new result (names.now, chart.now) origin pair.now }
+        → Shows W.sink out.old out.new result (names.now, chart.now) origin pair.now }
 {
     let lines = chart.lines();
     match show(alloc, names, turned) {

@@ -13,6 +13,14 @@ pub(crate) enum Verdict {
     Hidden,
 }
 
+/// What was found for a pair whose other order was looked for.
+#[derive(Clone, Copy)]
+pub(crate) struct Witnessed {
+    pub(crate) verdict: Verdict,
+    /// Whether the schedule closes lanes, which no witness does.
+    pub(crate) has_closes: bool,
+}
+
 impl Verdict {
     /// The verdict on a pair that isn't enforced, by whether both are in one coregion.
     pub(crate) fn of(in_one_coregion: bool) -> Verdict

@@ -1,66 +1,28 @@
-//! What the program does with the bytes of a file.
-ghost use Rattle.std.specs.Prelude.{◌≡◌, true, false};
-ghost use Rattle.files.specs.Files.{is_schedule};
-ghost use Rattle.views.specs.Views.{Whys, AnswersWhy};
+//! What the program explains of the bytes of a file.
+ghost use Rattle.files.specs.Answers.{Answers};
+ghost use Rattle.views.specs.Answers.{why_said};
+ghost use Rattle.views.specs.Views.{Whys};
 
-use crate::answering::answered;
 use crate::error::ViewError;
 use crate::explained::why_in;
 use crate::pair::Asked;
 use crate::verdict::Verdict;
-use files::{ProgramError, chart_in, is_schedule, schedule_in};
+use files::{Source, Text, answered};
 use msc_text::Out;
-use replayer::replay;
 use std::alloc::Global;
-
-/// Explains two events of what the schedule comes to that the text says.
-fn why_schedule<W: Out>(
-    alloc: Global,
-    text: &[u8],
-    asked: &Asked<'_>,
-    out: &mut W,
-) -> Result<Verdict, ViewError>
-    requires { is_schedule text.now ≡ true }
-    ensures { Whys W.contents W.failures out.old out.new result text.now asked.now.instance.now asked.now.earlier
-        asked.now.receive }
-{
-    let schedule = schedule_in(alloc, text)?;
-    let Ok(outcome) = replay(alloc, &schedule) else {
-        return Err(ViewError::Program(ProgramError::Memory));
-    };
-    why_in(alloc, outcome.names(), outcome.chart(), asked, out)
-}
-
-/// Explains two events of the chart that the text says.
-fn why_chart<W: Out>(
-    alloc: Global,
-    text: &[u8],
-    asked: &Asked<'_>,
-    out: &mut W,
-) -> Result<Verdict, ViewError>
-    requires { is_schedule text.now ≡ false }
-    ensures { Whys W.contents W.failures out.old out.new result text.now asked.now.instance.now asked.now.earlier
-        asked.now.receive }
-{
-    let (names, chart) = chart_in(alloc, text)?;
-    why_in(alloc, &names, &chart, asked, out)
-}
 
 /// Explains two events of what the file says.
 fn why_text<W: Out>(
     alloc: Global,
-    text: &[u8],
+    bytes: &[u8],
     asked: &Asked<'_>,
     out: &mut W,
 ) -> Result<Verdict, ViewError>
-    ensures { Whys W.contents W.failures out.old out.new result text.now asked.now.instance.now asked.now.earlier
-        asked.now.receive }
+    ensures { Whys W.sink out.old out.new bytes.now asked.now result }
 {
-    if is_schedule(text) {
-        why_schedule(alloc, text, asked, out)
-    } else {
-        why_chart(alloc, text, asked, out)
-    }
+    let text = Text::read(alloc, bytes)?;
+    let source = Source::of(alloc, &text)?;
+    why_in(alloc, source.names(), source.chart(), asked, out)
 }
 
 /// Explains two events of the chart that the bytes of a file say, or of what the schedule comes to that they say:
@@ -70,13 +32,12 @@ fn why_text<W: Out>(
 /// writing to it failed (F24). A failed write to `err` changes nothing.
 pub fn why<W: Out, V: Out>(
     alloc: Global,
-    text: &[u8],
+    bytes: &[u8],
     asked: &Asked<'_>,
     out: &mut W,
     err: &mut V,
 ) -> u8
-    ensures { AnswersWhy W.contents W.failures V.contents V.failures out.old out.new err.old err.new result text.now
-        asked.now.instance.now asked.now.earlier asked.now.receive }
+    ensures { Answers (Whys W.sink out.old out.new bytes.now asked.now) why_said V.sink err.old err.new result }
 {
-    answered(why_text(alloc, text, asked, out), err)
+    answered(&why_text(alloc, bytes, asked, out), err)
 }

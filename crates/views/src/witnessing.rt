@@ -1,20 +1,20 @@
 //! What `mscview witness` does with the bytes of a file.
 ghost use Rattle.std.specs.Prelude.{◌≡◌, length};
-ghost use Rattle.schedule.specs.Reading.{schedule_of};
-ghost use Rattle.msc_reader.specs.Reading.{chart_of};
-ghost use Rattle.views.specs.Witnessing.{is_close, has_closes, Finds, FindsOf, AnswersSchedule, AnswersChart};
-ghost use Rattle.views.specs.Witnessing.{AnswersWitness};
-ghost use Rattle.views.specs.Turning.Origin.{drawn};
+ghost use Rattle.files.specs.Answers.{Answers};
+ghost use Rattle.files.specs.Texts.{ComesFrom};
+ghost use Rattle.outcomes.specs.Outcomes.{IsOutcome};
+ghost use Rattle.views.specs.Answers.{witness_said};
+ghost use Rattle.views.specs.Turning.Origin.{drawn, recorded};
+ghost use Rattle.views.specs.Witnessing.{is_close, has_closes, Finds, FindsIn, Witnesses};
 
-use crate::answering::{refused, witnessed};
 use crate::error::ViewError;
 use crate::pair::Asked;
 use crate::turning::{pair_of_possible, write_turned};
-use crate::verdict::Verdict;
+use crate::verdict::{Verdict, Witnessed};
 use chart::{Chart, Names};
-use files::{ProgramError, chart_in, is_schedule, schedule_in};
+use files::{ProgramError, Source, Text, answered};
 use msc_text::Out;
-use replayer::replay;
+use outcomes::Outcome;
 use schedule::{Action, Schedule};
 use std::alloc::Global;
 use turned_runs::{overtake_of_chart, overtake_of_schedule};
@@ -48,8 +48,7 @@ fn witness_chart<W: Out>(
     out: &mut W,
 ) -> Result<Verdict, ViewError>
     requires { length names.now ≡ length chart.now }
-    ensures { Finds W.contents W.failures out.old out.new result (names.now, chart.now) drawn
-        asked.now.instance.now asked.now.earlier asked.now.receive }
+    ensures { Finds W.sink out.old out.new result (names.now, chart.now) drawn asked.now }
 {
     let pair = pair_of_possible(alloc, names, chart, asked)?;
     let Ok(turned) = overtake_of_chart(alloc, chart, pair.receive, pair.earlier) else {
@@ -60,18 +59,17 @@ fn witness_chart<W: Out>(
 
 /// The same for two events of the chart that a schedule comes to. What needn't come with the receive stays in the
 /// recorded order.
-fn witness_schedule<W: Out>(
+fn witness_run<W: Out>(
     alloc: Global,
     schedule: &Schedule,
+    outcome: &Outcome<'_>,
     asked: &Asked<'_>,
     out: &mut W,
 ) -> Result<Verdict, ViewError>
-    ensures { FindsOf W.contents W.failures out.old out.new result schedule.now asked.now.instance.now asked.now.earlier
-        asked.now.receive }
+    requires { IsOutcome schedule.now outcome.now }
+    ensures { Finds W.sink out.old out.new result (outcome.now.names, outcome.now.chart) (recorded schedule.now)
+        asked.now }
 {
-    let Ok(outcome) = replay(alloc, schedule) else {
-        return Err(ViewError::Program(ProgramError::Memory));
-    };
     let pair = pair_of_possible(alloc, outcome.names(), outcome.chart(), asked)?;
     let Ok(turned) = overtake_of_schedule(alloc, schedule, pair.receive, pair.earlier) else {
         return Err(ViewError::Program(ProgramError::Memory));
@@ -80,44 +78,46 @@ fn witness_schedule<W: Out>(
     write_turned(alloc, outcome.names(), outcome.chart(), &turned, &pair, out)
 }
 
-/// Writes a witness for two events of what the schedule comes to that the text says.
-fn witness_schedule_in<W: Out, V: Out>(
+/// The same for two events of a file's chart, with whether closes are left out.
+fn witness_of<W: Out>(
     alloc: Global,
-    text: &[u8],
+    source: &Source<'_>,
     asked: &Asked<'_>,
     out: &mut W,
-    err: &mut V,
-) -> u8
-    ensures { AnswersSchedule W.contents W.failures V.contents V.failures out.old out.new err.old err.new result
-        (schedule_of text.now) asked.now.instance.now asked.now.earlier asked.now.receive }
+) -> Result<Witnessed, ViewError>
+    requires { ComesFrom source.now }
+    ensures { FindsIn W.sink out.old out.new asked.now source.now result }
 {
-    let schedule = match schedule_in(alloc, text) {
-        Ok(schedule) => schedule,
-        Err(error) => return refused(&ViewError::Program(error), err),
-    };
-    witnessed(
-        witness_schedule(alloc, &schedule, asked, out),
-        has_closes(&schedule),
-        err,
-    )
+    match source {
+        Source::Run(schedule, outcome) => {
+            let verdict = witness_run(alloc, schedule, outcome, asked, out)?;
+            Ok(Witnessed {
+                verdict,
+                has_closes: has_closes(schedule),
+            })
+        }
+        Source::Drawn(named) => {
+            let verdict = witness_chart(alloc, named.names(), named.chart(), asked, out)?;
+            Ok(Witnessed {
+                verdict,
+                has_closes: false,
+            })
+        }
+    }
 }
 
-/// Writes a witness for two events of the chart that the text says.
-fn witness_chart_in<W: Out, V: Out>(
+/// Writes a witness for two events of what the file says.
+fn witness_text<W: Out>(
     alloc: Global,
-    text: &[u8],
+    bytes: &[u8],
     asked: &Asked<'_>,
     out: &mut W,
-    err: &mut V,
-) -> u8
-    ensures { AnswersChart W.contents W.failures V.contents V.failures out.old out.new err.old err.new result
-        (chart_of text.now) asked.now.instance.now asked.now.earlier asked.now.receive }
+) -> Result<Witnessed, ViewError>
+    ensures { Witnesses W.sink out.old out.new bytes.now asked.now result }
 {
-    let (names, chart) = match chart_in(alloc, text) {
-        Ok(read) => read,
-        Err(error) => return refused(&ViewError::Program(error), err),
-    };
-    witnessed(witness_chart(alloc, &names, &chart, asked, out), false, err)
+    let text = Text::read(alloc, bytes)?;
+    let source = Source::of(alloc, &text)?;
+    witness_of(alloc, &source, asked, out)
 }
 
 /// Writes the schedule of a run that turns two events round, of the chart that the bytes of a file say, or of what
@@ -127,17 +127,12 @@ fn witness_chart_in<W: Out, V: Out>(
 /// refusal, but where writing to it failed (F24). A failed write to `err` changes nothing.
 pub fn witness<W: Out, V: Out>(
     alloc: Global,
-    text: &[u8],
+    bytes: &[u8],
     asked: &Asked<'_>,
     out: &mut W,
     err: &mut V,
 ) -> u8
-    ensures { AnswersWitness W.contents W.failures V.contents V.failures out.old out.new err.old err.new result text.now
-        asked.now.instance.now asked.now.earlier asked.now.receive }
+    ensures { Answers (Witnesses W.sink out.old out.new bytes.now asked.now) witness_said V.sink err.old err.new result }
 {
-    if is_schedule(text) {
-        witness_schedule_in(alloc, text, asked, out, err)
-    } else {
-        witness_chart_in(alloc, text, asked, out, err)
-    }
+    answered(&witness_text(alloc, bytes, asked, out), err)
 }

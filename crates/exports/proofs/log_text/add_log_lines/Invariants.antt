@@ -6,4 +6,4 @@ use Rattle.exports.proofs.log_text.add_log_lines.Given as goal
 
 -- what came so far was added
 abbrev pub invariant-loop-stamped : goal.invariant-loop-stamped
-invariant-loop-stamped g l = Buffers g.W.Out.contents g.W.Out.failures l.initial.text l.text (flat_map (log_line l.export) (take l.stamped-index l.log))
+invariant-loop-stamped g l = Buffers g.W.Out.sink l.initial.text l.text (flat_map (log_line l.export) (take l.stamped-index l.log))

@@ -6,4 +6,4 @@ use Rattle.exports.proofs.log_text.add_other_entries.Given as goal
 
 -- what came so far was added
 abbrev pub invariant-loop-line : goal.invariant-loop-line
-invariant-loop-line g l = Buffers g.W.Out.contents g.W.Out.failures l.initial.text l.text (flat_map (other_entry l.export l.stamped) (take l.line-index l.lines))
+invariant-loop-line g l = Buffers g.W.Out.sink l.initial.text l.text (flat_map (other_entry l.export l.stamped) (take l.line-index l.lines))

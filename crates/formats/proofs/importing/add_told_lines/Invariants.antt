@@ -6,4 +6,4 @@ use Rattle.formats.proofs.importing.add_told_lines.Given as goal
 
 -- what came so far was added
 abbrev pub invariant-loop-label : goal.invariant-loop-label
-invariant-loop-label g l = Buffers g.V.Out.contents g.V.Out.failures l.initial.text l.text (flat_map told_line (take l.label-index l.told))
+invariant-loop-label g l = Buffers g.V.Out.sink l.initial.text l.text (flat_map told_line (take l.label-index l.told))

@@ -7,4 +7,4 @@ use Rattle.msc_text.proofs.chart_text.add_lines.Given as goal
 -- the lines so far were added
 abbrev pub invariant-loop-line : goal.invariant-loop-line
 invariant-loop-line g l =
-    Buffers g.W.Out.contents g.W.Out.failures l.initial.text l.text (flat_map (line_text l.names) (take l.line-index l.lines))
+    Buffers g.W.Out.sink l.initial.text l.text (flat_map (line_text l.names) (take l.line-index l.lines))

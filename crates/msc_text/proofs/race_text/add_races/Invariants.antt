@@ -7,4 +7,4 @@ use Rattle.msc_text.proofs.race_text.add_races.Given as goal
 -- the reports so far were added
 abbrev pub invariant-loop-report : goal.invariant-loop-report
 invariant-loop-report g l =
-    Buffers g.W.Out.contents g.W.Out.failures l.initial.text l.text (flat_map (report_text l.names) (take l.report-index l.reports))
+    Buffers g.W.Out.sink l.initial.text l.text (flat_map (report_text l.names) (take l.report-index l.reports))

@@ -4,7 +4,7 @@ use Rattle.msc_text.proofs.text_buffer.put_all.Given as goal
 
 -- what is gone from the bytes was put
 abbrev pub invariant-loop-rest : goal.invariant-loop-rest
-invariant-loop-rest g l = (done : List ℕ) × (l.bytes ≡ done ++ l.rest) × Puts g.W.Out.contents g.W.Out.failures l.initial.out l.out done
+invariant-loop-rest g l = (done : List ℕ) × (l.bytes ≡ done ++ l.rest) × Puts g.W.Out.sink l.initial.out l.out done
 
 abbrev pub decreases-loop-rest : goal.decreases-loop-rest
 decreases-loop-rest g l = length l.rest

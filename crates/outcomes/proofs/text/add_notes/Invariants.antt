@@ -7,4 +7,4 @@ use Rattle.outcomes.proofs.text.add_notes.Given as goal
 -- the notes so far were added
 abbrev pub invariant-loop-note : goal.invariant-loop-note
 invariant-loop-note g l =
-    Buffers g.W.Out.contents g.W.Out.failures l.initial.text l.text (flat_map note_text (take l.note-index l.notes))
+    Buffers g.W.Out.sink l.initial.text l.text (flat_map note_text (take l.note-index l.notes))

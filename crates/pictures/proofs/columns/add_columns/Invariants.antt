@@ -6,4 +6,4 @@ use Rattle.pictures.proofs.columns.add_columns.Given as goal
 
 -- what came so far was added
 abbrev pub invariant-loop-instance : goal.invariant-loop-instance
-invariant-loop-instance g l = Buffers g.W.Out.contents g.W.Out.failures l.initial.text l.text (flat_map (column_text l.picture) (take l.instance-index l.drawn))
+invariant-loop-instance g l = Buffers g.W.Out.sink l.initial.text l.text (flat_map (column_text l.picture) (take l.instance-index l.drawn))

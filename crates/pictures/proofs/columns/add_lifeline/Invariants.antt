@@ -7,5 +7,5 @@ use Rattle.pictures.proofs.columns.add_lifeline.Given as goal
 abbrev pub invariant-loop-event : goal.invariant-loop-event
 invariant-loop-event g l = record {
   index : l.index ≡ l.event-index + 1;
-  come : HasCome g.W.Out.contents g.W.Out.failures l.initial.text l.text (life_text l.picture l.instance l.x l.index l.life (drop l.event-index l.events)) (lifeline l.picture l.instance l.x l.events);
+  come : HasCome g.W.Out.sink l.initial.text l.text (life_text l.picture l.instance l.x l.index l.life (drop l.event-index l.events)) (lifeline l.picture l.instance l.x l.events);
 }

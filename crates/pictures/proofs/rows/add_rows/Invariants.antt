@@ -6,4 +6,4 @@ use Rattle.pictures.proofs.rows.add_rows.Given as goal
 
 -- what came so far was added
 abbrev pub invariant-loop-row : goal.invariant-loop-row
-invariant-loop-row g l = Buffers g.W.Out.contents g.W.Out.failures l.initial.text l.text (flat_map (row_text l.picture) (take l.row-index l.rows))
+invariant-loop-row g l = Buffers g.W.Out.sink l.initial.text l.text (flat_map (row_text l.picture) (take l.row-index l.rows))

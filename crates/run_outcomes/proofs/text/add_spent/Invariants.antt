@@ -7,4 +7,4 @@ use Rattle.run_outcomes.proofs.text.add_spent.Given as goal
 -- the lines so far were added
 abbrev pub invariant-loop-name : goal.invariant-loop-name
 invariant-loop-name g l =
-    Buffers g.W.Out.contents g.W.Out.failures l.initial.text l.text (flat_map spent_text (take l.name-index l.names))
+    Buffers g.W.Out.sink l.initial.text l.text (flat_map spent_text (take l.name-index l.names))

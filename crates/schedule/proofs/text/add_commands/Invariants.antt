@@ -7,4 +7,4 @@ use Rattle.schedule.proofs.text.add_commands.Given as goal
 -- the commands so far were added
 abbrev pub invariant-loop-command : goal.invariant-loop-command
 invariant-loop-command g l =
-    Buffers g.W.Out.contents g.W.Out.failures l.initial.text l.text (flat_map (command_text l.names) (take l.command-index l.commands))
+    Buffers g.W.Out.sink l.initial.text l.text (flat_map (command_text l.names) (take l.command-index l.commands))

@@ -7,4 +7,4 @@ use Rattle.schedule.proofs.text.add_names.Given as goal
 -- the names so far were added
 abbrev pub invariant-loop-place : goal.invariant-loop-place
 invariant-loop-place g l =
-    Buffers g.W.Out.contents g.W.Out.failures l.initial.text l.text (flat_map behind_space (take l.place l.names))
+    Buffers g.W.Out.sink l.initial.text l.text (flat_map behind_space (take l.place l.names))

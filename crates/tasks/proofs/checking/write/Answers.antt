@@ -12,7 +12,7 @@ returns-in_err-finish g c =
     let same = sym (c.finish.ensures.same_out ∙ added.2.same_out ∙ c.new-text.ensures.out.0) in (
       added.0,
       added.1,
-      subst (λ end. Wrote g.W.Out.contents g.W.Out.failures c.args.out.now end c.from_residual-in_err-finish.result (races_text c.args.names.now added.0)) (sym (c.out-2-1.given.1 same))
+      subst (λ end. Wrote g.W.Out.sink c.args.out.now end c.from_residual-in_err-finish.result (races_text c.args.names.now added.0)) (sym (c.out-2-1.given.1 same))
           (wrote_failed _ _ c.from_residual-in_err-finish.result failed c.new-text.ensures.out.1 c.new-text.ensures.empty added.2 c.in_err-finish.ensures.wrote),
       none_told (λ has. has ≡ has_races added.0) c.from_residual-in_err-finish.result failed,
     )

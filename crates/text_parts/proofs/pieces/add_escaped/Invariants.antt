@@ -6,4 +6,4 @@ use Rattle.text_parts.proofs.pieces.add_escaped.Given as goal
 
 -- what came so far was added
 abbrev pub invariant-loop-byte : goal.invariant-loop-byte
-invariant-loop-byte g l = Buffers g.W.Out.contents g.W.Out.failures l.initial.text l.text (flat_map (escaped_byte) (take l.byte-index l.bytes))
+invariant-loop-byte g l = Buffers g.W.Out.sink l.initial.text l.text (flat_map (escaped_byte) (take l.byte-index l.bytes))

@@ -6,4 +6,4 @@ use Rattle.text_parts.proofs.pieces.add_pieces.Given as goal
 
 -- what came so far was added
 abbrev pub invariant-loop-piece : goal.invariant-loop-piece
-invariant-loop-piece g l = Buffers g.W.Out.contents g.W.Out.failures l.initial.text l.text (flat_map (piece_text) (take l.piece-index l.pieces))
+invariant-loop-piece g l = Buffers g.W.Out.sink l.initial.text l.text (flat_map (piece_text) (take l.piece-index l.pieces))

@@ -6,4 +6,4 @@ use Rattle.text_parts.proofs.race_words.add_next_ranges.Given as goal
 
 -- what came so far was added
 abbrev pub invariant-loop-range : goal.invariant-loop-range
-invariant-loop-range g l = Buffers g.W.Out.contents g.W.Out.failures l.initial.text l.text (flat_map (next_range) (take l.range-index l.ranges))
+invariant-loop-range g l = Buffers g.W.Out.sink l.initial.text l.text (flat_map (next_range) (take l.range-index l.ranges))

@@ -14,6 +14,6 @@ parted (y ∷ xs) x some is = ap (λ z. range_text z ++ flat_map next_range (tak
 
 pub returns-in_ok-add_range-in-len1-up : goal.returns-in_ok-add_range-in-len1-up
 returns-in_ok-add_range-in-len1-up g c =
-    subst (Adds g.W.Out.contents g.W.Out.failures c.args.text.now c.add_next_ranges.new.text c.add_next_ranges.result)
+    subst (Adds g.W.Out.sink c.args.text.now c.add_next_ranges.new.text c.add_next_ranges.result)
     (parted c.args.ranges.now c.first-item.result c.in-len1-up.len_at_least c.first-item.is)
     (adds_then c.add_next_ranges.new.text c.add_next_ranges.result _ c.in_ok-add_range-in-len1-up.ensures c.add_next_ranges.ensures)

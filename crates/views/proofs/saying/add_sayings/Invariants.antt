@@ -7,4 +7,4 @@ use Rattle.views.proofs.saying.add_sayings.Given as goal
 -- the lines so far were added
 abbrev pub invariant-loop-saying : goal.invariant-loop-saying
 invariant-loop-saying g l =
-    Buffers g.W.Out.contents g.W.Out.failures l.initial.text l.text (flat_map (saying_text l.names l.events) (take l.saying-index l.sayings))
+    Buffers g.W.Out.sink l.initial.text l.text (flat_map (saying_text l.names l.events) (take l.saying-index l.sayings))

@@ -9,7 +9,6 @@ show-requires-clause-several g c = let several = c.lines-lines.ensures.chart.sev
 
 pub returns-in-Ok : goal.returns-in-Ok
 returns-in-Ok g c origin begun is kept =
-    let contents = g.W.Out.contents in
-    let failures = g.W.Out.failures in
-    shows_from contents failures c.args.out.now c.write_shown.new.out c.args.names.now c.args.chart.now origin c.args.pair.now c.args.turned.now c.in-Ok.shown c.write_shown.result kept c.in-Ok.ensures.steps (c.in-Ok.ensures.shown (first_of origin) (chart_lines c.args.chart.now) _ _ begun is)
-    (subst (λ (l : List LineView). Writes contents failures c.args.out.now c.write_shown.new.out (chart_lines l) c.args.pair.now c.in-Ok.shown c.write_shown.result) c.lines-lines.ensures.value c.write_shown.ensures)
+    let sink = g.W.Out.sink in
+    shows_from sink c.args.out.now c.write_shown.new.out c.args.names.now c.args.chart.now origin c.args.pair.now c.args.turned.now c.in-Ok.shown c.write_shown.result kept c.in-Ok.ensures.steps (c.in-Ok.ensures.shown (first_of origin) (chart_lines c.args.chart.now) _ _ begun is)
+    (subst (λ (l : List LineView). Writes sink c.args.out.now c.write_shown.new.out (chart_lines l) c.args.pair.now c.in-Ok.shown c.write_shown.result) c.lines-lines.ensures.value c.write_shown.ensures)

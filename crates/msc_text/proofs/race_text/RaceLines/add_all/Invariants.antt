@@ -7,4 +7,4 @@ use Rattle.msc_text.proofs.race_text.RaceLines.add_all.Given as goal
 -- the races of the ranges so far were added
 abbrev pub invariant-loop-range : goal.invariant-loop-range
 invariant-loop-range g l =
-    Buffers g.W.Out.contents g.W.Out.failures l.initial.text l.text (flat_map (range_lines l.self.front l.self.end) (take l.range-index l.earlier))
+    Buffers g.W.Out.sink l.initial.text l.text (flat_map (range_lines l.self.front l.self.end) (take l.range-index l.earlier))

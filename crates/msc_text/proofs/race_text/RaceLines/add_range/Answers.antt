@@ -26,4 +26,4 @@ pub returns : goal.returns
 returns g c =
     let range = c.args.earlier.now in
     let whole = take_all c.loop-number.number (events_of range) (omega (arith, c.loop-number-test.false, events_from-length range.first.instance range.first.index range.count)) in
-    subst (Buffers g.W.Out.contents g.W.Out.failures c.args.text.now c.loop-number.text) (ap (flat_map (race_line c.args.self.now.front c.args.self.now.end)) whole) c.loop-number.invariant
+    subst (Buffers g.W.Out.sink c.args.text.now c.loop-number.text) (ap (flat_map (race_line c.args.self.now.front c.args.self.now.end)) whole) c.loop-number.invariant

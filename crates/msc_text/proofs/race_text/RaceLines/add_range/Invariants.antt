@@ -8,4 +8,4 @@ use Rattle.msc_text.proofs.race_text.RaceLines.add_range.Given as goal
 -- the races so far were added
 abbrev pub invariant-loop-number : goal.invariant-loop-number
 invariant-loop-number g l =
-    Buffers g.W.Out.contents g.W.Out.failures l.initial.text l.text (flat_map (race_line l.self.front l.self.end) (take l.number (events_of l.earlier)))
+    Buffers g.W.Out.sink l.initial.text l.text (flat_map (race_line l.self.front l.self.end) (take l.number (events_of l.earlier)))

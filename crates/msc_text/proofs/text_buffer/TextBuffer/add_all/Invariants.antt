@@ -6,4 +6,4 @@ use Rattle.msc_text.proofs.text_buffer.TextBuffer.add_all.Given as goal
 -- the pieces so far were added
 abbrev pub invariant-loop-piece : goal.invariant-loop-piece
 invariant-loop-piece g l =
-    Buffers g.W.Out.contents g.W.Out.failures l.initial.self l.self (flat_map (λ p. p.now) (take l.piece-index l.pieces))
+    Buffers g.W.Out.sink l.initial.self l.self (flat_map (λ p. p.now) (take l.piece-index l.pieces))

@@ -1,0 +1,128 @@
+//! What an instance passes messages by in a round: a post of a board, or rings by hand.
+use crate::load::Stopped;
+use crate::rings::{Instance, Message as HandMessage, make_instances};
+use board::{Board, Post, SendError, Taken};
+use chart::{InstanceNo, Message, Name};
+use std::alloc::Global;
+
+/// What reports list: how many events, and the sum of their ranges' first numbers.
+#[derive(Clone, Copy, Debug)]
+pub struct Seen {
+    pub listed: u64,
+    pub firsts: u64,
+}
+
+impl Seen {
+    /// A report lists a range of so many events more, the first of which has this number.
+    #[inline(always)]
+    fn add(&mut self, first: u32, count: u64) {
+        self.listed = self.listed.saturating_add(count);
+        self.firsts = self.firsts.saturating_add(u64::from(first));
+    }
+}
+
+/// Instances are named by their places, from 0. All messages have one name.
+pub trait End {
+    /// Sends a message with this body. Answers whether the lane had a slot.
+    fn send(&mut self, to: usize, body: Vec<u8>) -> Result<bool, Stopped>;
+
+    /// Receives a message, and looks through its report. Answers whether one waited.
+    fn receive(&mut self, from: usize, seen: &mut Seen) -> Result<bool, Stopped>;
+}
+
+/// A post of a board.
+#[derive(Drop)]
+pub struct PostEnd<'a> {
+    post: Post<'a>,
+    name: Name,
+}
+
+impl<'a> End for PostEnd<'a> {
+    #[inline(always)]
+    fn send(&mut self, to: usize, body: Vec<u8>) -> Result<bool, Stopped> {
+        let Some(to) = InstanceNo::new(to.saturating_add(1)) else {
+            return Err(Stopped);
+        };
+        let Ok(message) = Message::new(self.name, body) else {
+            return Err(Stopped);
+        };
+        match self.post.send(to, message) {
+            Ok(_) => Ok(true),
+            Err((_, SendError::Full)) => Ok(false),
+            Err(_) => Err(Stopped),
+        }
+    }
+
+    #[inline(always)]
+    fn receive(&mut self, from: usize, seen: &mut Seen) -> Result<bool, Stopped> {
+        let Some(from) = InstanceNo::new(from.saturating_add(1)) else {
+            return Err(Stopped);
+        };
+        match self.post.receive(from) {
+            Ok(Taken::Got(arrival)) => {
+                for range in arrival.report.earlier().as_slice() {
+                    seen.add(range.first.index, range.count as u64);
+                }
+                Ok(true)
+            }
+            Ok(Taken::Nothing) => Ok(false),
+            _ => Err(Stopped),
+        }
+    }
+}
+
+/// The posts of a board, in order of their instances.
+pub fn post_ends(alloc: Global, board: &mut Board) -> anyhow::Result<Vec<PostEnd<'_>>> {
+    let name = Name::new(b"m")?;
+    let mut ends = Vec::new(alloc);
+    for post in board.posts()? {
+        ends.push(PostEnd { post, name })?;
+    }
+    Ok(ends)
+}
+
+/// An instance over rings.
+#[derive(Drop)]
+pub struct HandEnd {
+    instance: Instance,
+    name: [u8; 32],
+}
+
+impl End for HandEnd {
+    #[inline(always)]
+    fn send(&mut self, to: usize, body: Vec<u8>) -> Result<bool, Stopped> {
+        let name = self.name;
+        let message = HandMessage { name, body };
+        match self.instance.send(to, message) {
+            Ok(back) => Ok(back.is_none()),
+            Err(_) => Err(Stopped),
+        }
+    }
+
+    #[inline(always)]
+    fn receive(&mut self, from: usize, seen: &mut Seen) -> Result<bool, Stopped> {
+        match self.instance.receive(from) {
+            Ok(None) => return Ok(false),
+            Ok(Some(_message)) => {}
+            Err(_) => return Err(Stopped),
+        }
+        let Some(report) = self.instance.last_report() else {
+            return Err(Stopped);
+        };
+        for range in report.ranges.as_slice() {
+            seen.add(range.first, u64::from(range.count));
+        }
+        Ok(true)
+    }
+}
+
+/// So many instances over rings, in their order.
+pub fn hand_ends(alloc: Global, instances: usize, capacity: usize) -> anyhow::Result<Vec<HandEnd>> {
+    let mut name = [0; 32];
+    name[0] = b'm';
+    let mut ends = Vec::new(alloc);
+    for instance in make_instances(alloc, instances, capacity)? {
+        ends.push(HandEnd { instance, name })?;
+    }
+    Ok(ends)
+}

@@ -1,0 +1,49 @@
+-- What is written of a chart that no run has: nothing.
+use Rattle.std.proofs.Common.{◌≡◌, ℕ, ◌⊎◌, inl, inr, List, Err, refl}
+use Rattle.files.specs.declared.error.ProgramError.{ProgramError}
+use Rattle.files.specs.declared.error.ProgramError.TheVariants.{Usage, File, Memory, Text, ReceiveWithoutSend, NameMismatch, Cyclic, Write}
+use Rattle.files.specs.Files.{Named, IsRefused}
+use Rattle.msc_text.specs.Outs.{Sink}
+use Rattle.formats.specs.declared.drawing.Wanted.{Wanted}
+use Rattle.formats.specs.declared.error.FormatError.TheVariants.{Program}
+use Rattle.formats.specs.declared.target.Target.{Target}
+use Rattle.formats.specs.Columns.{AreColumns}
+use Rattle.formats.specs.Drawing.{only_of, Draws}
+use Rattle.formats.specs.Exporting.{Exports}
+
+module _ {S : Type 0} (sink : S → Sink) (old : S) (named : Named) where
+  module _ (wanted : Wanted) (columns : List ℕ) (are : AreColumns named.0 (only_of wanted) columns) where
+    pub not_drawn : (error : ProgramError) → (error ≡ Memory) ⊎ IsRefused error named → Draws sink old old (Err (Program error)) wanted named
+    not_drawn Memory why = refl
+    not_drawn Usage (inl is) = cc
+    not_drawn Usage (inr refused) = absurd refused
+    not_drawn File (inl is) = cc
+    not_drawn File (inr refused) = absurd refused
+    not_drawn (Text fault) (inl is) = cc
+    not_drawn (Text fault) (inr refused) = absurd refused
+    not_drawn (ReceiveWithoutSend p index) (inl is) = cc
+    not_drawn (ReceiveWithoutSend p index) (inr refused) = (columns, are, refused, refl)
+    not_drawn (NameMismatch p index) (inl is) = cc
+    not_drawn (NameMismatch p index) (inr refused) = (columns, are, refused, refl)
+    not_drawn Cyclic (inl is) = cc
+    not_drawn Cyclic (inr refused) = (columns, are, refused, refl)
+    not_drawn Write (inl is) = cc
+    not_drawn Write (inr refused) = absurd refused
+
+  module _ (target : Target) where
+    pub not_exported : (error : ProgramError) → (error ≡ Memory) ⊎ IsRefused error named → Exports sink old old (Err (Program error)) target named
+    not_exported Memory why = refl
+    not_exported Usage (inl is) = cc
+    not_exported Usage (inr refused) = absurd refused
+    not_exported File (inl is) = cc
+    not_exported File (inr refused) = absurd refused
+    not_exported (Text fault) (inl is) = cc
+    not_exported (Text fault) (inr refused) = absurd refused
+    not_exported (ReceiveWithoutSend p index) (inl is) = cc
+    not_exported (ReceiveWithoutSend p index) (inr refused) = (refused, refl)
+    not_exported (NameMismatch p index) (inl is) = cc
+    not_exported (NameMismatch p index) (inr refused) = (refused, refl)
+    not_exported Cyclic (inl is) = cc
+    not_exported Cyclic (inr refused) = (refused, refl)
+    not_exported Write (inl is) = cc
+    not_exported Write (inr refused) = absurd refused

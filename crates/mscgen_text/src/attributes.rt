@@ -1,0 +1,151 @@
+//! Attributes: what stands between `[` and `]`.
+ghost use Rattle.std.specs.Prelude.{◌≡◌, ◌≤◌, ◌<◌, length, map, option_map, IfOk};
+ghost use Rattle.mscgen_text.specs.Attributes.{attributes_view, with_digit, number_in, with_attribute};
+ghost use Rattle.mscgen_text.specs.Attributes.{attribute_name_in, attribute_in, attributes_at, attributes_in};
+ghost use Rattle.mscgen_text.specs.Reading.{Sees, Finds};
+ghost use Rattle.mscgen_text.specs.Tokens.{seen};
+
+use crate::reading::{Left, behind_mark, name_in, next_word, skip_mark};
+use crate::token::Token;
+use crate::words::{AttributeName, attribute_name};
+
+/// What attributes say.
+#[derive(Clone, Copy, Debug)]
+pub(crate) struct Attributes<'a> {
+    pub label: Option<&'a [u8]>,
+    /// So many rows further down an arc ends.
+    pub skip: u32,
+}
+
+/// What no attributes say.
+const PLAIN: Attributes<'static> = Attributes {
+    label: None,
+    skip: 0,
+};
+
+/// A number with one digit more, where it has 32 bits.
+#[tactic(auto, unfolding(crate::specs::Attributes::with_digit))]
+fn with_digit(number: u32, digit: u8) -> Option<u32>
+    ensures { result ≡ with_digit number digit }
+{
+    if digit < b'0' || b'9' < digit {
+        return None;
+    }
+    let more = u64::from(number) * 10 + u64::from(digit - b'0');
+    if more < 4294967296 {
+        Some(more as u32)
+    } else {
+        None
+    }
+}
+
+/// The number that these decimal digits say, where it has 32 bits.
+#[tactic(auto, unfolding(crate::specs::Attributes::number_in))]
+fn number_in(digits: &[u8]) -> Option<u32>
+    ensures { result ≡ number_in digits.now }
+{
+    if digits.is_empty() {
+        return None;
+    }
+    let mut number = 0u32;
+    for digit in digits {
+        number = with_digit(number, *digit)?;
+    }
+    Some(number)
+}
+
+/// What one attribute more says, if it is one.
+fn with_attribute<'a>(
+    so_far: Attributes<'a>,
+    name: AttributeName,
+    value: &'a [u8],
+) -> Option<Attributes<'a>>
+    ensures { Finds attributes_view result (with_attribute (attributes_view so_far.entry) name value.now) }
+{
+    match name {
+        AttributeName::Label => Some(Attributes {
+            label: Some(value),
+            skip: so_far.skip,
+        }),
+        AttributeName::Skip => match number_in(value) {
+            Some(skip) => Some(Attributes {
+                label: so_far.label,
+                skip,
+            }),
+            None => None,
+        },
+        AttributeName::Style => Some(so_far),
+    }
+}
+
+/// The attribute's name that has to come next, and what stands behind it.
+#[tactic(auto, unfolding(crate::specs::Attributes::attribute_name_in))]
+fn attribute_name_in<'t, 'a>(
+    tokens: &'t [Token<'a>],
+) -> Result<(AttributeName, &'t [Token<'a>]), &'t [Token<'a>]>
+    ensures name { Sees (λ name. (name.0, map seen name.1.now)) result (attribute_name_in (map seen tokens.now)) }
+    ensures shorter { IfOk result (λ name. length name.1.now < length tokens.now) }
+{
+    let Some((word, rest)) = next_word(tokens) else {
+        return Err(tokens);
+    };
+    match attribute_name(word) {
+        Some(name) => Ok((name, rest)),
+        None => Err(tokens),
+    }
+}
+
+/// An attribute, added to what others say, and what stands behind it.
+#[tactic(auto, unfolding(crate::specs::Attributes::attribute_in))]
+fn attribute_in<'t, 'a>(
+    so_far: Attributes<'a>,
+    tokens: &'t [Token<'a>],
+) -> Result<(Attributes<'a>, &'t [Token<'a>]), &'t [Token<'a>]>
+    ensures next { Sees (λ next. (attributes_view next.0, map seen next.1.now)) result
+        (attribute_in (attributes_view so_far.entry) (map seen tokens.now)) }
+    ensures shorter { IfOk result (λ next. length next.1.now < length tokens.now) }
+{
+    let (name, behind_name) = attribute_name_in(tokens)?;
+    let value_tokens = behind_mark(b'=', behind_name)?;
+    let (value, rest) = name_in(value_tokens)?;
+    match with_attribute(so_far, name, value) {
+        Some(more) => Ok((more, rest)),
+        None => Err(value_tokens),
+    }
+}
+
+/// Attributes with commas between them, and what stands behind the bracket that ends them.
+fn attributes_at<'t, 'a>(
+    tokens: &'t [Token<'a>],
+) -> Result<(Attributes<'a>, &'t [Token<'a>]), &'t [Token<'a>]>
+    ensures attributes { Sees (λ next. (attributes_view next.0, map seen next.1.now)) result
+        (attributes_at (map seen tokens.now)) }
+    ensures shorter { IfOk result (λ next. length next.1.now < length tokens.now) }
+{
+    let mut so_far = PLAIN;
+    let mut left = Left { tokens };
+    'attributes: loop {
+        let (more, behind) = attribute_in(so_far, left.tokens)?;
+        so_far = more;
+        let Some(others) = skip_mark(b',', behind) else {
+            let end = behind_mark(b']', behind)?;
+            return Ok((so_far, end));
+        };
+        left = Left { tokens: others };
+    }
+}
+
+/// The attributes that may stand here, and what stands behind them.
+#[tactic(auto, unfolding(crate::specs::Attributes::attributes_in))]
+pub(crate) fn attributes_in<'t, 'a>(
+    tokens: &'t [Token<'a>],
+) -> Result<(Attributes<'a>, &'t [Token<'a>]), &'t [Token<'a>]>
+    ensures attributes { Sees (λ next. (attributes_view next.0, map seen next.1.now)) result
+        (attributes_in (map seen tokens.now)) }
+    ensures within { IfOk result (λ next. length next.1.now ≤ length tokens.now) }
+{
+    match skip_mark(b'[', tokens) {
+        Some(rest) => attributes_at(rest),
+        None => Ok((PLAIN, tokens)),
+    }
+}
