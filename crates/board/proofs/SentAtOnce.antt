@@ -1,5 +1,5 @@
 -- Messages in the slots of a lane, sent by one store.
-use Rattle.std.proofs.Common.{◌≡◌, ℕ, ◌+◌, ◌≤◌, false, List, [], length, drop, sym, ap, ◌∙◌, subst, arith}
+use Rattle.std.proofs.Common.{◌≡◌, ℕ, ◌+◌, ◌≤◌, false, List, [], ◌∷◌, ◌++◌, length, drop, sym, ap, ◌∙◌, subst, arith}
 use Rattle.std.proofs.lemmas.List.{length-map}
 use Rattle.chart.specs.declared.history.Occurrence.{Occurrence}
 use Rattle.chart.specs.declared.line.TheConstants.{MAX_EVENTS}
@@ -18,7 +18,7 @@ use Rattle.board_table.specs.Plays.{Publishes}
 use Rattle.board.specs.declared.ends.Outgoing.{Outgoing}
 use Rattle.board.specs.Known.{IsOutgoing, Did}
 use Rattle.board.specs.Sending.{sends_of}
-use Rattle.board.specs.Parts.{HasSlots}
+use Rattle.board.specs.Parts.{MayPut, HasSlots}
 use Rattle.board.specs.SendingMany.{names_of, packets_of, AreDiffsTo, last_of}
 use Rattle.board.proofs.EndLemmas.{outgoing_later}
 use Rattle.board.proofs.DidLemmas.{did_move}
@@ -50,6 +50,21 @@ fills_of l m s f r u ms ds legal its did recorder end slots kept filled are = re
   kept = kept;
   filled = filled;
   are = packets_contents ms ds (as_many_diffs u.base r l.receiver ms ds are);
+}
+
+-- with one packet, which carries its message with the sender's next clock
+pub fills_one : (l : LaneView) (m s f : Mine) (r : RecorderView) (e u : Outgoing) (message : Content) (x : Packet) → MayPut l 1 m e r → Did l.instances l.capacity l.sender (held m) (held s) (held s).seen [] → IsOutgoing l.instances (held s).seen l.sender l.receiver u
+    → HasSlots l 1 s → held f ≡ held s → packets_out f ≡ packets_out s ++ x ∷ [] → x.message ≡ message → Fills l m s f r u (message ∷ []) (x ∷ [])
+fills_one l m s f r e u message x may did end slots kept filled same = record {
+  legal = may.legal;
+  its = may.own;
+  did = did;
+  recorder = may.recorded;
+  end = end;
+  number = slots.filling.post.number;
+  kept = kept;
+  filled = filled ∙ ap (λ (xs : List Packet). xs ++ x ∷ []) slots.unfilled;
+  are = ap (λ (one : Content). one ∷ []) same;
 }
 
 module _ (l : LaneView) (m s f : Mine) (r : RecorderView) (u : Outgoing) (ms : List Content) (xs : List Packet) (fills : Fills l m s f r u ms xs) where

@@ -20,7 +20,7 @@ use Rattle.clock.proofs.EntryLemmas.{length-with_entry}
 use Rattle.line_recorder.proofs.Recording.{IsRecorder-send}
 use Rattle.board_core.specs.Parcels.{next_clock}
 use Rattle.board_table.specs.declared.packet.Packet.{Packet}
-use Rattle.board_table.specs.Carrying.{AreNext, with_sent}
+use Rattle.board_table.specs.Carrying.{Carries, AreNext, with_sent}
 use Rattle.board.specs.declared.ends.Outgoing.{Outgoing}
 use Rattle.board.specs.declared.ends.Incoming.{Incoming}
 use Rattle.board.specs.Known.{IsOutgoing, AreEndsBut}
@@ -81,6 +81,12 @@ sender_sent n h p q m r its = record {
   line = rw (line_after_send h p q m) (ap (λ (l : LineView). record l { events = l.events ++ send_event q m.name ∷ [] }) its.line);
   knowledge = rw (eq-eqb p p refl) (sender_clock n h p r its);
 }
+
+-- a packet that carries a message with the sender's next clock is p's next send
+pub next_one : (n p q : ℕ) (m : Content) (x : Packet) (base : List ℕ) (h : List Occurrence) (r : RecorderView) → IsSender n h p r → Carries base x (record { message = m; clock = send_clock r }) → AreNext n base h p q (x ∷ [])
+next_one n p q m x base h r its carries =
+    let clock = sender_clock n h p r its in
+    (record { message = refl; within = carries.within; exact = subst (λ after. IsDiff base after x.diff) clock carries.exact; clock = carries.clock ∙ clock }, tt)
 
 -- packets with these differences are p's next sends
 pub are_next : (n p q : ℕ) (ms : List Content) (ds : List (List Change)) (base : List ℕ) (h : List Occurrence) (r : RecorderView) → IsSender n h p r → AreDiffsTo base ds (send_clocks r q (names_of ms)) → AreNext n base h p q (packets_of ms ds)

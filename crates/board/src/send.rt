@@ -37,7 +37,6 @@ impl<'a> Post<'a> {
             &lane,
             &mut self.recorder,
             end,
-            to,
             capacity,
             message,
         ) {

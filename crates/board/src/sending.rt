@@ -1,12 +1,9 @@
 //! Sends.
-ghost use Rattle.std.specs.Prelude.{◌≡◌, ◌≢◌, ◌+◌, ◌-◌, ◌<◌, ◌≤◌, true, false, [], ◌∷◌, length, drop, All, Ok, Err};
-ghost use Rattle.std.specs.Prelude.{OnOk, OnErr, IfOk, IfErr, IsOk};
+ghost use Rattle.std.specs.Prelude.{◌≡◌, ◌≢◌, ◌+◌, ◌-◌, ◌<◌, ◌≤◌, true, false, [], ◌∷◌, drop, OnOk, OnErr, IfErr};
 ghost use Rattle.chart.specs.Histories.{own, IsLegal};
 ghost use Rattle.chart.specs.declared.history.Occurrence.TheVariants as occurrence;
 ghost use Rattle.chart.specs.declared.line.TheConstants.{MAX_EVENTS};
-ghost use Rattle.clock.specs.Diffs.{IsDiff, apply_diff};
 ghost use Rattle.clock.specs.declared.clock.TheConstants.{INLINE_ENTRIES};
-ghost use Rattle.line_recorder.specs.Recorders.{send_clock, after_send};
 ghost use Rattle.line_recorder.specs.Recording.{IsRecorder};
 ghost use Rattle.chart.specs.declared.history.TheConstants.{MAX_CAPACITY};
 ghost use Rattle.board_table.specs.Layout.{IsBoard};
@@ -17,12 +14,10 @@ ghost use Rattle.board.specs.Parts.{MayPut, HasSlots, HasNoSlots, IsUnmade};
 use crate::ends::Outgoing;
 use crate::error::SendError;
 use board_table::{
-    Lane, Packet, Seat, Words, claim_again, claim_anew, fill, give_back_vacant, publish,
+    Lane, Seat, Words, claim_again, claim_anew, fill_recorded, give_back_vacant, publish,
 };
-use chart::{InstanceNo, MAX_EVENTS, Message, Name};
-use clock::{Clock, Diff};
+use chart::Message;
 use line_recorder::Recorder;
-use std::alloc::AllocError;
 
 /// Takes all slots of the lane that are free, if there are so many, and else none. It looks at the receiver's word
 /// only where the number that is known leaves too few.
@@ -66,34 +61,6 @@ pub(crate) fn claim_slots(
     false
 }
 
-/// Records a send, and answers what changed in the clock since the base.
-///
-/// F6: it fails only where there is no memory, and then nothing is recorded. With room, up to [`clock::INLINE_ENTRIES`]
-/// instances, it takes none.
-#[inline(always)]
-fn record(
-    recorder: &mut Recorder,
-    base: &Clock,
-    to: InstanceNo,
-    name: Name,
-) -> Result<Diff, AllocError>
-    requires among { to ≤ length recorder.old.knowledge }
-    requires not_itself { to ≢ recorder.old.line.instance }
-    requires base { length base.now ≡ length recorder.old.knowledge }
-    requires room { length recorder.old.line.events < MAX_EVENTS }
-    ensures ok { OnOk result (recorder.new ≡ after_send recorder.old to name) }
-    ensures exact { IfOk result (IsDiff base.now (send_clock recorder.old)) }
-    ensures clock { IfOk result (λ diff. apply_diff base.now diff ≡ send_clock recorder.old) }
-    ensures within { IfOk result (All (λ change. change.instance ≤ length base.now)) }
-    ensures succeeds { 0 < recorder.old.room → length recorder.old.knowledge ≤ INLINE_ENTRIES → IsOk result }
-    ensures err { OnErr result (recorder.new ≡ recorder.old) }
-{
-    match recorder.send_over(to, name, base) {
-        Ok(diff) => Ok(diff),
-        Err(_) => Err(AllocError),
-    }
-}
-
 /// Sends a message on an open lane, whose sender's line has room for it.
 #[inline(always)]
 pub(crate) fn send_one(
@@ -102,14 +69,12 @@ pub(crate) fn send_one(
     lane: &Lane,
     recorder: &mut Recorder,
     end: &mut Outgoing,
-    to: InstanceNo,
     capacity: usize,
     message: Message,
 ) -> Result<(), (Message, SendError)>
     requires table { seat.old.table_id ≡ words.now.table_id }
     requires board { IsBoard lane.now.instances lane.now.capacity words.now.key words.now.table_id }
     requires may_put { MayPut lane.now 1 seat.old.me end.old recorder.old }
-    requires to { to ≡ lane.now.receiver }
     requires capacity { capacity ≡ lane.now.capacity }
     ensures table { seat.new.table_id ≡ seat.old.table_id }
     ensures rests { Rests lane.now.instances lane.now.capacity lane.now.sender seat.new.me }
@@ -127,12 +92,11 @@ pub(crate) fn send_one(
     if !claim_slots(words, seat, lane, end, capacity, 1) {
         return Err((message, SendError::Full));
     }
-    let Ok(diff) = record(recorder, &end.base, to, message.name()) else {
+    let put = end.put;
+    if let Err(message) = fill_recorded(words, seat, lane, put, recorder, &mut end.base, message) {
         give_back_vacant(words, seat, lane);
         return Err((message, SendError::Memory));
-    };
-    end.base.apply(&diff);
-    fill(words, seat, lane, end.put, Packet { message, diff });
+    }
     end.put += 1;
     publish(words, seat, lane, end.put);
     Ok(())

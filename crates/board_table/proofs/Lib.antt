@@ -10,6 +10,7 @@ pub mod Receiving
 pub mod ReceiverSeats
 pub mod SenderSeats
 pub mod Sending
+pub mod SlotMasks
 pub mod Stepping
 pub mod Views
 pub mod Windows

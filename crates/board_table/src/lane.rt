@@ -1,5 +1,5 @@
 //! The lane from one instance of a board to another, and where its words and slots lie.
-ghost use Rattle.std.specs.Prelude.{◌≡◌, ◌≢◌, ℕ, ◌≤◌, ◌<◌};
+ghost use Rattle.std.specs.Prelude.{◌≡◌, ◌≢◌, ℕ, ◌%◌, ◌≤◌, ◌<◌};
 ghost use Rattle.chart.specs.Histories.{AreTwo};
 ghost use Rattle.chart.specs.declared.instance.TheConstants.{MAX_INSTANCES};
 ghost use Rattle.chart.specs.declared.history.TheConstants.{MAX_CAPACITY};
@@ -37,6 +37,20 @@ impl Model for Lane {
         × (1 ≤ l.shape.capacity) × (l.shape.capacity ≤ MAX_CAPACITY) };
 }
 
+/// Which of a lane's slots, from 0, has the message before which so many were sent: they are used in turn. Where their
+/// number is a power of two it takes no division.
+#[inline(always)]
+fn slot_in_turn(count: usize, capacity: usize) -> usize
+    requires { 1 ≤ capacity }
+    ensures { result ≡ count % capacity }
+{
+    if capacity & (capacity - 1) == 0 {
+        count & (capacity - 1)
+    } else {
+        count % capacity
+    }
+}
+
 impl Lane {
     /// The lane between these two instances.
     #[inline(always)]
@@ -66,6 +80,15 @@ impl Lane {
         ensures two { AreTwo self.now.instances self.now.sender self.now.receiver }
     {
         self.sender
+    }
+
+    /// Who receives on it.
+    #[inline(always)]
+    pub(crate) fn receiver(&self) -> InstanceNo
+        ensures value { result ≡ self.now.receiver }
+        ensures two { AreTwo self.now.instances self.now.sender self.now.receiver }
+    {
+        self.receiver
     }
 
     /// The word that has how many messages were sent, twice, and one more when the lane is closed.
@@ -100,6 +123,6 @@ impl Lane {
         ensures some { 1 ≤ self.now.capacity }
     {
         (self.sender.place() * self.shape.instances + self.receiver.place()) * self.shape.capacity
-            + count as usize % self.shape.capacity
+            + slot_in_turn(count as usize, self.shape.capacity)
     }
 }

@@ -8,11 +8,13 @@ pub mod Cycles
 pub mod Existence
 pub mod Growing
 pub mod Histories
+pub mod HeldNames
 pub mod HistoryLines
 pub mod InRegions
 pub mod Knowledge
 pub mod Lanes
 pub mod Layouts
+pub mod NameBytes
 pub mod NameLists
 pub mod Places
 pub mod RangeLists

@@ -1,13 +1,20 @@
--- Bytes held in a place of a fixed size, with zeros behind them (this project's profile).
-use Rattle.std.specs.Prelude.{◌≡◌, ℕ, ◌-◌, ◌≤◌, List, ◌++◌, length, take, drop, replicate}
-use Rattle.std.proofs.Common.{arith, take-append-drop, length-take-le}
+-- A name's bytes as they are held, in a place of a fixed size (this project's profile).
+use Rattle.std.specs.Prelude.{ℕ, ◌-◌, ◌==◌, List, ◌++◌, length, take, replicate, nat_le, slice_index, slice_set}
+use Rattle.std.specs.Prelude.{if◌then◌else◌}
+use Rattle.chart.specs.declared.name.TheConstants.{MAX_NAME}
 
--- the bytes and the zeros behind them are what is held
-pub unpadded : (size len : ℕ) (held : List ℕ) → len ≤ size → drop len held ≡ replicate (size - len) 0
-    → length held ≡ size → take len held ++ replicate (size - length (take len held)) 0 ≡ held
-unpadded size len held short zeros full =
-    let e : length (take len held) ≡ len = length-take-le len held (omega arith) in
-    rw (e, ← zeros) (take-append-drop len held)
+-- the name's bytes; behind fewer than the most zeros, and in the last place how many there are too few
+abbrev pub padded : List ℕ → List ℕ
+padded w =
+    if length w == MAX_NAME then w
+    else slice_set (w ++ replicate (MAX_NAME - length w) 0) (MAX_NAME - 1) (MAX_NAME - length w)
 
-pub length-unpadded : (size len : ℕ) (held : List ℕ) → len ≤ size → length held ≡ size → length (take len held) ≡ len
-length-unpadded size len held short full = length-take-le len held (omega arith)
+-- how many of the bytes that are held are the name's, whose own are all greater than a number of bytes
+abbrev pub held_len : List ℕ → ℕ
+held_len held =
+    if nat_le MAX_NAME (slice_index held (MAX_NAME - 1)) then MAX_NAME
+    else MAX_NAME - slice_index held (MAX_NAME - 1)
+
+-- the name's bytes of those that are held
+abbrev pub unpadded : List ℕ → List ℕ
+unpadded held = take (held_len held) held

@@ -5,6 +5,7 @@ ghost use Rattle.std.specs.Cmp.Lexicographic.{pointwise, nat_list_eq_equiv};
 ghost use Rattle.std.specs.Cmp.Rules.{hashing};
 ghost use Rattle.std.proofs.Common.{rules};
 ghost use Rattle.chart.specs.Names.{IsName, name_of, bad_place, is_letter, is_name_byte};
+ghost use Rattle.chart.specs.Padding.{held_len};
 ghost use Rattle.chart.specs.declared.name.TheConstants.{MAX_NAME};
 
 use crate::keyword::is_reserved;
@@ -36,32 +37,29 @@ pub enum NameError {
 }
 
 /// The name of an instance or of a message: 1 to [`MAX_NAME`] bytes, held in place. A contract sees the bytes.
+///
+/// Behind a shorter name stand zeros, and in the last place how many bytes it is short of the most. No byte of a name is
+/// less than [`MAX_NAME`]; so the last one tells which it is, and two names are the same where all 32 bytes are.
 #[derive(Clone, Copy, Debug)]
 pub struct Name {
     bytes: [u8; MAX_NAME],
-    len: u64,
 }
 
 impl Model for Name {
-    ghost use Rattle.std.specs.Prelude.{◌≡◌, ◌≤◌, ◌-◌, ◌++◌, ℕ, List, length, take, drop, replicate};
-    ghost use Rattle.chart.specs.declared.name.TheConstants.{MAX_NAME};
+    ghost use Rattle.std.specs.Prelude.{◌≡◌, ℕ, List};
 
     ghost Value = { List ℕ };
 
     ghost use Rattle.chart.specs.Names.{IsName};
-    ghost use Rattle.chart.specs.Padding.{unpadded, length-unpadded};
+    ghost use Rattle.chart.specs.Padding.{padded, unpadded};
 
-    ghost view = { λ n. take n.len n.bytes };
+    ghost view = { λ n. unpadded n.bytes };
 
-    ghost invariant = { λ n. (n.len ≤ MAX_NAME) × IsName (take n.len n.bytes)
-        × (drop n.len n.bytes ≡ replicate (MAX_NAME - n.len) 0) × (length n.bytes ≡ MAX_NAME) };
+    ghost invariant = { λ n. IsName (unpadded n.bytes) × (padded (unpadded n.bytes) ≡ n.bytes) };
 
-    ghost inverse = { λ w. record { bytes = w ++ replicate (MAX_NAME - length w) 0; len = length w } };
+    ghost inverse = { λ w. record { bytes = padded w } };
 
-    ghost inverse_ok = { λ n h i. record {
-      bytes = unpadded MAX_NAME n.len n.bytes h.0 h.2 h.3 i;
-      len = length-unpadded MAX_NAME n.len n.bytes h.0 h.3 i;
-    } };
+    ghost inverse_ok = { λ n h i. record { bytes = h.1 i } };
 }
 
 fn is_letter(byte: u8) -> bool
@@ -108,6 +106,20 @@ fn zeros() -> [u8; MAX_NAME]
     [0; MAX_NAME]
 }
 
+/// How many of the bytes that are held are the name's.
+#[inline(always)]
+fn held_len(held: &[u8; MAX_NAME]) -> usize
+    ensures value { result ≡ held_len held.now }
+    ensures within { result ≤ MAX_NAME }
+{
+    let last = held[MAX_NAME - 1] as usize;
+    if last >= MAX_NAME {
+        MAX_NAME
+    } else {
+        MAX_NAME - last
+    }
+}
+
 impl Name {
     /// The bytes as a name, or the first of F1 to F4 that applies. It takes no memory.
     #[tactic(auto, unfolding(crate::specs::Names::name_of))]
@@ -137,10 +149,10 @@ impl Name {
     {
         let mut held = zeros();
         held[..bytes.len()].copy_from_slice(bytes);
-        Name {
-            bytes: held,
-            len: bytes.len() as u64,
+        if bytes.len() < MAX_NAME {
+            held[MAX_NAME - 1] = (MAX_NAME - bytes.len()) as u8;
         }
+        Name { bytes: held }
     }
 
     #[inline(always)]
@@ -149,7 +161,7 @@ impl Name {
         ensures name { IsName result.now }
         ensures short { length result.now ≤ MAX_NAME }
     {
-        &self.bytes[..self.len as usize]
+        &self.bytes[..held_len(&self.bytes)]
     }
 }
 
@@ -159,7 +171,7 @@ impl PartialEq for Name {
     ghost laws = { partial_equiv_from_equiv nat_list_eq_equiv };
 
     fn eq(&self, other: &Name) -> bool {
-        self.as_bytes() == other.as_bytes()
+        self.bytes == other.bytes
     }
 }
 

@@ -1,12 +1,12 @@
 //! The clock of an instance.
-ghost use Rattle.std.specs.Prelude.{◌≡◌, ◌≤◌, length, replicate, nat_eq, All, IsOk, IfOk};
+ghost use Rattle.std.specs.Prelude.{◌≡◌, ◌≤◌, length, replicate, nat_eq, All, IsOk, IfOk, OnOk};
 ghost use Rattle.std.specs.Cmp.{partial_equiv_from_equiv};
 ghost use Rattle.std.specs.Cmp.Lexicographic.{pointwise, nat_list_eq_equiv};
 ghost use Rattle.clock.specs.Clocks.{entry_of, with_entry, merged};
 ghost use Rattle.clock.specs.Diffs.{IsDiff, apply_diff};
 
 use crate::Diff;
-use crate::entries::{changes, entry_after, raise, set_changes};
+use crate::entries::{entry_after, find_changes, raise, set_changes};
 use chart::{InstanceNo, MAX_INSTANCES};
 use smallvec::SmallVec;
 use std::alloc::{AllocError, Global};
@@ -142,9 +142,29 @@ impl Clock {
         ensures at_most { IfOk result (λ diff. length diff ≤ length self.now) }
         ensures succeeds { length self.now ≤ INLINE_ENTRIES → IsOk result }
     {
-        Ok(Diff {
-            changes: changes(alloc, self.entries.as_slice(), base.entries.as_slice())?,
-        })
+        let mut diff = Diff::none(alloc);
+        self.diff_into(base, &mut diff)?;
+        Ok(diff)
+    }
+
+    /// Makes the difference that of the entries that differ from `base`'s, as [`Clock::diff_from`] answers it, in place.
+    /// What it had is dropped, also where it is refused.
+    ///
+    /// F6: it fails only where there is no memory, and up to [`INLINE_ENTRIES`] instances it takes none.
+    #[inline(always)]
+    pub fn diff_into(&self, base: &Clock, diff: &mut Diff) -> Result<(), AllocError>
+        requires { length self.now ≡ length base.now }
+        ensures exact { OnOk result (IsDiff base.now self.now diff.new) }
+        ensures restores { OnOk result (apply_diff base.now diff.new ≡ self.now) }
+        ensures within { OnOk result (All (λ change. change.instance ≤ length self.now) diff.new) }
+        ensures at_most { OnOk result (length diff.new ≤ length self.now) }
+        ensures succeeds { length self.now ≤ INLINE_ENTRIES → IsOk result }
+    {
+        find_changes(
+            self.entries.as_slice(),
+            base.entries.as_slice(),
+            &mut diff.changes,
+        )
     }
 
     /// Sets the entries that the difference lists. It takes no memory.

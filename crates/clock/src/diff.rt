@@ -1,9 +1,10 @@
 //! The differences between clocks.
-ghost use Rattle.std.specs.Prelude.{◌≡◌, ◌==◌, length};
+ghost use Rattle.std.specs.Prelude.{◌≡◌, ◌==◌, [], length};
 
 use crate::INLINE_ENTRIES;
 use chart::InstanceNo;
 use smallvec::SmallVec;
+use std::alloc::Global;
 use std::marker::Model;
 
 /// A changed entry of a clock.
@@ -43,6 +44,16 @@ impl Model for Diff {
 }
 
 impl Diff {
+    /// No changes. It takes no memory.
+    #[inline(always)]
+    pub fn none(alloc: Global) -> Diff
+        ensures { result ≡ [] }
+    {
+        Diff {
+            changes: SmallVec::new(alloc),
+        }
+    }
+
     /// The changes, rising by instance.
     #[inline(always)]
     pub fn changes(&self) -> &[Change]

@@ -1,5 +1,5 @@
 //! What clocks do to their entries, as slices.
-ghost use Rattle.std.specs.Prelude.{◌≡◌, ◌≤◌, length, All, IsOk, IfOk};
+ghost use Rattle.std.specs.Prelude.{◌≡◌, ◌≤◌, length, All, IsOk, OnOk};
 ghost use Rattle.smallvec.specs.SmallVec.{small_vec_len};
 ghost use Rattle.clock.specs.Clocks.{entry_of, merged};
 ghost use Rattle.clock.specs.Diffs.{IsDiff, apply_diff};
@@ -7,7 +7,7 @@ ghost use Rattle.clock.specs.Diffs.{IsDiff, apply_diff};
 use crate::{Change, INLINE_ENTRIES};
 use chart::{InstanceNo, MAX_INSTANCES};
 use smallvec::SmallVec;
-use std::alloc::{AllocError, Global};
+use std::alloc::AllocError;
 
 /// Raises each entry to the other's, where that is greater.
 #[inline(always)]
@@ -20,22 +20,23 @@ pub(crate) fn raise(entries: &mut [u32], others: &[u32])
     }
 }
 
-/// The entries that differ from the base's, each with its instance.
+/// Makes the list that of the entries that differ from the base's, each with its instance. What it had is dropped.
 #[inline(always)]
-pub(crate) fn changes(
-    alloc: Global,
+pub(crate) fn find_changes(
     entries: &[u32],
     base: &[u32],
-) -> Result<SmallVec<Change, INLINE_ENTRIES>, AllocError>
+    changes: &mut SmallVec<Change, INLINE_ENTRIES>,
+) -> Result<(), AllocError>
     requires same_length { length entries.now ≡ length base.now }
     requires limit { length entries.now ≤ MAX_INSTANCES }
-    ensures exact { IfOk result (λ changes. IsDiff base.now entries.now changes.items) }
-    ensures restores { IfOk result (λ changes. apply_diff base.now changes.items ≡ entries.now) }
-    ensures within { IfOk result (λ changes. All (λ change. change.instance ≤ length entries.now) changes.items) }
-    ensures at_most { IfOk result (λ changes. small_vec_len changes ≤ length entries.now) }
+    ensures exact { OnOk result (IsDiff base.now entries.now changes.new.items) }
+    ensures restores { OnOk result (apply_diff base.now changes.new.items ≡ entries.now) }
+    ensures within { OnOk result (All (λ change. change.instance ≤ length entries.now) changes.new.items) }
+    ensures at_most { OnOk result (small_vec_len changes.new ≤ length entries.now) }
     ensures succeeds { length entries.now ≤ INLINE_ENTRIES → IsOk result }
 {
-    let mut changes = SmallVec::new(alloc);
+    prove!(INLINE_ENTRIES <= changes.capacity());
+    changes.clear();
     for (place, entry) in entries.iter().enumerate() {
         if *entry != base[place] {
             changes.push(Change {
@@ -44,7 +45,7 @@ pub(crate) fn changes(
             })?;
         }
     }
-    Ok(changes)
+    Ok(())
 }
 
 /// Sets the entries that the changes give.

@@ -6,7 +6,7 @@
 //! - A merge is the entrywise maximum ([`Clock::merge`]).
 //! - A stamp changes one entry, in a copy or in place ([`Clock::stamped`], [`Clock::stamp`]).
 //! - A difference has exactly the entries that differ, and applied to its base it gives the clock back
-//!   ([`Clock::diff_from`], [`Clock::apply`]); an entry after a difference can be read before it is applied
+//!   ([`Clock::diff_from`], in place [`Clock::diff_into`], [`Clock::apply`]); an entry after a difference can be read before it is applied
 //!   ([`Clock::entry_after`]).
 //! - No call on a clock of at most [`INLINE_ENTRIES`] entries is refused.
 #![tactic(auto)]

@@ -68,6 +68,12 @@ impl Recorder {
         })
     }
 
+    /// Where it takes its memory from.
+    #[inline(always)]
+    pub fn alloc(&self) -> Global {
+        self.alloc
+    }
+
     /// The instance's line so far.
     #[inline(always)]
     pub fn line(&self) -> &GrowingLine
@@ -167,25 +173,26 @@ impl Recorder {
         Ok(clock)
     }
 
-    /// Records a send to this instance, as [`Recorder::send`] does, and answers its clock as what changed in it since
-    /// the base. No clock is copied.
+    /// Records a send to this instance, as [`Recorder::send`] does, and makes the difference what changed in its clock
+    /// since the base. No clock is copied.
     ///
-    /// A refusal, the first of F7 and F6 that applies, changes nothing. With room it takes no memory up to
-    /// [`INLINE_ENTRIES`] instances.
+    /// A refusal, the first of F7 and F6 that applies, changes nothing but the difference. With room it takes no memory
+    /// up to [`INLINE_ENTRIES`] instances.
     #[inline(always)]
     pub fn send_over(
         &mut self,
         to: InstanceNo,
         name: Name,
         base: &Clock,
-    ) -> Result<Diff, RecordError>
+        diff: &mut Diff,
+    ) -> Result<(), RecordError>
         requires among { to ≤ length self.old.knowledge }
         requires not_itself { to ≢ self.old.line.instance }
         requires entries { length base.now ≡ length self.old.knowledge }
         ensures ok { OnOk result (self.new ≡ after_send self.old to name) }
-        ensures exact { IfOk result (IsDiff base.now (send_clock self.old)) }
-        ensures clock { IfOk result (λ diff. apply_diff base.now diff ≡ send_clock self.old) }
-        ensures within { IfOk result (All (λ change. change.instance ≤ length base.now)) }
+        ensures exact { OnOk result (IsDiff base.now (send_clock self.old) diff.new) }
+        ensures clock { OnOk result (apply_diff base.now diff.new ≡ send_clock self.old) }
+        ensures within { OnOk result (All (λ change. change.instance ≤ length base.now) diff.new) }
         ensures room { 0 < self.old.room → length self.old.knowledge ≤ INLINE_ENTRIES
             → result ≢ Err RecordError.Memory }
         ensures full { (result ≡ Err RecordError.LineFull) ↔ (length self.old.line.events ≡ MAX_EVENTS) }
@@ -198,7 +205,7 @@ impl Recorder {
         let next = self.line.len() as u32 + 1;
         let before = self.knowledge.entry(own);
         self.knowledge.stamp(own, next);
-        let Ok(diff) = self.knowledge.diff_from(self.alloc, base) else {
+        let Ok(()) = self.knowledge.diff_into(base, diff) else {
             set_back(&mut self.knowledge, own, before);
             return Err(RecordError::Memory);
         };
@@ -207,7 +214,7 @@ impl Recorder {
             return Err(RecordError::Memory);
         };
         self.room = self.room.saturating_sub(1);
-        Ok(diff)
+        Ok(())
     }
 
     /// Records a send to this instance for each name, in their order, and answers their clocks, as if each were made by

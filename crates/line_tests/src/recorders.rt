@@ -2,7 +2,7 @@
 ghost use Rattle.std.specs.Prelude.{◌≡◌, ◌≢◌, ◌≤◌, length};
 
 use chart::{InstanceNo, MAX_INSTANCES, Name, Report};
-use clock::Clock;
+use clock::{Clock, Diff};
 use line_recorder::{RecordError, Recorder};
 use std::alloc::Global;
 use std::process::Abort;
@@ -278,7 +278,8 @@ fn over_a_base(rt: HostRuntime) -> Result<(), Fail> {
     let mut base = zero(&rt, alloc, 3);
     assert_eq!(rt; base.len(), a.knowledge().len());
     assert_eq!(rt; base.len(), b.knowledge().len());
-    let diff = a.send_over(to, name(&rt, b'x'), &base)?;
+    let mut diff = Diff::none(alloc);
+    a.send_over(to, name(&rt, b'x'), &base, &mut diff)?;
     let report = b.receive_over(from, name(&rt, b'x'), &mut base, &diff, 0)?;
     reports(&rt, &report, 1, &[]);
     holds(&rt, &base, &[1, 0, 0]);

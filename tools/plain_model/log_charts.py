@@ -1,0 +1,220 @@
+"""
+The chart of a log. So that one always comes out: lost messages and those that overtake are left out, a receive without
+a send gives its peer one, and receives on a circle are freed of their sends, one by one.
+
+`log_charts.py chart FILE..` writes it; `log_charts.py races [--luck] FILE..` its races, each with the word for it.
+"""
+
+import re
+import sys
+from collections import Counter, defaultdict
+from dataclasses import dataclass, field
+
+from chart_texts import MOST_EVENTS, MOST_INSTANCES, Chart, Event
+from charts import direct_pairs, sends_of_receives
+from circles import on_circles
+from logs import Entry, Log, Message, messages_of
+from names import LONGEST_NAME, RESERVED, Refused
+
+# An event of a line: "out" or "in", and its message.
+Item = tuple[str, Message]
+
+
+@dataclass
+class LogChart:
+    """A chart with the messages of its events, and what was done to come to it."""
+
+    log: Log
+    hosts: list[str]
+    lines: list[list[Item]]
+    messages: list[Message]
+    lost: list[Message]
+    overtaking: list[tuple[Message, Message]]
+    freed: list[Entry]
+    names: dict[str, str] = field(default_factory=dict)
+    chart: Chart = Chart([], [])
+
+    def is_invented(self, place: tuple[int, int]) -> bool:
+        kind, message = self.lines[place[0]][place[1]]
+        return kind == "out" and message.send is None
+
+
+def lost_messages(messages: list[Message]) -> list[Message]:
+    """The sends without a receive where a later send of their lane was received."""
+    last: dict[object, int] = {}
+    for message in messages:
+        if message.send and message.receive:
+            last[message.lane] = max(last.get(message.lane, -1), message.send.number)
+    return [m for m in messages if m.send and not m.receive and m.send.number < last.get(m.lane, -1)]
+
+
+def overtaking_messages(messages: list[Message]) -> list[tuple[Message, Message]]:
+    """Each received message that overtakes, with one that was sent before it and is received behind it."""
+    lanes: dict[object, list[Message]] = defaultdict(list)
+    for message in messages:
+        if message.send and message.receive:
+            lanes[message.lane].append(message)
+    found = []
+    for lane in lanes.values():
+        lane.sort(key=lambda m: m.send.number)
+        last = lane[0]
+        for message in lane[1:]:
+            if message.receive.number < last.receive.number:
+                found.append((message, last))
+            else:
+                last = message
+    return sorted(found, key=lambda pair: pair[0].receive.number)
+
+
+def logged_lines(log: Log, messages: list[Message], left_out: set[Message]) -> dict[str, list[Item]]:
+    """The lines of the hosts without what is left out."""
+    of_entry: dict[int, Item] = {}
+    for message in messages:
+        if message not in left_out:
+            if message.send:
+                of_entry[message.send.number] = ("out", message)
+            if message.receive:
+                of_entry[message.receive.number] = ("in", message)
+    return {
+        host: [of_entry[e.number] for e in line if e.number in of_entry] for host, line in log.lines().items()
+    }
+
+
+def invented_sends(hosts: list[str], lines: dict[str, list[Item]]) -> tuple[dict, dict]:
+    """The messages whose sends are invented: for each peer those at its head, and those behind another's send."""
+    heads: dict[str, list[Message]] = defaultdict(list)
+    behind: dict[Message, list[Message]] = defaultdict(list)
+    for host in hosts:
+        last: dict[str, Message] = {}
+        for kind, message in lines[host]:
+            if kind == "out":
+                continue
+            peer = message.lane[0]
+            if message.send is not None:
+                last[peer] = message
+            elif peer in last:
+                behind[last[peer]].append(message)
+            else:
+                heads[peer].append(message)
+    return heads, behind
+
+
+def whole_lines_of(hosts: list[str], lines: dict[str, list[Item]]) -> list[list[Item]]:
+    """The lines with the sends that are invented."""
+    heads, behind = invented_sends(hosts, lines)
+    whole = []
+    for host in hosts:
+        line: list[Item] = [("out", message) for message in heads[host]]
+        for kind, message in lines[host]:
+            line.append((kind, message))
+            if kind == "out":
+                line += [("out", other) for other in behind[message]]
+        whole.append(line)
+    return whole
+
+
+def first_on_a_circle(made: LogChart) -> Entry | None:
+    """The first receive in the files that is on a circle and whose send is logged."""
+    circled = on_circles(direct_pairs(made.chart, sends_of_receives(made.chart)))
+    receives = [
+        message.receive
+        for p, i in circled
+        for kind, message in [made.lines[p][i]]
+        if kind == "in" and message.send is not None
+    ]
+    return min(receives, key=lambda entry: entry.number, default=None)
+
+
+def chart_of_log(log: Log) -> LogChart:
+    """The chart of a log, or `Refused`: F7 and F8."""
+    hosts = list(log.lines())
+    if not 2 <= len(hosts) <= MOST_INSTANCES:
+        raise Refused("F8")
+    freed: list[Entry] = []
+    while True:
+        made = paired(log, hosts, freed)
+        circled = first_on_a_circle(made)
+        if circled is None:
+            break
+        freed.append(circled)
+    for line in made.lines:
+        if len(line) > MOST_EVENTS:
+            raise Refused("F7", 0)
+    return made
+
+
+def paired(log: Log, hosts: list[str], freed: list[Entry]) -> LogChart:
+    """The chart with these receives freed. It may have circles."""
+    messages = messages_of(log, {entry.number for entry in freed})
+    lost = lost_messages(messages)
+    overtaking = overtaking_messages(messages)
+    left_out = set(lost) | {message for message, _ in overtaking}
+    lines = whole_lines_of(hosts, logged_lines(log, messages, left_out))
+    words = [message.name for line in lines for _, message in line]
+    made = LogChart(log, hosts, lines, messages, lost, overtaking, list(freed))
+    host_names, message_names = names_of(hosts), names_of(words)
+    made.names = host_names
+    numbers = {host: number for number, host in enumerate(hosts)}
+    events = [
+        [
+            Event(kind, message_names[message.name].encode(), numbers[message.lane[kind == "out"]], 0)
+            for kind, message in line
+        ]
+        for line in lines
+    ]
+    made.chart = Chart([host_names[host].encode() for host in hosts], events)
+    return made
+
+
+def spelled(word: str) -> str:
+    """A word as a name, by itself."""
+    if re.fullmatch("[A-Za-z][A-Za-z0-9_]*", word) and word.encode() not in RESERVED:
+        name = word
+    else:
+        name = re.sub(r"[^A-Za-z0-9_]+", "\0", word).strip("\0").replace("\0", "_") or "n_"
+        if not re.match("[A-Za-z]", name):
+            name = "n_" + name
+        if name.encode() in RESERVED:
+            name += "_"
+    return name if len(name) <= LONGEST_NAME else name[:15] + "__" + name[-15:]
+
+
+def names_of(words: list[str]) -> dict[str, str]:
+    """A name for each word, no two alike."""
+    names: dict[str, str] = {}
+    taken: set[str] = set()
+    for word in words:
+        if word in names:
+            continue
+        name = wanted = spelled(word)
+        turn = 2
+        while name in taken:
+            suffix = f"_{turn}"
+            name = wanted[: LONGEST_NAME - len(suffix)] + suffix
+            turn += 1
+        names[word] = name
+        taken.add(name)
+    return names
+
+
+def told(made: LogChart) -> list[str]:
+    """What was done to come to the chart."""
+    lines = []
+    arrivals = sum(entry.kind == "arrive" for entry in made.log.entries)
+    own = sum(entry.kind == "send" and entry.host == entry.peer for entry in made.log.entries)
+    for count, what in (
+        (made.log.unmatched, "lines don't match"),
+        (arrivals, "arrivals are left alone"),
+        (own, "messages of an instance to itself are left out"),
+    ):
+        if count:
+            lines.append(f"{count} {what}")
+    lines += [f"{message.send.place} is lost" for message in made.lost]
+    for message, other in made.overtaking:
+        lines.append(f"{message.send.place} overtakes {other.send.place}: this lane isn't first in, first out")
+    lines += [f"{entry.place} is freed of its send, for a circle" for entry in made.freed]
+    for p, line in enumerate(made.lines):
+        for i in range(len(line)):
+            if made.is_invented((p, i)):
+                lines.append(f"{made.names[made.hosts[p]]} {i + 1} is invented: its log begins in the middle")
+    return lines

@@ -1,0 +1,160 @@
+"""
+Logs, line by line: `HOST DIR [to or from] PEER NAME [ID] [REST]`, with the arrivals and with what a receive would have
+taken, `takes=PEER:NAMES` in REST. Only the order within a host counts, so files may come one after the other.
+"""
+
+import re
+from collections import defaultdict
+from dataclasses import dataclass, field
+from typing import NamedTuple
+
+LINE = re.compile(r"\s*(\S+)\s+(\S+)\s+(?:(?:to|from)\s+)?(\S+)\s+(\S+)(?:\s+(\S+)(.*))?")
+SENDS = ("send", "sent", "tx", "out", "->", ">")
+RECEIVES = ("recv", "receive", "received", "rx", "in", "<-", "<")
+TAKES = re.compile(r"(?:^|\s)takes=([^\s:]+):(\S+)")
+
+
+class Pattern(NamedTuple):
+    """A sender and names, each as the log writes them: `*` is any, and names may end in `*`."""
+
+    peer: str
+    names: str
+
+    def fits(self, peer: str, name: str) -> bool:
+        if self.peer not in ("*", peer):
+            return False
+        if self.names.endswith("*"):
+            return name.startswith(self.names[:-1])
+        return name == self.names
+
+
+@dataclass(frozen=True)
+class Entry:
+    """A line of a log. `number` counts the lines of all files, `takes` is empty where nothing is told."""
+
+    number: int
+    place: str
+    host: str
+    kind: str
+    peer: str
+    name: str
+    identity: str | None
+    takes: tuple[Pattern, ...] = ()
+
+    @property
+    def lane(self) -> tuple[str, str]:
+        return (self.host, self.peer) if self.kind == "send" else (self.peer, self.host)
+
+    @property
+    def key(self) -> tuple[str, str]:
+        """What receives are paired by along their lane."""
+        return ("name", self.name) if self.identity is None else ("id", self.identity)
+
+
+@dataclass(eq=False)
+class Message:
+    """A message of a lane, with its lines. One of `send` and `receive` at least is there."""
+
+    lane: tuple[str, str]
+    send: Entry | None = None
+    receive: Entry | None = None
+    arrival: Entry | None = None
+
+    @property
+    def name(self) -> str:
+        entry = self.send or self.receive
+        assert entry is not None
+        return entry.name
+
+
+@dataclass
+class Log:
+    """The lines that match, in order, and how many didn't."""
+
+    entries: list[Entry] = field(default_factory=list)
+    unmatched: int = 0
+
+    def add(self, text: str, place: str) -> None:
+        said = LINE.match(text)
+        kind = said and kind_of(said[2])
+        if not said or not kind:
+            self.unmatched += 1
+            return
+        host, _, peer, name, identity, rest = said.groups()
+        takes = tuple(Pattern(*two) for two in TAKES.findall(rest or ""))
+        self.entries.append(Entry(len(self.entries), place, host, kind, peer, name, identity, takes))
+
+    def lines(self) -> dict[str, list[Entry]]:
+        """The sends and receives of each host, in order."""
+        found: dict[str, list[Entry]] = {}
+        for entry in self.entries:
+            found.setdefault(entry.host, [])
+            found.setdefault(entry.peer, [])
+            if entry.kind != "arrive":
+                found[entry.host].append(entry)
+        return found
+
+
+def kind_of(word: str) -> str | None:
+    word = word.lower()
+    if word in SENDS:
+        return "send"
+    if word in RECEIVES:
+        return "receive"
+    return "arrive" if word == "arrive" else None
+
+
+def read_logs(files: list[str]) -> Log:
+    log = Log()
+    for name in files:
+        with open(name, encoding="utf-8", errors="replace") as file:
+            for number, line in enumerate(file, 1):
+                log.add(line, f"{name}:{number}")
+    return log
+
+
+def messages_of(log: Log, freed: set[int]) -> list[Message]:
+    """
+    The messages of a log, without those of an instance to itself. Along a lane the n-th receive of a key has its n-th
+    send, but that those in `freed` have none.
+    """
+    messages: list[Message] = []
+    waiting: dict[object, list[Message]] = defaultdict(list)
+    for entry in log.entries:
+        if entry.kind == "send" and entry.host != entry.peer:
+            messages.append(Message(entry.lane, send=entry))
+            waiting[entry.lane, entry.key].append(messages[-1])
+    for entry in log.entries:
+        if entry.kind != "receive" or entry.host == entry.peer:
+            continue
+        left = waiting[entry.lane, entry.key]
+        if left and entry.number not in freed:
+            left.pop(0).receive = entry
+        else:
+            messages.append(Message(entry.lane, receive=entry))
+    add_arrivals(log, messages)
+    return messages
+
+
+def add_arrivals(log: Log, messages: list[Message]) -> None:
+    """
+    An arrival is that of the first message of its lane and key that isn't received before it, in the order of the
+    receives and then of the sends. Of several of one message the first counts.
+    """
+    of_key: dict[object, list[Message]] = defaultdict(list)
+    for message in sorted(messages, key=receive_order):
+        entry = message.send or message.receive
+        assert entry is not None
+        of_key[message.lane, entry.key].append(message)
+    for entry in log.entries:
+        if entry.kind != "arrive":
+            continue
+        later = [m for m in of_key[entry.lane, entry.key] if not m.receive or m.receive.number > entry.number]
+        if later and not later[0].arrival:
+            later[0].arrival = entry
+
+
+def receive_order(message: Message) -> tuple[bool, int]:
+    entry = message.receive or message.send
+    assert entry is not None
+    return (message.receive is None, entry.number)

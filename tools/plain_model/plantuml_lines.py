@@ -1,0 +1,111 @@
+"""
+The lines of a PlantUML diagram that say something: those between `@startuml` and `@enduml`, without comments, and
+without what the pre-processor would choose or define. Written from PlantUML's documents, and by trying the program.
+"""
+
+import re
+from typing import Iterator, NamedTuple
+
+from diagram_lines import Line, stripped
+from diagram_readings import Told, Unfinished
+
+START = re.compile(rb"[ \t\r]*@startuml(?![A-Za-z0-9_])")
+END = re.compile(rb"[ \t\r]*@enduml(?![A-Za-z0-9_])")
+COMMENT = re.compile(rb"/'.*?'/")
+LAST_COMMENT = re.compile(rb"/'(?:(?!/').)*'/$")
+CONDITION = re.compile(rb"!(?:if|ifdef|ifndef)\b", re.IGNORECASE)
+OTHER_BRANCH = re.compile(rb"!else(?:if)?\b", re.IGNORECASE)
+CONDITION_END = re.compile(rb"!endif\b", re.IGNORECASE)
+DEFINITION = re.compile(rb"!(?:unquoted\s+)?(procedure|function|definelong)\b", re.IGNORECASE)
+ONE_LINE_FUNCTION = re.compile(rb"!(?:unquoted\s+)?function\b.*\)\s*return\b", re.IGNORECASE)
+
+
+class Extent(NamedTuple):
+    """Where a diagram stands among the lines of a text, counted from 0, and the first line of another one."""
+
+    first: int
+    behind: int
+    others: list[int]
+
+
+def extent(lines: list[bytes]) -> Extent:
+    """The first diagram of a text. A text without `@startuml` is one as a whole, or up to its `@enduml`."""
+    starts = [i for i, line in enumerate(lines) if START.match(line)]
+    first = starts[0] + 1 if starts else 0
+    behind = next((i for i in range(first, len(lines)) if END.match(lines[i])), None)
+    if behind is None:
+        if starts:
+            raise Unfinished
+        behind = len(lines)
+    return Extent(first, behind, [i for i in starts[1:] if i > behind])
+
+
+def continued(lines: list[bytes], where: Extent) -> Iterator[Line]:
+    """The lines of the diagram. One that ends in a single `\\` goes on in the next."""
+    i = where.first
+    while i < where.behind:
+        number, words = i + 1, lines[i].removesuffix(b"\r")
+        while words.endswith(b"\\") and not words.endswith(b"\\\\") and i + 1 < where.behind:
+            i += 1
+            words = words[:-1] + lines[i].removesuffix(b"\r")
+        i += 1
+        yield stripped(Line(number, 1, words))
+
+
+def without_comment(line: Line) -> Line:
+    """A line without the comments at its beginning, and without one at its end. Between them a comment is text."""
+    while found := COMMENT.match(line.words):
+        line = stripped(Line(line.number, line.column + found.end(), line.words[found.end():]))
+    return stripped(line._replace(words=LAST_COMMENT.sub(b"", line.words)))
+
+
+def uncommented(lines: Iterator[Line]) -> Iterator[Line]:
+    """
+    The lines without comments. A comment `/'` that isn't closed on the line that it begins goes on to the next line
+    that ends in `'/`. Elsewhere an open `/'` is text.
+    """
+    for line in lines:
+        line = without_comment(line)
+        if line.words.startswith(b"/'"):
+            if not any(later.words.endswith(b"'/") for later in lines):
+                raise Unfinished
+        elif line.words and not line.words.startswith(b"'"):
+            yield line
+
+
+def skipped(lines: Iterator[Line], ends: re.Pattern[bytes], told: Told) -> Line:
+    """Leaves lines out up to one that has this form, and answers it. Conditions within are passed over whole."""
+    depth = 0
+    for line in lines:
+        if line.words.startswith(b"!"):
+            told.leave_out("pre-processor line", line)
+        if depth == 0 and ends.match(line.words):
+            return line
+        if CONDITION.match(line.words):
+            depth += 1
+        elif CONDITION_END.match(line.words):
+            depth -= 1
+    raise Unfinished
+
+
+def chosen(lines: Iterator[Line], told: Told) -> Iterator[Line]:
+    """The lines that the pre-processor leaves: of a condition its first branch, and no definition's body."""
+    for line in lines:
+        if not line.words.startswith(b"!"):
+            yield line
+            continue
+        told.leave_out("pre-processor line", line)
+        definition = DEFINITION.match(line.words)
+        if OTHER_BRANCH.match(line.words):
+            skipped(lines, CONDITION_END, told)
+        elif definition and not ONE_LINE_FUNCTION.match(line.words):
+            skipped(lines, re.compile(rb"!end\s*" + re.escape(definition[1]) + rb"\b", re.IGNORECASE), told)
+
+
+def diagram_lines(text: bytes, told: Told) -> Iterator[Line]:
+    """The lines of a text's first diagram that say something."""
+    lines = text.split(b"\n")
+    where = extent(lines)
+    yield from chosen(uncommented(continued(lines, where)), told)
+    for i in where.others:
+        told.leave_out("diagram", stripped(Line(i + 1, 1, lines[i])))
