@@ -1,3 +1,4 @@
+pub mod AtBoard
 pub mod Claiming
 pub mod Closes
 pub mod DidLemmas

@@ -5,6 +5,7 @@ pub mod Found
 pub mod Gathering
 pub mod Known
 pub mod Meeting
+pub mod Parked
 pub mod Parting
 pub mod Parts
 pub mod Provisions

@@ -8,7 +8,7 @@ use Rattle.board.specs.Parting.{IsRoom}
 use Rattle.board.proofs.RoomsMade.{room_is}
 use Rattle.board.proofs.SendAnswers.{outgoing_at}
 use Rattle.board.proofs.ReceiveAnswers.{incoming_at}
-use Rattle.board.proofs.post.Post.room_from.Goals as goal
+use Rattle.board.proofs.parked.Parked.room_from.Goals as goal
 
 pub returns : goal.returns
 returns c = λ h joint theirs.
@@ -21,8 +21,8 @@ returns c = λ h joint theirs.
     let boards = ap (λ (post : PostView). post.board) c.sender.view_is ∙ c.requires.board ∙ sym (ap (λ (post : PostView). post.board) c.self.view_is) in
     let size : them.shape.instances ≡ me.shape.instances = ap (λ b. b.size) boards in
     let ne : me.number ≢ them.number = λ same. c.requires.not_itself (sym (ap (λ (post : PostView). post.number) c.sender.view_is) ∙ sym same ∙ ap (λ (post : PostView). post.number) c.self.view_is) in
-    let out = outgoing_at _ _ _ _ _ _ _ _ _ _ _ its me.number c.place.result c.index.result.now c.place.ensures.value ne (omega (arith, mine.most, size)) c.index.ensures in
-    let into = incoming_at _ _ _ _ _ _ _ _ _ _ _ mine them.number c.place-2.result c.index-2.result.now c.place-2.ensures.value (λ same. ne (sym same)) (omega (arith, its.most, size)) c.index-2.ensures in
+    let out = outgoing_at _ _ _ _ _ _ _ _ its me.number c.place.result c.index.result.now c.place.ensures.value ne (omega (arith, mine.most, size)) c.index.ensures in
+    let into = incoming_at _ _ _ _ _ _ _ _ mine them.number c.place-2.result c.index-2.result.now c.place-2.ensures.value (λ same. ne (sym same)) (omega (arith, its.most, size)) c.index-2.ensures in
     let room : Room = record { lane = c.new.result; sender = them.number; receiver = me.number; taken = c.index-2.result.now.taken; many = c.saturating_sub-many.result; messages = c.in_ok-with_capacity.field-0 } in
     let enough : c.saturating_sub-many.result ≤ vec_capacity c.in_ok-with_capacity.field-0 = omega (arith, c.in_ok-with_capacity.ensures.exact) in
     subst (λ (post : PostView). IsRoom h post.board.size post.board.capacity c.args.sender.now.number post.number room) c.self.view_is

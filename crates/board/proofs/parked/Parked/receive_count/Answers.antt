@@ -6,7 +6,7 @@ use Rattle.board_core.proofs.OwnEvents.{same_recorder}
 use Rattle.board.specs.Views.{PostView}
 use Rattle.board.specs.Meeting.{IsJoint}
 use Rattle.board.proofs.RoomsMade.{count_is, count_few}
-use Rattle.board.proofs.post.Post.receive_count.Goals as goal
+use Rattle.board.proofs.parked.Parked.receive_count.Goals as goal
 
 pub returns-clause-value : goal.returns-clause-value
 returns-clause-value c = λ h joint.

@@ -1,6 +1,6 @@
 use Rattle.std.proofs.Common.{◌≢◌, sym, arith}
 use Rattle.std.proofs.lemmas.Bool.{eqb-false}
-use Rattle.board.proofs.post.Post.lane_from.Goals as goal
+use Rattle.board.proofs.parked.Parked.lane_from.Goals as goal
 
 pub returns-clause-ok : goal.returns-clause-ok
 returns-clause-ok c =
