@@ -1,5 +1,6 @@
 pub mod AtBoard
 pub mod Claiming
+pub mod ClosedLanes
 pub mod Closes
 pub mod DidLemmas
 pub mod Drawing

@@ -5,7 +5,7 @@
 //! made. A receive gets the first message that waited, or the first of several, and each report is exactly that of
 //! the chart of this history. Several messages are sent by one store, all of them or none ([`Post::send_all`]), and
 //! received by one ([`Post::receive_up_to`]). Posts that [`meet`] have then seen one history. At the end [`gather`]
-//! takes all posts of a board and answers its chart, its reports, and what waits on each lane.
+//! takes all posts of a board and answers its chart, its reports, what waits on each lane, and the lanes that were closed.
 //!
 //! A post borrows its board's words. A [`Parked`] one doesn't: it is the same post without them. Each of its calls
 //! takes them, and it can be woken at them ([`Parked::wake`], `specs/Parked.antt`). [`open_parked`] makes a board whose
@@ -22,6 +22,7 @@
 mod answer;
 mod board;
 mod close;
+mod closed_lanes;
 mod ends;
 mod error;
 mod gathering;
@@ -49,7 +50,7 @@ pub use error::{
     BoardError, CloseError, GatherCause, MeetError, Memory, PostsError, RegionError, SendError,
     TakeError,
 };
-pub use gathering::{GatherError, Gathered, Left, gather};
+pub use gathering::{ClosedLane, GatherError, Gathered, Left, gather};
 pub use meeting::{are_all, meet, meet_all, meet_at};
 pub use parked::Parked;
 pub use post::Post;

@@ -19,7 +19,7 @@ use board_table::Lane;
 use std::alloc::{AllocError, Global};
 
 /// The post of this number.
-fn post_of<'p, 'a>(posts: &'p [Post<'a>], number: usize) -> &'p Post<'a>
+pub(crate) fn post_of<'p, 'a>(posts: &'p [Post<'a>], number: usize) -> &'p Post<'a>
     requires number { 1 ≤ number }
     requires has { HasPost posts.now number }
     ensures number { result.now.number ≡ number }
