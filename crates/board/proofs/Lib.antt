@@ -8,6 +8,7 @@ pub mod DrawnLanes
 pub mod EndLemmas
 pub mod Finding
 pub mod Leavers
+pub mod Looking
 pub mod Meetings
 pub mod NoteLemmas
 pub mod OneBoard
