@@ -4,26 +4,30 @@ ghost use Rattle.board.specs.Parked.{IsAtBoard, AreAtBoard};
 ghost use Rattle.board.specs.Meeting.{AreOfOneBoard};
 
 use crate::calls::{instance, message, name};
+use crate::gathered::sends;
 use board::{
-    BoardError, GatherCause, GatherError, Gathered, Parked, Post, SendError, Taken, Words, gather,
+    BoardError, GatherCause, GatherError, Gathered, Parked, Post, Taken, Words, gather,
     open_parked, park_all, wake_all,
 };
 use std::alloc::Global;
 use std::process::Abort;
 use std::test::Fail;
 
+/// A post closes its lane to the second one.
+fn closes(rt: &impl Abort, post: &mut Post)
+    ensures { post.new.board ≡ post.old.board }
+{
+    assert!(rt; post.close(instance(rt, 2)).is_ok());
+}
+
 /// The first of two posts closes its lane to the second one, on which a message waits.
 fn sends_last(rt: &impl Abort, alloc: Global, posts: &mut [Post])
     requires { AreOfOneBoard posts.old }
     ensures { AreOfOneBoard posts.new }
 {
+    sends(rt, alloc, posts, b'x');
     assert!(rt; posts.len() == 2);
-    let second = instance(rt, 2);
-    if let Err((back, error)) = posts[0].send(second, message(rt, alloc, b'x')) {
-        assert_eq!(rt; error, SendError::Memory);
-        assert!(rt; posts[0].send(second, back).is_ok());
-    }
-    assert!(rt; posts[0].close(second).is_ok());
+    closes(rt, &mut posts[0]);
 }
 
 /// These parked posts, woken, once more where memory was refused.
@@ -95,25 +99,40 @@ fn parked_and_woken(rt: HostRuntime) -> Result<(), Fail> {
     Ok(())
 }
 
-/// A parked post sends to another one and closes the lane, both at these words.
+/// A parked post sends a message to the second one, and closes the lane.
 #[tactic(auto, using(board::proofs::AtBoard::stays_at))]
-fn exchange(rt: &impl Abort, alloc: Global, words: &Words, first: &mut Parked, second: &mut Parked)
-    requires first { IsAtBoard words.now.key words.now.table_id first.old }
-    requires second { IsAtBoard words.now.key words.now.table_id second.old }
+fn sends_parked(rt: &impl Abort, alloc: Global, words: &Words, post: &mut Parked)
+    requires { IsAtBoard words.now.key words.now.table_id post.old }
+    ensures { IsAtBoard words.now.key words.now.table_id post.new }
 {
     assert!(rt;
-        first
-            .send(words, instance(rt, 2), message(rt, alloc, b'x'))
+        post.send(words, instance(rt, 2), message(rt, alloc, b'x'))
             .is_ok()
     );
-    assert!(rt; first.close(words, instance(rt, 2)).is_ok());
-    let Ok(Taken::Got(arrival)) = second.receive(words, instance(rt, 1)) else {
+    assert!(rt; post.close(words, instance(rt, 2)).is_ok());
+    assert_eq!(rt; post.line().len(), 1);
+}
+
+/// A parked post receives this message from the first one, and then the lane's end.
+#[tactic(auto, using(board::proofs::AtBoard::stays_at))]
+fn gets_parked(rt: &impl Abort, words: &Words, post: &mut Parked)
+    requires { IsAtBoard words.now.key words.now.table_id post.old }
+{
+    let Ok(Taken::Got(arrival)) = post.receive(words, instance(rt, 1)) else {
         panic!(rt; "a message")
     };
     assert!(rt; arrival.message.name() == name(rt, b'x'));
-    assert!(rt; matches!(second.receive(words, instance(rt, 1)), Ok(Taken::Ended)));
-    assert_eq!(rt; first.line().len(), 1);
-    assert_eq!(rt; second.line().len(), 1);
+    assert!(rt; matches!(post.receive(words, instance(rt, 1)), Ok(Taken::Ended)));
+    assert_eq!(rt; post.line().len(), 1);
+}
+
+/// One parked post sends, and the other one receives.
+fn exchange(rt: &impl Abort, alloc: Global, words: &Words, parked: &mut [Parked])
+    requires { AreAtBoard words.now.key words.now.table_id parked.old }
+{
+    assert!(rt; parked.len() == 2);
+    sends_parked(rt, alloc, words, &mut parked[0]);
+    gets_parked(rt, words, &mut parked[1]);
 }
 
 /// Calls on posts while they are parked.
@@ -121,9 +140,7 @@ fn exchange(rt: &impl Abort, alloc: Global, words: &Words, first: &mut Parked, s
 fn parked_calls(rt: HostRuntime) -> Result<(), Fail> {
     let alloc = rt.alloc();
     let (table, mut parked) = open_parked(alloc, 2, 2)?;
-    let mut second = parked.pop().ok_or("two posts")?;
-    let mut first = parked.pop().ok_or("two posts")?;
-    exchange(&rt, alloc, &table.shared, &mut first, &mut second);
+    exchange(&rt, alloc, &table.shared, parked.as_mut_slice());
     Ok(())
 }
 
