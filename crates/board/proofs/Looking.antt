@@ -1,5 +1,6 @@
 -- A receiver that looks at its lane before it takes slots of it.
-use Rattle.std.proofs.Common.{◌≡◌, ◌≢◌, ℕ, ◌/◌, ◌%◌, ◌≤◌, Bool, true, false, [], length, sym, ◌∙◌, subst, arith}
+use Rattle.std.proofs.Common.{◌≡◌, ◌≢◌, ◌<◌, ℕ, ◌/◌, ◌%◌, ◌≤◌, Bool, true, false, List, [], length, sym, ◌∙◌, subst, arith}
+use Rattle.chart.specs.declared.history.Occurrence.{Occurrence}
 use Rattle.chart.specs.Histories.{own, sent, waiting, is_closed, IsLegal}
 use Rattle.chart.proofs.Histories.{none_begins}
 use Rattle.board_table.specs.Layout.{LaneView}
@@ -15,6 +16,10 @@ use Rattle.board.proofs.EndLemmas.{incoming_later}
 use Rattle.board.proofs.DidLemmas.{did_see, waiting_many}
 use Rattle.board.proofs.Finding.{nil_of, bit_small, is_set, is_clear}
 use Rattle.board.proofs.ReceiveAnswers.{did_onward}
+
+-- a message that is known of waits
+pub known_waits : (n k : ℕ) (h : List Occurrence) (p q : ℕ) (o : Incoming) → IsLegal n k h → IsIncoming n h p q o → o.taken < o.known_put → 0 < length (waiting h q p)
+known_waits n k h p q o legal end more = let now = waiting_many n k h q p legal in omega (arith, more, now, end.taken, end.known)
 
 module _ (l : LaneView) (m w : Mine) (o : Incoming) (legal : IsLegal l.instances l.capacity (held m).seen) (its : own (held m).seen l.receiver ≡ (held m).made) (end : IsIncoming l.instances (held m).seen l.receiver l.sender o) (word : ℕ) (looks : LooksAt l m word w) where
   pub look_own : own (held w).seen l.receiver ≡ (held w).made
@@ -34,6 +39,15 @@ module _ (l : LaneView) (m w : Mine) (o : Incoming) (legal : IsLegal l.instances
 
   bit_is : word % 2 ≡ closed_bit (is_closed (held w).seen l.sender l.receiver)
   bit_is = let small = bit_small (is_closed (held w).seen l.sender l.receiver) in omega (arith, looks.found)
+
+  -- the end that keeps what it found
+  pub look_fresh : IsIncoming l.instances (held w).seen l.receiver l.sender (record o { known_put = word / 2 })
+  look_fresh = let kept = look_end in record { taken = kept.taken; known = omega (arith, put_is); base = kept.base; long = kept.long }
+
+  pub look_waits : o.taken < word / 2 → 0 < length (waiting (held w).seen l.sender l.receiver)
+  look_waits more =
+      let now = waiting_many l.instances l.capacity (held w).seen l.sender l.receiver looks.sees.legal in
+      omega (arith, more, now, put_is, look_end.taken)
 
   none : (b : Bool) → word / 2 ≤ o.taken → is_closed (held w).seen l.sender l.receiver ≡ b → HasNone l b m w
   none b less closed =

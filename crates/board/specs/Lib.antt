@@ -3,6 +3,7 @@ pub mod Boards
 pub mod Closing
 pub mod Found
 pub mod Gathering
+pub mod Glancing
 pub mod Known
 pub mod Meeting
 pub mod Parked

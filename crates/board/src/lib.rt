@@ -26,6 +26,7 @@ mod closed_lanes;
 mod ends;
 mod error;
 mod gathering;
+mod glance;
 mod meeting;
 mod opening;
 mod parked;
@@ -43,7 +44,7 @@ mod sending;
 mod sending_several;
 mod waking;
 
-pub use answer::{Arrival, Sent, Stop, Taken, TakenMany};
+pub use answer::{Arrival, Glance, Sent, Stop, Taken, TakenMany};
 pub use board::{Board, open_parked};
 pub use board_table::{BoardTable, Words};
 pub use error::{

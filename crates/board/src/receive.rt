@@ -2,6 +2,7 @@
 ghost use Rattle.std.specs.Prelude.{IfOk, IfErr};
 ghost use Rattle.board.specs.Views.{Sound};
 ghost use Rattle.board.specs.Parked.{IsAtBoard};
+ghost use Rattle.board.specs.Glancing.{IsNoLane};
 ghost use Rattle.board.specs.Taking.{IsLaneFrom, IsUntaken, Takes};
 
 use crate::answer::Taken;
@@ -46,6 +47,7 @@ impl Parked {
     pub(crate) fn lane_from(&self, from: InstanceNo) -> Result<Lane, TakeError>
         ensures ok { IfOk result (IsLaneFrom self.now from) }
         ensures err { IfErr result (λ error. IsUntaken self.now from error self.now) }
+        ensures lane { IfErr result (IsNoLane self.now from) }
     {
         if from.number() > self.shape.instances {
             return Err(TakeError::NoSuchInstance);
