@@ -11,8 +11,8 @@
 //! takes them, and it can be woken at them ([`Parked::wake`], `specs/Parked.antt`). [`open_parked`] makes a board whose
 //! words lie with the caller.
 //!
-//! `specs/Views.antt` says what a contract sees of a post; `Sending`, `Taking`, `TakingMany`, `Closing`, `Meeting` and
-//! `Gathering` say what each call answers.
+//! `specs/Views.antt` says what a contract sees of a post; `Sending`, `Taking`, `TakingMany`, `Glancing`, `Closing`,
+//! `Meeting` and `Gathering` say what each call answers.
 //!
 //! Messages carry what changed in their sender's clock since the one before on their lane (Singhal and Kshemkalyani
 //! 1992). Each end keeps the number that it loaded last, and looks again only where that leaves too few slots, or too
