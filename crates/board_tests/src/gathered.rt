@@ -8,7 +8,7 @@ use std::process::Abort;
 use std::test::Fail;
 
 /// The first post sends a message of this name to the second one, once more where memory was refused.
-fn sends(rt: &impl Abort, alloc: Global, posts: &mut [Post], letter: u8)
+pub fn sends(rt: &impl Abort, alloc: Global, posts: &mut [Post], letter: u8)
     requires { AreOfOneBoard posts.old }
     ensures { AreOfOneBoard posts.new }
 {
