@@ -270,7 +270,9 @@ fn gets_over(rt: &impl Abort, b: &mut Recorder, base: &mut Clock, diff: &Diff)
 fn coregion(rt: HostRuntime) {
     let alloc = rt.alloc();
     let zero = zero(&rt, alloc, 3);
-    let mut b = Recorder::new(alloc, InstanceNo::at_place(1), 3).expect(&rt, "a recorder");
+    let Ok(mut b) = Recorder::new(alloc, InstanceNo::at_place(1), 3) else {
+        panic!(rt; "a recorder")
+    };
     let Ok(first) = b.receive(InstanceNo::at_place(0), name(&rt, b"x"), &zero, 1) else {
         panic!(rt; "x is received")
     };
