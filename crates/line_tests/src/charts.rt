@@ -2,7 +2,7 @@
 ghost use Rattle.std.specs.Prelude.{◌≡◌};
 ghost use Rattle.chart.specs.Events.{region_of};
 
-use crate::named::{instance, name};
+use crate::named::{every_growth_was_refused, instance, name};
 use chart::{
     Event, EventNo, EventRanges, GrowingLine, InstanceNo, Line, LineError, MAX_BODY, MAX_EVENTS,
     MAX_NAME, Message, Name, NameError, Names, NamesError, Report, has_races,
@@ -104,9 +104,7 @@ fn refused_growths_reserve(rt: HostRuntime) -> Result<(), Fail> {
         .expect(&rt, "two events");
     assert_eq!(rt; line.len(), 3);
     drop(line);
-    // A last growth, whose refusal tells that each one before it was refused in an earlier run of the test.
-    Vec::<u8>::with_capacity(rt.alloc(), 1).map_err(|_| "every growth was refused")?;
-    Ok(())
+    every_growth_was_refused(rt.alloc())
 }
 
 #[test]
@@ -183,9 +181,7 @@ fn takes_a_name(rt: &impl Abort, alloc: Global) {
 fn refused_growths(rt: HostRuntime) -> Result<(), Fail> {
     takes_an_event(&rt, rt.alloc());
     takes_a_name(&rt, rt.alloc());
-    // A last growth, whose refusal tells that each one before it was refused in an earlier run of the test.
-    Vec::<u8>::with_capacity(rt.alloc(), 1).map_err(|_| "every growth was refused")?;
-    Ok(())
+    every_growth_was_refused(rt.alloc())
 }
 
 /// The event of instance 1 with this number.

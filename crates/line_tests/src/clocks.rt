@@ -3,7 +3,7 @@
 //! Where memory is refused, the same call is made once more, and gives the full answer.
 ghost use Rattle.std.specs.Prelude.{◌≡◌, ◌≤◌, length, All};
 
-use crate::named::instance;
+use crate::named::{every_growth_was_refused, instance};
 use chart::{InstanceNo, MAX_INSTANCES};
 use clock::{Clock, Diff};
 use std::alloc::Global;
@@ -247,7 +247,5 @@ fn difference_of_eight(rt: HostRuntime) {
 fn refused_growths(rt: HostRuntime) -> Result<(), Fail> {
     let stamped = [0, 0, 0, 0, 0, 0, 0, 0, 77];
     stamps(&rt, rt.alloc(), &[0; 9], 9, &stamped);
-    // A last growth, whose refusal tells that each one before it was refused in an earlier run of the test.
-    Vec::<u8>::with_capacity(rt.alloc(), 1).map_err(|_| "every growth was refused")?;
-    Ok(())
+    every_growth_was_refused(rt.alloc())
 }

@@ -2,7 +2,7 @@
 ghost use Rattle.std.specs.Prelude.{◌≡◌, ◌≢◌, ◌≤◌, length, All};
 
 use crate::clocks::{difference, holds, lists, zero};
-use crate::named::{instance, name};
+use crate::named::{every_growth_was_refused, instance, name};
 use chart::{InstanceNo, MAX_INSTANCES, Name, Report};
 use clock::{Clock, Diff};
 use line_recorder::Recorder;
@@ -303,9 +303,7 @@ fn refused_growths_reserve(rt: HostRuntime) -> Result<(), Fail> {
         assert!(rt; a.send(to, name(&rt, b"x")).is_ok());
     }
     drop(a);
-    // A last growth, whose refusal tells that each one before it was refused in an earlier run of the test.
-    Vec::<u8>::with_capacity(alloc, 1).map_err(|_| "every growth was refused")?;
-    Ok(())
+    every_growth_was_refused(alloc)
 }
 
 static NINE: [Step; 6] = [
@@ -322,7 +320,5 @@ static NINE: [Step; 6] = [
 fn refused_growths(rt: HostRuntime) -> Result<(), Fail> {
     let alloc = rt.alloc();
     play(&rt, alloc, 9, &NINE);
-    // A last growth, whose refusal tells that each one before it was refused in an earlier run of the test.
-    Vec::<u8>::with_capacity(alloc, 1).map_err(|_| "every growth was refused")?;
-    Ok(())
+    every_growth_was_refused(alloc)
 }

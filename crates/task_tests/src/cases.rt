@@ -55,45 +55,35 @@ fn refuses(rt: &impl Abort, alloc: Global, name: &str, text: &[u8], said: &[u8])
 
 /// The piece, so many times, after the front and before the end.
 fn repeated(
+    rt: &impl Abort,
     alloc: Global,
     front: &[u8],
     piece: &[u8],
     times: usize,
     end: &[u8],
-) -> Result<Vec<u8>, Fail> {
-    let mut text = Vec::from_slice(alloc, front)?;
+) -> Vec<u8> {
+    let mut text = Vec::new(alloc);
+    assert!(rt; text.extend_from_slice(front).is_ok());
     for _ in 0..times {
-        text.extend_from_slice(piece)?;
+        assert!(rt; text.extend_from_slice(piece).is_ok());
     }
-    text.extend_from_slice(end)?;
-    Ok(text)
+    assert!(rt; text.extend_from_slice(end).is_ok());
+    text
 }
 
 #[test]
-fn line_full(rt: HostRuntime) -> Result<(), Fail> {
+fn line_full(rt: HostRuntime) {
     let alloc = rt.alloc();
+    let front = b"instances a b\ncapacity 64\n";
     let turn = b"a send b m\nb receive a\n";
-    let schedule = repeated(alloc, b"instances a b\ncapacity 64\n", turn, 4097, b"")?;
-    let sender = repeated(
-        alloc,
-        b"msc run;\ninstance a;\n",
-        b"out m to b;\n",
-        4096,
-        b"endinstance;\n",
-    )?;
+    let schedule = repeated(&rt, alloc, front, turn, 4097, b"");
+    let front = b"msc run;\ninstance a;\n";
+    let middle = b"endinstance;\ninstance b;\n";
+    let sender = repeated(&rt, alloc, front, b"out m to b;\n", 4096, middle);
     let end = b"endinstance;\nendmsc;\nnote 8195 linefull\nnote 8196 nothing\n";
-    let receiver = repeated(alloc, b"instance b;\n", b"in m from a;\n", 4096, end)?;
-    let mut written = sender;
-    written.extend_from_slice(receiver.as_slice())?;
-    replays(
-        &rt,
-        alloc,
-        "full lines",
-        schedule.as_slice(),
-        written.as_slice(),
-        0,
-    );
-    Ok(())
+    let written = repeated(&rt, alloc, sender.as_slice(), b"in m from a;\n", 4096, end);
+    let (schedule, written) = (schedule.as_slice(), written.as_slice());
+    replays(&rt, alloc, "full lines", schedule, written, 0);
 }
 
 #[test]

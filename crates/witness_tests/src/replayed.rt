@@ -11,7 +11,7 @@ use outcomes::Outcome;
 use plain_replayer::{plain_replay, recorded_run};
 use replayer::replay;
 use schedule::Schedule;
-use std::alloc::Global;
+use std::alloc::{AllocError, Global};
 use std::process::Abort;
 use turned_runs::{Shown, has_event, is_receive, overtake_of_chart, overtake_of_schedule, show};
 use witness::Step;
@@ -26,14 +26,14 @@ fn of_schedule(
     schedule: &Schedule,
     receive: EventNo,
     earlier: EventNo,
-) -> Option<Shown> {
+) -> Result<Option<Shown>, AllocError> {
     let outcome = plain_replay(alloc, schedule).expect(rt, "an outcome");
     let chart = outcome.chart();
     if !is_receive(chart, receive) || !has_event(chart, earlier) {
-        return None;
+        return Ok(None);
     }
     let turned = overtake_of_schedule(alloc, schedule, receive, earlier).expect(rt, "a run");
-    Some(show(alloc, schedule.names(), &turned).expect(rt, "a schedule"))
+    Ok(Some(show(alloc, schedule.names(), &turned)?))
 }
 
 /// The same of a chart, a run of whose lines as drawn is the base.
@@ -44,16 +44,16 @@ fn of_chart(
     chart: &Chart,
     receive: EventNo,
     earlier: EventNo,
-) -> Option<Shown> {
+) -> Result<Option<Shown>, AllocError> {
     let _closure = Closure::of(alloc, chart).expect(rt, "a closure");
     if names.len() != chart.lines().len() {
-        return None;
+        return Ok(None);
     }
     if !is_receive(chart, receive) || !has_event(chart, earlier) {
-        return None;
+        return Ok(None);
     }
-    let turned = overtake_of_chart(alloc, chart, receive, earlier).expect(rt, "a run");
-    Some(show(alloc, names, &turned).expect(rt, "a schedule"))
+    let turned = overtake_of_chart(alloc, chart, receive, earlier)?;
+    Ok(Some(show(alloc, names, &turned)?))
 }
 
 /// The steps of the text's replay, and the slots of its lanes.
@@ -98,15 +98,23 @@ fn shows_race(
     schedule: &Schedule,
     outcome: &Outcome<'_>,
     steps: &[Step],
-    receive: EventNo,
-    event: EventNo,
+    receive: &EventNo,
+    event: &EventNo,
 ) {
-    let (later, earlier) = numbers_of(rt, steps, receive, event);
-    let shown = of_schedule(rt, alloc, schedule, receive, event);
+    let (later, earlier) = numbers_of(rt, steps, anew(receive), anew(event));
+    let shown = of_schedule(rt, alloc, schedule, anew(receive), anew(event)).expect(rt, "memory");
     is_turned(rt, alloc, steps, &shown, later, earlier);
     let (names, chart) = (schedule.names(), outcome.chart());
-    let shown = of_chart(rt, alloc, names, chart, receive, event);
+    let shown = of_chart(rt, alloc, names, chart, anew(receive), anew(event)).expect(rt, "memory");
     is_turned(rt, alloc, steps, &shown, later, earlier);
+}
+
+/// The same event, made anew.
+fn anew(event: &EventNo) -> EventNo {
+    EventNo {
+        instance: event.instance,
+        index: event.index,
+    }
 }
 
 /// How many races of a schedule are shown. Each other one needs more slots than a schedule has.
@@ -117,15 +125,8 @@ fn shows_races(rt: &impl Abort, alloc: Global, schedule: &Schedule) -> usize {
     for report in outcome.reports() {
         for event in report.earlier().iter() {
             let receive = report.receive();
-            shows_race(
-                rt,
-                alloc,
-                schedule,
-                &outcome,
-                steps.as_slice(),
-                receive,
-                event,
-            );
+            let steps = steps.as_slice();
+            shows_race(rt, alloc, schedule, &outcome, steps, &receive, &event);
             many = many.saturating_add(1);
         }
     }

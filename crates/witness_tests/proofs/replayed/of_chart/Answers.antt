@@ -1,5 +1,4 @@
 use Rattle.std.proofs.Common.{◌≡◌, length, sym, ap, ◌∙◌, subst, arith}
-use Rattle.std.proofs.lemmas.Result.{IfOk-at_ok}
 use Rattle.chart.specs.Charts.{chart_lines}
 use Rattle.turned_runs.specs.Turns.{place_of, IsTurned}
 use Rattle.witness_tests.proofs.replayed.of_chart.Goals as goal
@@ -11,5 +10,4 @@ show-requires-clause-turned g c =
     let e = place_of c.args.earlier in
     let r = place_of c.args.receive in
     let named : length chart ≡ length c.args.names.now = omega (arith, c.len.ensures.value, ap length c.lines.ensures.value, c.if-len-lines.false) in
-    let found = IfOk-at_ok (IsTurned (length chart) 1 lines e r) c.expect-turned.ensures c.overtake_of_chart.ensures.turned in
-    (1, lines, e, r, subst (λ n. IsTurned n 1 lines e r c.expect-turned.result) named found)
+    (1, lines, e, r, subst (λ n. IsTurned n 1 lines e r c.in_ok-turned.turned) named c.in_ok-turned.ensures.turned)
