@@ -4,6 +4,7 @@ ghost use Rattle.board.specs.Meeting.{AreOfOneBoard};
 use crate::calls::{apart, send};
 use crate::tables::{Call, make_all};
 use board::{Board, MeetError, Post, meet, meet_all};
+use std::alloc::Global;
 use std::process::Abort;
 
 /// All posts of a board meet.
@@ -30,14 +31,27 @@ static MET: [(usize, Call); 3] = [
     (1, Call::Gets(2, b"y", &[1])),
 ];
 
+/// They meet.
+fn they_meet(posts: &mut [Post])
+    requires { AreOfOneBoard posts.old }
+    ensures { AreOfOneBoard posts.new }
+{
+    meet(posts);
+}
+
 /// Two of three meet, while a message of the third is on its way to one of them.
+fn two_meet(rt: &impl Abort, alloc: Global, posts: &mut [Post], third: &mut Post)
+    requires { AreOfOneBoard posts.old }
+{
+    assert_eq!(rt; send(rt, alloc, third, 1, b'x'), Ok(1));
+    they_meet(posts);
+    make_all(rt, alloc, posts, &MET);
+}
+
 #[test]
 fn two_of_three(rt: HostRuntime) {
-    let alloc = rt.alloc();
-    let mut board = Board::new(alloc, 3, 1).expect(&rt, "a board");
+    let mut board = Board::new(rt.alloc(), 3, 1).expect(&rt, "a board");
     let (mut posts, third) = apart(board.posts().expect(&rt, "posts"));
     let mut third = third.expect(&rt, "a third post");
-    assert_eq!(rt; send(&rt, alloc, &mut third, 1, b'x'), Ok(1));
-    meet(posts.as_mut_slice());
-    make_all(&rt, alloc, posts.as_mut_slice(), &MET);
+    two_meet(&rt, rt.alloc(), posts.as_mut_slice(), &mut third);
 }
