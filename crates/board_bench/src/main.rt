@@ -19,7 +19,6 @@ use load::{Calls, Load};
 use looks::looks;
 use pattern::Pattern;
 use rounds::{Peer, Plan, Traffic, run_round};
-use std::alloc::Global;
 use std::convert::AsStr;
 use std::env;
 use std::rt::Env;
@@ -54,47 +53,19 @@ fn percent(number: u64, of: u64) -> u64 {
     number.saturating_mul(100) / of.max(1)
 }
 
-/// What runs took, over a board, over rings and by recorders.
-#[derive(Drop)]
-struct Took {
-    board: Vec<u64>,
-    rings: Vec<u64>,
-    recorders: Vec<u64>,
-}
-
-fn nothing_yet(alloc: Global) -> Took {
-    Took {
-        board: Vec::new(alloc),
-        rings: Vec::new(alloc),
-        recorders: Vec::new(alloc),
-    }
-}
-
-/// Passes the messages of a pattern over a board and over rings.
-fn time_pattern<R: Threads + Sync + Clock + AllocGlobal>(
-    rt: &R,
-    pattern: Pattern,
-    load: Load,
-    took: &mut Took,
-) -> anyhow::Result<()> {
-    took.board
-        .push(run_pattern(rt, rt.alloc(), Over::Board, pattern, load)?)?;
-    took.rings
-        .push(run_pattern(rt, rt.alloc(), Over::Rings, pattern, load)?)?;
-    Ok(())
-}
-
 /// Tells what a message of a pattern costs, over a board and over rings in turn.
 fn tell_pattern<R: Threads + Sync + Clock + AllocGlobal + Print>(
     rt: &R,
     pattern: Pattern,
     load: Load,
 ) -> anyhow::Result<()> {
-    let mut took = nothing_yet(rt.alloc());
+    let alloc = rt.alloc();
+    let mut board = Vec::new(alloc);
+    let mut rings = Vec::new(alloc);
     for _ in 0..RUNS {
-        time_pattern(rt, pattern, load, &mut took)?;
+        board.push(run_pattern(rt, alloc, Over::Board, pattern, load)?)?;
+        rings.push(run_pattern(rt, alloc, Over::Rings, pattern, load)?)?;
     }
-    let Took { board, rings, .. } = took;
     let messages = pattern.messages();
     let board = median(board, messages)?;
     let rings = median(rings, messages)?;
@@ -108,26 +79,17 @@ fn tell_pattern<R: Threads + Sync + Clock + AllocGlobal + Print>(
     Ok(())
 }
 
-/// Passes bursts on one thread, over a board, over rings and by recorders.
-fn time_bursts<R: Clock + AllocGlobal>(rt: &R, load: Load, took: &mut Took) -> anyhow::Result<()> {
-    let alloc = rt.alloc();
-    took.board.push(run_bursts(rt, alloc, Over::Board, load)?)?;
-    took.rings.push(run_bursts(rt, alloc, Over::Rings, load)?)?;
-    took.recorders.push(run_recorders(rt, alloc)?)?;
-    Ok(())
-}
-
 /// Tells what a message costs in bursts on one thread, over a board, over rings and by recorders in turn.
 fn tell_bursts<R: Clock + AllocGlobal + Print>(rt: &R, load: Load) -> anyhow::Result<()> {
-    let mut took = nothing_yet(rt.alloc());
+    let alloc = rt.alloc();
+    let mut board = Vec::new(alloc);
+    let mut rings = Vec::new(alloc);
+    let mut recorders = Vec::new(alloc);
     for _ in 0..RUNS {
-        time_bursts(rt, load, &mut took)?;
+        board.push(run_bursts(rt, alloc, Over::Board, load)?)?;
+        rings.push(run_bursts(rt, alloc, Over::Rings, load)?)?;
+        recorders.push(run_recorders(rt, alloc)?)?;
     }
-    let Took {
-        board,
-        rings,
-        recorders,
-    } = took;
     let board = median(board, MESSAGES as u64)?;
     let rings = median(rings, MESSAGES as u64)?;
     let recorders = median(recorders, MESSAGES as u64)?;

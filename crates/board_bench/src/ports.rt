@@ -1,10 +1,9 @@
 //! The ends of an instance's lanes: of a board, or of the kit's rings.
 use crate::load::{Calls, Parcel, Stopped};
-use crate::rings::ring;
 use board::{Board, Post, Taken, TakenMany};
 use chart::{InstanceNo, Message};
-use rtrb::{Consumer, Producer, PushError};
-use std::alloc::{AllocError, Global};
+use rtrb::{Consumer, Producer, PushError, RingBuffer};
+use std::alloc::Global;
 
 /// What an instance passes messages by. Instances are named by their places, from 0.
 pub trait Port {
@@ -124,29 +123,12 @@ impl Port for RingPort {
     }
 }
 
-/// Gives two ports the ends of a ring from the one to the other.
-fn connect(
-    alloc: Global,
-    ports: &mut Vec<RingPort>,
-    (from, to): (usize, usize),
-    capacity: usize,
-) -> Result<(), AllocError> {
-    let (producer, consumer) = ring(alloc, (from, to), capacity)?;
-    if let Some(port) = ports.get_mut(to) {
-        port.incoming.push(consumer)?;
-    }
-    if let Some(port) = ports.get_mut(from) {
-        port.outgoing.push(producer)?;
-    }
-    Ok(())
-}
-
 /// A ring for each two of so many instances, each way.
 pub fn ring_ports(
     alloc: Global,
     instances: usize,
     capacity: usize,
-) -> Result<Vec<RingPort>, AllocError> {
+) -> anyhow::Result<Vec<RingPort>> {
     let mut ports = Vec::new(alloc);
     for _ in 0..instances {
         ports.push(RingPort {
@@ -156,7 +138,18 @@ pub fn ring_ports(
     }
     for from in 0..instances {
         for to in 0..instances {
-            connect(alloc, &mut ports, (from, to), capacity)?;
+            let (producer, consumer) = if from == to {
+                (None, None)
+            } else {
+                let (producer, consumer) = RingBuffer::new(alloc, capacity)?;
+                (Some(producer), Some(consumer))
+            };
+            if let Some(port) = ports.get_mut(from) {
+                port.outgoing.push(producer)?;
+            }
+            if let Some(port) = ports.get_mut(to) {
+                port.incoming.push(consumer)?;
+            }
         }
     }
     Ok(ports)

@@ -227,36 +227,6 @@ impl Instance {
     }
 }
 
-/// The two ends of a new ring, or none from an instance to itself.
-pub fn ring<T: Drop>(
-    alloc: Global,
-    (from, to): (usize, usize),
-    capacity: usize,
-) -> Result<(Option<Producer<T>>, Option<Consumer<T>>), AllocError> {
-    if from == to {
-        return Ok((None, None));
-    }
-    let (producer, consumer) = RingBuffer::new(alloc, capacity)?;
-    Ok((Some(producer), Some(consumer)))
-}
-
-/// Gives two instances the ends of a ring from the one to the other.
-fn connect(
-    alloc: Global,
-    made: &mut Vec<Instance>,
-    (from, to): (usize, usize),
-    capacity: usize,
-) -> Result<(), AllocError> {
-    let (producer, consumer) = ring(alloc, (from, to), capacity)?;
-    if let Some(instance) = made.get_mut(to) {
-        instance.incoming.push(consumer)?;
-    }
-    if let Some(instance) = made.get_mut(from) {
-        instance.outgoing.push(producer)?;
-    }
-    Ok(())
-}
-
 /// So many instances, with a ring for each two of them, each way.
 pub fn make_instances(
     alloc: Global,
@@ -279,7 +249,18 @@ pub fn make_instances(
     }
     for from in 0..instances {
         for to in 0..instances {
-            connect(alloc, &mut made, (from, to), capacity)?;
+            let (producer, consumer) = if from == to {
+                (None, None)
+            } else {
+                let (producer, consumer) = RingBuffer::new(alloc, capacity)?;
+                (Some(producer), Some(consumer))
+            };
+            if let Some(instance) = made.get_mut(from) {
+                instance.outgoing.push(producer)?;
+            }
+            if let Some(instance) = made.get_mut(to) {
+                instance.incoming.push(consumer)?;
+            }
         }
     }
     Ok(made)

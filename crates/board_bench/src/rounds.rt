@@ -113,24 +113,6 @@ struct Player<E> {
     seen: Seen,
 }
 
-/// What an instance is to pass, by the other instance's place, and how many messages these are.
-fn lanes_of(alloc: Global, plan: &Plan, own: usize) -> Result<(Vec<Passed>, usize), AllocError> {
-    let mut lanes = Vec::new(alloc);
-    let mut left = 0usize;
-    for other in 0..plan.instances {
-        let to_send = plan.share(own, other);
-        let to_get = plan.share(other, own);
-        left = left.saturating_add(to_send).saturating_add(to_get);
-        lanes.push(Passed {
-            to_send,
-            sent: 0,
-            to_get,
-            got: 0,
-        })?;
-    }
-    Ok((lanes, left))
-}
-
 /// The instances of a round, in their order.
 fn make_players<E: Drop>(
     alloc: Global,
@@ -139,7 +121,19 @@ fn make_players<E: Drop>(
 ) -> Result<Vec<Player<E>>, AllocError> {
     let mut players = Vec::new(alloc);
     for (own, end) in ends.into_iter().enumerate() {
-        let (lanes, left) = lanes_of(alloc, plan, own)?;
+        let mut lanes = Vec::new(alloc);
+        let mut left = 0usize;
+        for other in 0..plan.instances {
+            let to_send = plan.share(own, other);
+            let to_get = plan.share(other, own);
+            left = left.saturating_add(to_send).saturating_add(to_get);
+            lanes.push(Passed {
+                to_send,
+                sent: 0,
+                to_get,
+                got: 0,
+            })?;
+        }
         players.push(Player {
             end,
             alloc,
@@ -276,61 +270,26 @@ fn told<E>(plan: &Plan, players: &Vec<Player<E>>, nanoseconds: u64) -> anyhow::R
 }
 
 /// Passes all messages on this thread.
-fn pass_here<E: End>(plan: &Plan, players: &mut Vec<Player<E>>) -> Result<(), Stopped> {
-    if plan.traffic != Traffic::Burst {
-        return pass_by_turns(players);
-    }
-    match players.as_mut_slice() {
-        [first, second, ..] => pass_bursts(plan, first, second),
-        _ => Err(Stopped),
-    }
-}
-
-/// How many nanoseconds it took to pass them.
-fn time_here<R: Clock, E: End>(
-    rt: &R,
-    plan: &Plan,
-    players: &mut Vec<Player<E>>,
-) -> anyhow::Result<u64> {
-    let start = Instant::now(rt)?;
-    let passed = pass_here(plan, players);
-    let took = start.elapsed(rt)?;
-    if passed.is_err() {
-        anyhow::bail!("a message was refused");
-    }
-    Ok(u64::try_from(took.as_nanos())?)
-}
-
 fn run_here<R: Clock, E: End + Drop>(
     rt: &R,
     plan: &Plan,
     players: Vec<Player<E>>,
 ) -> anyhow::Result<Outcome> {
     let mut players = players;
-    let nanoseconds = time_here(rt, plan, &mut players)?;
-    told(plan, &players, nanoseconds)
-}
-
-/// Waits until all threads are there.
-fn wait_for_all(there: &AtomicU64, instances: usize) {
-    there.fetch_add(1, Ordering::SeqCst);
-    for _ in 0..MOST_STEPS {
-        if there.load(Ordering::SeqCst) >= instances as u64 {
-            break;
-        }
-        thread::yield_now();
-    }
-}
-
-/// Passes the messages of an instance. Answers how many nanoseconds it took.
-fn time_player<R: Clock, E: End>(rt: &R, player: &mut Player<E>) -> anyhow::Result<u64> {
     let start = Instant::now(rt)?;
-    let passed = player.pass_all();
+    let passed = if plan.traffic == Traffic::Burst {
+        match players.as_mut_slice() {
+            [first, second, ..] => pass_bursts(plan, first, second),
+            _ => Err(Stopped),
+        }
+    } else {
+        pass_by_turns(&mut players)
+    };
     let took = start.elapsed(rt)?;
     if passed.is_err() {
-        anyhow::bail!("a message was refused, or didn't come");
+        anyhow::bail!("a message was refused");
     }
-    Ok(u64::try_from(took.as_nanos())?)
+    told(plan, &players, u64::try_from(took.as_nanos())?)
 }
 
 /// Waits until all threads are there, and passes the messages of an instance. Answers how many nanoseconds it took.
@@ -341,9 +300,20 @@ fn run_player<R: Clock, E: End + Drop>(
     there: &AtomicU64,
 ) -> anyhow::Result<(Player<E>, u64)> {
     let mut player = player;
-    wait_for_all(there, instances);
-    let nanoseconds = time_player(rt, &mut player)?;
-    Ok((player, nanoseconds))
+    there.fetch_add(1, Ordering::SeqCst);
+    for _ in 0..MOST_STEPS {
+        if there.load(Ordering::SeqCst) >= instances as u64 {
+            break;
+        }
+        thread::yield_now();
+    }
+    let start = Instant::now(rt)?;
+    let passed = player.pass_all();
+    let took = start.elapsed(rt)?;
+    if passed.is_err() {
+        anyhow::bail!("a message was refused, or didn't come");
+    }
+    Ok((player, u64::try_from(took.as_nanos())?))
 }
 
 /// Passes all messages, each instance on a thread of its own. The slowest one counts.

@@ -16,29 +16,54 @@ const TWO: &[u8] = b"instances a b\ncapacity 1\n";
 
 const THREE: &[u8] = b"instances a b c\ncapacity 1\n";
 
-/// A schedule, another one whose scripts are to run it, and for how many turns: fewer scripts than instances, more of
-/// them, no turns and too many. Only the status tells of it.
-static UNFIT: [(&[u8], &[u8], u32); 4] = [
-    (THREE, TWO, 9),
-    (TWO, THREE, 9),
-    (TWO, TWO, 0),
-    (TWO, TWO, 1_000_001),
+/// What the scripts of one schedule and so many turns make of another schedule, of which only the status tells.
+#[derive(Clone, Copy)]
+struct Unfit {
+    schedule: &'static [u8],
+    scripts: &'static [u8],
+    turns: u32,
+}
+
+/// Fewer scripts than instances, more of them, no turns and too many.
+const UNFIT: [Unfit; 4] = [
+    Unfit {
+        schedule: THREE,
+        scripts: TWO,
+        turns: 9,
+    },
+    Unfit {
+        schedule: TWO,
+        scripts: THREE,
+        turns: 9,
+    },
+    Unfit {
+        schedule: TWO,
+        scripts: TWO,
+        turns: 0,
+    },
+    Unfit {
+        schedule: TWO,
+        scripts: TWO,
+        turns: 1_000_001,
+    },
 ];
 
 /// Nothing is written of it, and nothing said.
-fn leaves_its_status<R: Threads + Abort + Sync>(
-    rt: &R,
-    alloc: Global,
-    schedule: &[u8],
-    other: &[u8],
-    turns: u32,
-) {
-    let schedule = Schedule::read(alloc, schedule).expect(rt, "a schedule");
-    let other = Schedule::read(alloc, other).expect(rt, "another one");
+fn leaves_its_status<R: Threads + Abort + Sync>(rt: &R, alloc: Global, unfit: Unfit) {
+    let schedule = Schedule::read(alloc, unfit.schedule).expect(rt, "a schedule");
+    let other = Schedule::read(alloc, unfit.scripts).expect(rt, "another one");
     let scripts = scripts(alloc, &other).expect(rt, "scripts");
     let mut out = MemoryOut::new(alloc);
     let mut err = MemoryOut::new(alloc);
-    let status = shown(rt, alloc, &schedule, scripts, turns, &mut out, &mut err);
+    let status = shown(
+        rt,
+        alloc,
+        &schedule,
+        scripts,
+        unfit.turns,
+        &mut out,
+        &mut err,
+    );
     assert_eq!(rt; status, 2);
     assert!(rt; out.as_bytes().is_empty());
     assert!(rt; err.as_bytes().is_empty());
@@ -46,8 +71,8 @@ fn leaves_its_status<R: Threads + Abort + Sync>(
 
 #[test]
 fn unfit_runs_leave_their_status(rt: HostRuntime) {
-    for (schedule, other, turns) in &UNFIT {
-        leaves_its_status(&rt, rt.alloc(), schedule, other, *turns);
+    for unfit in UNFIT {
+        leaves_its_status(&rt, rt.alloc(), unfit);
     }
 }
 

@@ -2,7 +2,7 @@
 
 use crate::running::{ENOUGH, shows};
 use std::alloc::Global;
-use std::process::Abort;
+use std::test::Fail;
 
 #[test]
 fn waiting_spends_the_turns(rt: HostRuntime) {
@@ -57,44 +57,62 @@ fn crossing_messages_race_in_each_run(rt: HostRuntime) {
     }
 }
 
-/// Lines, and how often they come one after the other.
-type Part = (&'static [u8], u32);
-
-/// All these lines, one after the other.
-fn joined(rt: &impl Abort, alloc: Global, parts: &[Part]) -> Vec<u8> {
-    let mut text = Vec::new(alloc);
-    for (bytes, times) in parts {
-        for _ in 0..*times {
-            assert!(rt; text.extend_from_slice(bytes).is_ok());
-        }
-    }
-    text
+/// So many times the same lines.
+#[derive(Clone, Copy)]
+struct Part {
+    bytes: &'static [u8],
+    times: u32,
 }
 
-static FULL: [Part; 4] = [
-    (b"instances a b c\ncapacity 64\n", 1),
-    (b"a send b m\n", 4097),
-    (b"b receive a\n", 4096),
-    (b"c send b z\nb receive c\n", 1),
-];
+fn lines(bytes: &'static [u8], times: u32) -> Part {
+    Part { bytes, times }
+}
 
-static FULL_WRITTEN: [Part; 6] = [
-    (b"msc run;\ninstance a;\n", 1),
-    (b"out m to b;\n", 4096),
-    (b"endinstance;\ninstance b;\n", 1),
-    (b"in m from a;\n", 4096),
-    (
-        b"endinstance;\ninstance c;\nout z to b;\nendinstance;\nendmsc;\n",
-        1,
-    ),
-    (b"note 4099 linefull\nnote 8197 linefull\n", 1),
-];
+/// All these lines, one after the other.
+fn joined(alloc: Global, parts: &[Part]) -> Result<Vec<u8>, Fail> {
+    let mut text = Vec::new(alloc);
+    for part in parts {
+        for _ in 0..part.times {
+            text.extend_from_slice(part.bytes)?;
+        }
+    }
+    Ok(text)
+}
 
 /// `full` of a lane leaves no note, that a line is full does: of a send, and of a receive for which a message waits.
 #[test]
-fn line_full(rt: HostRuntime) {
-    let schedule = joined(&rt, rt.alloc(), &FULL);
-    let written = joined(&rt, rt.alloc(), &FULL_WRITTEN);
-    let written = written.as_slice();
-    shows(&rt, rt.alloc(), schedule.as_slice(), ENOUGH, written, 0);
+fn line_full(rt: HostRuntime) -> Result<(), Fail> {
+    let alloc = rt.alloc();
+    let schedule = joined(
+        alloc,
+        &[
+            lines(b"instances a b c\ncapacity 64\n", 1),
+            lines(b"a send b m\n", 4097),
+            lines(b"b receive a\n", 4096),
+            lines(b"c send b z\nb receive c\n", 1),
+        ],
+    )?;
+    let written = joined(
+        alloc,
+        &[
+            lines(b"msc run;\ninstance a;\n", 1),
+            lines(b"out m to b;\n", 4096),
+            lines(b"endinstance;\ninstance b;\n", 1),
+            lines(b"in m from a;\n", 4096),
+            lines(
+                b"endinstance;\ninstance c;\nout z to b;\nendinstance;\nendmsc;\n",
+                1,
+            ),
+            lines(b"note 4099 linefull\nnote 8197 linefull\n", 1),
+        ],
+    )?;
+    shows(
+        &rt,
+        alloc,
+        schedule.as_slice(),
+        ENOUGH,
+        written.as_slice(),
+        0,
+    );
+    Ok(())
 }
