@@ -55,35 +55,45 @@ fn refuses(rt: &impl Abort, alloc: Global, name: &str, text: &[u8], said: &[u8])
 
 /// The piece, so many times, after the front and before the end.
 fn repeated(
-    rt: &impl Abort,
     alloc: Global,
     front: &[u8],
     piece: &[u8],
     times: usize,
     end: &[u8],
-) -> Vec<u8> {
-    let mut text = Vec::new(alloc);
-    assert!(rt; text.extend_from_slice(front).is_ok());
+) -> Result<Vec<u8>, Fail> {
+    let mut text = Vec::from_slice(alloc, front)?;
     for _ in 0..times {
-        assert!(rt; text.extend_from_slice(piece).is_ok());
+        text.extend_from_slice(piece)?;
     }
-    assert!(rt; text.extend_from_slice(end).is_ok());
-    text
+    text.extend_from_slice(end)?;
+    Ok(text)
 }
 
 #[test]
-fn line_full(rt: HostRuntime) {
+fn line_full(rt: HostRuntime) -> Result<(), Fail> {
     let alloc = rt.alloc();
-    let front = b"instances a b\ncapacity 64\n";
     let turn = b"a send b m\nb receive a\n";
-    let schedule = repeated(&rt, alloc, front, turn, 4097, b"");
-    let front = b"msc run;\ninstance a;\n";
-    let middle = b"endinstance;\ninstance b;\n";
-    let sender = repeated(&rt, alloc, front, b"out m to b;\n", 4096, middle);
+    let schedule = repeated(alloc, b"instances a b\ncapacity 64\n", turn, 4097, b"")?;
+    let sender = repeated(
+        alloc,
+        b"msc run;\ninstance a;\n",
+        b"out m to b;\n",
+        4096,
+        b"endinstance;\n",
+    )?;
     let end = b"endinstance;\nendmsc;\nnote 8195 linefull\nnote 8196 nothing\n";
-    let written = repeated(&rt, alloc, sender.as_slice(), b"in m from a;\n", 4096, end);
-    let (schedule, written) = (schedule.as_slice(), written.as_slice());
-    replays(&rt, alloc, "full lines", schedule, written, 0);
+    let receiver = repeated(alloc, b"instance b;\n", b"in m from a;\n", 4096, end)?;
+    let mut written = sender;
+    written.extend_from_slice(receiver.as_slice())?;
+    replays(
+        &rt,
+        alloc,
+        "full lines",
+        schedule.as_slice(),
+        written.as_slice(),
+        0,
+    );
+    Ok(())
 }
 
 #[test]

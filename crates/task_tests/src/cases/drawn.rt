@@ -126,32 +126,33 @@ fn are_lanes(lines: &[Line]) -> bool {
         .all(|from| lines.iter().all(|to| is_lane(from, to)))
 }
 
-/// Whether the instances make their own commands, as many as before.
-fn makes_all(drawn: &Schedule, schedule: &Schedule) -> bool {
-    drawn.commands().len() == schedule.commands().len()
-        && (1..=3)
-            .filter_map(InstanceNo::new)
-            .all(|instance| makes_its_own(drawn, schedule, instance))
-}
-
-/// What the seed draws is checked.
-fn draws_lanes(rt: &impl Abort, alloc: Global, schedule: &Schedule, seed: u64) {
-    let drawn = drawn(alloc, schedule, seed).expect(rt, "an order");
+fn draws_lanes(
+    rt: &impl Abort,
+    alloc: Global,
+    schedule: &Schedule,
+    seed: u64,
+) -> Result<bool, Fail> {
+    let drawn = drawn(alloc, schedule, seed)?;
     is_checked(rt, alloc, &drawn);
-    assert!(rt; makes_all(&drawn, schedule));
-    let outcome = replay(alloc, &drawn).expect(rt, "an outcome");
-    assert!(rt; are_lanes(outcome.chart().lines()));
+    let outcome = replay(alloc, &drawn)?;
+    Ok(
+        (1..=3)
+            .filter_map(InstanceNo::new)
+            .all(|instance| makes_its_own(&drawn, schedule, instance))
+            && drawn.commands().len() == schedule.commands().len()
+            && are_lanes(outcome.chart().lines()),
+    )
 }
 
 #[test]
-fn a_thousand_seeds(rt: HostRuntime) {
+fn a_thousand_seeds(rt: HostRuntime) -> Result<(), Fail> {
     let turn = b"a send b x\nb send c y\nc send a z\na any\nb any\nc any\n";
-    let front = b"instances a b c\ncapacity 2\n";
-    let text = repeated(&rt, rt.alloc(), front, turn, 20, b"");
-    let schedule = Schedule::read(rt.alloc(), text.as_slice()).expect(&rt, "a schedule");
+    let text = repeated(rt.alloc(), b"instances a b c\ncapacity 2\n", turn, 20, b"")?;
+    let schedule = Schedule::read(rt.alloc(), text.as_slice())?;
     for seed in 0..1000 {
-        draws_lanes(&rt, rt.alloc(), &schedule, seed);
+        assert!(rt; draws_lanes(&rt, rt.alloc(), &schedule, seed)?);
     }
+    Ok(())
 }
 
 #[test]
