@@ -1,5 +1,5 @@
 //! A post that goes while a message waits for it.
-ghost use Rattle.std.specs.Prelude.{◌≡◌};
+ghost use Rattle.std.specs.Prelude.{◌≡◌, ◌<◌, length};
 ghost use Rattle.board.specs.Meeting.{AreOfOneBoard};
 
 use crate::calls::{apart, has_come, instance, message, name};
@@ -44,16 +44,32 @@ fn are_not_all(rt: &impl Abort, posts: &mut [Post])
     assert_eq!(rt; meet_all(posts), Err(MeetError::NotAllPosts));
 }
 
+/// The first of them sends.
+fn first_sends(
+    rt: &impl Abort,
+    alloc: Global,
+    posts: &mut [Post],
+    to: usize,
+    letter: u8,
+) -> Result<u32, SendError>
+    requires some { 0 < length posts.old }
+    requires one_board { AreOfOneBoard posts.old }
+    ensures one_board { AreOfOneBoard posts.new }
+    ensures as_many { length posts.new ≡ length posts.old }
+{
+    send(rt, alloc, &mut posts[0], to, letter)
+}
+
 /// One of the two that stay sends to the third, which then goes. Its lane stays full; the two meet, but not as all
 /// posts, and go on.
 fn lose_third(rt: &impl Abort, alloc: Global, posts: &mut [Post], third: Post)
     requires { AreOfOneBoard posts.old }
 {
     assert!(rt; posts.len() == 2);
-    assert_eq!(rt; send(rt, alloc, &mut posts[0], 3, b'x'), Ok(1));
+    assert_eq!(rt; first_sends(rt, alloc, posts, 3, b'x'), Ok(1));
     drop(third);
     assert_eq!(rt;
-        send(rt, alloc, &mut posts[0], 3, b'y'),
+        first_sends(rt, alloc, posts, 3, b'y'),
         Err(SendError::Full)
     );
     are_not_all(rt, posts);
