@@ -44,7 +44,11 @@ fn full_lines(rt: HostRuntime) {
     let turn = b"ada send bob ping\nbob receive ada\n";
     let front = b"instances ada bob cyd\ncapacity 1\n";
     let schedule = repeated(&rt, rt.alloc(), front, turn, MAX_EVENTS, AFTER_FULL_LINES);
-    assert!(rt; agree(&rt, rt.alloc(), &schedule).as_bytes().ends_with(FULL_LINES_END));
+    assert!(rt;
+        agree(&rt, rt.alloc(), &schedule)
+            .as_bytes()
+            .ends_with(FULL_LINES_END)
+    );
 }
 
 /// The outcome over running posts, at the second attempt where the first found no memory.

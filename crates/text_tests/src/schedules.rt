@@ -48,47 +48,47 @@ fn are_refused(rt: &impl Abort, alloc: Global, texts: &[Refused]) {
 }
 
 static FIRST_FAULTS: [Refused; 17] = [
-        (b"instances a\n", 1, Cause::Instances),
-        (b"instances a b a\n", 1, Cause::Duplicate),
-        (b"instances a 2b\n", 1, Cause::Name(NameError::BadByte(1))),
-        (b"instances a out\n", 1, Cause::Name(NameError::Reserved)),
-        (b"instances a b \n", 1, Cause::Syntax),
-        (b"instances\n", 1, Cause::Syntax),
-        (
-            b"instances a b c d e f g h i j k l m n o p q r s t u v w x y z A B C D E F G\n",
-            1,
-            Cause::Instances,
-        ),
-        (b"instances a b\ncapacity 01\n", 2, Cause::Syntax),
-        (b"instances a b\ncapacity 0\n", 2, Cause::Capacity),
-        (b"instances a b\ncapacity 65\n", 2, Cause::Capacity),
-        (
-            b"instances a b\ncapacity 1\na send c x\n",
-            3,
-            Cause::UnknownInstance,
-        ),
-        (
-            b"instances a b\ncapacity 1\na send a x\n",
-            3,
-            Cause::ToItself,
-        ),
-        (
-            b"instances a b\ncapacity 1\na send b x-y\n",
-            3,
-            Cause::Name(NameError::BadByte(2)),
-        ),
-        (
-            b"instances a b\ncapacity 1\na send c x-y\n",
-            3,
-            Cause::Name(NameError::BadByte(2)),
-        ),
-        (b"instances a b\ncapacity 1\na send b \n", 3, Cause::Syntax),
-        (b"instances a b\ncapacity 1\na  any\n", 3, Cause::Syntax),
-        (
-            b"instances a b\ncapacity 64\na any\nA any\n",
-            4,
-            Cause::UnknownInstance,
-        ),
+    (b"instances a\n", 1, Cause::Instances),
+    (b"instances a b a\n", 1, Cause::Duplicate),
+    (b"instances a 2b\n", 1, Cause::Name(NameError::BadByte(1))),
+    (b"instances a out\n", 1, Cause::Name(NameError::Reserved)),
+    (b"instances a b \n", 1, Cause::Syntax),
+    (b"instances\n", 1, Cause::Syntax),
+    (
+        b"instances a b c d e f g h i j k l m n o p q r s t u v w x y z A B C D E F G\n",
+        1,
+        Cause::Instances,
+    ),
+    (b"instances a b\ncapacity 01\n", 2, Cause::Syntax),
+    (b"instances a b\ncapacity 0\n", 2, Cause::Capacity),
+    (b"instances a b\ncapacity 65\n", 2, Cause::Capacity),
+    (
+        b"instances a b\ncapacity 1\na send c x\n",
+        3,
+        Cause::UnknownInstance,
+    ),
+    (
+        b"instances a b\ncapacity 1\na send a x\n",
+        3,
+        Cause::ToItself,
+    ),
+    (
+        b"instances a b\ncapacity 1\na send b x-y\n",
+        3,
+        Cause::Name(NameError::BadByte(2)),
+    ),
+    (
+        b"instances a b\ncapacity 1\na send c x-y\n",
+        3,
+        Cause::Name(NameError::BadByte(2)),
+    ),
+    (b"instances a b\ncapacity 1\na send b \n", 3, Cause::Syntax),
+    (b"instances a b\ncapacity 1\na  any\n", 3, Cause::Syntax),
+    (
+        b"instances a b\ncapacity 64\na any\nA any\n",
+        4,
+        Cause::UnknownInstance,
+    ),
 ];
 
 #[test]
@@ -103,26 +103,26 @@ fn first_faults(rt: HostRuntime) {
 
 /// Lines with two faults, and texts with two faulty lines: the first decides.
 static TWO_FAULTS: [Refused; 8] = [
-        (b"instances 2 \n", 1, Cause::Syntax),
-        (b"instances 2\n", 1, Cause::Name(NameError::BadByte(1))),
-        (b"instances a a 2\n", 1, Cause::Duplicate),
-        (
-            b"instances a b-c a\n",
-            1,
-            Cause::Name(NameError::BadByte(2)),
-        ),
-        (
-            b"instances a b c d e f g h i j k l m n o p q r s t u v w x y z A B C D E F a\n",
-            1,
-            Cause::Duplicate,
-        ),
-        (
-            b"instances a b c d e f g h i j k l m n o p q r s t u v w x y z A B C D E F G 2\n",
-            1,
-            Cause::Instances,
-        ),
-        (b"instances a b\ncapacity 065\n", 2, Cause::Syntax),
-        (b"instances a b\ncapacity 65 \n", 2, Cause::Syntax),
+    (b"instances 2 \n", 1, Cause::Syntax),
+    (b"instances 2\n", 1, Cause::Name(NameError::BadByte(1))),
+    (b"instances a a 2\n", 1, Cause::Duplicate),
+    (
+        b"instances a b-c a\n",
+        1,
+        Cause::Name(NameError::BadByte(2)),
+    ),
+    (
+        b"instances a b c d e f g h i j k l m n o p q r s t u v w x y z A B C D E F a\n",
+        1,
+        Cause::Duplicate,
+    ),
+    (
+        b"instances a b c d e f g h i j k l m n o p q r s t u v w x y z A B C D E F G 2\n",
+        1,
+        Cause::Instances,
+    ),
+    (b"instances a b\ncapacity 065\n", 2, Cause::Syntax),
+    (b"instances a b\ncapacity 65 \n", 2, Cause::Syntax),
 ];
 
 #[test]
@@ -133,22 +133,82 @@ fn first_of_two_faults(rt: HostRuntime) {
 /// The same in a command's line: the form, the names from the left with the message's last, the instances, and the
 /// partner.
 static TWO_FAULTS_OF_A_COMMAND: [Refused; 16] = [
-        (b"instances a b\ncapacity 1\n2 jump b\n", 3, Cause::Syntax),
-        (b"instances a b\ncapacity 1\n2 send c out x\n", 3, Cause::Syntax),
-        (b"instances a b\ncapacity 1\na-b send 2 out\n", 3, Cause::Name(NameError::BadByte(2))),
-        (b"instances a b\ncapacity 1\nc send 2 out\n", 3, Cause::Name(NameError::BadByte(1))),
-        (b"instances a b\ncapacity 1\nc send d out\n", 3, Cause::Name(NameError::Reserved)),
-        (b"instances a b\ncapacity 1\nc send c out\n", 3, Cause::Name(NameError::Reserved)),
-        (b"instances a b\ncapacity 1\na send a 2\n", 3, Cause::Name(NameError::BadByte(1))),
-        (b"instances a b\ncapacity 1\nc send c x\n", 3, Cause::UnknownInstance),
-        (b"instances a b\ncapacity 1\nc receive out\n", 3, Cause::Name(NameError::Reserved)),
-        (b"instances a b\ncapacity 1\nc receive c\n", 3, Cause::UnknownInstance),
-        (b"instances a b\ncapacity 1\na receive a\n", 3, Cause::ToItself),
-        (b"instances a b\ncapacity 1\nc close 2\n", 3, Cause::Name(NameError::BadByte(1))),
-        (b"instances a b\ncapacity 1\nc close c\n", 3, Cause::UnknownInstance),
-        (b"instances a b\ncapacity 1\nb close b\n", 3, Cause::ToItself),
-        (b"instances a b\ncapacity 1\nc endconcurrent\nb any", 3, Cause::UnknownInstance),
-        (b"instances a b\ncapacity 1\nb jump\nc any\n", 3, Cause::Syntax),
+    (b"instances a b\ncapacity 1\n2 jump b\n", 3, Cause::Syntax),
+    (
+        b"instances a b\ncapacity 1\n2 send c out x\n",
+        3,
+        Cause::Syntax,
+    ),
+    (
+        b"instances a b\ncapacity 1\na-b send 2 out\n",
+        3,
+        Cause::Name(NameError::BadByte(2)),
+    ),
+    (
+        b"instances a b\ncapacity 1\nc send 2 out\n",
+        3,
+        Cause::Name(NameError::BadByte(1)),
+    ),
+    (
+        b"instances a b\ncapacity 1\nc send d out\n",
+        3,
+        Cause::Name(NameError::Reserved),
+    ),
+    (
+        b"instances a b\ncapacity 1\nc send c out\n",
+        3,
+        Cause::Name(NameError::Reserved),
+    ),
+    (
+        b"instances a b\ncapacity 1\na send a 2\n",
+        3,
+        Cause::Name(NameError::BadByte(1)),
+    ),
+    (
+        b"instances a b\ncapacity 1\nc send c x\n",
+        3,
+        Cause::UnknownInstance,
+    ),
+    (
+        b"instances a b\ncapacity 1\nc receive out\n",
+        3,
+        Cause::Name(NameError::Reserved),
+    ),
+    (
+        b"instances a b\ncapacity 1\nc receive c\n",
+        3,
+        Cause::UnknownInstance,
+    ),
+    (
+        b"instances a b\ncapacity 1\na receive a\n",
+        3,
+        Cause::ToItself,
+    ),
+    (
+        b"instances a b\ncapacity 1\nc close 2\n",
+        3,
+        Cause::Name(NameError::BadByte(1)),
+    ),
+    (
+        b"instances a b\ncapacity 1\nc close c\n",
+        3,
+        Cause::UnknownInstance,
+    ),
+    (
+        b"instances a b\ncapacity 1\nb close b\n",
+        3,
+        Cause::ToItself,
+    ),
+    (
+        b"instances a b\ncapacity 1\nc endconcurrent\nb any",
+        3,
+        Cause::UnknownInstance,
+    ),
+    (
+        b"instances a b\ncapacity 1\nb jump\nc any\n",
+        3,
+        Cause::Syntax,
+    ),
 ];
 
 #[test]
@@ -159,24 +219,24 @@ fn first_of_two_faults_of_a_command(rt: HostRuntime) {
 /// A text is refused by its first faulty line, also where it is not finished, and a line without its line feed has no
 /// fault.
 static FAULTY_LINES: [(&[u8], Fault); 6] = [
-        (
-            b"instances a\ncapacity 0\na\n",
-            Fault::Line(1, Cause::Instances),
-        ),
-        (
-            b"instances a b\ncapacity 0\na",
-            Fault::Line(2, Cause::Capacity),
-        ),
-        (b"instances a b\ncapacity 0", Fault::Unfinished),
-        (b"instances a", Fault::Unfinished),
-        (
-            b"instances a b\ncapacity 1\na any\na jump",
-            Fault::Unfinished,
-        ),
-        (
-            b"instances a b\ncapacity 1\na any\na jump\n",
-            Fault::Line(4, Cause::Syntax),
-        ),
+    (
+        b"instances a\ncapacity 0\na\n",
+        Fault::Line(1, Cause::Instances),
+    ),
+    (
+        b"instances a b\ncapacity 0\na",
+        Fault::Line(2, Cause::Capacity),
+    ),
+    (b"instances a b\ncapacity 0", Fault::Unfinished),
+    (b"instances a", Fault::Unfinished),
+    (
+        b"instances a b\ncapacity 1\na any\na jump",
+        Fault::Unfinished,
+    ),
+    (
+        b"instances a b\ncapacity 1\na any\na jump\n",
+        Fault::Line(4, Cause::Syntax),
+    ),
 ];
 
 #[test]

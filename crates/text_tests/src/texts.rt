@@ -160,8 +160,10 @@ fn cuts_lines(rt: HostRuntime) {
 }
 
 /// Texts, and their first words with what follows.
-static FIRST_WORDS: [(&[u8], (&[u8], Option<&[u8]>)); 2] =
-    [(b"a  b", (b"a", Some(b" b"))), (b"", (b"", None))];
+static FIRST_WORDS: [(&[u8], (&[u8], Option<&[u8]>)); 2] = [
+    (b"a  b", (b"a", Some(b" b"))),
+    (b"", (b"", None)),
+];
 
 /// Lines, and their words, if they are at most four.
 static WORDS: [(&[u8], &[&[u8]]); 5] = [

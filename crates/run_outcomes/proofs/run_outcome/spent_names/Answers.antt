@@ -7,17 +7,20 @@ use Rattle.run_outcomes.proofs.run_outcome.spent_names.Goals.{in-TurnsSpent+in_o
 
 -- src/run_outcome.rt:43:5
 pub loop-place-preserved : goal.loop-place-preserved
-loop-place-preserved c = elim c.match-end.branch
-  [ in-TurnsSpent+in_ok-push-in-TurnsSpent w ↦
+loop-place-preserved c = elim c.match-end.branch [
+  | in-TurnsSpent+in_ok-push-in-TurnsSpent w ↦
       let is : slice_index_or c.args.ends.now c.loop-place.place Stopped ≡ TurnsSpent = search rules in
       let grown : c.match-end.spent.items ≡ c.loop-place.spent.items ++ w.named.result ∷ [] = search rules in
       let named : w.named.result ≡ name_at c.args.names.now (c.loop-place.place + 1) = search rules in
       record {
         spent = spent_on c.args.names.now c.args.ends.now c.loop-place.place c.loop-place.spent.items c.match-end.spent.items w.named.result
-          c.loop-place-test.true is grown named c.loop-place.invariant.spent;
-        memory = memory_on c.args.ends.now c.loop-place.place c.loop-place-test.true is refl c.loop-place.invariant.memory }
+            c.loop-place-test.true is grown named c.loop-place.invariant.spent;
+        memory = memory_on c.args.ends.now c.loop-place.place c.loop-place-test.true is refl c.loop-place.invariant.memory;
+      }
   | in-Stopped w ↦
       let is : slice_index_or c.args.ends.now c.loop-place.place Stopped ≡ Stopped = search rules in
       record {
         spent = rw w.spent-is (stopped_on c.args.names.now c.args.ends.now c.loop-place.place c.loop-place.spent.items c.loop-place-test.true is c.loop-place.invariant.spent);
-        memory = memory_on c.args.ends.now c.loop-place.place c.loop-place-test.true is refl c.loop-place.invariant.memory } ]
+        memory = memory_on c.args.ends.now c.loop-place.place c.loop-place-test.true is refl c.loop-place.invariant.memory;
+      }
+]
