@@ -1,5 +1,5 @@
 -- Loops over bytes: what is left of them, a byte at a time.
-use Rattle.std.proofs.Common.{◌≡◌, ℕ, zero, suc, ◌+◌, ◌<◌, ◌≤◌, ◌==◌, ◌&&◌, Bool, true, false, arith, List, [], ◌∷◌, length, drop, get_or, refl, ap, ◌∙◌, add-one, if◌then◌else◌}
+use Rattle.std.proofs.Common.{◌≡◌, ℕ, zero, suc, ◌+◌, ◌<◌, ◌≤◌, ◌==◌, ◌&&◌, Bool, true, false, arith, List, [], ◌∷◌, length, drop, get_or, Option, None, Some, option_map, refl, ap, ◌∙◌, add-one, if◌then◌else◌}
 use Rattle.std.proofs.Math.Seq.{drop-cons}
 use Rattle.line_statements.specs.Words.{is_blank, kept, kept_by}
 
@@ -28,3 +28,8 @@ kept_next bytes so_far i lt = ap (λ l. kept_in so_far i (kept l)) (drop_next by
 
 pub kept_all : (bytes : List ℕ) (so_far i : ℕ) → length bytes ≤ i → kept_in so_far i (kept (drop i bytes)) ≡ so_far
 kept_all bytes so_far i h = ap (λ l. kept_in so_far i (kept l)) (drop_all bytes i h)
+
+-- a place that is one more further on
+pub moved_on : (n : ℕ) (place : Option ℕ) → option_map (λ k. n + k) (option_map suc place) ≡ option_map (λ k. n + 1 + k) place
+moved_on n None = refl
+moved_on n (Some k) = ap Some (omega arith)

@@ -1,8 +1,8 @@
 -- Words at the beginning and the end of bytes. A diagram's blanks are a space, a tab and a carriage return.
 use Rattle.std.specs.Prelude.{◌≡◌, ℕ, zero, suc, Bool, true, false, not, ◌||◌, ◌&&◌, ◌==◌, nat_le, List, [], ◌∷◌, length, map, take, drop, position}
-use Rattle.std.specs.Prelude.{Option, None, Some, unwrap_or, bytes_eq, if◌then◌else◌}
+use Rattle.std.specs.Prelude.{Option, None, Some, unwrap_or, bytes_eq, nat_eq, option_map, if◌then◌else◌}
 use Rattle.std.specs.Char.{to_ascii_lowercase}
-use Rattle.std.specs.List.{list_any}
+use Rattle.std.specs.List.{starts_with}
 
 -- what a call found, seen by view
 abbrev pub Finds : {X Y : Type 0} → (X → Y) → Option X → Option Y → Type 0
@@ -30,9 +30,13 @@ abbrev pub kept : List ℕ → ℕ
 kept [] = 0
 kept (b ∷ bs) = kept_by (is_blank b) (kept bs)
 
+-- the bytes without the blanks behind them
+unfoldable pub end_stripped : List ℕ → List ℕ
+end_stripped bytes = take (kept bytes) bytes
+
 -- the bytes without the blanks at their ends
 unfoldable pub stripped : List ℕ → List ℕ
-stripped bytes = take (kept (behind_blanks bytes)) (behind_blanks bytes)
+stripped bytes = end_stripped (behind_blanks bytes)
 
 -- the word is this one, in any letters
 unfoldable pub is_spelled : List ℕ → List ℕ → Bool
@@ -69,3 +73,16 @@ or_else (Some x) later = Some x
 abbrev pub behind_keyword_of : List (List ℕ) → List ℕ → Option (List ℕ)
 behind_keyword_of [] bytes = None
 behind_keyword_of (known ∷ others) bytes = or_else (behind_keyword known bytes) (behind_keyword_of others bytes)
+
+-- what stands behind this word, if it comes next, in any letters
+unfoldable pub skip_word : List ℕ → List ℕ → List ℕ
+skip_word known bytes = unwrap_or (behind_word known bytes) bytes
+
+-- the place of the first byte that is this one
+abbrev pub first_place : ℕ → List ℕ → Option ℕ
+first_place byte bytes = position (λ b. b == byte) bytes
+
+-- the place where these bytes first stand
+unfoldable pub place_of : List ℕ → List ℕ → Option ℕ
+place_of known [] = None
+place_of known (b ∷ bs) = if starts_with nat_eq (b ∷ bs) known then Some 0 else option_map suc (place_of known bs)

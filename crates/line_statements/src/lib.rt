@@ -8,11 +8,11 @@ mod line;
 mod statement;
 mod words;
 
-pub use line::Line;
+pub use line::{Line, line_length};
 pub use statement::{
     Arrow, ArrowForm, End, Fault, Group, NoteAt, Place, ReadError, Said, Statement,
 };
 pub use words::{
-    begins, behind_blanks, behind_keyword, behind_keyword_of, behind_word, blank_length, ends_word,
-    is_blank, is_spelled, stripped,
+    begins, begins_with, behind_blanks, behind_keyword, behind_keyword_of, behind_word, blank_length,
+    end_stripped, ends_word, first_place, is_blank, is_spelled, place_of, skip_word, stripped,
 };

@@ -1,7 +1,8 @@
 //! Words at the beginning and the end of bytes.
-ghost use Rattle.std.specs.Prelude.{◌≡◌, ◌≤◌, ◌<◌, ◌+◌, ◌^◌, if◌then◌else◌, length, take, drop, not, position, IfSome, IsTrue, map};
-ghost use Rattle.line_statements.specs.Words.{Finds, is_blank, blank_length, behind_blanks, kept, stripped, is_spelled, begins};
-ghost use Rattle.line_statements.specs.Words.{behind_word, ends_word, behind_keyword, behind_keyword_of};
+ghost use Rattle.std.specs.Prelude.{◌≡◌, ◌≤◌, ◌<◌, ◌+◌, ◌^◌, if◌then◌else◌, length, take, drop, not, position, IfSome, IsTrue, map, nat_eq};
+ghost use Rattle.std.specs.List.{starts_with};
+ghost use Rattle.line_statements.specs.Words.{Finds, is_blank, blank_length, behind_blanks, kept, end_stripped, stripped, is_spelled, begins};
+ghost use Rattle.line_statements.specs.Words.{behind_word, ends_word, behind_keyword, behind_keyword_of, skip_word, first_place, place_of};
 
 /// A space, a tab or a carriage return.
 pub fn is_blank(byte: u8) -> bool
@@ -60,14 +61,22 @@ fn kept(bytes: &[u8]) -> usize
     so_far
 }
 
+/// The bytes without the blanks behind the last one that is none.
+#[tactic(auto, unfolding(crate::specs::Words::end_stripped))]
+pub fn end_stripped(bytes: &[u8]) -> &[u8]
+    ensures value { result.now ≡ end_stripped bytes.now }
+    ensures within { length result.now ≤ length bytes.now }
+{
+    &bytes[..kept(bytes)]
+}
+
 /// The bytes without the blanks at their ends.
 #[tactic(auto, unfolding(crate::specs::Words::stripped))]
 pub fn stripped(bytes: &[u8]) -> &[u8]
     ensures value { result.now ≡ stripped bytes.now }
     ensures within { length result.now ≤ length bytes.now }
 {
-    let rest = behind_blanks(bytes);
-    &rest[..kept(rest)]
+    end_stripped(behind_blanks(bytes))
 }
 
 /// Whether the word is this one, in any letters.
@@ -131,6 +140,52 @@ pub fn behind_keyword_of<'a>(words: &[&[u8]], bytes: &'a [u8]) -> Option<&'a [u8
         if let Some(rest) = behind_keyword(*known, bytes) {
             return Some(rest);
         }
+    }
+    None
+}
+
+/// What stands behind this word if it comes next, in any letters; else the bytes.
+#[tactic(auto, unfolding(crate::specs::Words::skip_word))]
+pub fn skip_word<'a>(known: &[u8], bytes: &'a [u8]) -> &'a [u8]
+    ensures rest { result.now ≡ skip_word known.now bytes.now }
+    ensures within { length result.now ≤ length bytes.now }
+{
+    match behind_word(known, bytes) {
+        Some(rest) => rest,
+        None => bytes,
+    }
+}
+
+/// The place of the first byte that is this one.
+pub fn first_place(known: u8, bytes: &[u8]) -> Option<usize>
+    ensures value { result ≡ first_place known bytes.now }
+    ensures within { IfSome result (λ place. place < length bytes.now) }
+{
+    bytes.iter().position(|byte| *byte == known)
+}
+
+/// Whether the bytes begin with exactly these.
+pub fn begins_with(bytes: &[u8], known: &[u8]) -> bool
+    ensures value { result ≡ starts_with nat_eq bytes.now known.now }
+    ensures within { IsTrue result → length known.now ≤ length bytes.now }
+{
+    bytes.starts_with(known)
+}
+
+/// The place where these bytes first stand.
+#[tactic(auto, unfolding(crate::specs::Words::place_of), using(crate::proofs::ByteLoops::moved_on))]
+pub fn place_of(known: &[u8], bytes: &[u8]) -> Option<usize>
+    ensures value { result ≡ place_of known.now bytes.now }
+    ensures within { IfSome result (λ place. place + length known.now ≤ length bytes.now) }
+{
+    let mut passed = 0;
+    let mut rest = bytes;
+    'bytes: while let [_, others @ ..] = rest {
+        if begins_with(rest, known) {
+            return Some(passed);
+        }
+        passed += 1;
+        rest = others;
     }
     None
 }
