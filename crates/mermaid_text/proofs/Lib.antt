@@ -1,1 +1,2 @@
+pub mod LabelLoops
 pub mod SignLoops

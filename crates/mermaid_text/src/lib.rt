@@ -4,10 +4,10 @@
 //! place, or the first fault. Memory is refused at a growth alone.
 #![tactic(auto)]
 
-//mod arrow;
+mod arrow;
 mod names;
 //mod note;
-//mod participant;
+mod participant;
 //mod piece;
 //mod said;
 mod sign;
