@@ -1,2 +1,3 @@
 pub mod LabelLoops
+pub mod NameLoops
 pub mod SignLoops

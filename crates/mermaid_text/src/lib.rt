@@ -6,7 +6,7 @@
 
 mod arrow;
 mod names;
-//mod note;
+mod note;
 mod participant;
 //mod piece;
 //mod said;
