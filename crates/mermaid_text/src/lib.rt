@@ -9,7 +9,7 @@ mod names;
 mod note;
 mod participant;
 //mod piece;
-//mod said;
+mod said;
 mod sign;
 mod text;
 //mod diagram;
