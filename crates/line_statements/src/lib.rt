@@ -8,7 +8,7 @@ mod line;
 mod statement;
 mod words;
 
-pub use line::{Line, line_length};
+pub use line::{Line, behind_line, line_length};
 pub use statement::{
     Arrow, ArrowForm, End, Fault, Group, NoteAt, Place, ReadError, Said, Statement,
 };

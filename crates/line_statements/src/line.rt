@@ -1,5 +1,5 @@
 //! Lines, with their places.
-ghost use Rattle.std.specs.Prelude.{◌≡◌, ◌≤◌, ◌<◌, ◌+◌, ◌^◌, length};
+ghost use Rattle.std.specs.Prelude.{◌≡◌, ◌≤◌, ◌<◌, ◌+◌, ◌^◌, length, suc, drop};
 ghost use Rattle.line_statements.specs.Statements.{line_view};
 ghost use Rattle.line_statements.specs.Lines.{after, front_of, stripped_line, line_place, line_length};
 
@@ -84,4 +84,14 @@ pub fn line_length(text: &[u8]) -> usize
         None => text.len(),
         Some(place) => place,
     }
+}
+
+/// What stands behind the first line of a text.
+#[tactic(auto, using(crate::proofs::ByteLoops::drop_all))]
+pub fn behind_line(text: &[u8]) -> &[u8]
+    ensures value { result.now ≡ drop (suc (line_length text.now)) text.now }
+    ensures shorter { 0 < length text.now → length result.now < length text.now }
+{
+    let length = line_length(text);
+    if length < text.len() { &text[length + 1..] } else { &[] }
 }

@@ -8,10 +8,10 @@ mod arrow;
 mod names;
 mod note;
 mod participant;
-//mod piece;
+mod piece;
 mod said;
 mod sign;
 mod text;
-//mod diagram;
+mod diagram;
 
-//pub use diagram::read;
+pub use diagram::read;
