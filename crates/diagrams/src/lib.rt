@@ -1,0 +1,10 @@
+//! Sequence diagrams that were drawn for other tools, and the charts that they come to.
+#![tactic(auto)]
+
+mod diagram;
+mod left_out;
+mod place;
+
+pub use diagram::{Arrow, Diagram, Item, Note, Participant};
+pub use left_out::{Kind, LeftOut, leave_out};
+pub use place::Place;
