@@ -1,2 +1,4 @@
 pub mod Acts
 pub mod Frames
+pub mod Labels
+pub mod Participants

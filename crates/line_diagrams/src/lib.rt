@@ -11,8 +11,8 @@ mod act;
 //mod drawing;
 //mod fold;
 mod frames;
-//mod labels;
-//mod participants;
+mod labels;
+mod participants;
 
 //pub use fold::diagram_of;
 //pub use labels::Breaks;
