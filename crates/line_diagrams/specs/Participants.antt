@@ -1,5 +1,5 @@
 -- Participants, in the order in which they are first named.
-use Rattle.std.specs.Prelude.{◌≡◌, ℕ, suc, Bool, List, [], ◌∷◌, ◌++◌, length, Option, None, Some, option_map, bytes_eq, if◌then◌else◌}
+use Rattle.std.specs.Prelude.{◌≡◌, ℕ, zero, suc, Bool, List, [], ◌∷◌, ◌++◌, length, Option, None, Some, option_map, bytes_eq, if◌then◌else◌}
 use Rattle.line_diagrams.specs.declared.participants.Named.{Named}
 use Rattle.line_statements.specs.Statements.{EndView}
 
@@ -37,8 +37,15 @@ named ps line end = named_by ps line end (place_in end.word ps)
 abbrev pub Names : ℕ → List NamedView → List NamedView × ℕ → Type 0
 Names place ps step = (ps ≡ step.0) × (place ≡ step.1)
 
--- the label of the participant with this word is this one
-abbrev pub relabelled : List ℕ → List ℕ → List NamedView → List NamedView
-relabelled word label [] = []
-relabelled word label (p ∷ ps) =
-    if bytes_eq p.word word then record { word = p.word; label = label; line = p.line } ∷ ps else p ∷ relabelled word label ps
+-- the participant at this place is labelled so
+abbrev pub relabelled : List ℕ → NamedView → NamedView
+relabelled label p = record { word = p.word; label = label; line = p.line }
+
+abbrev pub with_label : List ℕ → ℕ → List NamedView → List NamedView
+with_label label place [] = []
+with_label label zero (p ∷ ps) = relabelled label p ∷ ps
+with_label label (suc place) (p ∷ ps) = p ∷ with_label label place ps
+
+-- the participants with one that is named with its label, which stands from now on
+unfoldable pub renamed : List NamedView → ℕ → EndView → List NamedView
+renamed ps line end = with_label (label_or end.word end.label) (named ps line end).1 (named ps line end).0

@@ -7,12 +7,13 @@
 #![tactic(auto)]
 
 mod act;
-//mod activations;
+mod activations;
 //mod drawing;
 //mod fold;
 mod frames;
 mod labels;
 mod participants;
+mod rows;
 
 //pub use fold::diagram_of;
 //pub use labels::Breaks;

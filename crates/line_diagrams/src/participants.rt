@@ -1,7 +1,7 @@
 //! Participants, in the order in which they are first named.
-ghost use Rattle.std.specs.Prelude.{◌≡◌, ◌<◌, length, map, bytes_eq, IfSome, IfOk, OnOk, vec_len};
+ghost use Rattle.std.specs.Prelude.{◌≡◌, ◌<◌, length, map, bytes_eq, IfSome, IfOk, OnOk};
 ghost use Rattle.line_statements.specs.Statements.{end_view};
-ghost use Rattle.line_diagrams.specs.Participants.{named_view, place_in, new_named, named, Names};
+ghost use Rattle.line_diagrams.specs.Participants.{named_view, place_in, new_named, named, renamed, with_label, Names};
 
 use line_statements::End;
 use std::alloc::AllocError;
@@ -70,4 +70,38 @@ pub(crate) fn name<'a>(
             Ok(place)
         }
     }
+}
+
+/// A participant that a statement in this line names with its label, which stands from now on.
+#[tactic(auto, unfolding(crate::specs::Participants::renamed))]
+pub(crate) fn rename<'a>(
+    participants: &mut Vec<Named<'a>>,
+    line: u64,
+    end: End<'a>,
+) -> Result<(), AllocError>
+    ensures { OnOk result (map named_view participants.new.items
+        ≡ renamed (map named_view participants.old.items) line (end_view end.entry)) }
+{
+    let place = name(participants, line, end)?;
+    let label = match end.label {
+        Some(label) => label,
+        None => end.word,
+    };
+    set_label(participants, place, label);
+    Ok(())
+}
+
+/// The participant at this place is labelled so.
+#[tactic(auto, using(crate::proofs::LabelLemmas::labelled))]
+fn set_label<'a>(participants: &mut Vec<Named<'a>>, place: usize, label: &'a [u8])
+    requires { place < length participants.old.items }
+    ensures { map named_view participants.new.items
+        ≡ with_label label.now place (map named_view participants.old.items) }
+{
+    let named = participants[place];
+    participants[place] = Named {
+        word: named.word,
+        label,
+        line: named.line,
+    };
 }
