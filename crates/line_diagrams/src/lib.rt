@@ -8,12 +8,12 @@
 
 mod act;
 mod activations;
-//mod drawing;
-//mod fold;
+mod drawing;
+mod fold;
 mod frames;
 mod labels;
 mod participants;
 mod rows;
 
-//pub use fold::diagram_of;
-//pub use labels::Breaks;
+pub use fold::diagram_of;
+pub use labels::Breaks;
