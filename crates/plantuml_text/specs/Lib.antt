@@ -1,5 +1,3 @@
-pub mod Bodies
-pub mod Names
-pub mod Runs
-pub mod Tails
-pub mod Tips
+pub mod Looks
+pub mod Notes
+pub mod Participants

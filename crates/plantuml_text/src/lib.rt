@@ -4,9 +4,6 @@
 //! place, or the first fault. Memory is refused at a growth alone.
 #![tactic(auto)]
 
-//mod arrow;
-mod body;
-mod names;
-mod runs;
-mod tails;
-mod tips;
+mod look;
+mod note;
+mod participant;

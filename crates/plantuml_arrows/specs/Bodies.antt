@@ -2,9 +2,9 @@
 use Rattle.std.specs.Prelude.{ℕ, Bool, true, false, ◌&&◌, ◌||◌, ◌==◌, nat_lt, List, [], ◌∷◌, codes, length, take, drop}
 use Rattle.std.specs.Prelude.{Option, None, Some}
 use Rattle.line_statements.specs.Words.{behind_blanks, behind_word, or_else}
-use Rattle.plantuml_text.specs.Runs.{◌>>=◌, run_at, run_length, behind_byte}
-use Rattle.plantuml_text.specs.declared.body.Body.{Body}
-use Rattle.plantuml_text.specs.declared.runs.Class.TheVariants.{Dash, Bracketed}
+use Rattle.plantuml_arrows.specs.Runs.{◌>>=◌, run_at, run_length, behind_byte}
+use Rattle.plantuml_arrows.specs.declared.body.Body.{Body}
+use Rattle.plantuml_arrows.specs.declared.runs.Class.TheVariants.{Dash, Bracketed}
 
 abbrev pub ends_entry : List ℕ → Bool
 ends_entry [] = true

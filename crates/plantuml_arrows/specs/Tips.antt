@@ -1,8 +1,8 @@
 -- The ends of arrows (PlantUML's documentation of sequence diagrams, "Change arrow style").
-use Rattle.std.specs.Prelude.{ℕ, Bool, true, false, ◌||◌, ◌==◌, List, [], ◌∷◌, Option, None, Some, unwrap_or, if◌then◌else◌}
+use Rattle.std.specs.Prelude.{ℕ, Bool, true, false, not, ◌&&◌, ◌||◌, ◌==◌, List, [], ◌∷◌, Option, None, Some, unwrap_or, if◌then◌else◌}
 use Rattle.line_statements.specs.Words.{is_blank, or_else}
-use Rattle.plantuml_text.specs.Runs.{◌>>=◌, behind_byte}
-use Rattle.plantuml_text.specs.declared.tips.Tip.{Tip}
+use Rattle.plantuml_arrows.specs.Runs.{◌>>=◌, behind_byte}
+use Rattle.plantuml_arrows.specs.declared.tips.Tip.{Tip}
 
 -- what stands behind this byte, once or twice
 unfoldable pub behind_double : ℕ → List ℕ → Option (List ℕ)
@@ -51,10 +51,11 @@ abbrev pub marked : Bool → List ℕ → Option (Bool × List ℕ) → Bool × 
 marked is_apart bytes None = (false, bytes)
 marked is_apart bytes (Some mark) = if is_apart then mark else (false, bytes)
 
-abbrev pub pointed : Bool → Bool × List ℕ → Tip × List ℕ
-pointed is_crossed head = (record { has_head = is_crossed || head.0; is_crossed = is_crossed }, head.1)
+abbrev pub pointed : Bool → Bool → Bool × List ℕ → Tip × List ℕ
+pointed is_edge is_crossed head =
+    (record { has_head = head.0 || (is_crossed && not is_edge); is_crossed = is_crossed }, head.1)
 
--- what may stand before a body: a mark, where a blank stands before that, and a head
-unfoldable pub tip_at : Bool → List ℕ → Tip × List ℕ
-tip_at is_apart bytes =
-    pointed (marked is_apart bytes (mark_at bytes)).0 (head_at 60 (marked is_apart bytes (mark_at bytes)).1)
+-- what may stand before a body: a mark, where it may stand there, and a head; at the edge a cross is no head
+unfoldable pub tip_at : Bool → Bool → List ℕ → Tip × List ℕ
+tip_at is_edge is_apart bytes =
+    pointed is_edge (marked is_apart bytes (mark_at bytes)).0 (head_at 60 (marked is_apart bytes (mark_at bytes)).1)

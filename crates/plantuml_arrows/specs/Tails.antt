@@ -4,11 +4,11 @@ use Rattle.std.specs.Prelude.{ℕ, Bool, ◌==◌, nat_lt, List, [], ◌∷◌, 
 use Rattle.std.specs.Prelude.{option_map, unwrap_or, nat_eq, if◌then◌else◌}
 use Rattle.std.specs.List.{starts_with}
 use Rattle.line_statements.specs.Words.{behind_blanks, stripped, or_else}
-use Rattle.plantuml_text.specs.Runs.{◌>>=◌, run_length, behind_run, behind_byte}
-use Rattle.plantuml_text.specs.declared.runs.Class.{Class}
-use Rattle.plantuml_text.specs.declared.runs.Class.TheVariants.{Colour, Sign, Word}
-use Rattle.plantuml_text.specs.declared.tails.Behind.{Behind}
-use Rattle.plantuml_text.specs.declared.tails.Tail.{Tail}
+use Rattle.plantuml_arrows.specs.Runs.{◌>>=◌, run_length, behind_run, behind_byte}
+use Rattle.plantuml_arrows.specs.declared.runs.Class.{Class}
+use Rattle.plantuml_arrows.specs.declared.runs.Class.TheVariants.{Colour, Sign, Word}
+use Rattle.plantuml_arrows.specs.declared.tails.Behind.{Behind}
+use Rattle.plantuml_arrows.specs.declared.tails.Tail.{Tail}
 
 -- the text at a statement's end, if it has one there
 abbrev pub TailView : Type 0

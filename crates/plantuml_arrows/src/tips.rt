@@ -1,8 +1,8 @@
 //! The ends of arrows: heads, circles and crosses.
 ghost use Rattle.std.specs.Prelude.{◌≡◌};
 ghost use Rattle.line_statements.specs.Words.{Finds};
-ghost use Rattle.plantuml_text.specs.Tips.{behind_double, behind_head, cross_of, tip_at, mark_at, mark_before_blank, head_at};
-ghost use Rattle.plantuml_text.specs.Tips.{begins_blank};
+ghost use Rattle.plantuml_arrows.specs.Tips.{behind_double, behind_head, cross_of, tip_at, mark_at, mark_before_blank, head_at};
+ghost use Rattle.plantuml_arrows.specs.Tips.{begins_blank};
 
 use crate::runs::behind_byte;
 use line_statements::is_blank;
@@ -78,7 +78,7 @@ pub(crate) fn mark_at(bytes: &[u8]) -> Option<(bool, &[u8])>
     }
 }
 
-pub(crate) fn begins_blank(bytes: &[u8]) -> bool
+pub fn begins_blank(bytes: &[u8]) -> bool
     ensures { result ≡ begins_blank bytes.now }
 {
     match bytes {
@@ -98,10 +98,10 @@ pub(crate) fn mark_before_blank(bytes: &[u8]) -> Option<(bool, &[u8])>
     }
 }
 
-/// What may stand before a body: a mark, where a blank stands before that, and a head.
+/// What may stand before a body: a mark, where it may stand there, and a head. At the edge a cross is no head.
 #[tactic(auto, unfolding(crate::specs::Tips::tip_at))]
-pub(crate) fn tip_at(is_apart: bool, bytes: &[u8]) -> (Tip, &[u8])
-    ensures { (result.0, result.1.now) ≡ tip_at is_apart bytes.now }
+pub(crate) fn tip_at(is_edge: bool, is_apart: bool, bytes: &[u8]) -> (Tip, &[u8])
+    ensures { (result.0, result.1.now) ≡ tip_at is_edge is_apart bytes.now }
 {
     let (is_crossed, behind_mark) = match mark_at(bytes) {
         Some((is_cross, rest)) if is_apart => (is_cross, rest),
@@ -110,7 +110,7 @@ pub(crate) fn tip_at(is_apart: bool, bytes: &[u8]) -> (Tip, &[u8])
     let (is_pointed, rest) = head_at(b'<', behind_mark);
     (
         Tip {
-            has_head: is_crossed || is_pointed,
+            has_head: is_pointed || (is_crossed && !is_edge),
             is_crossed,
         },
         rest,

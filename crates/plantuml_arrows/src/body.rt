@@ -1,7 +1,7 @@
 //! The bodies of arrows: dashes, with a style in brackets.
 ghost use Rattle.std.specs.Prelude.{◌≡◌, true};
 ghost use Rattle.line_statements.specs.Words.{Finds};
-ghost use Rattle.plantuml_text.specs.Bodies.{is_entry, has_style, styled, style_at, dashes_at, styled_body, plain_body, early_body, other_body, body_at};
+ghost use Rattle.plantuml_arrows.specs.Bodies.{is_entry, has_style, styled, style_at, dashes_at, styled_body, plain_body, early_body, other_body, body_at};
 
 use crate::runs::{Class, behind_byte, run_at, run_length};
 use line_statements::{behind_blanks, behind_word};

@@ -1,16 +1,17 @@
 //! Participants in statements.
-ghost use Rattle.std.specs.Prelude.{◌≡◌};
+ghost use Rattle.std.specs.Prelude.{◌≡◌, ◌<◌, length, IfSome};
 ghost use Rattle.line_statements.specs.Words.{Finds};
 ghost use Rattle.line_statements.specs.Statements.{end_view};
-ghost use Rattle.plantuml_text.specs.Names.{quoted_at, name_at, behind_gap, plain_end, word_behind_as, label_behind_as, labelled_end, worded_end, participant_at};
+ghost use Rattle.plantuml_arrows.specs.Names.{quoted_at, name_at, behind_gap, plain_end, word_behind_as, label_behind_as, labelled_end, worded_end, participant_at};
 
 use crate::runs::{Class, behind_byte, run_at};
 use line_statements::{End, behind_blanks, behind_word, is_blank};
 
 /// What stands between two quotation marks that come next, and what stands behind them. It has a byte at least.
 #[tactic(auto, unfolding(crate::specs::Names::quoted_at))]
-pub(crate) fn quoted_at(bytes: &[u8]) -> Option<(&[u8], &[u8])>
-    ensures { Finds (λ text. (text.0.now, text.1.now)) result (quoted_at bytes.now) }
+pub fn quoted_at(bytes: &[u8]) -> Option<(&[u8], &[u8])>
+    ensures shorter { IfSome result (λ text. length text.1.now < length bytes.now) }
+    ensures text { Finds (λ text. (text.0.now, text.1.now)) result (quoted_at bytes.now) }
 {
     let inner = behind_byte(b'"', bytes)?;
     let (text, behind) = run_at(Class::Quoted, inner)?;
@@ -20,8 +21,9 @@ pub(crate) fn quoted_at(bytes: &[u8]) -> Option<(&[u8], &[u8])>
 
 /// The name that comes next: a word, or what stands between two quotation marks.
 #[tactic(auto, unfolding(crate::specs::Names::name_at))]
-pub(crate) fn name_at(bytes: &[u8]) -> Option<(&[u8], &[u8])>
-    ensures { Finds (λ name. (name.0.now, name.1.now)) result (name_at bytes.now) }
+pub fn name_at(bytes: &[u8]) -> Option<(&[u8], &[u8])>
+    ensures shorter { IfSome result (λ name. length name.1.now < length bytes.now) }
+    ensures name { Finds (λ name. (name.0.now, name.1.now)) result (name_at bytes.now) }
 {
     match run_at(Class::Name, bytes) {
         Some(word) => Some(word),
@@ -30,7 +32,7 @@ pub(crate) fn name_at(bytes: &[u8]) -> Option<(&[u8], &[u8])>
 }
 
 /// What stands behind blanks, of which one at least comes next.
-pub(crate) fn behind_gap(bytes: &[u8]) -> Option<&[u8]>
+pub fn behind_gap(bytes: &[u8]) -> Option<&[u8]>
     ensures { Finds (λ rest. rest.now) result (behind_gap bytes.now) }
 {
     match bytes {

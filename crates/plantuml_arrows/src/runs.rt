@@ -1,13 +1,13 @@
 //! Runs of bytes of one kind.
 ghost use Rattle.std.specs.Prelude.{◌≡◌, ◌≤◌, ◌<◌, not, length, position, IfSome};
 ghost use Rattle.line_statements.specs.Words.{Finds};
-ghost use Rattle.plantuml_text.specs.Runs.{is_digit, is_word_byte, is_in, run_length, run_at, behind_run, behind_byte};
+ghost use Rattle.plantuml_arrows.specs.Runs.{is_digit, is_word_byte, is_in, run_length, run_at, behind_run, behind_byte};
 
 use line_statements::is_blank;
 
 /// A kind of bytes.
 #[derive(Clone, Copy, Debug)]
-pub(crate) enum Class {
+pub enum Class {
     /// What a word for a participant has: letters, digits, `_`, `.`, `@`, and all bytes beyond ASCII.
     Name,
     /// Letters, digits and `_`.
@@ -70,7 +70,7 @@ fn first_other(class: Class, bytes: &[u8]) -> Option<usize>
 
 /// With how many bytes of this kind the bytes begin.
 #[tactic(auto, unfolding(crate::specs::Runs::run_length))]
-pub(crate) fn run_length(class: Class, bytes: &[u8]) -> usize
+pub fn run_length(class: Class, bytes: &[u8]) -> usize
     ensures value { result ≡ run_length class bytes.now }
     ensures within { result ≤ length bytes.now }
 {
@@ -82,8 +82,9 @@ pub(crate) fn run_length(class: Class, bytes: &[u8]) -> usize
 
 /// The bytes of this kind with which the bytes begin, and what stands behind them. There is one at least.
 #[tactic(auto, unfolding(crate::specs::Runs::run_at))]
-pub(crate) fn run_at(class: Class, bytes: &[u8]) -> Option<(&[u8], &[u8])>
-    ensures { Finds (λ run. (run.0.now, run.1.now)) result (run_at class bytes.now) }
+pub fn run_at(class: Class, bytes: &[u8]) -> Option<(&[u8], &[u8])>
+    ensures shorter { IfSome result (λ run. length run.1.now < length bytes.now) }
+    ensures run { Finds (λ run. (run.0.now, run.1.now)) result (run_at class bytes.now) }
 {
     let length = run_length(class, bytes);
     if length == 0 {
@@ -95,15 +96,16 @@ pub(crate) fn run_at(class: Class, bytes: &[u8]) -> Option<(&[u8], &[u8])>
 
 /// What stands behind the bytes of this kind with which the bytes begin.
 #[tactic(auto, unfolding(crate::specs::Runs::behind_run))]
-pub(crate) fn behind_run(class: Class, bytes: &[u8]) -> &[u8]
+pub fn behind_run(class: Class, bytes: &[u8]) -> &[u8]
     ensures { result.now ≡ behind_run class bytes.now }
 {
     &bytes[run_length(class, bytes)..]
 }
 
 /// What stands behind this byte, if it comes next.
-pub(crate) fn behind_byte(known: u8, bytes: &[u8]) -> Option<&[u8]>
-    ensures { Finds (λ rest. rest.now) result (behind_byte known bytes.now) }
+pub fn behind_byte(known: u8, bytes: &[u8]) -> Option<&[u8]>
+    ensures shorter { IfSome result (λ rest. length rest.now < length bytes.now) }
+    ensures rest { Finds (λ rest. rest.now) result (behind_byte known bytes.now) }
 {
     match bytes {
         [byte, rest @ ..] if *byte == known => Some(rest),

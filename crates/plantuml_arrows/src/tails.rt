@@ -1,14 +1,14 @@
 //! What stands behind participants: activations, colours, links and texts.
 ghost use Rattle.std.specs.Prelude.{◌≡◌, option_map};
 ghost use Rattle.line_statements.specs.Words.{Finds};
-ghost use Rattle.plantuml_text.specs.Tails.{tail_view, behind_view, colon_tail, link_tail, end_tail, behind_colour, behind_at, coloured_tail};
+ghost use Rattle.plantuml_arrows.specs.Tails.{tail_view, behind_view, colon_tail, link_tail, end_tail, behind_colour, behind_at, coloured_tail};
 
 use crate::runs::{Class, behind_byte, behind_run, run_length};
 use line_statements::{begins_with, behind_blanks, stripped};
 
 /// The text at a statement's end, if it has one there.
 #[derive(Clone, Copy, Debug)]
-pub(crate) struct Tail<'a> {
+pub struct Tail<'a> {
     pub text: Option<&'a [u8]>,
 }
 
@@ -21,7 +21,7 @@ pub(crate) struct Behind<'a> {
 
 /// Nothing, or a colon and a text.
 #[tactic(auto, unfolding(crate::specs::Tails::colon_tail))]
-fn colon_tail(bytes: &[u8]) -> Option<Tail<'_>>
+pub fn colon_tail(bytes: &[u8]) -> Option<Tail<'_>>
     ensures { Finds tail_view result (colon_tail bytes.now) }
 {
     let rest = behind_blanks(bytes);
@@ -68,7 +68,7 @@ fn end_tail(bytes: &[u8]) -> Option<Tail<'_>>
 
 /// What stands behind a colour of these bytes, if one comes next.
 #[tactic(auto, unfolding(crate::specs::Tails::behind_colour))]
-pub(crate) fn behind_colour(class: Class, bytes: &[u8]) -> &[u8]
+pub fn behind_colour(class: Class, bytes: &[u8]) -> &[u8]
     ensures { result.now ≡ behind_colour class bytes.now }
 {
     match behind_byte(b'#', bytes) {
@@ -79,7 +79,7 @@ pub(crate) fn behind_colour(class: Class, bytes: &[u8]) -> &[u8]
 
 /// What stands behind the participants of a note.
 #[tactic(auto, unfolding(crate::specs::Tails::coloured_tail))]
-pub(crate) fn coloured_tail(bytes: &[u8]) -> Option<Tail<'_>>
+pub fn coloured_tail(bytes: &[u8]) -> Option<Tail<'_>>
     ensures { Finds tail_view result (coloured_tail bytes.now) }
 {
     end_tail(behind_colour(Class::Colour, behind_blanks(bytes)))

@@ -2,8 +2,8 @@
 use Rattle.std.specs.Prelude.{ℕ, Bool, not, ◌&&◌, ◌||◌, ◌==◌, nat_le, List, [], ◌∷◌, length, take, drop, position}
 use Rattle.std.specs.Prelude.{Option, None, Some, unwrap_or, if◌then◌else◌}
 use Rattle.line_statements.specs.Words.{is_blank}
-use Rattle.plantuml_text.specs.declared.runs.Class.{Class}
-use Rattle.plantuml_text.specs.declared.runs.Class.TheVariants as classes
+use Rattle.plantuml_arrows.specs.declared.runs.Class.{Class}
+use Rattle.plantuml_arrows.specs.declared.runs.Class.TheVariants as classes
 
 infixl 10 ◌>>=◌
 -- what is found next, if everything before it is
