@@ -1,2 +1,3 @@
-pub mod NameLoops
+pub mod CommentLoops
 pub mod PlaceLoops
+pub mod TextLoops

@@ -1,3 +1,6 @@
-pub mod Looks
-pub mod Notes
-pub mod Participants
+pub mod Comments
+pub mod Diagrams
+pub mod Directives
+pub mod Ends
+pub mod Regions
+pub mod Standings
