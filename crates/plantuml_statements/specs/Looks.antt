@@ -196,11 +196,21 @@ is_duration words = duration_from (behind_brace words)
 
 abbrev pub look_words : List (List ℕ)
 look_words =
-    codes "skin" ∷ codes "allowmixing" ∷ codes "allow_mixing" ∷ codes "scale" ∷ codes "rotate" ∷ codes "minwidth"
-    ∷ codes "sprite" ∷ codes "url" ∷ codes "autonumber" ∷ codes "autonewpage" ∷ codes "hide" ∷ codes "show" ∷ []
+    codes "skin" ∷ codes "allowmixing" ∷ codes "allow_mixing" ∷ codes "scale" ∷ codes "rotate" ∷ codes "minwidth" ∷ []
+
+abbrev pub other_look_words : List (List ℕ)
+other_look_words =
+    codes "sprite" ∷ codes "url" ∷ codes "autonumber" ∷ codes "autonewpage" ∷ codes "hide" ∷ codes "show" ∷ []
+
+-- what stands behind a word that is about how the diagram looks
+unfoldable pub behind_look_word : List ℕ → Option (List ℕ)
+behind_look_word words = behind_keyword_of look_words words
+
+unfoldable pub behind_other_look_word : List ℕ → Option (List ℕ)
+behind_other_look_word words = behind_keyword_of other_look_words words
 
 unfoldable pub is_look_word : List ℕ → Bool
-is_look_word words = is_some (behind_keyword_of look_words words)
+is_look_word words = is_some (behind_look_word words) || is_some (behind_other_look_word words)
 
 -- what is about how the diagram looks, in a form that comes behind all others
 unfoldable pub is_late_look : List ℕ → Bool

@@ -4,7 +4,8 @@ ghost use Rattle.std.specs.List.{list_all};
 ghost use Rattle.line_statements.specs.Words.{Finds};
 ghost use Rattle.plantuml_statements.specs.Looks.{begins_text, ends_with_brace, behind_side, header_at, has_text, is_titled, has_no_brace, is_set};
 ghost use Rattle.plantuml_statements.specs.Looks.{is_set_for, setting_rest, is_named_set, is_setting, is_early_look, opens_braces, opens_sprite};
-ghost use Rattle.plantuml_statements.specs.Looks.{header_block, block_of, is_page, is_footbox, are_bars, is_space, is_duration, is_look_word, is_late_look};
+ghost use Rattle.plantuml_statements.specs.Looks.{header_block, block_of, is_page, is_footbox, are_bars, is_space, is_duration, behind_look_word, behind_other_look_word, is_look_word};
+ghost use Rattle.plantuml_statements.specs.Looks.{is_late_look};
 
 use line_statements::{
     begins_with, behind_blanks, behind_keyword, behind_keyword_of, behind_word, blank_length, is_blank,
@@ -15,13 +16,17 @@ use plantuml_arrows::{
 };
 
 /// The words that are about how the diagram looks.
-const LOOK_WORDS: [&[u8]; 12] = [
+const LOOK_WORDS: [&[u8]; 6] = [
     b"skin",
     b"allowmixing",
     b"allow_mixing",
     b"scale",
     b"rotate",
     b"minwidth",
+];
+
+/// Others.
+const MORE_LOOK_WORDS: [&[u8]; 6] = [
     b"sprite",
     b"url",
     b"autonumber",
@@ -334,12 +339,26 @@ fn is_duration(words: &[u8]) -> bool
     }
 }
 
+#[tactic(auto, unfolding(crate::specs::Looks::behind_look_word))]
+fn behind_look_word(words: &[u8]) -> Option<&[u8]>
+    ensures { Finds (λ rest. rest.now) result (behind_look_word words.now) }
+{
+    behind_keyword_of(&LOOK_WORDS, words)
+}
+
+#[tactic(auto, unfolding(crate::specs::Looks::behind_other_look_word))]
+fn behind_other_look_word(words: &[u8]) -> Option<&[u8]>
+    ensures { Finds (λ rest. rest.now) result (behind_other_look_word words.now) }
+{
+    behind_keyword_of(&MORE_LOOK_WORDS, words)
+}
+
 /// Whether a statement begins with a word that is about how the diagram looks.
 #[tactic(auto, unfolding(crate::specs::Looks::is_look_word))]
 fn is_look_word(words: &[u8]) -> bool
     ensures { result ≡ is_look_word words.now }
 {
-    behind_keyword_of(&LOOK_WORDS, words).is_some()
+    behind_look_word(words).is_some() || behind_other_look_word(words).is_some()
 }
 
 /// Whether a statement is about how the diagram looks, in a form that comes behind all others.

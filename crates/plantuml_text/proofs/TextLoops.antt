@@ -1,13 +1,13 @@
 -- A text's lines, one after the other.
-use Rattle.std.proofs.Common.{◌≡◌, ℕ, zero, suc, ◌+◌, ◌<◌, ◌≤◌, List, [], ◌∷◌, ◌++◌, length, drop, Bool, true, false, Result, Ok, Err, refl, ap, sym, ◌∙◌, append_assoc, arith, add-one}
+use Rattle.std.proofs.Common.{◌≡◌, ℕ, zero, suc, ◌+◌, ◌<◌, ◌≤◌, List, [], ◌∷◌, ◌++◌, length, drop, Option, None, Some, Ok, Err, refl, ap, sym, ◌∙◌, append_assoc, arith, add-one}
 use Rattle.std.proofs.lemmas.List.{append-nil}
 use Rattle.line_statements.specs.Lines.{line_length, lines_from, lines_of}
+use Rattle.line_statements.specs.Readings.{ReadView}
 use Rattle.line_statements.specs.Statements.{LineView, StatementView}
 use Rattle.line_statements.specs.declared.statement.Fault.{Fault}
-use Rattle.line_statements.specs.declared.statement.Fault.TheVariants.{Unfinished}
 use Rattle.plantuml_text.specs.Diagrams.{behind, finished, step_by, read_from}
 use Rattle.plantuml_text.specs.Regions.{first_line, region_behind, region_in}
-use Rattle.plantuml_text.specs.Standings.{nothing_open, region_stepped, is_open}
+use Rattle.plantuml_text.specs.Standings.{nothing_open, region_stepped}
 use Rattle.plantuml_text.specs.declared.region.Region.{Region}
 use Rattle.plantuml_text.specs.declared.region.Region.TheVariants.{Above}
 use Rattle.plantuml_text.specs.declared.standing.Standing.{Standing}
@@ -65,13 +65,8 @@ pub record LinesLeft (text : List ℕ) (begins : Region) (so_far : List Statemen
   pub within : length rest ≤ length text
   pub same : behind so_far (read_from region standing (lines_from steps number rest)) ≡ read_from begins nothing_open (lines_of text)
 
-behind_none : (others : Result (List StatementView) Fault) → behind [] others ≡ others
-behind_none (Ok more) = refl
-behind_none (Err fault) = refl
-
-behind_again : (so_far said : List StatementView) (others : Result (List StatementView) Fault) → behind so_far (behind said others) ≡ behind (so_far ++ said) others
-behind_again so_far said (Ok more) = ap (λ (l : List StatementView). let r : Result (List StatementView) Fault = Ok l in r) (sym (append_assoc so_far said more))
-behind_again so_far said (Err fault) = refl
+behind_again : (so_far said : List StatementView) (others : ReadView) → behind so_far (behind said others) ≡ behind (so_far ++ said) others
+behind_again so_far said others = ap (λ (l : List StatementView). let r : ReadView = (l, others.1) in r) (sym (append_assoc so_far said others.0))
 
 pub first_lines : (text : List ℕ) (begins : Region) (so_far : List StatementView) → so_far ≡ [] → LinesLeft text begins so_far begins nothing_open 1 text
 unfolding lines_of
@@ -80,24 +75,15 @@ first_lines text begins so_far none = record {
   enough = omega arith;
   room = omega arith;
   within = omega arith;
-  same = ap (λ l. behind l (read_from begins nothing_open (lines_from (length text) 1 text))) none ∙ behind_none (read_from begins nothing_open (lines_from (length text) 1 text));
+  same = ap (λ l. behind l (read_from begins nothing_open (lines_from (length text) 1 text))) none;
 }
 
-at_end : (text : List ℕ) (begins : Region) (so_far : List StatementView) (region : Region) (standing : Standing) (number : ℕ) (rest : List ℕ) → LinesLeft text begins so_far region standing number rest → length rest ≡ 0
-    → behind so_far (finished standing) ≡ read_from begins nothing_open (lines_of text)
-at_end text begins so_far region standing number rest are h =
-    ap (λ l. behind so_far (read_from region standing l)) (sym (none_left are.steps number rest h)) ∙ are.same
-
-pub all_lines : (text : List ℕ) (begins : Region) (so_far : List StatementView) (region : Region) (standing : Standing) (number : ℕ) (rest : List ℕ) → LinesLeft text begins so_far region standing number rest → length rest ≡ 0
-    → is_open standing ≡ false → read_from begins nothing_open (lines_of text) ≡ Ok so_far
-all_lines text begins so_far region standing number rest are h closed =
-    sym (at_end text begins so_far region standing number rest are h)
-    ∙ rw closed (ap (λ (l : List StatementView). let r : Result (List StatementView) Fault = Ok l in r) (append-nil so_far))
-
-pub open_lines : (text : List ℕ) (begins : Region) (so_far : List StatementView) (region : Region) (standing : Standing) (number : ℕ) (rest : List ℕ) → LinesLeft text begins so_far region standing number rest → length rest ≡ 0
-    → is_open standing ≡ true → read_from begins nothing_open (lines_of text) ≡ Err Unfinished
-open_lines text begins so_far region standing number rest are h open_is =
-    sym (at_end text begins so_far region standing number rest are h) ∙ rw open_is refl
+pub all_lines : (text : List ℕ) (begins : Region) (so_far : List StatementView) (region : Region) (standing : Standing) (number : ℕ) (rest : List ℕ) (fault : Option Fault) → LinesLeft text begins so_far region standing number rest → length rest ≡ 0
+    → fault ≡ (finished standing).1 → (so_far, fault) ≡ read_from begins nothing_open (lines_of text)
+all_lines text begins so_far region standing number rest fault are h is =
+    ap (λ (f : Option Fault). let r : ReadView = (so_far, f) in r) is
+    ∙ ap (λ (l : List StatementView). let r : ReadView = (l, (finished standing).1) in r) (sym (append-nil so_far))
+    ∙ ap (λ l. behind so_far (read_from region standing l)) (sym (none_left are.steps number rest h)) ∙ are.same
 
 read_step : (n number : ℕ) (region : Region) (standing : Standing) (rest : List ℕ) → 0 < length rest → length rest ≤ n
     → (m : ℕ) × (n ≡ suc m) × (read_from region standing (lines_from n number rest) ≡ step_by (λ next. read_from (region_behind region (first_line number rest).words) next (lines_from m (suc number) (drop (suc (line_length rest)) rest))) (region_stepped region standing (first_line number rest)))
@@ -105,12 +91,14 @@ read_step zero number region standing rest some enough = absurd (omega arith)
 read_step (suc n) number region standing [] some enough = absurd (omega arith)
 read_step (suc n) number region standing (b ∷ bs) some enough = (n, refl, refl)
 
-pub line_refused : (text : List ℕ) (begins : Region) (so_far : List StatementView) (region : Region) (standing : Standing) (number : ℕ) (rest : List ℕ) (line : LineView) (fault : Fault) → LinesLeft text begins so_far region standing number rest → 0 < length rest
-    → line ≡ first_line number rest → region_stepped region standing line ≡ Err fault → read_from begins nothing_open (lines_of text) ≡ Err fault
-line_refused text begins so_far region standing number rest line fault are some line_is e =
+pub line_refused : (text : List ℕ) (begins : Region) (so_far now : List StatementView) (region : Region) (standing : Standing) (number : ℕ) (rest : List ℕ) (line : LineView) (fault : Fault) → LinesLeft text begins so_far region standing number rest → 0 < length rest
+    → line ≡ first_line number rest → (region_stepped region standing line ≡ Err fault) × (now ≡ so_far) → (now, Some fault) ≡ read_from begins nothing_open (lines_of text)
+line_refused text begins so_far now region standing number rest line fault are some line_is e =
     let s = read_step are.steps number region standing rest some are.enough in
-    let step : region_stepped region standing (first_line number rest) ≡ Err fault = ap (region_stepped region standing) (sym line_is) ∙ e in
-    sym are.same ∙ ap (behind so_far) (s.2 ∙ ap (step_by (λ next. read_from (region_behind region (first_line number rest).words) next (lines_from s.0 (suc number) (drop (suc (line_length rest)) rest)))) step)
+    let step : region_stepped region standing (first_line number rest) ≡ Err fault = ap (region_stepped region standing) (sym line_is) ∙ e.0 in
+    let one : read_from region standing (lines_from are.steps number rest) ≡ ([], Some fault) =
+      s.2 ∙ ap (step_by (λ (n : Standing). read_from (region_behind region (first_line number rest).words) n (lines_from s.0 (suc number) (drop (suc (line_length rest)) rest)))) step in
+    ap (λ (l : List StatementView). let r : ReadView = (l, Some fault) in r) (e.1 ∙ sym (append-nil so_far)) ∙ ap (behind so_far) (sym one) ∙ are.same
 
 pub next_line : (text : List ℕ) (begins : Region) (so_far now : List StatementView) (region after : Region) (standing next : Standing) (number : ℕ) (rest left : List ℕ) (line : LineView) → LinesLeft text begins so_far region standing number rest → 0 < length rest
     → line ≡ first_line number rest → (more : List StatementView) × (region_stepped region standing line ≡ Ok (more, next)) × (now ≡ so_far ++ more) → after ≡ region_behind region line.words

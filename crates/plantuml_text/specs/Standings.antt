@@ -3,10 +3,11 @@ use Rattle.std.specs.Prelude.{◌≡◌, ℕ, Bool, true, false, not, ◌&&◌, 
 use Rattle.std.specs.Prelude.{Result, Ok, Err, is_some, is_none, nat_eq, if◌then◌else◌}
 use Rattle.std.specs.List.{starts_with}
 use Rattle.line_statements.specs.Lines.{line_place}
-use Rattle.line_statements.specs.Statements.{LineView, StatementView, Preprocessor, OtherDiagram, Fails}
+use Rattle.line_statements.specs.Statements.{LineView, StatementView, Preprocessor, OtherDiagram}
 use Rattle.line_statements.specs.declared.statement.Fault.{Fault}
 use Rattle.line_statements.specs.declared.statement.Fault.TheVariants.{NotRead}
 use Rattle.line_statements.specs.declared.statement.ReadError.{ReadError}
+use Rattle.line_statements.specs.declared.statement.ReadError.TheVariants as errors
 use Rattle.plantuml_statements.specs.Sayings.{ReadingView, reading_of}
 use Rattle.plantuml_statements.specs.Tellings.{one_told, told}
 use Rattle.plantuml_statements.specs.declared.look.Block.{Block}
@@ -81,7 +82,12 @@ region_stepped Below standing l =
 unfoldable pub is_open : Standing → Bool
 is_open standing = standing.has_comment || is_some standing.skip || is_some standing.block
 
+-- a call that met a fault added nothing, unless memory ran out
+abbrev pub StopsAt : ReadError → List StatementView → List StatementView → Step → Type 0
+StopsAt errors.Memory old new step = Unit {0}
+StopsAt (errors.Fault fault) old new step = (step ≡ Err fault) × (new ≡ old)
+
 -- a call added the statements of the step, and answered where it leads, unless memory ran out
 abbrev pub Steps : Result Standing ReadError → List StatementView → List StatementView → Step → Type 0
 Steps (Ok next) old new step = (more : List StatementView) × (step ≡ Ok (more, next)) × (new ≡ old ++ more)
-Steps (Err e) old new step = Fails e step
+Steps (Err e) old new step = StopsAt e old new step

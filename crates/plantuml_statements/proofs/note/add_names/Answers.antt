@@ -9,4 +9,4 @@ names-init c = first_told c.args.place (map statement_view c.args.statements.now
 pub names-preserved : goal.names-preserved
 names-preserved c =
     next_told c.args.place (map statement_view c.args.statements.now.items) _ _ _ c.args.bytes.now _ _ _ c.names.invariant c.in-Some.ensures.name c.in-Some-behind_comma.ensures.rest
-    c.in_ok-add_name.ensures (omega arith)
+    c.in_ok-add_name.ensures (omega (arith, c.in-Some.ensures.shorter, c.in-Some-behind_comma.ensures.shorter))
