@@ -97,7 +97,7 @@ line_refused text begins so_far now region standing number rest line fault are s
     let s = read_step are.steps number region standing rest some are.enough in
     let step : region_stepped region standing (first_line number rest) ≡ Err fault = ap (region_stepped region standing) (sym line_is) ∙ e.0 in
     let one : read_from region standing (lines_from are.steps number rest) ≡ ([], Some fault) =
-      s.2 ∙ ap (step_by (λ (n : Standing). read_from (region_behind region (first_line number rest).words) n (lines_from s.0 (suc number) (drop (suc (line_length rest)) rest)))) step in
+    s.2 ∙ ap (step_by (λ (n : Standing). read_from (region_behind region (first_line number rest).words) n (lines_from s.0 (suc number) (drop (suc (line_length rest)) rest)))) step in
     ap (λ (l : List StatementView). let r : ReadView = (l, Some fault) in r) (e.1 ∙ sym (append-nil so_far)) ∙ ap (behind so_far) (sym one) ∙ are.same
 
 pub next_line : (text : List ℕ) (begins : Region) (so_far now : List StatementView) (region after : Region) (standing next : Standing) (number : ℕ) (rest left : List ℕ) (line : LineView) → LinesLeft text begins so_far region standing number rest → 0 < length rest
@@ -113,10 +113,10 @@ next_line text begins so_far now region after standing next number rest left lin
     let behind_region = region_behind region (first_line number rest).words in
     let others = read_from behind_region next (lines_from s.0 (suc number) (drop (suc (line_length rest)) rest)) in
     let one : read_from region standing (lines_from are.steps number rest) ≡ behind added.0 others =
-      s.2 ∙ ap (step_by (λ (n : Standing). read_from behind_region n (lines_from s.0 (suc number) (drop (suc (line_length rest)) rest)))) step in
+    s.2 ∙ ap (step_by (λ (n : Standing). read_from behind_region n (lines_from s.0 (suc number) (drop (suc (line_length rest)) rest)))) step in
     let same : read_from after next (lines_from s.0 (number + 1) left) ≡ others =
-      ap (λ r. read_from r next (lines_from s.0 (number + 1) left)) (after_is ∙ ap (λ (l : LineView). region_behind region l.words) line_is)
-      ∙ ap (λ k. read_from behind_region next (lines_from s.0 k left)) (add-one number) ∙ ap (λ l. read_from behind_region next (lines_from s.0 (suc number) l)) left_is in
+    ap (λ r. read_from r next (lines_from s.0 (number + 1) left)) (after_is ∙ ap (λ (l : LineView). region_behind region l.words) line_is)
+    ∙ ap (λ k. read_from behind_region next (lines_from s.0 k left)) (add-one number) ∙ ap (λ l. read_from behind_region next (lines_from s.0 (suc number) l)) left_is in
     record {
       steps = s.0;
       enough = omega arith;

@@ -27,7 +27,7 @@ abbrev pub read_from : Region → Standing → List LineView → ReadView
 read_from region standing [] = finished standing
 read_from region standing (l ∷ ls) =
     step_by (λ next. read_from (region_behind region (stripped_line l).words) next ls)
-      (region_stepped region standing (stripped_line l))
+    (region_stepped region standing (stripped_line l))
 
 -- a text in which no diagram begins is one as a whole, or up to its end
 abbrev pub read_by : Region → List LineView → ReadView
