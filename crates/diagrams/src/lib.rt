@@ -1,8 +1,11 @@
 //! Sequence diagrams that were drawn for other tools, and the charts that they come to.
 #![tactic(auto)]
 
+mod collecting;
 mod diagram;
 mod left_out;
+mod message;
+mod note_event;
 mod place;
 
 pub use diagram::{Arrow, Diagram, Item, Note, Participant};
