@@ -2,8 +2,11 @@
 #![tactic(auto)]
 
 mod collecting;
+mod crossing;
 mod diagram;
+mod lanes;
 mod left_out;
+mod losing;
 mod message;
 mod note_event;
 mod place;
