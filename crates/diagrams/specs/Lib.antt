@@ -7,6 +7,11 @@ pub mod Full
 pub mod Lanes
 pub mod Later
 pub mod LeftOuts
+pub mod Loads
 pub mod Losing
+pub mod Naming
 pub mod NoteEvents
+pub mod Opening
 pub mod Places
+pub mod Regions
+pub mod Turns

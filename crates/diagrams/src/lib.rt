@@ -4,10 +4,14 @@
 mod collecting;
 mod crossing;
 mod diagram;
+mod end;
+mod full;
 mod lanes;
 mod left_out;
+mod line;
 mod losing;
 mod message;
+mod naming;
 mod note_event;
 mod place;
 

@@ -27,3 +27,14 @@ pub(crate) struct Waiting {
     /// Its place among the messages.
     pub message: usize,
 }
+
+/// A message with its name.
+#[derive(Clone, Copy, Debug)]
+pub(crate) struct Named {
+    pub sender: InstanceNo,
+    pub receiver: InstanceNo,
+    pub begins: u64,
+    pub ends: u64,
+    pub is_lost: bool,
+    pub name: Name,
+}

@@ -1,6 +1,7 @@
 //! Events that notes say.
 ghost use Rattle.std.specs.Prelude.{◌≡◌, ◌<◌, ◌==◌, length, position, IfSome};
 ghost use Rattle.diagrams.specs.NoteEvents.{Finds, SaidView, cut, direction, said_in, partner_in, note_event};
+ghost use Rattle.diagrams.specs.Naming.{message_said};
 
 use chart::{InstanceNo, Name, Names};
 
@@ -101,4 +102,14 @@ pub(crate) fn note_event(names: &Names, own: InstanceNo, text: &[u8]) -> Option<
         partner,
         name,
     })
+}
+
+/// The word for the message in a note, if it says an event's words.
+pub(crate) fn message_said(text: &[u8]) -> &[u8]
+    ensures { result.now ≡ message_said (said_in text.now) }
+{
+    match said_in(text) {
+        Some(said) => said.message,
+        None => &[],
+    }
 }
