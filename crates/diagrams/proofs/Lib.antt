@@ -1,4 +1,5 @@
 pub mod CrossingLemmas
+pub mod DrawnLemmas
 pub mod FullLemmas
 pub mod ItemLemmas
 pub mod LaneTables

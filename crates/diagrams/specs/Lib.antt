@@ -2,6 +2,7 @@ pub use Rattle.chart.specs.Names
 pub mod Collecting
 pub mod Crossing
 pub mod Diagrams
+pub mod Drawing
 pub mod Ends
 pub mod Full
 pub mod Lanes

@@ -15,12 +15,12 @@ use std::marker::Model;
 /// What the items so far have come to. A contract sees a record of its fields.
 #[derive(Drop)]
 pub(crate) struct Collected {
-    pub messages: Vec<Message>,
+    messages: Vec<Message>,
     /// Those of notes that wait.
     waiting: Vec<Waiting>,
-    pub left_out: Vec<LeftOut>,
+    left_out: Vec<LeftOut>,
     /// The first line with which no chart is possible.
-    pub fault: Option<u64>,
+    fault: Option<u64>,
 }
 
 impl Model for Collected {
@@ -185,6 +185,23 @@ impl Collected {
             Item::Arrow(arrow) => self.add_arrow(item, arrow),
             Item::Note(note) => self.add_note(names, item, note),
         }
+    }
+}
+
+impl Collected {
+    /// The messages, what was left out, and the first line with which no chart is possible.
+    pub(crate) fn into_parts(self) -> (Vec<Message>, Vec<LeftOut>, Option<u64>)
+        ensures messages { result.0.items ≡ self.messages }
+        ensures left_out { result.1.items ≡ self.left_out }
+        ensures fault { result.2 ≡ self.fault }
+    {
+        let Collected {
+            messages,
+            waiting: _,
+            left_out,
+            fault,
+        } = self;
+        (messages, left_out, fault)
     }
 }
 

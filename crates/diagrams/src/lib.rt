@@ -4,6 +4,7 @@
 mod collecting;
 mod crossing;
 mod diagram;
+mod drawn;
 mod end;
 mod full;
 mod lanes;
@@ -14,7 +15,10 @@ mod message;
 mod naming;
 mod note_event;
 mod place;
+mod renaming;
 
 pub use diagram::{Arrow, Diagram, Item, Note, Participant};
 pub use left_out::{Kind, LeftOut, leave_out};
+pub use drawn::{DrawError, Drawn, draw};
 pub use place::Place;
+pub use renaming::Renamed;
