@@ -16,15 +16,16 @@ number_of kinds.Delay = 4
 number_of kinds.Diagram = 5
 number_of kinds.Divider = 6
 number_of kinds.Frame = 7
-number_of kinds.Line = 8
-number_of kinds.LostMessage = 9
-number_of kinds.MessageWithin = 10
-number_of kinds.MessageToItself = 11
-number_of kinds.Note = 12
-number_of kinds.Participant = 13
-number_of kinds.Preprocessor = 14
-number_of kinds.Reference = 15
-number_of kinds.Return = 16
+number_of kinds.HiddenArrow = 8
+number_of kinds.Line = 9
+number_of kinds.LostMessage = 10
+number_of kinds.MessageWithin = 11
+number_of kinds.MessageToItself = 12
+number_of kinds.Note = 13
+number_of kinds.Participant = 14
+number_of kinds.Preprocessor = 15
+number_of kinds.Reference = 16
+number_of kinds.Return = 17
 
 abbrev pub is_kind : Kind → LeftOut → Bool
 is_kind kind l = number_of kind == number_of l.kind

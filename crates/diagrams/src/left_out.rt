@@ -24,6 +24,8 @@ pub enum Kind {
     Divider,
     /// The frame of a group whose branch is taken.
     Frame,
+    /// An arrow that isn't drawn.
+    HiddenArrow,
     /// A line that shows no direction.
     Line,
     /// A message that isn't received, though a later one of its lane is.
@@ -66,15 +68,16 @@ impl Kind {
             Kind::Diagram => 5,
             Kind::Divider => 6,
             Kind::Frame => 7,
-            Kind::Line => 8,
-            Kind::LostMessage => 9,
-            Kind::MessageWithin => 10,
-            Kind::MessageToItself => 11,
-            Kind::Note => 12,
-            Kind::Participant => 13,
-            Kind::Preprocessor => 14,
-            Kind::Reference => 15,
-            Kind::Return => 16,
+            Kind::HiddenArrow => 8,
+            Kind::Line => 9,
+            Kind::LostMessage => 10,
+            Kind::MessageWithin => 11,
+            Kind::MessageToItself => 12,
+            Kind::Note => 13,
+            Kind::Participant => 14,
+            Kind::Preprocessor => 15,
+            Kind::Reference => 16,
+            Kind::Return => 17,
         }
     }
 }

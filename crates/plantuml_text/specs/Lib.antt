@@ -1,0 +1,5 @@
+pub mod Bodies
+pub mod Names
+pub mod Runs
+pub mod Tails
+pub mod Tips
