@@ -2,6 +2,7 @@
 
 import re
 
+from chart_texts import MOST_INSTANCES
 from diagram_readings import Arrow, Note, Participant, Reading
 from mscgen_grammar import Arc, Entity, Grammar
 from names import Refused
@@ -27,13 +28,15 @@ class Reader:
         msc = self.grammar.msc()
         for entity in msc.entities:
             self.entity(entity)
+        if not 2 <= len(self.reading.participants) <= MOST_INSTANCES:
+            raise Refused("F8")
         for row, arcs in enumerate(msc.rows):
             self.reading.rows.append([])
             for arc in arcs:
                 self.arc(arc, below=len(msc.rows) - 1 - row)
 
     def entity(self, entity: Entity) -> None:
-        """An entity. Arcs mean the first of this word."""
+        """An entity. Arcs mean the first one of its word."""
         label = text_of(entity.word if entity.label is None else entity.label)
         if entity.word in self.reading.participants:
             self.reading.leave_out("participant", entity.line)
