@@ -1,0 +1,4 @@
+pub mod CrossingLemmas
+pub mod ItemLemmas
+pub mod LaneTables
+pub mod LosingLemmas

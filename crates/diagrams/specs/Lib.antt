@@ -1,0 +1,12 @@
+pub use Rattle.chart.specs.Names
+pub mod Collecting
+pub mod Crossing
+pub mod Diagrams
+pub mod Ends
+pub mod Full
+pub mod Lanes
+pub mod Later
+pub mod LeftOuts
+pub mod Losing
+pub mod NoteEvents
+pub mod Places
