@@ -11,6 +11,13 @@ COMMON = [
     b"}", b"[", b"]",
 ]
 WORDS = {
+    "mscgen": COMMON + [
+        b"msc", b"msc {", b"{", b"}", b"*", b"=", b"=>", b"<-", b"<<=>>", b"--", b"...", b"|||", b"---", b"-x", b"x-",
+        b"a box b;", b"P0 note P1;", b"P0 -> P1;", b"P0 -> *;", b"* <- P0,", b"* -> P0", b"[", b"]", b"[label=\"x\"]",
+        b"label=", b"arcskip=\"1\"", b"arcskip=\"4294967296\"", b"arcskip=x", b"linecolour=red", b"colour=red", b"//",
+        b"/*", b"*/", b"\\\"", b"hscale=1;", b"P0", b"P1,", b"nobody", b"\xef\xbb\xbf",
+        b"P0 note P0 [label=\"out late to P1\"];", b"P1 note P1 [label=\"in late from P0\"];",
+    ],
     "plantuml": COMMON + [
         b"@startuml", b"@enduml", b"end note", b"endnote", b"/'", b"'/", b"'", b"!if x", b"!else", b"!endif",
         b"!definelong",

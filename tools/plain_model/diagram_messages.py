@@ -72,7 +72,8 @@ class Collector:
 
     def arrow(self, arrow: Arrow, row: int) -> None:
         sender, receiver = self.instances[arrow.sender], self.instances[arrow.receiver]
-        self.messages.append(Message(sender, receiver, arrow.label, row, row, arrow.is_lost, arrow.line))
+        ends = row + arrow.rows_down
+        self.messages.append(Message(sender, receiver, arrow.label, row, ends, arrow.is_lost, arrow.line))
 
     def note(self, note: Note, row: int) -> None:
         event = event_of(note, row, self.numbers, self.instances[note.participant])

@@ -1,6 +1,6 @@
 """
-What the statements of a diagram of lines come to, PlantUML's and Mermaid's: participants, rows of arrows, the branches
-that are taken, and the activations that a `return` answers.
+What the statements of a diagram come to: participants, rows of arrows, the branches that are taken, and the activations
+that a `return` answers.
 """
 
 import re
@@ -49,13 +49,14 @@ class Participant:
 
 
 class Arrow(NamedTuple):
-    """A message, or a lost one."""
+    """A message, or a lost one. It ends so many rows further down."""
 
     line: Line
     sender: bytes
     receiver: bytes
     label: bytes
     is_lost: bool
+    rows_down: int = 0
 
 
 class Note(NamedTuple):

@@ -1,8 +1,5 @@
 """Sequence diagrams of PlantUML that are drawn by chance from a seed, with all forms that are read."""
 
-import os
-import sys
-
 from drawn_words import Pen
 from made_schedules import Draw
 
@@ -252,14 +249,3 @@ def drawn_plantuml(seed: int) -> bytes:
         for said in (b"text below", b"@startuml", b"x -> y : z", b"@enduml"):
             pen.line(said)
     return pen.text()
-
-
-def main(folder: str, count: str, seed: str) -> None:
-    """Writes so many diagrams into a folder, each into a file of its own."""
-    for number in range(int(seed), int(seed) + int(count)):
-        with open(os.path.join(folder, f"{number:06}.puml"), "wb") as file:
-            file.write(drawn_plantuml(number))
-
-
-if __name__ == "__main__":
-    main(*sys.argv[1:])

@@ -1,9 +1,10 @@
-"""What `mscview import` answers to a diagram of PlantUML or Mermaid: a chart and what is told, or a refusal."""
+"""What `mscview import` answers to a diagram of mscgen, PlantUML or Mermaid: a chart and what is told, or a refusal."""
 
 import re
 from typing import NamedTuple
 
 import mermaid_texts
+import mscgen_texts
 import plantuml_texts
 from chart_texts import MOST_INSTANCES, Chart, chart_text
 from diagram_charts import chart_of, named, refuse_full_lines, refuse_impossible, without_lost
@@ -13,10 +14,14 @@ from diagram_readings import NotRead, Reading, Told, Unfinished
 from given_names import GivenNames
 from joined import Join, joined, joined_instances
 from names import Refused
+from told_tools import told_tool
 
-READERS = {"plantuml": plantuml_texts.Reader, "mermaid": mermaid_texts.Reader}
+READERS = {"mscgen": mscgen_texts.Reader, "plantuml": plantuml_texts.Reader, "mermaid": mermaid_texts.Reader}
 # The signs for a new line in a label.
-LINE_BREAKS = {"plantuml": re.compile(rb"\\n"), "mermaid": re.compile(rb"\\n|<br[ \t]*/?>", re.IGNORECASE)}
+LINE_BREAKS = {
+    "mscgen": re.compile(rb"\\n"), "plantuml": re.compile(rb"\\n"),
+    "mermaid": re.compile(rb"\\n|<br[ \t]*/?>", re.IGNORECASE),
+}
 BYTE_ORDER_MARK = b"\xef\xbb\xbf"
 MOST_WORDS = 40
 # Kinds of things that are left out whose plural isn't the kind with an `s`.
@@ -86,10 +91,11 @@ def without_skipped(text: bytes, skipped: tuple[tuple[int, int], ...]) -> bytes:
     return b"\n".join(lines)
 
 
-def read(tool: str, text: bytes) -> Reading:
-    """What a diagram says, or F35, F21 or F8."""
-    reading = Reading(Told(), LINE_BREAKS[tool])
+def read(tool: str | None, text: bytes) -> Reading:
+    """What a diagram of a tool says, or of the one that the text tells; or F35, F21, F23 or F8."""
     try:
+        tool = told_tool(text) if tool is None else tool
+        reading = Reading(Told(), LINE_BREAKS[tool])
         READERS[tool](text, reading).read()
     except NotRead as fault:
         raise not_read(text, fault.line)
@@ -149,8 +155,8 @@ def first_left_out(reading: Reading, drawn: Drawn) -> Line | None:
     return min(places, key=lambda place: (place.number, place.column), default=None)
 
 
-def imported(tool: str, text: bytes, options: Options) -> Answer:
-    """What the command answers to a text."""
+def imported(tool: str | None, text: bytes, options: Options) -> Answer:
+    """What the command answers to a text. Without a tool the text tells it."""
     if any(last > count_of_lines(text) for _, last in options.skipped):
         return Answer(2, b"", b"refused: G1 Usage\n")
     text = without_skipped(text, options.skipped).removeprefix(BYTE_ORDER_MARK)

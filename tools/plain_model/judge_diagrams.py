@@ -1,10 +1,10 @@
 """
 Draws diagrams from a seed on, and compares what `mscview import` answers to each with what the plain reader does.
 
-`judge_diagrams.py TOOL COUNT SEED [--broken] [--joined] [PROGRAM]`: TOOL is `plantuml` or `mermaid`. Broken ones have up
-to four faults. Joined ones have some of their lines joined. Without PROGRAM the plain reader alone answers. In any case
-each chart has to be a possible one, which reads back as it is. At the end it prints how often each answer came, and a
-digest of all texts and answers.
+`judge_diagrams.py TOOL COUNT SEED [--broken] [--joined] [PROGRAM]`: TOOL is `mscgen`, `plantuml` or `mermaid`; some
+diagrams have to tell it themselves. Broken ones have up to four faults. Joined ones have some of their lines joined.
+Without PROGRAM the plain reader alone answers. In any case each chart has to be a possible one, which reads back as it
+is. At the end it prints how often each answer came, and a digest of all texts and answers.
 """
 
 import hashlib
@@ -18,12 +18,13 @@ from broken_diagrams import broken
 from chart_texts import chart_text, read_chart
 from charts import events_before
 from drawn_mermaid import drawn_mermaid
+from drawn_mscgen import drawn_mscgen
 from drawn_plantuml import drawn_plantuml
 from imported_diagrams import Answer, Options, imported
 from joined import Join
 from made_schedules import Draw
 
-DRAWN = {"plantuml": drawn_plantuml, "mermaid": drawn_mermaid}
+DRAWN = {"mscgen": drawn_mscgen, "plantuml": drawn_plantuml, "mermaid": drawn_mermaid}
 
 
 def options_of(draw: Draw, text: bytes, tool: str, is_joined: bool) -> Options:
@@ -49,9 +50,9 @@ def joins_of(draw: Draw, written: bytes) -> tuple[Join, ...]:
     return tuple(joins)
 
 
-def words_of(tool: str, options: Options, path: str) -> list[str]:
+def words_of(tool: str | None, options: Options, path: str) -> list[str]:
     """The words of the command."""
-    words = ["import", "--from", tool]
+    words = ["import"] if tool is None else ["import", "--from", tool]
     words += ["--strict"] if options.is_strict else []
     for first, last in options.skipped:
         words += ["--skip", f"{first}..{last}"]
@@ -60,7 +61,7 @@ def words_of(tool: str, options: Options, path: str) -> list[str]:
     return words + [path]
 
 
-def answer_of(program: str, tool: str, options: Options, text: bytes, path: str) -> Answer:
+def answer_of(program: str, tool: str | None, options: Options, text: bytes, path: str) -> Answer:
     with open(path, "wb") as file:
         file.write(text)
     ran = subprocess.run([program, *words_of(tool, options, path)], capture_output=True, stdin=subprocess.DEVNULL)
@@ -92,13 +93,14 @@ def judge(tool: str, count: int, seed: int, is_broken: bool, is_joined: bool, pr
             if is_broken:
                 text = broken(draw, tool, text)
             options = options_of(draw, text, tool, is_joined)
-            wanted = imported(tool, text, options)
+            named = None if draw.below(8) == 0 else tool
+            wanted = imported(named, text, options)
             answered = wanted
             if program is not None:
-                answered = answer_of(program, tool, options, text, os.path.join(room, "diagram"))
+                answered = answer_of(program, named, options, text, os.path.join(room, "diagram"))
             if answered != wanted or not is_sound(wanted):
                 failed += 1
-                print("FAILED", number, words_of(tool, options, "FILE"), text, answered, wanted, flush=True)
+                print("FAILED", number, words_of(named, options, "FILE"), text, answered, wanted, flush=True)
             seen[kind_of(wanted)] += 1
             digest.update(b"%d %d " % (len(text), wanted.status) + text + wanted.written + wanted.said)
     print(" ".join(f"{kind} {times}" for kind, times in sorted(seen.items())), "sha256", digest.hexdigest())

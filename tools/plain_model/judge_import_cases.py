@@ -1,6 +1,6 @@
 """
 Compares what cases of `mscview import` say with what the plain reader answers: `judge_import_cases.py FOLDER..`. Left out
-are folders of another command or tool, and what is no folder.
+are folders of another command, and what is no folder. The file is named behind the options.
 """
 
 import os
@@ -29,7 +29,8 @@ def contents(folder: str, name: str) -> bytes:
 
 
 def is_held(folder: str, words: list[str]) -> bool:
-    answered = imported(words[2], contents(folder, "input"), options_of(words))
+    tool = words[words.index("--from") + 1] if "--from" in words else None
+    answered = imported(tool, contents(folder, "input"), options_of(words))
     return answered == Answer(int(contents(folder, "status")), contents(folder, "stdout"), contents(folder, "stderr"))
 
 
@@ -37,7 +38,7 @@ def main(folders: list[str]) -> int:
     failed = 0
     for folder in filter(os.path.isdir, folders):
         words = contents(folder, "args").decode().split()
-        if words[:2] != ["import", "--from"] or words[2] not in READERS:
+        if words[0] != "import" or ("--from" in words and words[words.index("--from") + 1] not in READERS):
             continue
         held = is_held(folder, words)
         failed += not held
