@@ -34,7 +34,7 @@ static MISSED: [&[&str]; 29] = [
     ],
     &["mscview", "import", "f", "--strict", "--strict"],
     &["mscview", "import", "f", "--skip"],
-    &["mscview", "import", "f", "--join"],
+    &["mscview", "import", "f", "--join", "a=b"],
     &["mscview", "import", "--strict"],
 ];
 
@@ -128,16 +128,14 @@ fn words_of_an_import(rt: HostRuntime) {
     assert_eq!(&rt; plain.from, None);
     assert!(&rt; !plain.strict);
     assert_eq!(&rt; plain.skipped.len(), 0);
-    assert_eq!(&rt; plain.joined.len(), 0);
     assert_eq!(&rt; plain.file, "a file");
     let words = [
-        "mscview", "import", "--skip", "2..3", "--join", "a=b,c", "--strict", "--from", "plantuml",
-        "--skip", "7..7", "a file", "--join", "d=e",
+        "mscview", "import", "--skip", "2..3", "--strict", "--from", "plantuml", "a file", "--skip",
+        "7..7",
     ];
     let full = import(&rt, rt.alloc(), &words);
     assert_eq!(&rt; full.from, Some("plantuml"));
     assert!(&rt; full.strict);
     assert_eq!(&rt; full.skipped.as_slice(), ["2..3", "7..7"].as_slice());
-    assert_eq!(&rt; full.joined.as_slice(), ["a=b,c", "d=e"].as_slice());
     assert_eq!(&rt; full.file, "a file");
 }

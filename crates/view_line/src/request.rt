@@ -43,7 +43,7 @@ pub struct Export<'a> {
     pub file: &'a str,
 }
 
-/// What is to be read of another tool. Lines and names are words still.
+/// What is to be read of another tool. The lines are words still.
 #[derive(Debug, Drop)]
 pub struct Import<'a> {
     /// The word behind `--from`.
@@ -52,8 +52,6 @@ pub struct Import<'a> {
     pub strict: bool,
     /// The lines behind each `--skip`, joined by two dots, in the order of the command line.
     pub skipped: Vec<&'a str>,
-    /// The names behind each `--join`, in the order of the command line.
-    pub joined: Vec<&'a str>,
     pub file: &'a str,
 }
 
@@ -66,7 +64,7 @@ pub enum Request<'a> {
     Draw(Draw<'a>),
     /// `export --to TOOL FILE`.
     Export(Export<'a>),
-    /// `import [--from TOOL] [--strict] [--skip A..B].. [--join NAME=NAME,NAME..].. FILE`.
+    /// `import [--from TOOL] [--strict] [--skip A..B].. FILE`.
     Import(Import<'a>),
 }
 
@@ -125,7 +123,6 @@ fn import_command<'a>(alloc: Global) -> Result<Command<'a>, AllocError> {
         .arg(option(alloc, "from"))?
         .arg(flag(alloc, "strict"))?
         .arg(repeated(alloc, "skip"))?
-        .arg(repeated(alloc, "join"))?
         .arg(needed(alloc, "FILE"))
 }
 
@@ -195,7 +192,6 @@ fn import_of<'a>(alloc: Global, words: &ArgMatches<'a>) -> Result<Request<'a>, C
         from: words.get_str("from"),
         strict: words.get_flag("strict"),
         skipped: words_of(alloc, words, "skip")?,
-        joined: words_of(alloc, words, "join")?,
         file: words.get_str("FILE").ok_or(CommandLineError::Usage)?,
     }))
 }
