@@ -1,6 +1,9 @@
 -- Bytes and lines of a text, one after the other.
-use Rattle.std.proofs.Common.{◌≡◌, ℕ, zero, suc, ◌+◌, ◌-◌, ◌<◌, ◌≤◌, ◌==◌, Bool, true, false, not, List, [], ◌∷◌, ◌++◌, length, drop, get_or, refl, sym, ap, ◌∙◌, arith, append_assoc, drop-cons, add-one}
+use Rattle.std.proofs.Common.{◌≡◌, ℕ, zero, suc, ◌+◌, ◌-◌, ◌<◌, ◌≤◌, ◌==◌, Bool, true, false, not, List, [], ◌∷◌, ◌++◌, Option, length, drop, get_or, refl, sym, ap, ◌∙◌, arith, append_assoc, drop-cons, add-one}
 use Rattle.std.proofs.lemmas.List.{drop_all, append-nil}
+use Rattle.diagrams.specs.declared.left_out.LeftOut.{LeftOut}
+use Rattle.diagrams.specs.declared.place.Place.{Place}
+use Rattle.diagram_imports.specs.Importing.{with_place, first_place}
 use Rattle.diagram_imports.specs.Shown.{behind_line, without_lines}
 use Rattle.diagram_imports.specs.Skipping.{read_byte, line_behind, blanked_from, lines_from}
 use Rattle.diagram_imports.specs.declared.skipping.Skip.{Skip}
@@ -44,3 +47,16 @@ byte_kept skips line next n bytes done more b within shown e f = rw (from_byte b
 pub kept_end : (skips : List Skip) (line n : ℕ) (bytes done : List ℕ) → length bytes ≤ n → done ++ blanked_from skips line (drop n bytes) ≡ done
 unfolding blanked_from
 kept_end skips line n bytes done past = rw (drop_all n bytes past) (append-nil done)
+
+-- one kind more that is left out
+pub place_more : (so_far next : Option Place) (n : ℕ) (left_out : List LeftOut) (l : LeftOut) → n < length left_out → l ≡ get_or left_out n l → next ≡ with_place so_far l.first
+    → first_place next (drop (n + 1) left_out) ≡ first_place so_far (drop n left_out)
+unfolding first_place
+place_more so_far next n left_out l within is e = rw (kind_here, e) refl
+  where
+    kind_here : drop n left_out ≡ l ∷ drop (n + 1) left_out
+    kind_here = rw add-one (drop-cons left_out n l within ∙ ap (λ x. x ∷ drop (suc n) left_out) (sym is))
+
+pub place_end : (so_far : Option Place) (n : ℕ) (left_out : List LeftOut) → length left_out ≤ n → first_place so_far (drop n left_out) ≡ so_far
+unfolding first_place
+place_end so_far n left_out past = rw (drop_all n left_out past) refl
