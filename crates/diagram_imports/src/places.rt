@@ -1,29 +1,38 @@
 //! The words that are told of a place.
-ghost use Rattle.std.specs.Prelude.{◌≡◌, ◌-◌, ◌==◌, IfOk, take, drop};
-ghost use Rattle.std.specs.List.{before_first, after_first};
-ghost use Rattle.diagram_imports.specs.Shown.{without_lines, first_line, shown_from, words_at};
+ghost use Rattle.std.specs.Prelude.{◌≡◌, ◌<◌, ◌-◌, ◌==◌, length, position, drop, IfOk, IfSome};
+ghost use Rattle.diagram_imports.specs.Shown.{before, behind_line, without_lines, shown_from, words_at};
 
 use diagrams::Place;
 use mscgen_text::printable;
 use std::alloc::{AllocError, Global};
 
-/// What stands before the first such byte.
-fn before(text: &[u8], byte: u8) -> &[u8]
-    ensures { result.now ≡ before_first (λ b. b == byte) text.now }
+/// The place of the first such byte.
+fn place_of(text: &[u8], byte: u8) -> Option<usize>
+    ensures value { result ≡ position (λ b. b == byte) text.now }
+    ensures within { IfSome result (λ place. place < length text.now) }
 {
-    match text.iter().position(|b| *b == byte) {
+    text.iter().position(|b| *b == byte)
+}
+
+/// What stands before the first such byte.
+#[tactic(auto, unfolding(crate::specs::Shown::before))]
+fn before(text: &[u8], byte: u8) -> &[u8]
+    ensures { result.now ≡ before byte text.now }
+{
+    match place_of(text, byte) {
         Some(place) => &text[..place],
         None => text,
     }
 }
 
 /// What stands behind the first line.
+#[tactic(auto, unfolding(crate::specs::Shown::behind_line))]
 fn behind_line(text: &[u8]) -> &[u8]
-    ensures { result.now ≡ after_first (λ b. b == 10) text.now }
+    ensures { result.now ≡ behind_line text.now }
 {
-    match text.iter().position(|b| *b == b'\n') {
+    match place_of(text, b'\n') {
         Some(place) => &text[place + 1..],
-        None => &text[text.len()..],
+        None => &[],
     }
 }
 
@@ -32,7 +41,8 @@ fn without_lines(text: &[u8], count: u64) -> &[u8]
     ensures { result.now ≡ without_lines count text.now }
 {
     let mut rest = text;
-    for _line in 0..count {
+    for line in 0..count {
+        let _ = line;
         rest = behind_line(rest);
     }
     rest
