@@ -49,13 +49,10 @@ unfolding blanked_from
 kept_end skips line n bytes done past = rw (drop_all n bytes past) (append-nil done)
 
 -- one kind more that is left out
-pub place_more : (so_far next : Option Place) (n : ℕ) (left_out : List LeftOut) (l : LeftOut) → n < length left_out → l ≡ get_or left_out n l → next ≡ with_place so_far l.first
+pub place_more : (so_far next : Option Place) (n : ℕ) (left_out : List LeftOut) (d : LeftOut) → n < length left_out → next ≡ with_place so_far (get_or left_out n d).first
     → first_place next (drop (n + 1) left_out) ≡ first_place so_far (drop n left_out)
 unfolding first_place
-place_more so_far next n left_out l within is e = rw (kind_here, e) refl
-  where
-    kind_here : drop n left_out ≡ l ∷ drop (n + 1) left_out
-    kind_here = rw add-one (drop-cons left_out n l within ∙ ap (λ x. x ∷ drop (suc n) left_out) (sym is))
+place_more so_far next n left_out d within e = rw (add-one, drop-cons left_out n d within, e) refl
 
 pub place_end : (so_far : Option Place) (n : ℕ) (left_out : List LeftOut) → length left_out ≤ n → first_place so_far (drop n left_out) ≡ so_far
 unfolding first_place

@@ -62,12 +62,7 @@ fn first_place(left_out: &[LeftOut]) -> Option<Place>
 
 /// The chart, unless nothing may be left out and something is.
 #[tactic(auto, unfolding(crate::specs::Importing::strictly))]
-fn strictly(
-    alloc: Global,
-    is_strict: bool,
-    text: &[u8],
-    drawn: Drawn,
-) -> Result<Drawn, ImportError>
+fn strictly(alloc: Global, is_strict: bool, text: &[u8], drawn: Drawn) -> Result<Drawn, ImportError>
     ensures { Gives drawn_view result (strictly is_strict text.now (drawn_view drawn)) }
 {
     if !is_strict {

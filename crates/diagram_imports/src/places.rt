@@ -52,7 +52,11 @@ fn without_lines(text: &[u8], count: u64) -> &[u8]
 fn shown(alloc: Global, bytes: &[u8]) -> Result<Vec<u8>, AllocError>
     ensures { IfOk result (λ words. words.items ≡ shown_from 1 bytes.now) }
 {
-    bytes.iter().take(40).map(|byte| printable(*byte)).collect(alloc)
+    bytes
+        .iter()
+        .take(40)
+        .map(|byte| printable(*byte))
+        .collect(alloc)
 }
 
 /// The line from this column on.

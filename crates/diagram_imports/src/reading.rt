@@ -53,11 +53,7 @@ fn of_lines(alloc: Global, text: &[u8], fault: line_statements::Fault) -> Import
 
 /// The tool of a text: the one that is named, or that the text tells.
 #[tactic(auto, unfolding(crate::specs::Readers::tool_in))]
-pub(crate) fn tool_in(
-    alloc: Global,
-    tool: Option<Tool>,
-    text: &[u8],
-) -> Result<Tool, ImportError>
+pub(crate) fn tool_in(alloc: Global, tool: Option<Tool>, text: &[u8]) -> Result<Tool, ImportError>
     ensures { Gives (λ tool. tool) result (tool_in tool text.now) }
 {
     if let Some(tool) = tool {
