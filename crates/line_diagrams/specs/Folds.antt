@@ -8,6 +8,7 @@ use Rattle.line_diagrams.specs.Labels.{label_of}
 use Rattle.line_diagrams.specs.Participants.{NamedView}
 use Rattle.line_diagrams.specs.declared.frames.Frame.{Frame}
 use Rattle.line_diagrams.specs.declared.labels.Breaks.{Breaks}
+use Rattle.line_statements.specs.Readings.{ReadView}
 use Rattle.line_statements.specs.Statements.{StatementView}
 use Rattle.line_statements.specs.declared.statement.Fault.{Fault}
 use Rattle.line_statements.specs.declared.statement.Place.{Place}
@@ -41,5 +42,15 @@ finished breaks (Ok d) = Ok (record {
 })
 
 -- the diagram that statements say
-unfoldable pub diagram_of : Breaks → List StatementView → Result DiagramView Fault
-diagram_of breaks statements = finished breaks (drawn_from breaks [] no_drawing statements)
+unfoldable pub drawn_of : Breaks → List StatementView → Result DiagramView Fault
+drawn_of breaks statements = finished breaks (drawn_from breaks [] no_drawing statements)
+
+-- a fault of the text stands behind those of the statements above it
+abbrev pub unless : Option Fault → Result DiagramView Fault → Result DiagramView Fault
+unless later (Err fault) = Err fault
+unless None (Ok d) = Ok d
+unless (Some later) (Ok d) = Err later
+
+-- the diagram of a text, or its first fault
+unfoldable pub diagram_of : Breaks → ReadView → Result DiagramView Fault
+diagram_of breaks read = unless read.1 (drawn_of breaks read.0)

@@ -1,9 +1,10 @@
 //! Diagrams of statements.
 ghost use Rattle.std.specs.Prelude.{◌≡◌, [], map, IfOk};
 ghost use Rattle.diagrams.specs.Diagrams.{diagram_view, participant_view};
+ghost use Rattle.line_statements.specs.Readings.{read_view};
 ghost use Rattle.line_statements.specs.Statements.{statement_view, Reads};
 ghost use Rattle.line_diagrams.specs.Drawings.{drawing_view, no_drawing};
-ghost use Rattle.line_diagrams.specs.Folds.{participant_of, drawn_from, diagram_of};
+ghost use Rattle.line_diagrams.specs.Folds.{participant_of, drawn_from, drawn_of, diagram_of};
 ghost use Rattle.line_diagrams.specs.Participants.{named_view};
 
 use crate::drawing::Drawing;
@@ -11,7 +12,7 @@ use crate::frames::framed;
 use crate::labels::{Breaks, label_of};
 use crate::participants::Named;
 use diagrams::{Diagram, Participant};
-use line_statements::{ReadError, Statement};
+use line_statements::{ReadError, ReadText, Statement};
 use std::alloc::{AllocError, Global};
 
 /// What the statements draw.
@@ -61,18 +62,14 @@ fn participants_of(
     Ok(participants)
 }
 
-/// The diagram that statements say, from the top.
-///
-/// # Errors
-///
-/// The first branch or end that stands outside of a group. Memory, where a growth was refused.
-#[tactic(auto, unfolding(crate::specs::Folds::diagram_of))]
-pub fn diagram_of(
+/// The diagram that these statements say, from the top.
+#[tactic(auto, unfolding(crate::specs::Folds::drawn_of))]
+fn drawn_of(
     alloc: Global,
     breaks: Breaks,
     statements: &[Statement<'_>],
 ) -> Result<Diagram, ReadError>
-    ensures { Reads diagram_view result (diagram_of breaks (map statement_view statements.now)) }
+    ensures { Reads diagram_view result (drawn_of breaks (map statement_view statements.now)) }
 {
     let drawing = drawn(alloc, breaks, statements)?;
     let participants = participants_of(alloc, breaks, &drawing.participants)?;
@@ -81,4 +78,25 @@ pub fn diagram_of(
         items: drawing.rows.items,
         left_out: drawing.rows.left_out,
     })
+}
+
+/// The diagram that a text says of which this is read.
+///
+/// # Errors
+///
+/// The first fault from the top: a branch or an end that stands outside of a group, or what can't be read, or an end too
+/// early. Memory, where a growth was refused.
+#[tactic(auto, unfolding(crate::specs::Folds::diagram_of))]
+pub fn diagram_of(
+    alloc: Global,
+    breaks: Breaks,
+    read: &ReadText<'_>,
+) -> Result<Diagram, ReadError>
+    ensures { Reads diagram_view result (diagram_of breaks (read_view read.now)) }
+{
+    let diagram = drawn_of(alloc, breaks, &read.statements)?;
+    match read.fault {
+        Some(fault) => Err(ReadError::Fault(fault)),
+        None => Ok(diagram),
+    }
 }

@@ -5,10 +5,12 @@
 #![tactic(auto)]
 
 mod line;
+mod reading;
 mod statement;
 mod words;
 
 pub use line::{Line, behind_line, line_length};
+pub use reading::ReadText;
 pub use statement::{
     Arrow, ArrowForm, End, Fault, Group, NoteAt, Place, ReadError, Said, Statement,
 };

@@ -1,13 +1,10 @@
 -- A text's lines, and its statements, one after the other.
-use Rattle.std.proofs.Common.{◌≡◌, ℕ, zero, suc, ◌+◌, ◌<◌, ◌≤◌, List, [], ◌∷◌, ◌++◌, length, drop, take, Option, None, Some, Result, Ok, Err, refl, ap, sym, ◌∙◌, append_assoc, arith, add-one}
+use Rattle.std.proofs.Common.{◌≡◌, ℕ, zero, suc, ◌+◌, ◌<◌, ◌≤◌, List, [], ◌∷◌, ◌++◌, length, drop, refl, ap, sym, ◌∙◌, append_assoc, arith, add-one}
 use Rattle.std.proofs.lemmas.List.{append-nil}
-use Rattle.line_statements.specs.Lines.{line_length, line_place, lines_from, lines_of}
-use Rattle.line_statements.specs.Statements.{LineView, StatementView}
-use Rattle.line_statements.specs.declared.statement.Fault.{Fault}
-use Rattle.line_statements.specs.declared.statement.Fault.TheVariants.{NotRead}
-use Rattle.mermaid_text.specs.Diagrams.{first_line, pieces_in, behind, statements_by, statements_of}
+use Rattle.line_statements.specs.Lines.{line_length, lines_from, lines_of}
+use Rattle.line_statements.specs.Statements.{LineView}
+use Rattle.mermaid_text.specs.Diagrams.{first_line, pieces_in}
 use Rattle.mermaid_text.specs.Pieces.{stepped}
-use Rattle.mermaid_text.specs.Sayings.{says}
 use Rattle.mermaid_text.specs.declared.piece.Standing.{Standing}
 use Rattle.mermaid_text.specs.declared.piece.Standing.TheVariants.{Above}
 
@@ -76,25 +73,3 @@ next_line text pieces more standing next number rest left line are some line_is 
       back = ap (λ p. p.1) same ∙ ap (λ p. p.1) (sym s.2) ∙ are.back;
     }
 
-behind_again : (so_far said : List StatementView) (others : Result (List StatementView) Fault) → behind so_far (behind said others) ≡ behind (so_far ++ said) others
-behind_again so_far said (Ok more) = ap (λ (l : List StatementView). let r : Result (List StatementView) Fault = Ok l in r) (sym (append_assoc so_far said more))
-behind_again so_far said (Err fault) = refl
-
-behind_none : (others : Result (List StatementView) Fault) → behind [] others ≡ others
-behind_none (Ok more) = refl
-behind_none (Err fault) = refl
-
-pub no_statement : (pieces : List LineView) (so_far : List StatementView) → so_far ≡ [] → behind so_far (statements_of pieces) ≡ statements_of pieces
-no_statement pieces so_far none = ap (λ l. behind l (statements_of pieces)) none ∙ behind_none (statements_of pieces)
-
-pub statement_more : (so_far more said : List StatementView) (l : LineView) (ls all : List LineView) → behind so_far (statements_of (l ∷ ls)) ≡ statements_of all → says (line_place l) l.words ≡ Some said
-    → more ≡ so_far ++ said → behind more (statements_of ls) ≡ statements_of all
-statement_more so_far more said l ls all are e is =
-    ap (λ m. behind m (statements_of ls)) is ∙ sym (behind_again so_far said (statements_of ls)) ∙ ap (λ o. behind so_far (statements_by l o (statements_of ls))) (sym e) ∙ are
-
-pub statement_refused : (so_far : List StatementView) (l : LineView) (ls all : List LineView) → behind so_far (statements_of (l ∷ ls)) ≡ statements_of all → says (line_place l) l.words ≡ None
-    → statements_of all ≡ Err (NotRead (line_place l))
-statement_refused so_far l ls all are e = sym are ∙ ap (λ o. behind so_far (statements_by l o (statements_of ls))) e
-
-pub statements_all : (so_far : List StatementView) (all : List LineView) → behind so_far (Ok []) ≡ statements_of all → statements_of all ≡ Ok so_far
-statements_all so_far all are = sym are ∙ ap (λ (l : List StatementView). let r : Result (List StatementView) Fault = Ok l in r) (append-nil so_far)

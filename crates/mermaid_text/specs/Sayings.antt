@@ -132,7 +132,7 @@ told place (Notes names) = names_told place names ++ record { place = place; sai
 unfoldable pub says : Place → List ℕ → Option (List StatementView)
 says place words = option_map (told place) (meaning_of words)
 
--- what words say was added, if they can be read
+-- what words say was added, if they can be read; else nothing was
 abbrev pub Adds : Bool → List StatementView → List StatementView → Option (List StatementView) → Type 0
 Adds true old new said = (more : List StatementView) × (said ≡ Some more) × (new ≡ old ++ more)
-Adds false old new said = said ≡ None
+Adds false old new said = (said ≡ None) × (new ≡ old)

@@ -1,13 +1,14 @@
 //! Texts, read whole.
 ghost use Rattle.std.specs.Prelude.{◌≡◌, ◌≤◌, ◌<◌, ◌+◌, ◌^◌, length, map, IfOk};
-ghost use Rattle.line_statements.specs.Statements.{line_view, statement_view, Reads};
-ghost use Rattle.mermaid_text.specs.Diagrams.{first_line, pieces_in, pieces_view, statements_of, is_open, diagram_of};
+ghost use Rattle.line_statements.specs.Readings.{read_view};
+ghost use Rattle.line_statements.specs.Statements.{line_view};
+ghost use Rattle.mermaid_text.specs.Diagrams.{first_line, pieces_in, pieces_view, statements_of, is_open, last_fault, diagram_of};
 ghost use Rattle.mermaid_text.specs.declared.piece.Standing.TheVariants.{Above};
 ghost use Rattle.line_statements.specs.Lines.{lines_of};
 
 use crate::piece::{Standing, add_line};
 use crate::said::add_said;
-use line_statements::{Fault, Line, ReadError, Statement, behind_line, line_length};
+use line_statements::{Fault, Line, ReadText, behind_line, line_length};
 use std::alloc::{AllocError, Global};
 
 /// The statements of a text, in pieces, and where its reader stands in the end.
@@ -47,17 +48,23 @@ fn pieces_of(alloc: Global, text: &[u8]) -> Result<Pieces<'_>, AllocError>
     Ok(Pieces { pieces, standing })
 }
 
-/// What these statements say.
-fn statements_of<'a>(alloc: Global, pieces: &[Line<'a>]) -> Result<Vec<Statement<'a>>, ReadError>
-    ensures { Reads (λ all. map statement_view all.items) result (statements_of (map line_view pieces.now)) }
+/// What these statements say, up to the first one that can't be read.
+fn statements_of<'a>(alloc: Global, pieces: &[Line<'a>]) -> Result<ReadText<'a>, AllocError>
+    ensures { IfOk result (λ read. read_view read ≡ statements_of (map line_view pieces.now)) }
 {
     let mut statements = Vec::new(alloc);
     for piece in pieces {
         if !add_said(piece.place(), piece.words, &mut statements)? {
-            return Err(ReadError::Fault(Fault::NotRead(piece.place())));
+            return Ok(ReadText {
+                statements,
+                fault: Some(Fault::NotRead(piece.place())),
+            });
         }
     }
-    Ok(statements)
+    Ok(ReadText {
+        statements,
+        fault: None,
+    })
 }
 
 /// Whether a title block or another block is open.
@@ -70,19 +77,32 @@ fn is_open(standing: Standing) -> bool
     }
 }
 
-/// What a text says, without its byte order mark: its statements from the top, or its first fault.
-///
-/// # Errors
-///
-/// The first statement that can't be read; else an end within a block. Memory, where a growth was refused.
-#[tactic(auto, unfolding(crate::specs::Diagrams::diagram_of))]
-pub fn read(alloc: Global, text: &[u8]) -> Result<Vec<Statement<'_>>, ReadError>
-    ensures { Reads (λ all. map statement_view all.items) result (diagram_of text.now) }
+/// The fault of a text, by the first one of its statements and where its reader stands in the end.
+#[tactic(auto, unfolding(crate::specs::Diagrams::last_fault))]
+fn last_fault(fault: Option<Fault>, standing: Standing) -> Option<Fault>
+    ensures { result ≡ last_fault fault standing }
 {
-    let read = pieces_of(alloc, text)?;
-    let statements = statements_of(alloc, &read.pieces)?;
-    if is_open(read.standing) {
-        return Err(ReadError::Fault(Fault::Unfinished));
+    match fault {
+        Some(fault) => Some(fault),
+        None => {
+            if is_open(standing) {
+                Some(Fault::Unfinished)
+            } else {
+                None
+            }
+        }
     }
-    Ok(statements)
+}
+
+/// What a text says, without its byte order mark: its statements from the top, up to its first fault.
+#[tactic(auto, unfolding(crate::specs::Diagrams::diagram_of))]
+pub fn read(alloc: Global, text: &[u8]) -> Result<ReadText<'_>, AllocError>
+    ensures { IfOk result (λ read. read_view read ≡ diagram_of text.now) }
+{
+    let pieces = pieces_of(alloc, text)?;
+    let read = statements_of(alloc, &pieces.pieces)?;
+    Ok(ReadText {
+        statements: read.statements,
+        fault: last_fault(read.fault, pieces.standing),
+    })
 }

@@ -1,5 +1,6 @@
-pub mod Bodies
-pub mod Names
-pub mod Runs
-pub mod Tails
-pub mod Tips
+pub mod Comments
+pub mod Diagrams
+pub mod Directives
+pub mod Ends
+pub mod Regions
+pub mod Standings

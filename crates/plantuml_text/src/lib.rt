@@ -1,12 +1,14 @@
-//! Sequence diagrams of PlantUML, read statement by statement.
+//! Texts of PlantUML's sequence diagrams, read line by line.
 //!
 //! What is promised ([`read`]): what a text says is a function of its bytes: its statements from the top, each with its
 //! place, or the first fault. Memory is refused at a growth alone.
 #![tactic(auto)]
 
-//mod arrow;
-mod body;
-mod names;
-mod runs;
-mod tails;
-mod tips;
+mod comments;
+mod diagram;
+mod directives;
+mod ends;
+mod region;
+mod standing;
+
+pub use diagram::read;
