@@ -1,12 +1,10 @@
 //! Gates come before the acts: while a gate is open for a send, the message can't be there yet.
-use crate::calls::instance;
-use behaviour::{Act, Answer, BareAct, Behaviour, Script};
-use board::Board;
-use chart::{InstanceNo, Name};
-use instances::{Gate, run};
+use crate::calls::{Does, instance, run_board, script};
+use behaviour::{Act, Answer, Behaviour};
+use chart::InstanceNo;
+use instances::Gate;
 use std::sync::Arc;
 use std::sync::atomic::{AtomicU64, Ordering};
-use std::test::Fail;
 use std::thread;
 
 /// Receives from one instance until something came, and counts it for whoever else has its counter.
@@ -59,25 +57,22 @@ impl Gate for Watch {
 }
 
 #[test]
-fn gates_come_before_their_acts(rt: HostRuntime) -> Result<(), Fail> {
+fn gates_come_before_their_acts(rt: HostRuntime) {
     let alloc = rt.alloc();
     let sender = instance(&rt, 1);
-    let got = Arc::new(alloc, AtomicU64::new(0))?;
+    let got = Arc::new(alloc, AtomicU64::new(0)).expect(&rt, "a counter");
     let watch = Watch {
         sender,
-        got: got.clone()?,
+        got: got.clone().expect(&rt, "the same counter"),
         early: AtomicU64::new(0),
     };
-    let mut board = Board::new(alloc, 2, 1)?;
-    let posts = board.posts()?;
-    let send = BareAct::Send(instance(&rt, 2), Name::new(b"x")?);
+    let script = script(&rt, alloc, &[Does::Send(2, b'x')]);
+    let script = Box::new(alloc, script).expect(&rt, "a box");
+    let waiter = Box::new(alloc, Waiter { from: sender, got }).expect(&rt, "a box");
     let mut behaviours: Vec<Box<dyn Behaviour + Send>> = Vec::new(alloc);
-    behaviours.push(Box::new(alloc, Script::new([send].to_vec(alloc)?))?)?;
-    behaviours.push(Box::new(alloc, Waiter { from: sender, got })?)?;
-    let Ok(ran) = run(&rt, posts, behaviours, 1_000_000, &watch) else {
-        return Err("the board was run")?;
-    };
+    assert!(rt; behaviours.push(script).is_ok());
+    assert!(rt; behaviours.push(waiter).is_ok());
+    let ran = run_board(&rt, alloc, (2, 1), behaviours, &watch);
     assert_eq!(rt; ran.traces.len(), 2);
     assert_eq!(rt; watch.early.load(Ordering::SeqCst), 0);
-    Ok(())
 }

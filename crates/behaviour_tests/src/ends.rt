@@ -1,119 +1,93 @@
 //! Runs of scripts, each with its end.
-use crate::calls::{drives, event, instance, name, stop, turns};
-use behaviour::{BareAct, BareAnswer};
+use crate::calls::{Does, Driven, Says, drives};
 use board::{Board, RegionError, SendError};
 use instances::End;
 use mailbox::Mailbox;
-use std::test::Fail;
+
+static SENDS: Driven = Driven {
+    acts: &[Does::Send(2, b'x'), Does::Send(2, b'x'), Does::Close(2)],
+    most: 9,
+    trace: &[
+        (1, Does::Send(2, b'x'), Says::Sent(1, 1)),
+        (1, Does::Send(2, b'x'), Says::Sent(1, 2)),
+        (1, Does::Close(2), Says::NowClosed),
+        (1, Does::Stop, Says::Stopped),
+    ],
+    end: End::Stopped,
+};
+
+static RECEIVES: Driven = Driven {
+    acts: &[
+        Does::Open,
+        Does::Receive(1),
+        Does::Any,
+        Does::Shut,
+        Does::Shut,
+        Does::Any,
+        Does::Any,
+    ],
+    most: 9,
+    trace: &[
+        (1, Does::Open, Says::Marked),
+        (1, Does::Receive(1), Says::Got(1, 2, 1)),
+        (1, Does::Any, Says::Got(1, 2, 2)),
+        (1, Does::Shut, Says::Marked),
+        (1, Does::Shut, Says::Unmarked(RegionError::CoregionNotOpen)),
+        (2, Does::Any, Says::Ended),
+        (1, Does::Stop, Says::Stopped),
+    ],
+    end: End::Stopped,
+};
 
 #[test]
-fn scripts_stop_at_their_ends(rt: HostRuntime) -> Result<(), Fail> {
+fn scripts_stop_at_their_ends(rt: HostRuntime) {
     let alloc = rt.alloc();
-    let one = instance(&rt, 1);
-    let two = instance(&rt, 2);
-    let send = BareAct::Send(two, name(&rt, b'x'));
-    let mut board = Board::new(alloc, 2, 4)?;
-    let mut posts = board.posts()?.into_iter();
-    let (Some(a), Some(b)) = (posts.next(), posts.next()) else {
-        return Ok(());
-    };
-    let expected = [
-        turns(1, send, BareAnswer::Sent(event(&rt, 1, 1))),
-        turns(1, send, BareAnswer::Sent(event(&rt, 1, 2))),
-        turns(1, BareAct::Close(two), BareAnswer::NowClosed),
-        stop(),
-    ];
-    let acts = [send, send, BareAct::Close(two)];
-    drives(
-        &rt,
-        alloc,
-        Mailbox::new(a),
-        &acts,
-        9,
-        &expected,
-        End::Stopped,
-    );
-    let expected = [
-        turns(1, BareAct::Open, BareAnswer::Marked),
-        turns(
-            1,
-            BareAct::Receive(one),
-            BareAnswer::Got(one, event(&rt, 2, 1)),
-        ),
-        turns(1, BareAct::Any, BareAnswer::Got(one, event(&rt, 2, 2))),
-        turns(1, BareAct::Shut, BareAnswer::Marked),
-        turns(
-            1,
-            BareAct::Shut,
-            BareAnswer::Unmarked(RegionError::CoregionNotOpen),
-        ),
-        turns(2, BareAct::Any, BareAnswer::Ended),
-        stop(),
-    ];
-    let acts = [
-        BareAct::Open,
-        BareAct::Receive(one),
-        BareAct::Any,
-        BareAct::Shut,
-        BareAct::Shut,
-        BareAct::Any,
-        BareAct::Any,
-    ];
-    drives(
-        &rt,
-        alloc,
-        Mailbox::new(b),
-        &acts,
-        9,
-        &expected,
-        End::Stopped,
-    );
-    Ok(())
+    let mut board = Board::new(alloc, 2, 4).expect(&rt, "a board");
+    let mut posts = board.posts().expect(&rt, "posts").into_iter();
+    for driven in [&SENDS, &RECEIVES] {
+        let post = posts.next().expect(&rt, "a post");
+        drives(&rt, alloc, Mailbox::new(post), driven);
+    }
 }
 
+static SPENT: [Driven; 4] = [
+    Driven {
+        acts: &[Does::Send(2, b'x'), Does::Send(2, b'x')],
+        most: 9,
+        trace: &[
+            (1, Does::Send(2, b'x'), Says::Sent(1, 1)),
+            (8, Does::Send(2, b'x'), Says::Unsent(SendError::Full)),
+        ],
+        end: End::TurnsSpent,
+    },
+    Driven {
+        acts: &[Does::Any, Does::Stop],
+        most: 1_000_000,
+        trace: &[(1_000_000, Does::Any, Says::Nothing)],
+        end: End::TurnsSpent,
+    },
+    Driven {
+        acts: &[Does::Stop, Does::Send(2, b'x')],
+        most: 9,
+        trace: &[(1, Does::Stop, Says::Stopped)],
+        end: End::Stopped,
+    },
+    Driven {
+        acts: &[],
+        most: 0,
+        trace: &[],
+        end: End::TurnsSpent,
+    },
+];
+
+/// One mailbox, driven by one script after the other.
 #[test]
-fn scripts_spend_their_turns(rt: HostRuntime) -> Result<(), Fail> {
+fn scripts_spend_their_turns(rt: HostRuntime) {
     let alloc = rt.alloc();
-    let two = instance(&rt, 2);
-    let send = BareAct::Send(two, name(&rt, b'x'));
-    let mut board = Board::new(alloc, 2, 1)?;
-    let mut posts = board.posts()?.into_iter();
-    let Some(post) = posts.next() else {
-        return Ok(());
-    };
-    let expected = [
-        turns(1, send, BareAnswer::Sent(event(&rt, 1, 1))),
-        turns(8, send, BareAnswer::Unsent(SendError::Full)),
-    ];
-    let mailbox = drives(
-        &rt,
-        alloc,
-        Mailbox::new(post),
-        &[send, send],
-        9,
-        &expected,
-        End::TurnsSpent,
-    );
-    let expected = [turns(1_000_000, BareAct::Any, BareAnswer::Nothing)];
-    let acts = [BareAct::Any, BareAct::Stop];
-    let mailbox = drives(
-        &rt,
-        alloc,
-        mailbox,
-        &acts,
-        1_000_000,
-        &expected,
-        End::TurnsSpent,
-    );
-    let mailbox = drives(
-        &rt,
-        alloc,
-        mailbox,
-        &[BareAct::Stop, send],
-        9,
-        &[stop()],
-        End::Stopped,
-    );
-    drives(&rt, alloc, mailbox, &[], 0, &[], End::TurnsSpent);
-    Ok(())
+    let mut board = Board::new(alloc, 2, 1).expect(&rt, "a board");
+    let mut posts = board.posts().expect(&rt, "posts").into_iter();
+    let mut mailbox = Mailbox::new(posts.next().expect(&rt, "a post"));
+    for driven in &SPENT {
+        mailbox = drives(&rt, alloc, mailbox, driven);
+    }
 }

@@ -1,12 +1,10 @@
 //! Gates, which see each turn.
-use crate::calls::{instance, script};
-use behaviour::BareAct;
+use crate::calls::{Does, instance, script};
 use board::Board;
 use chart::InstanceNo;
 use instances::{End, Gate, drive};
 use mailbox::Mailbox;
 use std::cell::Cell;
-use std::test::Fail;
 
 /// Counts the turns of an instance as long as they come in their order.
 #[derive(Drop)]
@@ -24,21 +22,18 @@ impl Gate for Counter {
 }
 
 #[test]
-fn gates_see_each_turn(rt: HostRuntime) -> Result<(), Fail> {
+fn gates_see_each_turn(rt: HostRuntime) {
     let alloc = rt.alloc();
     let counter = Counter {
         of: instance(&rt, 2),
         seen: Cell::new(0),
     };
-    let mut board = Board::new(alloc, 2, 1)?;
-    let mut posts = board.posts()?.into_iter();
-    let (Some(_), Some(post)) = (posts.next(), posts.next()) else {
-        return Ok(());
-    };
-    let mut acts = script(&rt, alloc, &[BareAct::Open, BareAct::Shut, BareAct::Open]);
-    let (_, trace, end) = drive(alloc, Mailbox::new(post), &mut acts, 9, &counter);
+    let mut board = Board::new(alloc, 2, 1).expect(&rt, "a board");
+    let mut posts = board.posts().expect(&rt, "posts");
+    let mailbox = Mailbox::new(posts.pop().expect(&rt, "the second post"));
+    let mut acts = script(&rt, alloc, &[Does::Open, Does::Shut, Does::Open]);
+    let (_, trace, end) = drive(alloc, mailbox, &mut acts, 9, &counter);
     assert_eq!(rt; end, End::Stopped);
     assert_eq!(rt; trace.stretches().len(), 4);
     assert_eq!(rt; counter.seen.get(), 4);
-    Ok(())
 }

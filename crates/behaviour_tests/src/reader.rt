@@ -1,11 +1,12 @@
 //! A behaviour that is no script, and is told the bodies of the messages that come.
 use crate::calls::{instance, name};
 use behaviour::{Act, Answer, Behaviour};
-use board::Board;
+use board::{Board, Post};
 use chart::{InstanceNo, Message};
 use instances::{End, Open, drive};
 use mailbox::Mailbox;
-use std::test::Fail;
+use std::alloc::Global;
+use std::process::Abort;
 
 /// Receives from an instance until its lane ends, and keeps how many bytes were in the last body.
 #[derive(Drop)]
@@ -33,27 +34,31 @@ impl Behaviour for Reader {
     }
 }
 
+/// Sends a message with a body to the second instance, and closes the lane.
+fn sends(rt: &impl Abort, alloc: Global, post: &mut Post) {
+    let body = b"body".to_vec(alloc).expect(rt, "a body");
+    let Ok(message) = Message::new(name(rt, b'x'), body) else {
+        panic!(rt; "a message")
+    };
+    assert!(rt; post.send(instance(rt, 2), message).is_ok());
+    assert!(rt; post.close(instance(rt, 2)).is_ok());
+}
+
 #[test]
-fn readers_are_told_bodies(rt: HostRuntime) -> Result<(), Fail> {
+fn readers_are_told_bodies(rt: HostRuntime) {
     let alloc = rt.alloc();
-    let mut board = Board::new(alloc, 2, 1)?;
-    let mut posts = board.posts()?.into_iter();
-    let (Some(mut first), Some(second)) = (posts.next(), posts.next()) else {
-        return Ok(());
-    };
-    let Ok(message) = Message::new(name(&rt, b'x'), b"body".to_vec(alloc)?) else {
-        return Ok(());
-    };
-    assert!(rt; first.send(instance(&rt, 2), message).is_ok());
-    assert!(rt; first.close(instance(&rt, 2)).is_ok());
+    let mut board = Board::new(alloc, 2, 1).expect(&rt, "a board");
+    let mut posts = board.posts().expect(&rt, "posts");
+    let mailbox = Mailbox::new(posts.pop().expect(&rt, "the second post"));
+    let mut first = posts.pop().expect(&rt, "the first post");
+    sends(&rt, alloc, &mut first);
     let mut reader = Reader {
         from: instance(&rt, 1),
         bytes: 0,
     };
-    let (mailbox, trace, end) = drive(alloc, Mailbox::new(second), &mut reader, 9, &Open);
+    let (mailbox, trace, end) = drive(alloc, mailbox, &mut reader, 9, &Open);
     assert_eq!(rt; end, End::Stopped);
     assert_eq!(rt; trace.stretches().len(), 3);
     assert_eq!(rt; mailbox.line().len(), 1);
     assert_eq!(rt; reader.bytes, 4);
-    Ok(())
 }

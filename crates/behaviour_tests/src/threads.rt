@@ -1,14 +1,14 @@
 //! Behaviours on threads: held back until each of them has begun; and runs whose reports are audited.
-use behaviour::{BareAct, Behaviour, Script};
-use board::{Board, Gathered};
+use crate::calls::{Does, run_board, script};
+use behaviour::Behaviour;
+use board::Gathered;
 use chart::InstanceNo;
 use closure::{AuditError, audit};
-use instances::{End, Gate, Open, run};
+use instances::{End, Gate, Open};
 use schedule::Schedule;
 use schedule_scripts::scripts;
 use std::alloc::Global;
 use std::sync::atomic::{AtomicU64, Ordering};
-use std::test::Fail;
 use std::thread;
 
 /// Holds back each instance's first act until three have come to it.
@@ -35,29 +35,24 @@ impl Gate for Meeting {
 }
 
 #[test]
-fn both_threads_move(rt: HostRuntime) -> Result<(), Fail> {
+fn both_threads_move(rt: HostRuntime) {
     let alloc = rt.alloc();
     let gate = Meeting {
         here: AtomicU64::new(0),
         late: AtomicU64::new(0),
     };
-    let mut board = Board::new(alloc, 3, 1)?;
-    let posts = board.posts()?;
     let mut behaviours: Vec<Box<dyn Behaviour + Send>> = Vec::new(alloc);
     for _ in 0..3 {
-        let script = Script::new([BareAct::Open].to_vec(alloc)?);
-        behaviours.push(Box::new(alloc, script)?)?;
+        let script = Box::new(alloc, script(&rt, alloc, &[Does::Open])).expect(&rt, "a box");
+        assert!(rt; behaviours.push(script).is_ok());
     }
-    let Ok(ran) = run(&rt, posts, behaviours, 9, &gate) else {
-        return Err("the board was run")?;
-    };
+    let ran = run_board(&rt, alloc, (3, 1), behaviours, &gate);
     assert_eq!(rt; ran.traces.len(), 3);
     for end in ran.ends {
         assert_eq!(rt; end, End::Stopped);
     }
     assert_eq!(rt; ran.gathered.reports.len(), 0);
     assert_eq!(rt; gate.late.load(Ordering::SeqCst), 0);
-    Ok(())
 }
 
 /// Two instances whose messages a third gets in either order.
@@ -86,20 +81,16 @@ fn misses_the_last_report(alloc: Global, gathered: &Gathered) -> bool {
 }
 
 #[test]
-fn audited_runs(rt: HostRuntime) -> Result<(), Fail> {
+fn audited_runs(rt: HostRuntime) {
     let alloc = rt.alloc();
-    let schedule = Schedule::read(alloc, RACE)?;
-    let mut board = Board::new(alloc, 3, 1)?;
-    let posts = board.posts()?;
+    let schedule = Schedule::read(alloc, RACE).expect(&rt, "a schedule");
     let mut behaviours: Vec<Box<dyn Behaviour + Send>> = Vec::new(alloc);
-    for script in scripts(alloc, &schedule)? {
-        behaviours.push(Box::new(alloc, script)?)?;
+    for script in scripts(alloc, &schedule).expect(&rt, "scripts") {
+        let script = Box::new(alloc, script).expect(&rt, "a box");
+        assert!(rt; behaviours.push(script).is_ok());
     }
-    let Ok(ran) = run(&rt, posts, behaviours, 1_000_000, &Open) else {
-        return Err("the board was run")?;
-    };
+    let ran = run_board(&rt, alloc, (3, 1), behaviours, &Open);
     assert_eq!(rt; ran.gathered.reports.len(), 2);
     assert!(rt; is_accepted(alloc, &ran.gathered));
     assert!(rt; misses_the_last_report(alloc, &ran.gathered));
-    Ok(())
 }

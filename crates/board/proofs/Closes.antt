@@ -2,7 +2,6 @@
 use Rattle.std.proofs.Common.{◌≡◌, ℕ, suc, ◌<◌, ◌≤◌, ◌==◌, Bool, true, false, cond, List, [], ◌∷◌, ◌++◌, length, drop, set, refl, sym, ap, ◌∙◌, subst, arith, append-nil}
 use Rattle.std.proofs.lemmas.Bool.{eqb-true}
 use Rattle.std.proofs.lemmas.List.{length_push}
-use Rattle.atomic_table.specs.Seated.{TableId}
 use Rattle.chart.specs.declared.history.Occurrence.{Occurrence}
 use Rattle.chart.specs.declared.history.Occurrence.TheVariants.{Send, Receive, Close}
 use Rattle.chart.specs.declared.line.TheConstants.{MAX_EVENTS}
@@ -14,7 +13,6 @@ use Rattle.line_recorder.specs.Recorders.{RecorderView}
 use Rattle.line_recorder.specs.Recording.{IsRecorder}
 use Rattle.line_recorder.proofs.Recording.{IsRecorder-idle}
 use Rattle.board_core.proofs.OwnEvents.{same_line, same_recorder}
-use Rattle.board_table.specs.declared.shape.Shape.{Shape}
 use Rattle.board_table.specs.Layout.{LaneView}
 use Rattle.board_table.specs.Knowing.{Mine, held}
 use Rattle.board_table.specs.Plays as play
@@ -50,7 +48,7 @@ line_short n k (Close a b ∷ h) legal p = simp append-nil (line_short n k h leg
 pub put_few : (n k : ℕ) (h : List Occurrence) (p q : ℕ) (o : Outgoing) → IsLegal n k h → IsOutgoing n h p q o → o.put ≤ MAX_EVENTS
 put_few n k h p q o legal end = let within = sent_within h p q in let short = line_short n k h legal p in omega (arith, end.put)
 
-module _ (key : Shape) (table chair chair_after : TableId) (m w : Mine) (n k p : ℕ) (r : RecorderView) (region : ℕ) (outgoing : List Outgoing) (incoming : List Incoming) (post : IsPost key table chair m n k p r region outgoing incoming) (seated : chair_after ≡ chair) (l : LaneView) (j : ℕ) (lane : l ≡ record { instances = n; capacity = k; sender = p; receiver = suc j }) (closes : play.Closes l m w) where
+module _ (m w : Mine) (n k p : ℕ) (r : RecorderView) (region : ℕ) (outgoing : List Outgoing) (incoming : List Incoming) (post : IsPost m n k p r region outgoing incoming) (l : LaneView) (j : ℕ) (lane : l ≡ record { instances = n; capacity = k; sender = p; receiver = suc j }) (closes : play.Closes l m w) where
   abbrev before : List Occurrence
   before = drop 1 (held w).seen
 
@@ -60,7 +58,7 @@ module _ (key : Shape) (table chair chair_after : TableId) (m w : Mine) (n k p :
   pub close_did : Did n k p (held m) (held w) (drop 1 (held w).seen) (Close p (suc j) ∷ [])
   close_did = did_move n k p (held m) (held m) (held w) before (Close p (suc j) ∷ []) (λ h. Close p (suc j) ∷ h) (did_nothing n k p (held m) post.knows.legal post.made) post.rests.post.number (λ h. refl) makes.moves
 
-  pub post_closed : (o : Outgoing) → j < length outgoing → IsOutgoing n (held m).seen p (suc j) o → IsPost key table chair_after w n k p r region (set outgoing j (record o { closed = true })) incoming
+  pub post_closed : (o : Outgoing) → j < length outgoing → IsOutgoing n (held m).seen p (suc j) o → IsPost w n k p r region (set outgoing j (record o { closed = true })) incoming
   post_closed o within end =
       let did = close_did in
       let same : own before p ≡ own (held m).seen p = did.own_before ∙ sym post.made in
@@ -72,8 +70,6 @@ module _ (key : Shape) (table chair chair_after : TableId) (m w : Mine) (n k p :
       let recorder = same_recorder n (held m).seen before did.later k p r post.knows.legal same post.knows.own.recorder in
       let recorder_now : IsRecorder n (Close p (suc j) ∷ before) p r = IsRecorder-idle n k before (Close p (suc j) ∷ before) p r did.legal_before (Close p (suc j) ∷ [], refl) (append-nil (chart_of before p)) refl recorder in
       record {
-        chair_is = seated ∙ post.chair_is;
-        board = post.board;
         sized = post.sized;
         least = post.least;
         most = post.most;

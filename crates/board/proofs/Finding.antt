@@ -17,15 +17,15 @@ pub nil_of : {X : Type 0} (xs : List X) → length xs ≡ 0 → xs ≡ []
 nil_of [] e = refl
 nil_of (x ∷ xs) e = absurd (omega (arith, e))
 
-bit_small : (b : Bool) → closed_bit b ≤ 1
+pub bit_small : (b : Bool) → closed_bit b ≤ 1
 bit_small true = omega arith
 bit_small false = omega arith
 
-is_set : (b : Bool) → closed_bit b ≡ 1 → b ≡ true
+pub is_set : (b : Bool) → closed_bit b ≡ 1 → b ≡ true
 is_set true e = refl
 is_set false e = absurd (omega (arith, e))
 
-is_clear : (b : Bool) → closed_bit b ≢ 1 → b ≡ false
+pub is_clear : (b : Bool) → closed_bit b ≢ 1 → b ≡ false
 is_clear true ne = absurd (ne refl)
 is_clear false ne = refl
 

@@ -1,4 +1,6 @@
+pub mod AtBoard
 pub mod Claiming
+pub mod ClosedLanes
 pub mod Closes
 pub mod DidLemmas
 pub mod Drawing
@@ -6,6 +8,7 @@ pub mod DrawnLanes
 pub mod EndLemmas
 pub mod Finding
 pub mod Leavers
+pub mod Looking
 pub mod Meetings
 pub mod NoteLemmas
 pub mod OneBoard

@@ -5,7 +5,6 @@ use Rattle.chart.specs.Histories.{own, IsLegal}
 use Rattle.line_recorder.specs.Recorders.{RecorderView}
 use Rattle.board_core.proofs.OwnEvents.{same_line, same_instance}
 use Rattle.board_table.specs.declared.held.Held.{Held}
-use Rattle.board_table.specs.declared.shape.Shape.{Shape}
 use Rattle.board_table.specs.Knowing.{Mine, held, many_out, Rests}
 use Rattle.board_table.specs.Knowing as knowing
 use Rattle.board_table.specs.Plays.{Meets}
@@ -15,20 +14,18 @@ use Rattle.board.specs.Known.{IsPost, view_of}
 use Rattle.board.specs.Meeting.{Hears}
 use Rattle.board.proofs.EndLemmas.{ends_later}
 
-module _ (key : Shape) (table chair chair_after : TableId) (m w : Mine) (n k p : ℕ) (r : RecorderView) (region : ℕ) (outgoing : List Outgoing) (incoming : List Incoming) (post : IsPost key table chair m n k p r region outgoing incoming) (note : Held) (same : knowing.IsPost (held m).instances (held m).capacity (held m).number w) (meets : Meets (held m).instances (held m).capacity (held m) note (held w)) where
+module _ (m w : Mine) (n k p : ℕ) (r : RecorderView) (region : ℕ) (outgoing : List Outgoing) (incoming : List Incoming) (post : IsPost m n k p r region outgoing incoming) (note : Held) (same : knowing.IsPost (held m).instances (held m).capacity (held m).number w) (meets : Meets (held m).instances (held m).capacity (held m) note (held w)) where
   met_legal : IsLegal n k (held w).seen
   met_legal = subst (λ z. IsLegal z k (held w).seen) post.rests.post.instances (subst (λ z. IsLegal (held m).instances z (held w).seen) post.rests.post.capacity meets.legal)
 
   met_own : own (held w).seen p ≡ (held m).made
   met_own = subst (λ z. own (held w).seen z ≡ (held m).made) post.rests.post.number meets.own
 
-  pub post_met : chair_after ≡ chair → w.1 ≡ m.1 → IsPost key table chair_after w n k p r region outgoing incoming
-  post_met seated slots =
+  pub post_met : w.1 ≡ m.1 → IsPost w n k p r region outgoing incoming
+  post_met slots =
       let its : own (held w).seen p ≡ own (held m).seen p = met_own ∙ sym post.made in
       let line = same_line n (held m).seen (held w).seen meets.later p its in
       record {
-        chair_is = seated ∙ post.chair_is;
-        board = post.board;
         sized = post.sized;
         least = post.least;
         most = post.most;
@@ -50,8 +47,8 @@ module _ (key : Shape) (table chair chair_after : TableId) (m w : Mine) (n k p :
         made = met_own ∙ sym (ap (λ (e : Held). e.made) meets.rest);
       }
 
-  pub post_hears : Hears note.seen (view_of table m n k p region r.room) (view_of table w n k p region r.room)
-  post_hears = record {
+  pub post_hears : (table : TableId) → Hears note.seen (view_of table m n k p region r.room) (view_of table w n k p region r.room)
+  post_hears table = record {
     rest = ap (λ (e : Held). view_of table (e ∷ [], []) n k p region r.room) meets.rest;
     seen = meets.seen;
     later = meets.later;

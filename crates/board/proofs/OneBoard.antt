@@ -1,11 +1,14 @@
--- Posts of one board: new ones, those that are left when the last have left, and those that have met.
+-- Posts of one board: new ones, those at its words, those that are left when the last have left, and those that have met.
 use Rattle.std.proofs.Common.{◌≡◌, ℕ, suc, zero, List, [], ◌∷◌, ◌++◌, refl, sym, ap, ◌∙◌, subst}
 use Rattle.std.specs.Prelude.{slice_get, None, Some, map, Result, Ok, Err}
 use Rattle.std.proofs.lemmas.Option.{slice_get_within}
 use Rattle.chart.proofs.Places.{slice_get-append}
+use Rattle.atomic_table.specs.Seated.{TableId}
+use Rattle.board_table.specs.declared.shape.Shape.{Shape}
 use Rattle.board.specs.declared.error.MeetError.{MeetError}
 use Rattle.board.specs.Views.{BoardView, PostView}
 use Rattle.board.specs.Boards.{AreNewPosts}
+use Rattle.board.specs.Parked.{AreAtBoard}
 use Rattle.board.specs.Meeting.{AreOfOneBoard, HaveMet, MeetsAll}
 
 none_there : (y : PostView) → None ≡ Some y → ⊥
@@ -52,3 +55,16 @@ one_board-met old new met one = fellows old new (λ i y at. mapped (λ (post : P
 pub one_board-meets : (old new : List PostView) (answer : Result (Unit {0}) MeetError) → MeetsAll old answer new → AreOfOneBoard old → AreOfOneBoard new
 one_board-meets old new (Ok done) its one = one_board-met old new its.1 one
 one_board-meets old new (Err error) its one = subst (λ (posts : List PostView). AreOfOneBoard posts) (sym its.1) one
+
+-- posts at the same words are of one board
+at_words : (key : Shape) (table : TableId) (b : BoardView) → b.table ≡ table → key.instances ≡ b.size → key.capacity ≡ b.capacity → b ≡ record { table = table; size = key.instances; capacity = key.capacity }
+at_words key table b its size capacity =
+    ap (λ (t : TableId). record { table = t; size = b.size; capacity = b.capacity }) its
+    ∙ ap (λ (n : ℕ). record { table = table; size = n; capacity = b.capacity }) (sym size)
+    ∙ ap (λ (k : ℕ). record { table = table; size = key.instances; capacity = k }) (sym capacity)
+
+pub one_board-at : (key : Shape) (table : TableId) (posts : List PostView) → AreAtBoard key table posts → AreOfOneBoard posts
+one_board-at key table posts all i j x y at_i at_j =
+    let a = all i x at_i in
+    let b = all j y at_j in
+    at_words key table x.board a.table_is a.board.instances a.board.capacity ∙ sym (at_words key table y.board b.table_is b.board.instances b.board.capacity)

@@ -13,7 +13,7 @@ use Rattle.board.specs.declared.ends.Outgoing.{Outgoing}
 use Rattle.board.specs.declared.ends.Incoming.{Incoming}
 use Rattle.board.specs.Known.{IsSized, IsOutgoing, IsIncoming, IsPost}
 use Rattle.board.specs.Views.{BoardView, PostView}
-use Rattle.board.specs.Boards.{AreNewEnds, IsNewSeat, FirstPosts, AreLeft, new_seat, new_seats, new_outgoing, new_incoming, new_post}
+use Rattle.board.specs.Boards.{AreNewEnds, FirstPosts, AreLeft, new_seat, new_seats, new_outgoing, new_incoming, new_post}
 
 -- An end of a lane on which nothing was sent.
 
@@ -23,10 +23,8 @@ outgoing_new n p q = record { put = refl; known = omega arith; unsent = refl; ba
 incoming_new : (n p q : ℕ) → IsIncoming n [] p q (new_incoming n)
 incoming_new n p q = record { taken = refl; known = omega arith; base = refl; long = length-replicate n 0 }
 
-post_at : (key : Shape) (table chair : TableId) (n k p : ℕ) (outgoing : List Outgoing) (incoming : List Incoming) → IsSized n k → IsBoard n k key table → chair ≡ table → 1 ≤ p → p ≤ n → AreNewEnds n n outgoing incoming → IsPost key table chair (new_seat n k p) n k p (new_recorder p n) 0 outgoing incoming
-post_at key table chair n k p outgoing incoming sized board same low high ends = record {
-  chair_is = same;
-  board = board;
+post_at : (n k p : ℕ) (outgoing : List Outgoing) (incoming : List Incoming) → IsSized n k → 1 ≤ p → p ≤ n → AreNewEnds n n outgoing incoming → IsPost (new_seat n k p) n k p (new_recorder p n) 0 outgoing incoming
+post_at n k p outgoing incoming sized low high ends = record {
   sized = sized;
   least = low;
   most = high;
@@ -45,11 +43,11 @@ post_at key table chair n k p outgoing incoming sized board same low high ends =
 }
 
 -- a post is made
-pub post_new : (key : Shape) (table chair : TableId) (me : Mine) (n k p : ℕ) (r : RecorderView) (outgoing : List Outgoing) (incoming : List Incoming) → IsSized n k → IsBoard n k key table → IsNewSeat n k p table chair me → 1 ≤ p → p ≤ n → AreNewEnds n n outgoing incoming → r ≡ new_recorder p n → IsPost key table chair me n k p r 0 outgoing incoming
-post_new key table chair me n k p r outgoing incoming sized board seat low high ends recorder =
-    subst (λ (m : Mine). IsPost key table chair m n k p r 0 outgoing incoming) (sym seat.new)
-    (subst (λ (u : RecorderView). IsPost key table chair (new_seat n k p) n k p u 0 outgoing incoming) (sym recorder)
-    (post_at key table chair n k p outgoing incoming sized board seat.same low high ends))
+pub post_new : (me : Mine) (n k p : ℕ) (r : RecorderView) (outgoing : List Outgoing) (incoming : List Incoming) → IsSized n k → ◌≡◌ {A = Mine} me (new_seat n k p) → 1 ≤ p → p ≤ n → AreNewEnds n n outgoing incoming → r ≡ new_recorder p n → IsPost me n k p r 0 outgoing incoming
+post_new me n k p r outgoing incoming sized seat low high ends recorder =
+    subst (λ (m : Mine). IsPost m n k p r 0 outgoing incoming) (sym seat)
+    (subst (λ (u : RecorderView). IsPost (new_seat n k p) n k p u 0 outgoing incoming) (sym recorder)
+    (post_at n k p outgoing incoming sized low high ends))
 
 -- the first of the posts that are left
 pub deal_next : (n k dealt next : ℕ) (m : Mine) → AreLeft n k dealt m → dealt < n → suc dealt ≡ next → (m.0 ≡ held m ∷ later_helds m) × (held m ≡ new_held n k (suc dealt)) × AreLeft n k next (later_helds m, m.1)

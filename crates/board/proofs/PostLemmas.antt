@@ -2,14 +2,12 @@
 use Rattle.std.proofs.Common.{◌≡◌, ◌≢◌, ℕ, suc, ◌<◌, inl, inr, ◌⊎◌, zero, List, [], ◌∷◌, length, set, refl, sym, ap, ◌∙◌, subst, arith}
 use Rattle.std.proofs.lemmas.List.{length-set}
 use Rattle.std.specs.Prelude.{slice_get, None, Some}
-use Rattle.atomic_table.specs.Seated.{TableId}
 use Rattle.chart.specs.declared.history.Occurrence.{Occurrence}
 use Rattle.chart.specs.Messages.{Content}
 use Rattle.chart.specs.Events.{MayHaveRegion}
 use Rattle.chart.specs.Histories.{own}
 use Rattle.line_recorder.specs.Recorders.{RecorderView}
 use Rattle.line_recorder.specs.Recording.{IsRecorder}
-use Rattle.board_table.specs.declared.shape.Shape.{Shape}
 use Rattle.board_table.specs.Knowing.{Mine, held, Rests}
 use Rattle.board.specs.declared.ends.Outgoing.{Outgoing}
 use Rattle.board.specs.declared.ends.Incoming.{Incoming}
@@ -47,16 +45,14 @@ with_outgoing n h p j e outgoing incoming within old its = record {
     go i o ne (inl (here, same)) = subst (λ (x : ℕ). IsOutgoing n h p (suc x) o) (sym here) (subst (λ (x : Outgoing). IsOutgoing n h p (suc j) x) same its)
     go i o ne (inr (other, there)) = old.sends i o ne (λ same. other (omega arith)) there
 
-module _ (key : Shape) (table chair chair_after : TableId) (m w : Mine) (n k p : ℕ) (r u : RecorderView) (region : ℕ) (outgoing : List Outgoing) (incoming : List Incoming) (post : IsPost key table chair m n k p r region outgoing incoming) (seated : chair_after ≡ chair) (rests : Rests n k p w) (recorder : IsRecorder n (held w).seen p u) (j : ℕ) (e : Outgoing) (within : j < length outgoing) (end : IsOutgoing n (held w).seen p (suc j) e) where
+module _ (m w : Mine) (n k p : ℕ) (r u : RecorderView) (region : ℕ) (outgoing : List Outgoing) (incoming : List Incoming) (post : IsPost m n k p r region outgoing incoming) (rests : Rests n k p w) (recorder : IsRecorder n (held w).seen p u) (j : ℕ) (e : Outgoing) (within : j < length outgoing) (end : IsOutgoing n (held w).seen p (suc j) e) where
   -- the call that touched this end saw, and made nothing
-  pub post_saw : Did n k p (held m) (held w) (held w).seen [] → IsPost key table chair_after w n k p u region (set outgoing j e) incoming
+  pub post_saw : Did n k p (held m) (held w) (held w).seen [] → IsPost w n k p u region (set outgoing j e) incoming
   post_saw did =
       let same = saw_same n k p (held m) (held w) post.knows.legal post.made did in
       let line = line_saw n k p (held m) (held w) post.knows.legal post.made did in
       let others = ends_later n k (held m).seen (held w).seen p (suc j) 0 outgoing incoming post.knows.legal did.later same (ends_but n (held m).seen p (suc j) 0 outgoing incoming post.knows.ends) in
       record {
-        chair_is = seated ∙ post.chair_is;
-        board = post.board;
         sized = post.sized;
         least = post.least;
         most = post.most;
@@ -70,15 +66,13 @@ module _ (key : Shape) (table chair chair_after : TableId) (m w : Mine) (n k p :
       }
 
   -- it sent these messages
-  pub post_sends : (before : List Occurrence) (ms : List Content) → region ≡ 0 → Did n k p (held m) (held w) before (sends_of p (suc j) ms) → IsPost key table chair_after w n k p u region (set outgoing j e) incoming
+  pub post_sends : (before : List Occurrence) (ms : List Content) → region ≡ 0 → Did n k p (held m) (held w) before (sends_of p (suc j) ms) → IsPost w n k p u region (set outgoing j e) incoming
   post_sends before ms outside did =
       let same : own before p ≡ own (held m).seen p = did.own_before ∙ sym post.made in
       let seen : (held w).seen ≡ sends_after p (suc j) ms before = did.seen ∙ sym (sends_are p (suc j) ms before) in
       let others = ends_later n k (held m).seen before p (suc j) 0 outgoing incoming post.knows.legal did.later same (ends_but n (held m).seen p (suc j) 0 outgoing incoming post.knows.ends) in
       let now : AreEndsBut n (held w).seen p (suc j) 0 outgoing incoming = subst (λ h. AreEndsBut n h p (suc j) 0 outgoing incoming) (sym seen) (ends_sends n p (suc j) 0 ms before outgoing incoming others) in
       record {
-        chair_is = seated ∙ post.chair_is;
-        board = post.board;
         sized = post.sized;
         least = post.least;
         most = post.most;

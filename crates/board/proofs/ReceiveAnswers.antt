@@ -8,7 +8,7 @@ use Rattle.chart.specs.declared.history.Occurrence.{Occurrence}
 use Rattle.chart.specs.declared.history.Occurrence.TheVariants.{Receive}
 use Rattle.chart.specs.Messages.{Content}
 use Rattle.chart.specs.Events.{receive_event, MayHaveRegion}
-use Rattle.chart.specs.Histories.{own, waiting, chart_of, IsLegal}
+use Rattle.chart.specs.Histories.{own, waiting, chart_of, AreTwo, IsLegal}
 use Rattle.chart.proofs.Histories.{begins_onward}
 use Rattle.chart.proofs.Regions.{may-again}
 use Rattle.chart.proofs.Sends.{line_after_receive}
@@ -17,7 +17,6 @@ use Rattle.line_recorder.specs.Recording.{IsRecorder}
 use Rattle.line_recorder.proofs.Carrying.{first_message}
 use Rattle.board_core.proofs.OwnEvents.{same_line}
 use Rattle.board_table.specs.declared.held.Held.{Held}
-use Rattle.board_table.specs.declared.shape.Shape.{Shape}
 use Rattle.board_table.specs.Layout.{LaneView}
 use Rattle.board_table.specs.Knowing.{Mine, held, Rests}
 use Rattle.board.specs.declared.answer.Arrival.{Arrival}
@@ -27,7 +26,6 @@ use Rattle.board.specs.declared.ends.Outgoing.{Outgoing}
 use Rattle.board.specs.declared.ends.Incoming.{Incoming}
 use Rattle.board.specs.declared.error.TakeError.{TakeError}
 use Rattle.board.specs.declared.error.TakeError.TheVariants.{NoSuchInstance, ToItself, LineFull, Memory}
-use Rattle.board.specs.Views.{IsPartner}
 use Rattle.board.specs.Known.{IsIncoming, AreEndsBut, AreEnds, IsPost, Did, view_of}
 use Rattle.board.specs.Found.{HasMessages}
 use Rattle.board.specs.Receipts.{MayReceive, IsReceived, AreReceived, IsUnrecorded, IsStopped}
@@ -82,7 +80,7 @@ with_incoming n h p j e outgoing incoming within old its = record {
     go i o ne (inl (here, same)) = subst (λ (x : ℕ). IsIncoming n h p (suc x) o) (sym here) (subst (λ (x : Incoming). IsIncoming n h p (suc j) x) same its)
     go i o ne (inr (other, there)) = old.takes i o ne (λ same. other (omega arith)) there
 
-module _ (key : Shape) (table chair : TableId) (m : Mine) (n k p : ℕ) (r : RecorderView) (region : ℕ) (outgoing : List Outgoing) (incoming : List Incoming) (post : IsPost key table chair m n k p r region outgoing incoming) where
+module _ (m : Mine) (n k p : ℕ) (r : RecorderView) (region : ℕ) (outgoing : List Outgoing) (incoming : List Incoming) (post : IsPost m n k p r region outgoing incoming) where
   -- the end of the lane from an instance
   pub incoming_at : (from j : ℕ) (i : Incoming) → from ≡ suc j → from ≢ p → from ≤ n → i ≡ get_or incoming j i → IsIncoming n (held m).seen p from i
   incoming_at from j i place ne most read =
@@ -99,19 +97,17 @@ module _ (key : Shape) (table chair : TableId) (m : Mine) (n k p : ℕ) (r : Rec
     region_then = subst (λ l. MayHaveRegion l region) (sym (line_saw n k p (held m) (held s) post.knows.legal post.made did)) post.knows.own.region_fits
 
     -- it may receive what it found
-    pub may_receive : (from : ℕ) (e : Incoming) → IsPartner (view_of table m n k p region r.room) from → HasMessages (record { instances = n; capacity = k; sender = from; receiver = p }) s → IsIncoming n (held s).seen p from e → MayReceive (record { instances = n; capacity = k; sender = from; receiver = p }) region s e r
+    pub may_receive : (from : ℕ) (e : Incoming) → AreTwo n p from → HasMessages (record { instances = n; capacity = k; sender = from; receiver = p }) s → IsIncoming n (held s).seen p from e → MayReceive (record { instances = n; capacity = k; sender = from; receiver = p }) region s e r
     may_receive from e two found end = record { found = found; legal = did.legal; own = did.own; incoming = end; recorded = recorder_then; coregion = region_then; two = two }
 
-  module _ (chair_after : TableId) (w : Mine) (u : RecorderView) (seated : chair_after ≡ chair) (rests : Rests n k p w) (recorder : IsRecorder n (held w).seen p u) (j : ℕ) (e : Incoming) (within : j < length incoming) (end : IsIncoming n (held w).seen p (suc j) e) where
+  module _ (w : Mine) (u : RecorderView) (rests : Rests n k p w) (recorder : IsRecorder n (held w).seen p u) (j : ℕ) (e : Incoming) (within : j < length incoming) (end : IsIncoming n (held w).seen p (suc j) e) where
     -- the call that touched this end saw, and made nothing
-    pub post_looked : Did n k p (held m) (held w) (held w).seen [] → IsPost key table chair_after w n k p u region outgoing (set incoming j e)
+    pub post_looked : Did n k p (held m) (held w) (held w).seen [] → IsPost w n k p u region outgoing (set incoming j e)
     post_looked did =
         let same = saw_same n k p (held m) (held w) post.knows.legal post.made did in
         let line = line_saw n k p (held m) (held w) post.knows.legal post.made did in
         let others = ends_later n k (held m).seen (held w).seen p 0 (suc j) outgoing incoming post.knows.legal did.later same (ends_but n (held m).seen p 0 (suc j) outgoing incoming post.knows.ends) in
         record {
-          chair_is = seated ∙ post.chair_is;
-          board = post.board;
           sized = post.sized;
           least = post.least;
           most = post.most;
@@ -125,7 +121,7 @@ module _ (key : Shape) (table chair : TableId) (m : Mine) (n k p : ℕ) (r : Rec
         }
 
     -- it received one message or more
-    pub post_received : (before : List Occurrence) (many : ℕ) → Did n k p (held m) (held w) before (replicate (suc many) (Receive p (suc j) region)) → IsPost key table chair_after w n k p u region outgoing (set incoming j e)
+    pub post_received : (before : List Occurrence) (many : ℕ) → Did n k p (held m) (held w) before (replicate (suc many) (Receive p (suc j) region)) → IsPost w n k p u region outgoing (set incoming j e)
     post_received before many did =
         let same : own before p ≡ own (held m).seen p = did.own_before ∙ sym post.made in
         let line : chart_of before p ≡ chart_of (held m).seen p = same_line n (held m).seen before did.later p same in
@@ -135,8 +131,6 @@ module _ (key : Shape) (table chair : TableId) (m : Mine) (n k p : ℕ) (r : Rec
         let may : MayHaveRegion (chart_of (held w).seen p) region = subst (λ h. MayHaveRegion (chart_of h p) region) (sym did.seen)
         (may_several n k p (suc j) region many before (subst (λ h. IsLegal n k h) did.seen did.legal) start) in
         record {
-          chair_is = seated ∙ post.chair_is;
-          board = post.board;
           sized = post.sized;
           least = post.least;
           most = post.most;
@@ -150,7 +144,7 @@ module _ (key : Shape) (table chair : TableId) (m : Mine) (n k p : ℕ) (r : Rec
         }
 
   -- What it answers.
-  module _ (from : ℕ) (two : IsPartner (view_of table m n k p region r.room) from) where
+  module _ (table : TableId) (from : ℕ) (two : AreTwo n p from) where
     abbrev lane : LaneView
     lane = record { instances = n; capacity = k; sender = from; receiver = p }
 

@@ -1,20 +1,16 @@
 -- A post whose recorder has other room.
 use Rattle.std.proofs.Common.{ℕ, List}
-use Rattle.atomic_table.specs.Seated.{TableId}
 use Rattle.line_recorder.specs.Recorders.{RecorderView, with_room}
-use Rattle.board_table.specs.declared.shape.Shape.{Shape}
 use Rattle.board_table.specs.Knowing.{Mine}
 use Rattle.board.specs.declared.ends.Outgoing.{Outgoing}
 use Rattle.board.specs.declared.ends.Incoming.{Incoming}
 use Rattle.board.specs.Known.{IsPost}
 
-pub post_roomy : (key : Shape) (table chair : TableId) (m : Mine) (n k p : ℕ) (r : RecorderView) (region : ℕ) (outgoing : List Outgoing) (incoming : List Incoming) (events : ℕ) → IsPost key table chair m n k p r region outgoing incoming → IsPost key table chair m n k p (with_room r events) region outgoing incoming
-post_roomy key table chair m n k p r region outgoing incoming events post =
+pub post_roomy : (m : Mine) (n k p : ℕ) (r : RecorderView) (region : ℕ) (outgoing : List Outgoing) (incoming : List Incoming) (events : ℕ) → IsPost m n k p r region outgoing incoming → IsPost m n k p (with_room r events) region outgoing incoming
+post_roomy m n k p r region outgoing incoming events post =
     let knows = post.knows in
     let recorder = knows.own.recorder in
     record {
-      chair_is = post.chair_is;
-      board = post.board;
       sized = post.sized;
       least = post.least;
       most = post.most;

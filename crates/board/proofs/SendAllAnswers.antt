@@ -7,7 +7,6 @@ use Rattle.chart.specs.Messages.{Content}
 use Rattle.chart.proofs.Histories.{begins_same}
 use Rattle.line_recorder.specs.Recorders.{RecorderView}
 use Rattle.line_recorder.specs.Recording.{IsRecorder}
-use Rattle.board_table.specs.declared.shape.Shape.{Shape}
 use Rattle.board_table.specs.Knowing.{Mine, held, Rests}
 use Rattle.board.specs.declared.answer.Sent.{Sent}
 use Rattle.board.specs.declared.ends.Outgoing.{Outgoing}
@@ -46,18 +45,18 @@ pub sound_all : (table : TableId) (m w : Mine) (n k p region room left to : ℕ)
 sound_all table m w n k p region room left to ms (Ok sents) made unmade = did_sound table m w n k p region room _ _ made.did region left
 sound_all table m w n k p region room left to ms (Err (back, error)) made unmade = did_sound table m w n k p region room _ _ unmade.1.did region left
 
-pub answer_all : (key : Shape) (table chair : TableId) (m w : Mine) (n k p : ℕ) (r : RecorderView) (region : ℕ) (outgoing : List Outgoing) (incoming : List Incoming) → IsPost key table chair m n k p r region outgoing incoming → (to left : ℕ) (ms : List Content) → MayPass (view_of table m n k p region r.room) to (length ms) → 0 < length ms
+pub answer_all : (table : TableId) (m w : Mine) (n k p : ℕ) (r : RecorderView) (region : ℕ) (outgoing : List Outgoing) (incoming : List Incoming) → IsPost m n k p r region outgoing incoming → (to left : ℕ) (ms : List Content) → MayPass (view_of table m n k p region r.room) to (length ms) → 0 < length ms
     → (result : Answer) → WereMade n k p to ms m w result → WereUnmade n k p to ms m w result → OnOk result (left ≡ r.room - length ms) → OnErr result (left ≡ r.room) → SendsAll (view_of table m n k p region r.room) to ms result (view_of table w n k p region left)
-answer_all key table chair m w n k p r region outgoing incoming post to left ms may some (Ok sents) made unmade taken kept = record {
+answer_all table m w n k p r region outgoing incoming post to left ms may some (Ok sents) made unmade taken kept = record {
   allowed = may.allowed;
   makes = (_, did_makes table m w n k p region r.room _ _ made.did left);
   events = made.events;
   room = taken;
 }
-answer_all key table chair m w n k p r region outgoing incoming post to left ms may some (Err (back, error)) made unmade taken kept =
-    (unmade.0, did_stays table m w n k p region r.room left unmade.1.did kept, unsent key table chair m w n k p r region outgoing incoming post to (length ms) may left (record { instances = n; capacity = k; sender = p; receiver = to }) refl error unmade.1.did some unmade.1.cause)
+answer_all table m w n k p r region outgoing incoming post to left ms may some (Err (back, error)) made unmade taken kept =
+    (unmade.0, did_stays table m w n k p region r.room left unmade.1.did kept, unsent table m w n k p r region outgoing incoming post to (length ms) may left (record { instances = n; capacity = k; sender = p; receiver = to }) refl error unmade.1.did some unmade.1.cause)
 
-pub post_all : (key : Shape) (table chair chair_after : TableId) (m w : Mine) (n k p : ℕ) (r u : RecorderView) (region : ℕ) (outgoing : List Outgoing) (incoming : List Incoming) → IsPost key table chair m n k p r region outgoing incoming → chair_after ≡ chair → Rests n k p w → IsRecorder n (held w).seen p u
-    → (j : ℕ) (e : Outgoing) → j < length outgoing → IsOutgoing n (held w).seen p (suc j) e → region ≡ 0 → (ms : List Content) (result : Answer) → WereMade n k p (suc j) ms m w result → WereUnmade n k p (suc j) ms m w result → IsPost key table chair_after w n k p u region (set outgoing j e) incoming
-post_all key table chair chair_after m w n k p r u region outgoing incoming post seated rests recorder j e within end outside ms (Ok sents) made unmade = post_sends key table chair chair_after m w n k p r u region outgoing incoming post seated rests recorder j e within end _ ms outside made.did
-post_all key table chair chair_after m w n k p r u region outgoing incoming post seated rests recorder j e within end outside ms (Err (back, error)) made unmade = post_saw key table chair chair_after m w n k p r u region outgoing incoming post seated rests recorder j e within end unmade.1.did
+pub post_all : (m w : Mine) (n k p : ℕ) (r u : RecorderView) (region : ℕ) (outgoing : List Outgoing) (incoming : List Incoming) → IsPost m n k p r region outgoing incoming → Rests n k p w → IsRecorder n (held w).seen p u
+    → (j : ℕ) (e : Outgoing) → j < length outgoing → IsOutgoing n (held w).seen p (suc j) e → region ≡ 0 → (ms : List Content) (result : Answer) → WereMade n k p (suc j) ms m w result → WereUnmade n k p (suc j) ms m w result → IsPost w n k p u region (set outgoing j e) incoming
+post_all m w n k p r u region outgoing incoming post rests recorder j e within end outside ms (Ok sents) made unmade = post_sends m w n k p r u region outgoing incoming post rests recorder j e within end _ ms outside made.did
+post_all m w n k p r u region outgoing incoming post rests recorder j e within end outside ms (Err (back, error)) made unmade = post_saw m w n k p r u region outgoing incoming post rests recorder j e within end unmade.1.did

@@ -8,7 +8,6 @@ use Rattle.chart.specs.declared.line.TheConstants.{MAX_EVENTS}
 use Rattle.chart.specs.Histories.{is_closed, chart_of}
 use Rattle.chart.proofs.Histories.{closed_own, begins_onward}
 use Rattle.line_recorder.specs.Recorders.{RecorderView}
-use Rattle.board_table.specs.declared.shape.Shape.{Shape}
 use Rattle.board_table.specs.Knowing.{Mine, held}
 use Rattle.board.specs.declared.ends.Outgoing.{Outgoing}
 use Rattle.board.specs.declared.ends.Incoming.{Incoming}
@@ -21,7 +20,7 @@ use Rattle.board.specs.Parts.{MayPut, IsCause}
 use Rattle.board.specs.Sending.{MaySend, MayPass, IsUnsent}
 use Rattle.board.proofs.OneSend.{line_saw, closed_saw}
 
-module _ (key : Shape) (table chair : TableId) (m : Mine) (n k p : ℕ) (r : RecorderView) (region : ℕ) (outgoing : List Outgoing) (incoming : List Incoming) (post : IsPost key table chair m n k p r region outgoing incoming) where
+module _ (m : Mine) (n k p : ℕ) (r : RecorderView) (region : ℕ) (outgoing : List Outgoing) (incoming : List Incoming) (post : IsPost m n k p r region outgoing incoming) where
   -- the end of the lane to an instance
   pub outgoing_at : (to j : ℕ) (o : Outgoing) → to ≡ suc j → to ≢ p → to ≤ n → o ≡ get_or outgoing j o → IsOutgoing n (held m).seen p to o
   outgoing_at to j o place ne most read =
@@ -33,8 +32,8 @@ module _ (key : Shape) (table chair : TableId) (m : Mine) (n k p : ℕ) (r : Rec
   closed_made to o end = ap (λ h. is_closed h p to) (sym post.made) ∙ closed_own (held m).seen p to ∙ sym end.unsent
 
   -- nothing but the line, the lane's slots and memory stands in the way
-  pub may_send : (to j : ℕ) (o : Outgoing) → to ≡ suc j → to ≢ p → to ≤ n → o ≡ get_or outgoing j o → region ≡ 0 → o.closed ≡ false → MaySend (view_of table m n k p region r.room) to
-  may_send to j o place ne most read outside open_end = record {
+  pub may_send : (table : TableId) (to j : ℕ) (o : Outgoing) → to ≡ suc j → to ≢ p → to ≤ n → o ≡ get_or outgoing j o → region ≡ 0 → o.closed ≡ false → MaySend (view_of table m n k p region r.room) to
+  may_send table to j o place ne most read outside open_end = record {
     two = (post.least, post.most, omega (arith, place), most, λ e. ne (sym e));
     outside = outside;
     opened = closed_made to o (outgoing_at to j o place ne most read) ∙ open_end;
@@ -61,7 +60,7 @@ module _ (table : TableId) (m w : Mine) (n k p region room : ℕ) (before events
 pub did_stays : (table : TableId) (m w : Mine) (n k p region room left : ℕ) → Did n k p (held m) (held w) (held w).seen [] → left ≡ room → Stays (view_of table m n k p region room) (view_of table w n k p region left)
 did_stays table m w n k p region room left did kept = record { made = did.made; region = refl; room = kept }
 
-module _ (key : Shape) (table chair : TableId) (m w : Mine) (n k p : ℕ) (r : RecorderView) (region : ℕ) (outgoing : List Outgoing) (incoming : List Incoming) (post : IsPost key table chair m n k p r region outgoing incoming) (to many : ℕ) (may : MayPass (view_of table m n k p region r.room) to many) where
+module _ (table : TableId) (m w : Mine) (n k p : ℕ) (r : RecorderView) (region : ℕ) (outgoing : List Outgoing) (incoming : List Incoming) (post : IsPost m n k p r region outgoing incoming) (to many : ℕ) (may : MayPass (view_of table m n k p region r.room) to many) where
   -- the lane is open in what is seen
   unclosed : is_closed (held m).seen p to ≡ false
   unclosed = sym (closed_own (held m).seen p to) ∙ ap (λ h. is_closed h p to) post.made ∙ may.allowed.opened

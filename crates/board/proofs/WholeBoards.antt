@@ -14,8 +14,8 @@ use Rattle.board.specs.declared.gathering.Provision.{Provision}
 use Rattle.board.specs.declared.parting.Leaver.{Leaver}
 use Rattle.board.specs.Views.{PostView}
 use Rattle.board.specs.Meeting.{AreOfOneBoard, HaveMet, HasPost, AreAll}
-use Rattle.board.specs.Gathering.{LaneEnds, AreJoint, size_of, all_lanes, waiting_lanes}
-use Rattle.board.specs.Parting.{AreOf, HaveRooms, HaveSeen, HaveParted, AreReady, room_lane, receives_until}
+use Rattle.board.specs.Gathering.{LaneEnds, AreJoint, size_of, all_lanes, waiting_lanes, closed_lanes, closed_view}
+use Rattle.board.specs.Parting.{AreOf, HaveRooms, AreClosed, HaveSeen, HaveParted, AreReady, room_lane, receives_until}
 use Rattle.board.specs.Provisions.{IsProvision}
 use Rattle.board.proofs.DrawnLanes.{next_first}
 use Rattle.board.proofs.Meetings.{at_within}
@@ -124,6 +124,9 @@ module _ (posts left : List PostView) (n k : ℕ) (table : TableId) (h : List Oc
 
   pub its_lanes : map room_lane it.rooms.items ≡ waiting_lanes n h
   its_lanes = its_rooms.live h g.joint
+
+  pub its_closed : map closed_view it.closed.items ≡ closed_lanes n h
+  its_closed = (subst (λ (m : ℕ). AreClosed posts (all_lanes m) it.closed.items) (sym g.size) (provision.closed k (subst (λ (m : ℕ). AreOf m k posts) g.size g.are))) h g.joint
 
   pub its_ready : (lines : List LineView) (reports : List ReportView) (leavers front : List Leaver) (words : TableId) → HaveParted n k table h n lines reports leavers → front ≡ leavers → words ≡ table → AreReady n k words h (map room_lane it.rooms.items) front
   its_ready lines reports leavers front words parted same seated =

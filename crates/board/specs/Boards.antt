@@ -78,11 +78,6 @@ pub record IsWholeSeat (n k : ℕ) (table chair : TableId) (me : Mine) : Type 0 
   pub same : chair ≡ table
   pub whole : me ≡ new_seats n k 1 n
 
--- the seat is one for the post of this number, before its first call
-pub record IsNewSeat (n k number : ℕ) (table chair : TableId) (me : Mine) : Type 0 where
-  pub same : chair ≡ table
-  pub new : me ≡ new_seat n k number
-
 -- it was taken
 abbrev pub is_gone : {X : Type 0} → Option X → Bool
 is_gone None = true

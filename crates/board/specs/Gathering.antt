@@ -4,11 +4,12 @@ use Rattle.std.specs.Prelude.{Err}
 use Rattle.std.specs.List.{range_with_len, flat_map}
 use Rattle.chart.specs.declared.history.Occurrence.{Occurrence}
 use Rattle.chart.specs.Messages.{Content}
-use Rattle.chart.specs.Histories.{waiting}
+use Rattle.chart.specs.Histories.{waiting, is_closed}
 use Rattle.chart.specs.HistoryLines.{history_lines}
 use Rattle.chart.specs.Reports.{AreReports}
 use Rattle.board.specs.declared.error.GatherCause.{GatherCause}
 use Rattle.board.specs.declared.error.GatherCause.TheVariants.{NotAllPosts, Memory}
+use Rattle.board.specs.declared.gathering.ClosedLane.{ClosedLane}
 use Rattle.board.specs.declared.gathering.Left.{Left}
 use Rattle.board.specs.declared.gathering.Gathered.{Gathered}
 use Rattle.board.specs.declared.gathering.GatherError.{GatherError}
@@ -38,6 +39,17 @@ is_waiting h lane = nat_lt 0 (length (waiting h lane.sender lane.receiver))
 abbrev pub waiting_lanes : ℕ → List Occurrence → List LaneEnds
 waiting_lanes n h = filter (is_waiting h) (all_lanes n)
 
+-- the lane was closed
+abbrev pub is_closed_lane : List Occurrence → LaneEnds → Bool
+is_closed_lane h lane = is_closed h lane.sender lane.receiver
+
+-- the lanes that were closed, by sender and then receiver
+abbrev pub closed_lanes : ℕ → List Occurrence → List LaneEnds
+closed_lanes n h = filter (is_closed_lane h) (all_lanes n)
+
+abbrev pub closed_view : ClosedLane → LaneEnds
+closed_view lane = lane_to lane.sender lane.receiver
+
 -- a lane with the messages that wait on it
 pub record LeftView : Type 0 where
   pub lane : LaneEnds
@@ -49,11 +61,13 @@ left_on h lane = record { lane = lane; messages = waiting h lane.sender lane.rec
 abbrev pub left_view : Left → LeftView
 left_view left = record { lane = lane_to left.sender left.receiver; messages = left.messages.items }
 
--- the chart of the history, the report of each receive, and what waits on each lane on which something does
+-- the chart of the history, the report of each receive, what waits on each lane on which something does, and the lanes
+-- that were closed
 pub record IsGathered (n : ℕ) (h : List Occurrence) (it : Gathered) : Type 0 where
   pub chart : it.chart ≡ history_lines n h
   pub reports : AreReports (history_lines n h) it.reports.items
   pub left : map left_view it.left.items ≡ map (left_on h) (waiting_lanes n h)
+  pub closed : map closed_view it.closed.items ≡ closed_lanes n h
 
 -- the history begins with all that each post had seen, and has of each one's events just those that its calls made
 abbrev pub AreJoint : List Occurrence → List PostView → Type 0

@@ -9,8 +9,6 @@ use Rattle.board_core.specs.Instances.{IsInstance}
 use Rattle.atomic_table.specs.Seated.{TableId}
 use Rattle.chart.specs.declared.history.TheConstants.{MAX_CAPACITY}
 use Rattle.board_table.specs.declared.held.Held.{Held}
-use Rattle.board_table.specs.declared.shape.Shape.{Shape}
-use Rattle.board_table.specs.Layout.{IsBoard}
 use Rattle.board_table.specs.Carrying.{sent_base, received_base}
 use Rattle.board_table.specs.Knowing.{Mine, held, Rests}
 use Rattle.board.specs.Views.{PostView}
@@ -60,11 +58,9 @@ pub record Knows (n k : ℕ) (h : List Occurrence) (p : ℕ) (recorder : Recorde
   pub own : IsInstance n h p recorder region
   pub ends : AreEnds n h p outgoing incoming
 
--- a post between two calls: its table, its seat, its number, and what it knows
-pub record IsPost (key : Shape) (table chair : TableId) (me : Mine) (n k p : ℕ) (recorder : RecorderView) (region : ℕ)
-    (outgoing : List Outgoing) (incoming : List Incoming) : Type 0 where
-  pub chair_is : chair ≡ table
-  pub board : IsBoard n k key table
+-- a post between two calls: its seat, its number, and what it knows
+pub record IsPost (me : Mine) (n k p : ℕ) (recorder : RecorderView) (region : ℕ) (outgoing : List Outgoing)
+    (incoming : List Incoming) : Type 0 where
   pub sized : IsSized n k
   pub least : 1 ≤ p
   pub most : p ≤ n

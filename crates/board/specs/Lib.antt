@@ -3,8 +3,10 @@ pub mod Boards
 pub mod Closing
 pub mod Found
 pub mod Gathering
+pub mod Glancing
 pub mod Known
 pub mod Meeting
+pub mod Parked
 pub mod Parting
 pub mod Parts
 pub mod Provisions

@@ -14,11 +14,12 @@ use Rattle.atomic_table.specs.Seated.{TableId}
 use Rattle.board_table.specs.declared.packet.Packet.{Packet}
 use Rattle.board_table.specs.Layout.{LaneView}
 use Rattle.board_table.specs.Leaving.{ComeFirst, HaveLeft}
+use Rattle.board.specs.declared.gathering.ClosedLane.{ClosedLane}
 use Rattle.board.specs.declared.parting.Leaver.{Leaver}
 use Rattle.board.specs.declared.parting.Room.{Room}
 use Rattle.board.specs.Views.{PostView}
 use Rattle.board.specs.Meeting.{HasPost}
-use Rattle.board.specs.Gathering.{AreJoint, LaneEnds, lane_to, is_waiting}
+use Rattle.board.specs.Gathering.{AreJoint, LaneEnds, lane_to, is_waiting, is_closed_lane, closed_view}
 
 abbrev pub Slots : Type 0
 Slots = List (ℕ × Option Packet)
@@ -68,6 +69,11 @@ IsLaneRoom h n k room = IsRoom h n k room.sender room.receiver room
 pub record HaveRooms (n k : ℕ) (posts : List PostView) (lanes : List LaneEnds) (rooms : List Room) : Type 0 where
   pub live : (h : List Occurrence) → AreJoint h posts → map room_lane rooms ≡ filter (is_waiting h) lanes
   pub each : (h : List Occurrence) → AreJoint h posts → All (IsLaneRoom h n k) rooms
+
+-- these are the lanes among those that were closed, by whatever history the posts have in common
+abbrev pub AreClosed : List PostView → List LaneEnds → List ClosedLane → Type 0
+AreClosed posts lanes closed = (h : List Occurrence) → AreJoint h posts
+    → map closed_view closed ≡ filter (is_closed_lane h) lanes
 
 -- the receives of so many instances
 abbrev pub receives_until : List Occurrence → ℕ → List EventNo

@@ -4,16 +4,17 @@ use Rattle.chart.specs.declared.history.Occurrence.{Occurrence}
 use Rattle.board.specs.declared.gathering.Provision.{Provision}
 use Rattle.board.specs.Views.{PostView}
 use Rattle.board.specs.Gathering.{AreJoint, all_lanes}
-use Rattle.board.specs.Parting.{AreOf, HaveRooms, receives_until}
+use Rattle.board.specs.Parting.{AreOf, HaveRooms, AreClosed, receives_until}
 
 -- there is room for the lines and the reports of n instances, by whatever history their posts have in common, and for
--- what waits on each of their lanes
+-- what waits on each of their lanes; and there are the lanes that were closed
 pub record IsProvision (n : ℕ) (posts : List PostView) (it : Provision) : Type 0 where
   pub lines : it.lines.items ≡ []
   pub reports : it.reports.items ≡ []
   pub leavers : it.leavers.items ≡ []
   pub left : it.left.items ≡ []
   pub rooms : (k : ℕ) → AreOf n k posts → HaveRooms n k posts (all_lanes n) it.rooms.items
+  pub closed : (k : ℕ) → AreOf n k posts → AreClosed posts (all_lanes n) it.closed.items
   pub for_lines : n ≤ vec_capacity it.lines
   pub for_reports : (h : List Occurrence) → AreJoint h posts → length (receives_until h n) ≤ vec_capacity it.reports
   pub for_leavers : n ≤ vec_capacity it.leavers

@@ -18,6 +18,17 @@ pub struct Arrival {
     pub report: Report,
 }
 
+/// What a look at a lane finds.
+#[derive(Clone, Copy, Debug, PartialEq, Eq)]
+pub enum Glance {
+    /// A message waits, or several.
+    Message,
+    /// None waits, and the lane is open.
+    Nothing,
+    /// None waits, and the lane is closed: none will come.
+    Ended,
+}
+
 /// What a receive finds.
 #[derive(Debug, Drop)]
 pub enum Taken {

@@ -2,12 +2,15 @@
 ghost use Rattle.std.specs.Prelude.{◌≡◌, ◌≤◌, true, false, IfOk, IfErr, IfSome, IfNone};
 ghost use Rattle.chart.specs.declared.instance.TheConstants.{MAX_INSTANCES};
 ghost use Rattle.chart.specs.declared.history.TheConstants.{MAX_CAPACITY};
-ghost use Rattle.board.specs.Boards.{MakesBoard, AreNewPosts, IsWholeSeat};
+ghost use Rattle.board.specs.Boards.{MakesBoard, AreNewPosts, IsUnmade, IsWholeSeat};
 ghost use Rattle.board.specs.Asking.{IsUngiven};
+ghost use Rattle.board.specs.Parked.{AreOpened};
 
 use crate::error::{BoardError, PostsError};
 use crate::opening::deal_posts;
+use crate::parked::Parked;
 use crate::post::Post;
+use crate::waking::wake_all;
 use board_table::{BoardTable, Seat, Shape, open};
 use chart::{MAX_CAPACITY, MAX_INSTANCES};
 use std::alloc::Global;
@@ -83,8 +86,12 @@ impl Board {
         };
         let alloc = self.alloc;
         let shape = self.shape;
-        let posts = deal_posts(&self.table.shared, seat, alloc, shape)?;
-        Ok(posts)
+        let words = &self.table.shared;
+        let posts = deal_posts(words, seat, alloc, shape)?;
+        match wake_all(alloc, words, posts) {
+            Ok(posts) => Ok(posts),
+            Err(_) => Err(PostsError::Memory),
+        }
     }
 
     /// The seat of all posts, if it is still there.
@@ -96,4 +103,24 @@ impl Board {
     {
         self.seat.take()
     }
+}
+
+/// The posts of a new board, in order of their instances, and the table that has its words, with the caller: each call
+/// of a parked post wants them, and so does [`Parked::wake`]. The first of F8, F9 and F6 refuses it.
+pub fn open_parked(
+    alloc: Global,
+    instances: usize,
+    capacity: usize,
+) -> Result<(BoardTable, Vec<Parked>), BoardError>
+    ensures ok { IfOk result (λ made. AreOpened instances capacity made.0.shared.key made.0.shared.table_id
+        made.1.items) }
+    ensures err { IfErr result (λ error. IsUnmade instances capacity error) }
+{
+    let mut board = Board::new(alloc, instances, capacity)?;
+    let Some(seat) = board.take_seat() else {
+        unreachable!()
+    };
+    let Board { table, shape, .. } = board;
+    let posts = deal_posts(&table.shared, seat, alloc, shape)?;
+    Ok((table, posts))
 }

@@ -1,16 +1,19 @@
 //! How a post closes lanes.
 ghost use Rattle.board.specs.Views.{Sound};
+ghost use Rattle.board.specs.Parked.{IsAtBoard};
 ghost use Rattle.board.specs.Closing.{Closes};
 
 use crate::error::CloseError;
+use crate::parked::Parked;
 use crate::post::Post;
-use board_table::{Lane, close};
+use board_table::{Lane, Words, close};
 use chart::InstanceNo;
 
-impl<'a> Post<'a> {
+impl Parked {
     /// Closes the lane to an instance, be it full or not: nothing more is sent on it. It is the first of F14, F13 and
     /// F12 that refuses it, and then nothing has changed. It takes no memory.
-    pub fn close(&mut self, to: InstanceNo) -> Result<(), CloseError>
+    pub fn close(&mut self, words: &Words, to: InstanceNo) -> Result<(), CloseError>
+        requires board { IsAtBoard words.now.key words.now.table_id self.old }
         ensures sound { Sound self.old self.new }
         ensures answer { Closes self.old to result self.new }
     {
@@ -25,8 +28,19 @@ impl<'a> Post<'a> {
         if end.closed {
             return Err(CloseError::Closed);
         }
-        close(self.words, &mut self.seat, &lane, end.put);
+        close(words, &mut self.seat, &lane, end.put);
         end.closed = true;
         Ok(())
+    }
+}
+
+impl<'a> Post<'a> {
+    /// Closes the lane to an instance, be it full or not: nothing more is sent on it. It is the first of F14, F13 and
+    /// F12 that refuses it, and then nothing has changed. It takes no memory.
+    pub fn close(&mut self, to: InstanceNo) -> Result<(), CloseError>
+        ensures sound { Sound self.old self.new }
+        ensures answer { Closes self.old to result self.new }
+    {
+        self.parked.close(self.words, to)
     }
 }

@@ -8,6 +8,7 @@ ghost use Rattle.board.specs.Meeting.{AreOfOneBoard, AreAll};
 ghost use Rattle.board.specs.Gathering.{size_of, IsWhole, Gathers};
 ghost use Rattle.board.specs.Provisions.{IsProvision};
 
+use crate::closed_lanes::find_closed;
 use crate::error::GatherCause;
 use crate::meeting::{are_all, meet};
 use crate::parting::{Leaver, Room, draw_lanes, part_all};
@@ -25,6 +26,15 @@ pub struct Gathered {
     pub reports: Vec<Report>,
     /// The lanes on which messages wait, by sender and then receiver.
     pub left: Vec<Left>,
+    /// The lanes that were closed, by sender and then receiver.
+    pub closed: Vec<ClosedLane>,
+}
+
+/// A lane that was closed.
+#[derive(Clone, Copy, Debug, PartialEq, Eq)]
+pub struct ClosedLane {
+    pub sender: InstanceNo,
+    pub receiver: InstanceNo,
 }
 
 /// A lane on which messages wait.
@@ -51,6 +61,7 @@ pub(crate) struct Provision {
     pub leavers: Vec<Leaver>,
     pub rooms: Vec<Room>,
     pub left: Vec<Left>,
+    pub closed: Vec<ClosedLane>,
 }
 
 impl<'a> Post<'a> {
@@ -71,12 +82,14 @@ fn make_provision(alloc: Global, posts: &[Post]) -> Result<Provision, AllocError
     let instances = posts[0].board_size();
     let receives = count_receives(posts, instances);
     let rooms = make_rooms(alloc, posts, instances)?;
+    let closed = find_closed(alloc, posts, instances)?;
     Ok(Provision {
         lines: Vec::with_capacity(alloc, instances)?,
         reports: Vec::with_capacity(alloc, receives)?,
         leavers: Vec::with_capacity(alloc, instances)?,
         left: Vec::with_capacity(alloc, rooms.len())?,
         rooms,
+        closed,
     })
 }
 
@@ -106,6 +119,7 @@ fn gather_all(posts: Vec<Post>, provision: Provision) -> Gathered
         leavers,
         rooms,
         left,
+        closed,
     } = provision;
     let mut posts = posts;
     let mut lines = lines;
@@ -121,11 +135,12 @@ fn gather_all(posts: Vec<Post>, provision: Provision) -> Gathered
         chart: whole_chart(lines),
         reports,
         left,
+        closed,
     }
 }
 
 /// Gathers a whole board: the chart of one history that begins with all that its posts had seen and has just their own
-/// events, the report of each receive, and the messages that wait on each lane.
+/// events, the report of each receive, the messages that wait on each lane, and the lanes that were closed.
 ///
 /// The posts may come in any order. The first of F15 and F6 refuses it, and then they come back as they were: all
 /// memory is there before the first of them meets another.

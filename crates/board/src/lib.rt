@@ -5,9 +5,14 @@
 //! made. A receive gets the first message that waited, or the first of several, and each report is exactly that of
 //! the chart of this history. Several messages are sent by one store, all of them or none ([`Post::send_all`]), and
 //! received by one ([`Post::receive_up_to`]). Posts that [`meet`] have then seen one history. At the end [`gather`]
-//! takes all posts of a board and answers its chart, its reports, and what waits on each lane. `specs/Views.antt`
-//! says what a contract sees of a post; `Sending`, `Taking`, `TakingMany`, `Closing`, `Meeting` and `Gathering` say
-//! what each call answers.
+//! takes all posts of a board and answers its chart, its reports, what waits on each lane, and the lanes that were closed.
+//!
+//! A post borrows its board's words. A [`Parked`] one doesn't: it is the same post without them. Each of its calls
+//! takes them, and it can be woken at them ([`Parked::wake`], `specs/Parked.antt`). [`open_parked`] makes a board whose
+//! words lie with the caller.
+//!
+//! `specs/Views.antt` says what a contract sees of a post; `Sending`, `Taking`, `TakingMany`, `Glancing`, `Closing`,
+//! `Meeting` and `Gathering` say what each call answers.
 //!
 //! Messages carry what changed in their sender's clock since the one before on their lane (Singhal and Kshemkalyani
 //! 1992). Each end keeps the number that it loaded last, and looks again only where that leaves too few slots, or too
@@ -17,11 +22,14 @@
 mod answer;
 mod board;
 mod close;
+mod closed_lanes;
 mod ends;
 mod error;
 mod gathering;
+mod glance;
 mod meeting;
 mod opening;
+mod parked;
 mod parting;
 mod post;
 mod receive;
@@ -34,13 +42,17 @@ mod send;
 mod send_all;
 mod sending;
 mod sending_several;
+mod waking;
 
-pub use answer::{Arrival, Sent, Stop, Taken, TakenMany};
-pub use board::Board;
+pub use answer::{Arrival, Glance, Sent, Stop, Taken, TakenMany};
+pub use board::{Board, open_parked};
+pub use board_table::{BoardTable, Words};
 pub use error::{
     BoardError, CloseError, GatherCause, MeetError, Memory, PostsError, RegionError, SendError,
     TakeError,
 };
-pub use gathering::{GatherError, Gathered, Left, gather};
+pub use gathering::{ClosedLane, GatherError, Gathered, Left, gather};
 pub use meeting::{are_all, meet, meet_all, meet_at};
+pub use parked::Parked;
 pub use post::Post;
+pub use waking::{park_all, wake_all};

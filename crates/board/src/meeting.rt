@@ -3,12 +3,37 @@ ghost use Rattle.std.specs.Prelude.{◌≡◌, ◌<◌, ◌≤◌, ℕ, length, 
 ghost use Rattle.chart.specs.declared.instance.TheConstants.{MAX_INSTANCES};
 ghost use Rattle.board_table.specs.Knowing.{held};
 ghost use Rattle.board.specs.Views.{PostView};
+ghost use Rattle.board.specs.Parked.{IsAtBoard};
 ghost use Rattle.board.specs.Meeting.{AreOfOneBoard, HaveMet, HaveSeen, HasSeenAll, HaveHeard, HasNoPost, AreAll};
 ghost use Rattle.board.specs.Meeting.{AreNotAll, IsAt, Hears, IsNoteOf, MeetsAll};
 
 use crate::error::MeetError;
+use crate::parked::Parked;
 use crate::post::Post;
-use board_table::{Seat, meet_note, note};
+use board_table::{Seat, Words, meet_note, note};
+
+impl Parked {
+    /// A note of what it has seen.
+    fn note(&mut self, words: &Words) -> Seat
+        requires board { IsAtBoard words.now.key words.now.table_id self.old }
+        ensures same { self.new ≡ self.old }
+        ensures note { IsNoteOf result.table_id result.me self.old }
+        ensures seen { (held result.me).seen ≡ self.old.seen }
+    {
+        note(words, &mut self.seat)
+    }
+
+    /// Meets the note, and hands it on.
+    fn hear(&mut self, words: &Words, note: Seat) -> Seat
+        requires board { IsAtBoard words.now.key words.now.table_id self.old }
+        requires note { IsNoteOf note.table_id note.me self.old }
+        ensures hears { Hears (held note.me).seen self.old self.new }
+        ensures note { IsNoteOf result.table_id result.me self.old }
+        ensures seen { (held result.me).seen ≡ self.new.seen }
+    {
+        meet_note(words, &mut self.seat, note)
+    }
+}
 
 impl<'a> Post<'a> {
     /// A note of what it has seen.
@@ -17,7 +42,7 @@ impl<'a> Post<'a> {
         ensures note { IsNoteOf result.table_id result.me self.old }
         ensures seen { (held result.me).seen ≡ self.old.seen }
     {
-        note(self.words, &mut self.seat)
+        self.parked.note(self.words)
     }
 
     /// Meets the note, and hands it on.
@@ -27,7 +52,7 @@ impl<'a> Post<'a> {
         ensures note { IsNoteOf result.table_id result.me self.old }
         ensures seen { (held result.me).seen ≡ self.new.seen }
     {
-        meet_note(self.words, &mut self.seat, note)
+        self.parked.hear(self.words, note)
     }
 }
 

@@ -3,10 +3,10 @@ ghost use Rattle.std.specs.Prelude.{◌≡◌, ◌≤◌, length, IfOk};
 ghost use Rattle.chart.specs.declared.instance.TheConstants.{MAX_INSTANCES};
 ghost use Rattle.board_table.specs.Layout.{IsBoard};
 ghost use Rattle.board.specs.Known.{IsSized};
-ghost use Rattle.board.specs.Boards.{AreNewPosts, AreNewEnds, IsWholeSeat, IsNewSeat, new_post};
+ghost use Rattle.board.specs.Boards.{AreNewPosts, AreNewEnds, IsWholeSeat, new_seat, new_post};
 
 use crate::ends::{Incoming, Outgoing};
-use crate::post::Post;
+use crate::parked::Parked;
 use board_table::{Seat, Shape, Words, deal};
 use chart::{InstanceNo, MAX_INSTANCES};
 use clock::Clock;
@@ -14,12 +14,12 @@ use line_recorder::Recorder;
 use std::alloc::{AllocError, Global};
 
 /// Deals a seat to each post of a board, before their first calls. F6: it fails only where there is no memory.
-pub(crate) fn deal_posts<'a>(
-    words: &'a Words,
+pub(crate) fn deal_posts(
+    words: &Words,
     seat: Seat,
     alloc: Global,
     shape: Shape,
-) -> Result<Vec<Post<'a>>, AllocError>
+) -> Result<Vec<Parked>, AllocError>
     requires sized { IsSized shape.instances shape.capacity }
     requires board { IsBoard shape.instances shape.capacity words.now.key words.now.table_id }
     requires seat { IsWholeSeat shape.instances shape.capacity words.now.table_id seat.table_id seat.me }
@@ -32,35 +32,32 @@ pub(crate) fn deal_posts<'a>(
     for place in 0..shape.instances {
         let chair = deal(words, &mut seat);
         let number = InstanceNo::at_place(place);
-        let post = make_post(words, chair, alloc, shape, number)?;
+        let post = make_post(chair, alloc, shape, number)?;
         posts.push(post)?;
     }
     Ok(posts)
 }
 
 /// The post with this seat, before its first call. F6: it fails only where there is no memory.
-fn make_post<'a>(
-    words: &'a Words,
+fn make_post(
     seat: Seat,
     alloc: Global,
     shape: Shape,
     number: InstanceNo,
-) -> Result<Post<'a>, AllocError>
+) -> Result<Parked, AllocError>
     requires sized { IsSized shape.instances shape.capacity }
-    requires board { IsBoard shape.instances shape.capacity words.now.key words.now.table_id }
-    requires seat { IsNewSeat shape.instances shape.capacity number words.now.table_id seat.table_id seat.me }
+    requires seat { seat.me ≡ new_seat shape.instances shape.capacity number }
     requires number { (1 ≤ number) × (number ≤ shape.instances) }
     ensures { IfOk result
         (λ post. post ≡ new_post (record {
-          table = words.now.table_id;
+          table = seat.table_id;
           size = shape.instances;
           capacity = shape.capacity;
         }) number) }
 {
     let recorder = Recorder::new(alloc, number, shape.instances)?;
     let (outgoing, incoming) = make_ends(alloc, shape.instances)?;
-    Ok(Post {
-        words,
+    Ok(Parked {
         seat,
         alloc,
         shape,

@@ -8,12 +8,14 @@ ghost use Rattle.chart.specs.Reports.{IsReportIn, receives_of};
 ghost use Rattle.board_table.specs.declared.packet.Packet.{Packet};
 ghost use Rattle.board_table.specs.Leaving.{ComeFirst, HaveLeft};
 ghost use Rattle.board.specs.Views.{PostView, line_of};
+ghost use Rattle.board.specs.Parked.{IsAtBoard};
 ghost use Rattle.board.specs.Meeting.{HasPost};
 ghost use Rattle.board.specs.Gathering.{left_view, left_on};
 ghost use Rattle.board.specs.Parting.{IsAmong, room_lane, IsLaneRoom, receives_until, HaveSeen, HaveParted, AreReady};
 
 use crate::gathering::Left;
 use crate::meeting::place_of;
+use crate::parked::Parked;
 use crate::post::Post;
 use board_table::{Lane, Seat, Words, draw, leave};
 use chart::{InstanceNo, Line, Message, Report};
@@ -39,6 +41,30 @@ pub(crate) struct Leaver {
     pub seat: Seat,
 }
 
+impl Parked {
+    /// Leaves its board, with the messages that wait for it. It takes no memory.
+    fn part(self, words: &Words) -> (Line, Vec<Report>, Leaver)
+        requires board { IsAtBoard words.now.key words.now.table_id self }
+        ensures line { result.0 ≡ record { instance = self.number; events = line_of self } }
+        ensures receives { map (λ report. report.receive) result.1.items
+            ≡ receives_of (record { instance = self.number; events = line_of self }) }
+        ensures reports { All (IsReportIn (chart_of self.seen)) result.1.items }
+        ensures table { result.2.seat.table_id ≡ self.board.table }
+        ensures left { HaveLeft self.board.size self.board.capacity self.number self.seen 1
+            self.board.size result.2.seat.me.1 }
+    {
+        let Parked {
+            mut seat,
+            number,
+            recorder,
+            ..
+        } = self;
+        leave(words, &mut seat);
+        let (line, reports) = recorder.into_parts();
+        (line, reports, Leaver { number, seat })
+    }
+}
+
 impl<'a> Post<'a> {
     /// Leaves its board, with the messages that wait for it. It takes no memory.
     pub(crate) fn part(self) -> (Line, Vec<Report>, Leaver)
@@ -50,16 +76,8 @@ impl<'a> Post<'a> {
         ensures left { HaveLeft self.entry.board.size self.entry.board.capacity self.entry.number self.entry.seen 1
             self.entry.board.size result.2.seat.me.1 }
     {
-        let Post {
-            words,
-            mut seat,
-            number,
-            recorder,
-            ..
-        } = self;
-        leave(words, &mut seat);
-        let (line, reports) = recorder.into_parts();
-        (line, reports, Leaver { number, seat })
+        let Post { words, parked } = self;
+        parked.part(words)
     }
 }
 

@@ -6,12 +6,10 @@ ghost use Rattle.chart.specs.Events.{greatest_region};
 ghost use Rattle.board.specs.Views.{Sound, line_of};
 ghost use Rattle.board.specs.declared.error.RegionError.TheVariants.{CoregionOpen, CoregionNotOpen};
 
-use crate::ends::{Incoming, Outgoing};
 use crate::error::RegionError;
-use board_table::{Seat, Shape, Words};
-use chart::{GrowingLine, InstanceNo, MAX_EVENTS};
-use line_recorder::Recorder;
-use std::alloc::Global;
+use crate::parked::Parked;
+use board_table::Words;
+use chart::{GrowingLine, InstanceNo};
 use std::marker::Model;
 
 /// What an instance of a board acts by: it sends, receives and closes lanes. It can be moved to a thread.
@@ -23,30 +21,18 @@ use std::marker::Model;
 #[derive(Drop)]
 pub struct Post<'a> {
     pub(crate) words: &'a Words,
-    pub(crate) seat: Seat,
-    pub(crate) alloc: Global,
-    pub(crate) shape: Shape,
-    pub(crate) number: InstanceNo,
-    pub(crate) recorder: Recorder,
-    /// By the other instance's place.
-    pub(crate) outgoing: Vec<Outgoing>,
-    pub(crate) incoming: Vec<Incoming>,
-    /// The open coregion, 0 for none.
-    pub(crate) region: u32,
+    pub(crate) parked: Parked,
 }
 
 impl<'a> Model for Post<'a> {
     ghost use Rattle.board.specs.Views.{PostView};
-    ghost use Rattle.board.specs.Known.{IsPost, view_of};
+    ghost use Rattle.board.specs.Parked.{IsAtBoard};
 
     ghost Value = { PostView };
 
-    ghost view = { λ post. view_of post.words.now.table_id post.seat.me post.shape.instances post.shape.capacity
-        post.number post.region post.recorder.room };
+    ghost view = { λ post. post.parked };
 
-    ghost invariant = { λ post. IsPost post.words.now.key post.words.now.table_id post.seat.table_id post.seat.me
-        post.shape.instances post.shape.capacity post.number post.recorder post.region post.outgoing.items
-        post.incoming.items };
+    ghost invariant = { λ post. IsAtBoard post.words.now.key post.words.now.table_id post.parked };
 }
 
 impl<'a> Post<'a> {
@@ -54,7 +40,7 @@ impl<'a> Post<'a> {
     pub fn number(&self) -> InstanceNo
         ensures { result ≡ self.now.number }
     {
-        self.number
+        self.parked.number()
     }
 
     /// How many posts its board has. Its lanes have 1 to [`chart::MAX_CAPACITY`] slots, and what it has seen is sound,
@@ -66,14 +52,14 @@ impl<'a> Post<'a> {
         ensures slots { (1 ≤ self.now.board.capacity) × (self.now.board.capacity ≤ MAX_CAPACITY) }
         ensures sound { Sound self.now self.now }
     {
-        self.shape.instances
+        self.parked.board_size()
     }
 
     /// Its line in the chart of what it has seen. It takes no memory.
     pub fn line(&self) -> &GrowingLine
         ensures { result.now.line ≡ record { instance = self.now.number; events = line_of self.now } }
     {
-        self.recorder.line()
+        self.parked.line()
     }
 
     /// Opens a coregion, which its receives are in from now on. F28: one is open. It takes no memory and looks at
@@ -84,13 +70,7 @@ impl<'a> Post<'a> {
         ensures not_open { (result ≡ Err RegionError.CoregionNotOpen) → ⊥ }
         ensures err { OnErr result (self.new ≡ self.old) }
     {
-        if self.region > 0 {
-            return Err(RegionError::CoregionOpen);
-        }
-        let line = self.recorder.line();
-        prove!(line.len() <= MAX_EVENTS);
-        self.region = line.greatest_region() + 1;
-        Ok(())
+        self.parked.open_coregion()
     }
 
     /// Closes the coregion that is open. F29: none is. It takes no memory and looks at nothing.
@@ -100,10 +80,6 @@ impl<'a> Post<'a> {
         ensures open { (result ≡ Err RegionError.CoregionOpen) → ⊥ }
         ensures err { OnErr result (self.new ≡ self.old) }
     {
-        if self.region == 0 {
-            return Err(RegionError::CoregionNotOpen);
-        }
-        self.region = 0;
-        Ok(())
+        self.parked.close_coregion()
     }
 }

@@ -1,14 +1,57 @@
 //! A post's receives of several messages at once.
 ghost use Rattle.std.specs.Prelude.{◌≤◌};
 ghost use Rattle.board.specs.Views.{Sound};
+ghost use Rattle.board.specs.Parked.{IsAtBoard};
 ghost use Rattle.board.specs.TakingMany.{TakesMany};
 
 use crate::answer::TakenMany;
 use crate::error::TakeError;
+use crate::parked::Parked;
 use crate::post::Post;
 use crate::receiving::{Found, find_messages};
 use crate::receiving_several::receive_several;
+use board_table::Words;
 use chart::InstanceNo;
+
+impl Parked {
+    /// Receives the first messages that wait on the lane from an instance, at most so many, and frees their slots at
+    /// once. F14 and F13 refuse it; then it is nothing, or the end, where no message waits, and this comes only after
+    /// a look; then F7 and F6 refuse it, both only where not even one message could be received. The message that
+    /// stops it is still the first of its lane.
+    ///
+    /// It looks at what was sent only where it knows of fewer messages than it was asked for.
+    pub fn receive_up_to(
+        &mut self,
+        words: &Words,
+        from: InstanceNo,
+        max: usize,
+    ) -> Result<TakenMany, TakeError>
+        requires board { IsAtBoard words.now.key words.now.table_id self.old }
+        requires some { 1 ≤ max }
+        ensures sound { Sound self.old self.new }
+        ensures answer { TakesMany self.old from max result self.new }
+    {
+        let lane = self.lane_from(from)?;
+        let end = &mut self.incoming[from.place()];
+        match find_messages(words, &mut self.seat, &lane, end, max as u64) {
+            Found::Nothing => return Ok(TakenMany::Nothing),
+            Found::Ended => return Ok(TakenMany::Ended),
+            Found::Messages => {}
+        }
+        let (arrivals, stop) = receive_several(
+            words,
+            &mut self.seat,
+            &lane,
+            self.alloc,
+            &mut self.recorder,
+            end,
+            from,
+            self.region,
+            max as u64,
+        )?;
+        Ok(TakenMany::Got { arrivals, stop })
+    }
+}
 
 impl<'a> Post<'a> {
     /// Receives the first messages that wait on the lane from an instance, at most so many, and frees their slots at
@@ -22,24 +65,6 @@ impl<'a> Post<'a> {
         ensures sound { Sound self.old self.new }
         ensures answer { TakesMany self.old from max result self.new }
     {
-        let lane = self.lane_from(from)?;
-        let end = &mut self.incoming[from.place()];
-        match find_messages(self.words, &mut self.seat, &lane, end, max as u64) {
-            Found::Nothing => return Ok(TakenMany::Nothing),
-            Found::Ended => return Ok(TakenMany::Ended),
-            Found::Messages => {}
-        }
-        let (arrivals, stop) = receive_several(
-            self.words,
-            &mut self.seat,
-            &lane,
-            self.alloc,
-            &mut self.recorder,
-            end,
-            from,
-            self.region,
-            max as u64,
-        )?;
-        Ok(TakenMany::Got { arrivals, stop })
+        self.parked.receive_up_to(self.words, from, max)
     }
 }

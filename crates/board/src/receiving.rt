@@ -15,7 +15,8 @@ use crate::answer::Arrival;
 use crate::ends::Incoming;
 use crate::error::TakeError;
 use board_table::{
-    Lane, Packet, Seat, Words, find_again, find_anew, free, give_back_full, record_front, take,
+    Lane, Packet, Seat, Words, find_again, find_anew, free, give_back_full, look, record_front,
+    take,
 };
 use chart::{InstanceNo, MAX_EVENTS, Report};
 use line_recorder::Recorder;
@@ -34,6 +35,8 @@ pub(crate) enum Found {
 
 /// Takes the slots of all messages that wait on the lane. It looks at the sender's word only where it knows of fewer
 /// than so many.
+///
+/// Where it knows of none, it looks before it takes a slot: then an empty lane costs one load.
 #[inline(always)]
 pub(crate) fn find_messages(
     words: &Words,
@@ -42,6 +45,39 @@ pub(crate) fn find_messages(
     end: &mut Incoming,
     many: u64,
 ) -> Found
+    requires table { seat.old.table_id ≡ words.now.table_id }
+    requires board { IsBoard lane.now.instances lane.now.capacity words.now.key words.now.table_id }
+    requires rests { Rests lane.now.instances lane.now.capacity lane.now.receiver seat.old.me }
+    requires legal { IsLegal lane.now.instances lane.now.capacity (held seat.old.me).seen }
+    requires own { own (held seat.old.me).seen lane.now.receiver ≡ (held seat.old.me).made }
+    requires end { IsIncoming lane.now.instances (held seat.old.me).seen lane.now.receiver lane.now.sender end.old }
+    requires some { 1 ≤ many }
+    ensures table { seat.new.table_id ≡ seat.old.table_id }
+    ensures did { Did lane.now.instances lane.now.capacity lane.now.receiver (held seat.old.me) (held seat.new.me)
+        (held seat.new.me).seen [] }
+    ensures end { IsIncoming lane.now.instances (held seat.new.me).seen lane.now.receiver lane.now.sender end.new }
+    ensures looks { end.old.taken + many ≤ end.old.known_put → (held seat.new.me).looks ≡ (held seat.old.me).looks }
+    ensures found { IsFound lane.now seat.old.me seat.new.me result }
+    ensures knows { result ≡ Messages → KnowsOf lane.now many seat.new.me end.new }
+{
+    if end.taken < end.known_put {
+        return find_more(words, seat, lane, end, many);
+    }
+    let word = look(words, seat, lane);
+    if end.taken < word / 2 {
+        return find_more(words, seat, lane, end, many);
+    }
+    if word % 2 == 1 {
+        Found::Ended
+    } else {
+        Found::Nothing
+    }
+}
+
+/// Takes the slots of all messages that wait on the lane. It looks at the sender's word only where it knows of fewer
+/// than so many.
+#[inline(always)]
+fn find_more(words: &Words, seat: &mut Seat, lane: &Lane, end: &mut Incoming, many: u64) -> Found
     requires table { seat.old.table_id ≡ words.now.table_id }
     requires board { IsBoard lane.now.instances lane.now.capacity words.now.key words.now.table_id }
     requires rests { Rests lane.now.instances lane.now.capacity lane.now.receiver seat.old.me }

@@ -12,13 +12,14 @@ ghost use Rattle.board.specs.Gathering.{AreJoint, LaneEnds, lane_to, lanes_of, a
 ghost use Rattle.board.specs.Parting.{IsAmong, AreOf, IsRoom, HaveRooms, AreCounted};
 
 use crate::meeting::place_of;
+use crate::parked::Parked;
 use crate::parting::Room;
 use crate::post::Post;
 use board_table::Lane;
 use std::alloc::{AllocError, Global};
 
 /// The post of this number.
-fn post_of<'p, 'a>(posts: &'p [Post<'a>], number: usize) -> &'p Post<'a>
+pub(crate) fn post_of<'p, 'a>(posts: &'p [Post<'a>], number: usize) -> &'p Post<'a>
     requires number { 1 ≤ number }
     requires has { HasPost posts.now number }
     ensures number { result.now.number ≡ number }
@@ -30,9 +31,9 @@ fn post_of<'p, 'a>(posts: &'p [Post<'a>], number: usize) -> &'p Post<'a>
     &posts[place]
 }
 
-impl<'a> Post<'a> {
+impl Parked {
     /// Room for the messages that wait on the lane from another post. F6: it fails only where there is no memory.
-    fn room_from(&self, alloc: Global, sender: &Post) -> Result<Room, AllocError>
+    fn room_from(&self, alloc: Global, sender: &Parked) -> Result<Room, AllocError>
         requires board { sender.now.board ≡ self.now.board }
         requires not_itself { sender.now.number ≢ self.now.number }
         ensures { IfOk result (λ room. (h : List Occurrence) → IsJoint h self.now → IsJoint h sender.now
@@ -58,6 +59,27 @@ impl<'a> Post<'a> {
         ensures within_limit { result ≤ MAX_EVENTS }
     {
         self.recorder.reports().len()
+    }
+}
+
+impl<'a> Post<'a> {
+    /// Room for the messages that wait on the lane from another post. F6: it fails only where there is no memory.
+    fn room_from(&self, alloc: Global, sender: &Post) -> Result<Room, AllocError>
+        requires board { sender.now.board ≡ self.now.board }
+        requires not_itself { sender.now.number ≢ self.now.number }
+        ensures { IfOk result (λ room. (h : List Occurrence) → IsJoint h self.now → IsJoint h sender.now
+            → IsRoom h self.now.board.size self.now.board.capacity sender.now.number self.now.number room) }
+    {
+        self.parked.room_from(alloc, &sender.parked)
+    }
+
+    /// How many receives it made.
+    fn receive_count(&self) -> usize
+        ensures value { (h : List Occurrence) → IsJoint h self.now
+            → result ≡ length (receives_of (history_line h self.now.number)) }
+        ensures within_limit { result ≤ MAX_EVENTS }
+    {
+        self.parked.receive_count()
     }
 }
 

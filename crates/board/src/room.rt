@@ -3,10 +3,11 @@ ghost use Rattle.std.specs.Prelude.{◌≡◌, ◌≤◌, max, OnOk, OnErr};
 ghost use Rattle.chart.specs.declared.line.TheConstants.{MAX_EVENTS};
 
 use crate::error::Memory;
+use crate::parked::Parked;
 use crate::post::Post;
 use chart::MAX_EVENTS;
 
-impl<'a> Post<'a> {
+impl Parked {
     /// For so many events room was made on its line, and not used yet. An accepted event takes one place of it, if
     /// there is one, and nothing else does. While there is some, on boards of up to [`clock::INLINE_ENTRIES`]
     /// instances, a send needs no memory. It takes no memory itself.
@@ -25,5 +26,25 @@ impl<'a> Post<'a> {
         prove!(events <= MAX_EVENTS);
         self.recorder.reserve(events)?;
         Ok(())
+    }
+}
+
+impl<'a> Post<'a> {
+    /// For so many events room was made on its line, and not used yet. An accepted event takes one place of it, if
+    /// there is one, and nothing else does. While there is some, on boards of up to [`clock::INLINE_ENTRIES`]
+    /// instances, a send needs no memory. It takes no memory itself.
+    pub fn room(&self) -> usize
+        ensures { result ≡ self.now.room }
+    {
+        self.parked.room()
+    }
+
+    /// Makes room for so many events, at most [`MAX_EVENTS`]. F6: a growth was refused, and then nothing has changed.
+    pub fn reserve(&mut self, events: usize) -> Result<(), Memory>
+        requires { events ≤ MAX_EVENTS }
+        ensures ok { OnOk result (self.new ≡ record self.old { room = max self.old.room events }) }
+        ensures err { OnErr result (self.new ≡ self.old) }
+    {
+        self.parked.reserve(events)
     }
 }

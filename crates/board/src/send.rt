@@ -3,23 +3,31 @@ ghost use Rattle.std.specs.Prelude.{◌≢◌, ◌+◌, ◌<◌, ◌≤◌, IfSo
 ghost use Rattle.chart.specs.declared.line.TheConstants.{MAX_EVENTS};
 ghost use Rattle.clock.specs.declared.clock.TheConstants.{INLINE_ENTRIES};
 ghost use Rattle.board.specs.Views.{Sound};
+ghost use Rattle.board.specs.Parked.{IsAtBoard};
 ghost use Rattle.board.specs.Sending.{Sends, MayPass, IsUnsent};
 
 use crate::answer::Sent;
 use crate::error::SendError;
+use crate::parked::Parked;
 use crate::post::Post;
 use crate::sending::send_one;
-use board_table::Lane;
+use board_table::{Lane, Words};
 use chart::{EventNo, InstanceNo, MAX_EVENTS, Message};
 
-impl<'a> Post<'a> {
+impl Parked {
     /// Sends a message. It is the first of F14, F13, F30, F12, F7, F11 and F6 that refuses it: then it comes back,
     /// and nothing has changed but that more may be seen.
     ///
     /// F11 comes only after a look at what the receiver has received, and F6 not while there is room, on boards of up
     /// to [`clock::INLINE_ENTRIES`] instances.
     #[inline(always)]
-    pub fn send(&mut self, to: InstanceNo, message: Message) -> Result<Sent, (Message, SendError)>
+    pub fn send(
+        &mut self,
+        words: &Words,
+        to: InstanceNo,
+        message: Message,
+    ) -> Result<Sent, (Message, SendError)>
+        requires board { IsAtBoard words.now.key words.now.table_id self.old }
         ensures sound { Sound self.old self.new }
         ensures answer { Sends self.old to message result self.new }
         ensures room { 0 < self.old.room → self.old.board.size ≤ INLINE_ENTRIES
@@ -32,7 +40,7 @@ impl<'a> Post<'a> {
         let capacity = self.shape.capacity;
         let end = &mut self.outgoing[to.place()];
         match send_one(
-            self.words,
+            words,
             &mut self.seat,
             &lane,
             &mut self.recorder,
@@ -76,5 +84,22 @@ impl<'a> Post<'a> {
             return Some(SendError::LineFull);
         }
         None
+    }
+}
+
+impl<'a> Post<'a> {
+    /// Sends a message. It is the first of F14, F13, F30, F12, F7, F11 and F6 that refuses it: then it comes back,
+    /// and nothing has changed but that more may be seen.
+    ///
+    /// F11 comes only after a look at what the receiver has received, and F6 not while there is room, on boards of up
+    /// to [`clock::INLINE_ENTRIES`] instances.
+    #[inline(always)]
+    pub fn send(&mut self, to: InstanceNo, message: Message) -> Result<Sent, (Message, SendError)>
+        ensures sound { Sound self.old self.new }
+        ensures answer { Sends self.old to message result self.new }
+        ensures room { 0 < self.old.room → self.old.board.size ≤ INLINE_ENTRIES
+            → IfErr result (λ refused. refused.1 ≢ SendError.Memory) }
+    {
+        self.parked.send(self.words, to, message)
     }
 }

@@ -13,10 +13,10 @@ use Rattle.board_table.specs.Layout.{LaneView, put_word, taken_word}
 use Rattle.board_table.specs.Carrying.{AreCarried, last_clock}
 use Rattle.board_table.specs.Knowing.{Mine, held, packets_out, vacant_out, Rests, IsEmptying}
 use Rattle.board_table.specs.Rule.{closed_bit, Kept}
-use Rattle.board_table.specs.Plays.{FindsAnew, FindsAgain, Frees, PutsBack}
+use Rattle.board_table.specs.Plays.{FindsAnew, FindsAgain, LooksAt, Frees, PutsBack}
 use Rattle.board_table.proofs.Carried.{carried_many}
 use Rattle.board_table.proofs.OutSlots.{emptying_slots, emptying_many}
-use Rattle.board_table.proofs.Receiving.{finds, frees, puts_back}
+use Rattle.board_table.proofs.Receiving.{looks_at, finds, frees, puts_back}
 use Rattle.board_table.proofs.SenderSeats.{resting_seat}
 use Rattle.board_core.proofs.GoodsLemmas.{goods_many}
 
@@ -44,6 +44,11 @@ module _ (l : LaneView) (two : AreTwo l.instances l.sender l.receiver) (some_pla
             ∙ ap (λ h. 2 * length (sent h q p) + closed_bit (is_closed h q p)) (sym seen);
         looks = looks;
       }))
+
+  pub look : i ≡ put_word l.instances l.sender l.receiver → Rests l.instances l.capacity l.receiver me → Allows (Kept l.instances l.capacity) slots id me i (λ x. x) (λ x w. LooksAt l me x w)
+  look word rests =
+      subst (λ m. Allows (Kept l.instances l.capacity) slots id m i (λ x. x) (λ x w. LooksAt l m x w)) (sym (resting_seat l.instances l.capacity l.receiver me rests))
+      (looks_at l.instances l.capacity l.sender l.receiver two some_place slots id i (held me) rests.post.instances rests.post.capacity rests.post.number rests.hold word)
 
   pub find_again : Rests l.instances l.capacity l.receiver me → Allows (Kept l.instances l.capacity) slots id me i (λ x. x) (λ x w. FindsAgain l me w)
   find_again rests =

@@ -6,7 +6,7 @@ use mathlib.Core.Option.{some}
 use native.Mathlib.Decide.{dec_le}
 use native.Mathlib.Nat.{add-mod_right}
 use lib.ListN.{get_elem?}
-use Rattle.atomic_table.specs.Table.{State, Allows, homes_after, carried_after}
+use Rattle.atomic_table.specs.Table.{State, Allows, homes_after, carried_after, keeps}
 use Rattle.chart.specs.declared.history.Occurrence.{Occurrence}
 use Rattle.chart.specs.declared.history.Occurrence.TheVariants.{Receive}
 use Rattle.chart.specs.declared.line.TheConstants.{MAX_EVENTS}
@@ -25,7 +25,7 @@ use Rattle.board_table.specs.Layout.{LaneView, put_word, taken_word, slot_of, sl
 use Rattle.board_table.specs.Carrying.{AreCarried, last_clock, with_received, vacant_slots, full_slots, packets_in, vacant_in}
 use Rattle.board_table.specs.Knowing.{Mine, held, many_out, IsPost, IsEmptying, Moves, at_rest}
 use Rattle.board_table.specs.Rule.{closed_bit, IsLane, Fits, Kept}
-use Rattle.board_table.specs.Plays.{Finds, Makes, Frees, PutsBack}
+use Rattle.board_table.specs.Plays.{Finds, LooksAt, Makes, Frees, PutsBack}
 use Rattle.board_table.proofs.Carried.{carried_many, carried_append, carried_split, at_append, at_drop, at_within}
 use Rattle.board_table.proofs.Growth.{are_received}
 use Rattle.board_table.proofs.Homes.{takes_all, gives_all, taken_out, put_in, Apart, Apart-append, takes_all-carried, takes_all-homes, gives_all-carried, gives_all-homes, gives_all-valid, taken_out-else, put_in-else, taken_out-length, put_in-length, put_in-append}
@@ -102,6 +102,48 @@ module _ (n k q p : ℕ) (two : AreTwo n q p) (some_place : 0 < k) where
   behind_first packets gs m few are =
       let split = carried_split (zeros n) packets (take m gs) (drop m gs) (subst (λ ys. AreCarried (zeros n) packets ys) (sym (take-append-drop m gs)) are) in
       subst (λ i. AreCarried (last_clock (zeros n) (take m gs)) (drop i packets) (drop m gs)) (let long : length (take m gs) ≡ m = omega (arith, length-take m gs) in long) split.1
+
+  pub looks_at : (slots id i : ℕ) (e : Held) → e.instances ≡ n → e.capacity ≡ k → e.number ≡ p → many_out e.hold ≡ 0 → i ≡ put_word n q p → Allows (Kept n k) slots id (e ∷ [], []) i (λ x. x) (λ x w. LooksAt lane_view (e ∷ [], []) x w)
+  looks_at slots id i e instances capacity number none word s r size at bound =
+      let only = rests_emptying e.hold q none in
+      let st = standing s r id e 0 at number only in
+      let log = r.log in
+      let f : Held = record e { seen = log; looks = e.looks + 1 } in
+      let now : LaneNow = record { packets = r.packets q p; filling = r.filling q p; emptying = r.emptying q p } in
+      let step : Stepped n k q p s r p id e f log now s.words s.homes = record {
+        two = two;
+        at = at;
+        low = two.2;
+        high = two.3;
+        was = number;
+        same = number;
+        instances = refl;
+        capacity = refl;
+        wide = refl;
+        long = refl;
+        legal = r.legal;
+        begins = begins_same log;
+        others = λ b ne. refl;
+        seen = begins_same log;
+        seen_legal = r.legal;
+        made = st.made;
+        own = st.made;
+        here = st.lane;
+        there = λ a b these other. record { goods = refl; received = refl; closed = refl; put = refl; taken = refl; slots = λ c. refl };
+      } in
+      let kept = kept_by_receiver n k q p s r id e f log now s.words s.homes 0 0 step only only st.emptying refl in
+      let told : LooksAt lane_view (e ∷ [], []) (slice_index s.words i) (f ∷ [], []) = record {
+        sees = record { same = record { instances = refl; capacity = refl; number = refl }; later = st.fits.seen; legal = r.legal; made = refl; own = st.fits.made };
+        rests = record { post = record { alone = refl; instances = instances; capacity = capacity; number = number }; hold = none; slots = refl };
+        found = ap (slice_index s.words) word ∙ st.lane.put_is ∙ ap (λ (many : ℕ). 2 * many + closed_bit (is_closed log q p)) st.count;
+        looks = refl;
+      } in (
+        f ∷ [],
+        keeps,
+        tt,
+        subst (λ (ws : List ℕ). Kept n k record { words = ws; homes = s.homes; views = set s.views id (f ∷ []) }) (sym (set-get_or s.words i 0)) kept,
+        told,
+      )
 
   pub finds : (slots id i : ℕ) (e : Held) (looks : ℕ) (told : ℕ → Mine → Type 0) → e.instances ≡ n → e.capacity ≡ k → e.number ≡ p → many_out e.hold ≡ 0
       → ((s : State (Option Packet) (List Held)) (r : Kept n k s) (w : Mine) → Finds lane_view (e ∷ [], []) w → (held w).seen ≡ r.log → (held w).looks ≡ looks → told (slice_index s.words i) w)

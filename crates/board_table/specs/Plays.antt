@@ -50,6 +50,14 @@ pub record FindsAgain (l : LaneView) (m w : Mine) : Type 0 where
   pub finds : Finds l m w
   pub looks : (held w).looks ≡ (held m).looks
 
+-- The receiver has looked at how many were sent, and whether the lane is closed, and has taken no slot.
+pub record LooksAt (l : LaneView) (m : Mine) (word : ℕ) (w : Mine) : Type 0 where
+  pub sees : Sees l.instances l.capacity (held m) (held w)
+  pub rests : Rests l.instances l.capacity l.receiver w
+  pub found : word ≡ 2 * length (sent (held w).seen l.sender l.receiver)
+      + closed_bit (is_closed (held w).seen l.sender l.receiver)
+  pub looks : (held w).looks ≡ (held m).looks + 1
+
 -- The post has made these events, so many, and holds no slot.
 pub record Makes (l : LaneView) (p many : ℕ) (events : List Occurrence → List Occurrence) (m w : Mine) : Type 0 where
   pub rests : Rests l.instances l.capacity p w

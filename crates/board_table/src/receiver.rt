@@ -5,10 +5,10 @@ ghost use Rattle.chart.specs.Histories.{received, chart_of};
 ghost use Rattle.chart.specs.declared.line.TheConstants.{MAX_EVENTS};
 ghost use Rattle.board_table.specs.Layout.{IsBoard};
 ghost use Rattle.board_table.specs.Knowing.{held, packets_out, vacant_out, emptied_base, Rests, IsEmptying};
-ghost use Rattle.board_table.specs.Plays.{FindsAnew, FindsAgain, Frees, PutsBack};
+ghost use Rattle.board_table.specs.Plays.{FindsAnew, FindsAgain, LooksAt, Frees, PutsBack};
 ghost use Rattle.board_table.specs.Recording.{IsReady, IsRecorded};
 
-use crate::rule::{FindAgain, FindAnew, Free, PutBackEmptying, Site};
+use crate::rule::{FindAgain, FindAnew, Free, LookAt, PutBackEmptying, Site};
 use crate::{Lane, Packet, Seat, Words};
 use chart::Report;
 use clock::Clock;
@@ -38,6 +38,30 @@ fn find_anew_at<A: Site>(words: &Words, seat: &mut Seat, lane: &Lane) -> u64
     ensures finds { FindsAnew lane.now seat.old.me result seat.new.me }
 {
     words.load::<FindAnew<A>>(seat, lane.put_word())
+}
+
+/// Looks at how many were sent, and whether the lane is closed, which it answers, and takes no slot.
+#[inline(always)]
+pub fn look(words: &Words, seat: &mut Seat, lane: &Lane) -> u64
+    requires table { seat.old.table_id ≡ words.now.table_id }
+    requires board { IsBoard lane.now.instances lane.now.capacity words.now.key words.now.table_id }
+    requires rests { Rests lane.now.instances lane.now.capacity lane.now.receiver seat.old.me }
+    ensures table { (seat.new.table_id ≡ seat.old.table_id) × (seat.new.id ≡ seat.old.id) }
+    ensures looks { LooksAt lane.now seat.old.me result seat.new.me }
+{
+    look_at::<Brand>(words, seat, lane)
+}
+
+#[inline(always)]
+fn look_at<A: Site>(words: &Words, seat: &mut Seat, lane: &Lane) -> u64
+    requires site { lane.now ≡ A.lane }
+    requires table { seat.old.table_id ≡ words.now.table_id }
+    requires board { IsBoard lane.now.instances lane.now.capacity words.now.key words.now.table_id }
+    requires rests { Rests lane.now.instances lane.now.capacity lane.now.receiver seat.old.me }
+    ensures table { (seat.new.table_id ≡ seat.old.table_id) × (seat.new.id ≡ seat.old.id) }
+    ensures looks { LooksAt lane.now seat.old.me result seat.new.me }
+{
+    words.load::<LookAt<A>>(seat, lane.put_word())
 }
 
 /// Takes the slots of all messages that wait, by a load of the receiver's own word, which is no look.

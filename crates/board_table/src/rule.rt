@@ -2,7 +2,7 @@
 ghost use Rattle.std.specs.Prelude.{ℕ, [], ◌∷◌};
 ghost use Rattle.board_table.specs.Layout.{LaneView};
 ghost use Rattle.board_table.specs.Knowing.{first_of, later_of, note_of};
-ghost use Rattle.board_table.specs.Plays.{ClaimsAnew, ClaimsAgain, FindsAnew, FindsAgain, Publishes, Closes, Frees};
+ghost use Rattle.board_table.specs.Plays.{ClaimsAnew, ClaimsAgain, FindsAnew, FindsAgain, LooksAt, Publishes, Closes, Frees};
 ghost use Rattle.board_table.specs.Plays.{PutsBack, MeetsBeside};
 ghost use Rattle.board_table.specs.Leaving.{Leaves};
 ghost use Rattle.board_table.specs.Rule.{Kept, new_helds};
@@ -56,6 +56,12 @@ pub(crate) struct FindAnew<A>(PhantomData<A>);
 
 impl<A: Site> Play<Option<Packet>, LinkedList<Held>> for FindAnew<A> {
     ghost then = { λ step m found w. FindsAnew A.lane m found w };
+}
+
+pub(crate) struct LookAt<A>(PhantomData<A>);
+
+impl<A: Site> Play<Option<Packet>, LinkedList<Held>> for LookAt<A> {
+    ghost then = { λ step m found w. LooksAt A.lane m found w };
 }
 
 pub(crate) struct FindAgain<A>(PhantomData<A>);

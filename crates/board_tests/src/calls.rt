@@ -1,10 +1,12 @@
 //! Calls of posts, as tests make them. Messages have names of one letter.
 ghost use Rattle.std.specs.Prelude.{◌≡◌};
+ghost use Rattle.board.specs.Meeting.{AreOfOneBoard};
 
 use board::{Arrival, Post, SendError, Taken};
 use chart::{InstanceNo, Message, Name};
 use std::alloc::{AllocError, Global};
 use std::process::Abort;
+use std::test::Fail;
 
 pub fn instance(rt: &impl Abort, number: usize) -> InstanceNo {
     InstanceNo::new(number).expect(rt, "an instance")
@@ -19,6 +21,22 @@ pub fn message(rt: &impl Abort, alloc: Global, letter: u8) -> Message {
         Ok(message) => message,
         Err(_) => panic!(rt; "a message"),
     }
+}
+
+/// A last growth, whose refusal tells that each one before it was refused in an earlier run of the test.
+pub fn every_growth_was_refused(alloc: Global) -> Result<(), Fail> {
+    Vec::<u8>::with_capacity(alloc, 1).map_err(|_| "every growth was refused")?;
+    Ok(())
+}
+
+/// The posts without the last of them, and that one.
+pub fn apart<'a>(posts: Vec<Post<'a>>) -> (Vec<Post<'a>>, Option<Post<'a>>)
+    requires { AreOfOneBoard posts.items }
+    ensures { AreOfOneBoard result.0.items }
+{
+    let mut others = posts;
+    let last = others.pop();
+    (others, last)
 }
 
 /// Messages of these names.

@@ -3,8 +3,10 @@
 //! take memory for each clock, those of two don't.
 ghost use Rattle.std.specs.Prelude.{◌≤◌};
 
-use crate::calls::{are_named, has_come, have_come, instance, message, messages, name};
-use board::{Board, BoardError, Post, PostsError, SendError, Stop, TakeError, Taken, TakenMany};
+use crate::calls::{
+    are_named, every_growth_was_refused, has_come, have_come, instance, message, messages,
+};
+use board::{Board, Post, PostsError, Stop, TakeError, Taken, TakenMany};
 use chart::{InstanceNo, Message};
 use std::alloc::Global;
 use std::process::Abort;
@@ -13,112 +15,49 @@ use std::test::Fail;
 fn board_of(rt: &impl Abort, alloc: Global, instances: usize) -> Board {
     match Board::new(alloc, instances, 3) {
         Ok(board) => board,
-        Err(error) => {
-            assert_eq!(rt; error, BoardError::Memory);
-            Board::new(alloc, instances, 3).expect(rt, "a board")
-        }
+        Err(_) => Board::new(alloc, instances, 3).expect(rt, "a board"),
     }
+}
+
+/// The posts of a board, if memory isn't refused for them: so many. It gives none from then on.
+fn many_posts(rt: &impl Abort, board: &mut Board) -> Option<usize> {
+    let many = match board.posts() {
+        Ok(posts) => Some(posts.len()),
+        Err(error) => {
+            assert_eq!(rt; error, PostsError::Memory);
+            None
+        }
+    };
+    assert!(rt; matches!(board.posts(), Err(PostsError::PostsTaken)));
+    many
 }
 
 /// A board whose posts are refused gives none from then on, and a new one gives them.
 fn posts_of(rt: &impl Abort, alloc: Global, instances: usize) {
-    let mut board = board_of(rt, alloc, instances);
-    let refused = board.posts().map(|posts| posts.len());
-    assert!(rt; matches!(board.posts(), Err(PostsError::PostsTaken)));
-    match refused {
-        Ok(many) => assert_eq!(rt; many, instances),
-        Err(error) => {
-            assert_eq!(rt; error, PostsError::Memory);
-            let mut board = board_of(rt, alloc, instances);
-            assert_eq!(rt; board.posts().expect(rt, "the posts").len(), instances);
-        }
+    let mut many = many_posts(rt, &mut board_of(rt, alloc, instances));
+    if many.is_none() {
+        many = many_posts(rt, &mut board_of(rt, alloc, instances));
+    }
+    assert_eq!(rt; many, Some(instances));
+}
+
+/// Sends a message of this name, once more where memory was refused.
+fn sends(rt: &impl Abort, alloc: Global, post: &mut Post, to: InstanceNo, letter: u8) {
+    if let Err((back, _)) = post.send(to, message(rt, alloc, letter)) {
+        assert!(rt; post.send(to, back).is_ok());
     }
 }
 
-/// Sends a message of this name, once more where memory was refused: that changed nothing.
-fn sends(rt: &impl Abort, alloc: Global, post: &mut Post, to: InstanceNo, letter: u8) {
-    let events = post.line().len();
-    let sent = match post.send(to, message(rt, alloc, letter)) {
-        Ok(sent) => sent,
-        Err((back, error)) => {
-            assert_eq!(rt; error, SendError::Memory);
-            assert!(rt; back.name() == name(rt, letter));
-            assert_eq!(rt; post.line().len(), events);
-            match post.send(to, back) {
-                Ok(sent) => sent,
-                Err(_) => panic!(rt; "a message"),
-            }
-        }
-    };
-    assert_eq!(rt; sent.event.index as usize, post.line().len());
-    assert!(rt; post.line().len() > events);
-}
-
-/// Receives a message of this name with so many races, once more where memory was refused: that changed nothing.
+/// Receives a message of this name with these races, once more where memory was refused.
 fn gets(rt: &impl Abort, post: &mut Post, from: InstanceNo, letter: u8, races: &[u32]) {
-    let events = post.line().len();
     let taken = match post.receive(from) {
         Ok(taken) => taken,
-        Err(error) => {
-            assert_eq!(rt; error, TakeError::Memory);
-            assert_eq!(rt; post.line().len(), events);
-            post.receive(from).expect(rt, "a message")
-        }
+        Err(_) => post.receive(from).expect(rt, "a message"),
     };
-    let Taken::Got(arrival) = taken else {
-        panic!(rt; "no message came")
-    };
-    has_come(rt, &arrival, letter, races);
-}
-
-/// Two messages from the first instance of so many to the second, and one back that crosses the second of them.
-fn exchange(rt: &impl Abort, alloc: Global, instances: usize) -> Result<(), Fail> {
-    let first = instance(rt, 1);
-    let second = instance(rt, 2);
-    let mut board = board_of(rt, alloc, instances);
-    let Ok(mut posts) = board.posts() else {
-        return Ok(());
-    };
-    assert!(rt; posts.len() >= 2);
-    sends(rt, alloc, &mut posts[0], second, b'x');
-    sends(rt, alloc, &mut posts[0], second, b'y');
-    gets(rt, &mut posts[1], first, b'x', &[]);
-    sends(rt, alloc, &mut posts[1], first, b'z');
-    gets(rt, &mut posts[0], second, b'z', &[2]);
-    gets(rt, &mut posts[1], first, b'y', &[2]);
-    Ok(())
-}
-
-#[test]
-fn refused_growths_of_posts_of_two(rt: HostRuntime) -> Result<(), Fail> {
-    let alloc = rt.alloc();
-    posts_of(&rt, alloc, 2);
-    Vec::<u8>::with_capacity(alloc, 1).map_err(|_| "every growth was refused")?;
-    Ok(())
-}
-
-#[test]
-fn refused_growths_of_posts_of_nine(rt: HostRuntime) -> Result<(), Fail> {
-    let alloc = rt.alloc();
-    posts_of(&rt, alloc, 9);
-    Vec::<u8>::with_capacity(alloc, 1).map_err(|_| "every growth was refused")?;
-    Ok(())
-}
-
-#[test]
-fn refused_growths_among_two(rt: HostRuntime) -> Result<(), Fail> {
-    let alloc = rt.alloc();
-    exchange(&rt, alloc, 2)?;
-    Vec::<u8>::with_capacity(alloc, 1).map_err(|_| "every growth was refused")?;
-    Ok(())
-}
-
-#[test]
-fn refused_growths_among_nine(rt: HostRuntime) -> Result<(), Fail> {
-    let alloc = rt.alloc();
-    exchange(&rt, alloc, 9)?;
-    Vec::<u8>::with_capacity(alloc, 1).map_err(|_| "every growth was refused")?;
-    Ok(())
+    match taken {
+        Taken::Got(arrival) => has_come(rt, &arrival, letter, races),
+        _ => panic!(rt; "no message came"),
+    }
 }
 
 /// Messages of these names, made once more where memory was refused.
@@ -129,25 +68,15 @@ fn list_of(rt: &impl Abort, alloc: Global, letters: &[u8]) -> Vec<Message> {
     }
 }
 
-/// Sends messages of these names at once, once more where memory was refused: that changed nothing.
+/// Sends messages of these names at once, once more where memory was refused: they came back.
 fn sends_several(rt: &impl Abort, alloc: Global, post: &mut Post, to: InstanceNo, letters: &[u8]) {
-    let events = post.line().len();
-    let sents = match post.send_all(to, list_of(rt, alloc, letters)) {
-        Ok(sents) => sents,
-        Err((back, error)) => {
-            assert_eq!(rt; error, SendError::Memory);
-            are_named(rt, back.as_slice(), letters);
-            assert_eq!(rt; post.line().len(), events);
-            match post.send_all(to, back) {
-                Ok(sents) => sents,
-                Err(_) => panic!(rt; "they weren't sent"),
-            }
-        }
-    };
-    assert_eq!(rt; sents.len(), letters.len());
+    if let Err((back, _)) = post.send_all(to, list_of(rt, alloc, letters)) {
+        are_named(rt, back.as_slice(), letters);
+        assert!(rt; post.send_all(to, back).is_ok());
+    }
 }
 
-/// Receives messages of the first of these names by one call, each with so many races. Answers how many came, and why
+/// Receives messages of the first of these names by one call, each with these races. Answers how many came, and why
 /// no more.
 fn takes_several(
     rt: &impl Abort,
@@ -159,7 +88,6 @@ fn takes_several(
 ) -> (usize, Stop)
     requires { 1 ≤ max }
 {
-    let events = post.line().len();
     match post.receive_up_to(from, max) {
         Ok(TakenMany::Got { arrivals, stop }) => {
             let came = arrivals.len();
@@ -168,14 +96,11 @@ fn takes_several(
             (came, stop)
         }
         Ok(_) => panic!(rt; "no messages came"),
-        Err(error) => {
-            assert_eq!(rt; post.line().len(), events);
-            (0, Stop::Refused(error))
-        }
+        Err(error) => (0, Stop::Refused(error)),
     }
 }
 
-/// Receives messages of these names by one call, each with so many races. Where memory was refused, the same call made
+/// Receives messages of these names by one call, each with these races. Where memory was refused, the same call made
 /// once more gets those that are left.
 fn gets_several(rt: &impl Abort, post: &mut Post, from: InstanceNo, letters: &[u8], races: &[u32]) {
     let max = letters.len();
@@ -192,35 +117,90 @@ fn gets_several(rt: &impl Abort, post: &mut Post, from: InstanceNo, letters: &[u
     assert_eq!(rt; stop, if came == 0 { Stop::Asked } else { Stop::NoMore });
 }
 
-/// Three messages at once from the first instance of so many to the second, which has sent one that they cross.
-fn exchange_several(rt: &impl Abort, alloc: Global, instances: usize) -> Result<(), Fail> {
-    let first = instance(rt, 1);
-    let second = instance(rt, 2);
+/// What a post does, with the partner's number. Of a receive the races too.
+#[derive(Clone, Copy)]
+enum Deed {
+    Sends(usize, u8),
+    Gets(usize, u8, &'static [u32]),
+    SendsSeveral(usize, &'static [u8]),
+    GetsSeveral(usize, &'static [u8], &'static [u32]),
+}
+
+fn does(rt: &impl Abort, alloc: Global, post: &mut Post, deed: &Deed) {
+    match *deed {
+        Deed::Sends(to, letter) => sends(rt, alloc, post, instance(rt, to), letter),
+        Deed::Gets(from, letter, races) => gets(rt, post, instance(rt, from), letter, races),
+        Deed::SendsSeveral(to, letters) => {
+            sends_several(rt, alloc, post, instance(rt, to), letters)
+        }
+        Deed::GetsSeveral(from, letters, races) => {
+            gets_several(rt, post, instance(rt, from), letters, races)
+        }
+    }
+}
+
+/// The posts do this, if memory isn't refused for them.
+fn exchange(rt: &impl Abort, alloc: Global, instances: usize, deeds: &[(usize, Deed)]) {
     let mut board = board_of(rt, alloc, instances);
-    let Ok(mut posts) = board.posts() else {
-        return Ok(());
-    };
-    assert!(rt; posts.len() >= 2);
-    sends(rt, alloc, &mut posts[1], first, b'w');
-    sends_several(rt, alloc, &mut posts[0], second, b"xyz");
-    gets_several(rt, &mut posts[1], first, b"xyz", &[1]);
-    Ok(())
+    if let Ok(mut posts) = board.posts() {
+        for (by, deed) in deeds {
+            let post = posts.get_mut(by.saturating_sub(1)).expect(rt, "a post");
+            does(rt, alloc, post, deed);
+        }
+    }
 }
 
 #[test]
+fn refused_growths_of_posts_of_two(rt: HostRuntime) -> Result<(), Fail> {
+    posts_of(&rt, rt.alloc(), 2);
+    every_growth_was_refused(rt.alloc())
+}
+
+#[test]
+fn refused_growths_of_posts_of_nine(rt: HostRuntime) -> Result<(), Fail> {
+    posts_of(&rt, rt.alloc(), 9);
+    every_growth_was_refused(rt.alloc())
+}
+
+/// Two messages from the first instance to the second, and one back that crosses the second of them.
+static CROSSING: [(usize, Deed); 6] = [
+    (1, Deed::Sends(2, b'x')),
+    (1, Deed::Sends(2, b'y')),
+    (2, Deed::Gets(1, b'x', &[])),
+    (2, Deed::Sends(1, b'z')),
+    (1, Deed::Gets(2, b'z', &[2])),
+    (2, Deed::Gets(1, b'y', &[2])),
+];
+
+#[test]
+fn refused_growths_among_two(rt: HostRuntime) -> Result<(), Fail> {
+    exchange(&rt, rt.alloc(), 2, &CROSSING);
+    every_growth_was_refused(rt.alloc())
+}
+
+#[test]
+fn refused_growths_among_nine(rt: HostRuntime) -> Result<(), Fail> {
+    exchange(&rt, rt.alloc(), 9, &CROSSING);
+    every_growth_was_refused(rt.alloc())
+}
+
+/// Three messages at once from the first instance to the second, which has sent one that they cross.
+static SEVERAL: [(usize, Deed); 3] = [
+    (2, Deed::Sends(1, b'w')),
+    (1, Deed::SendsSeveral(2, b"xyz")),
+    (2, Deed::GetsSeveral(1, b"xyz", &[1])),
+];
+
+#[test]
 fn refused_growths_of_several_among_two(rt: HostRuntime) -> Result<(), Fail> {
-    let alloc = rt.alloc();
-    exchange_several(&rt, alloc, 2)?;
-    Vec::<u8>::with_capacity(alloc, 1).map_err(|_| "every growth was refused")?;
-    Ok(())
+    exchange(&rt, rt.alloc(), 2, &SEVERAL);
+    every_growth_was_refused(rt.alloc())
 }
 
 #[test]
 fn refused_growths_of_several_among_nine(rt: HostRuntime) -> Result<(), Fail> {
-    let alloc = rt.alloc();
-    exchange_several(&rt, alloc, 9)?;
-    Vec::<u8>::with_capacity(alloc, 1).map_err(|_| "every growth was refused")?;
-    Ok(())
+    exchange(&rt, rt.alloc(), 9, &SEVERAL);
+    every_growth_was_refused(rt.alloc())
 }
 
 /// Makes room for two events, once more where memory was refused, and then sends twice with no memory.
@@ -229,9 +209,8 @@ fn sends_with_room(rt: &impl Abort, alloc: Global, post: &mut Post) {
         assert_eq!(rt; post.room(), 0);
         assert!(rt; post.reserve(2).is_ok());
     }
-    let second = instance(rt, 2);
     for left in [1, 0] {
-        let sent = post.send(second, message(rt, alloc, b'x'));
+        let sent = post.send(instance(rt, 2), message(rt, alloc, b'x'));
         assert!(rt; sent.is_ok());
         assert_eq!(rt; post.room(), left);
     }
@@ -239,12 +218,10 @@ fn sends_with_room(rt: &impl Abort, alloc: Global, post: &mut Post) {
 
 #[test]
 fn refused_growths_with_room(rt: HostRuntime) -> Result<(), Fail> {
-    let alloc = rt.alloc();
-    let mut board = board_of(&rt, alloc, 8);
+    let mut board = board_of(&rt, rt.alloc(), 8);
     if let Ok(mut posts) = board.posts() {
-        assert!(rt; posts.len() >= 1);
-        sends_with_room(&rt, alloc, &mut posts[0]);
+        let post = posts.get_mut(0).expect(&rt, "a post");
+        sends_with_room(&rt, rt.alloc(), post);
     }
-    Vec::<u8>::with_capacity(alloc, 1).map_err(|_| "every growth was refused")?;
-    Ok(())
+    every_growth_was_refused(rt.alloc())
 }

@@ -14,6 +14,8 @@ mod meetings;
 #[cfg(test)]
 mod one_by_one;
 #[cfg(test)]
+mod parked;
+#[cfg(test)]
 mod refusals;
 #[cfg(test)]
 mod schedules;

@@ -1,10 +1,11 @@
 //! Meetings of posts.
 ghost use Rattle.board.specs.Meeting.{AreOfOneBoard};
 
-use crate::calls::{gets, send};
+use crate::calls::{apart, send};
+use crate::tables::{Call, make_all};
 use board::{Board, MeetError, Post, meet, meet_all};
+use std::alloc::Global;
 use std::process::Abort;
-use std::test::Fail;
 
 /// All posts of a board meet.
 pub fn all_meet(rt: &impl Abort, posts: &mut [Post])
@@ -15,29 +16,42 @@ pub fn all_meet(rt: &impl Abort, posts: &mut [Post])
 }
 
 #[test]
-fn not_all_posts(rt: HostRuntime) -> Result<(), Fail> {
-    let alloc = rt.alloc();
-    let mut board = Board::new(alloc, 3, 1)?;
-    let mut posts = board.posts()?;
-    assert_eq!(rt; meet_all(&mut []), Err(MeetError::NotAllPosts));
-    let last = posts.pop();
+fn not_all_posts(rt: HostRuntime) {
+    let mut board = Board::new(rt.alloc(), 3, 1).expect(&rt, "a board");
+    let (mut posts, last) = apart(board.posts().expect(&rt, "posts"));
     assert!(rt; last.is_some());
+    assert_eq!(rt; meet_all(&mut []), Err(MeetError::NotAllPosts));
     assert_eq!(rt; meet_all(posts.as_mut_slice()), Err(MeetError::NotAllPosts));
-    Ok(())
+}
+
+/// A message of the third waits at the first, and one of the second is sent.
+static MET: [(usize, Call); 3] = [
+    (2, Call::Send(1, b'y', Ok(1))),
+    (1, Call::Gets(3, b"x", &[])),
+    (1, Call::Gets(2, b"y", &[1])),
+];
+
+/// They meet.
+fn they_meet(posts: &mut [Post])
+    requires { AreOfOneBoard posts.old }
+    ensures { AreOfOneBoard posts.new }
+{
+    meet(posts);
 }
 
 /// Two of three meet, while a message of the third is on its way to one of them.
+fn two_meet(rt: &impl Abort, alloc: Global, posts: &mut [Post], third: &mut Post)
+    requires { AreOfOneBoard posts.old }
+{
+    assert_eq!(rt; send(rt, alloc, third, 1, b'x'), Ok(1));
+    they_meet(posts);
+    make_all(rt, alloc, posts, &MET);
+}
+
 #[test]
-fn two_of_three(rt: HostRuntime) -> Result<(), Fail> {
-    let alloc = rt.alloc();
-    let mut board = Board::new(alloc, 3, 1)?;
-    let mut posts = board.posts()?;
-    let mut third = posts.pop().ok_or("three posts")?;
-    assert_eq!(rt; send(&rt, alloc, &mut third, 1, b'x'), Ok(1));
-    meet(posts.as_mut_slice());
-    assert!(rt; posts.len() == 2);
-    assert_eq!(rt; send(&rt, alloc, &mut posts[1], 1, b'y'), Ok(1));
-    gets(&rt, &mut posts[0], 3, b'x', &[]);
-    gets(&rt, &mut posts[0], 2, b'y', &[1]);
-    Ok(())
+fn two_of_three(rt: HostRuntime) {
+    let mut board = Board::new(rt.alloc(), 3, 1).expect(&rt, "a board");
+    let (mut posts, third) = apart(board.posts().expect(&rt, "posts"));
+    let mut third = third.expect(&rt, "a third post");
+    two_meet(&rt, rt.alloc(), posts.as_mut_slice(), &mut third);
 }

@@ -2,27 +2,26 @@
 use crate::tables::{Call, Missed, Turns, play, play_turns};
 use board::{Board, BoardError, CloseError, PostsError, RegionError, SendError, TakeError};
 use chart::MAX_EVENTS;
-use std::test::Fail;
+
+/// Instances and slots of no board, and why.
+static NO_BOARDS: [(usize, usize, BoardError); 5] = [
+    (0, 1, BoardError::Instances),
+    (1, 0, BoardError::Instances),
+    (33, 65, BoardError::Instances),
+    (2, 0, BoardError::Capacity),
+    (32, 65, BoardError::Capacity),
+];
 
 #[test]
-fn a_board_within_limits(rt: HostRuntime) -> Result<(), Fail> {
-    let alloc = rt.alloc();
-    for (instances, capacity) in [(0, 1), (1, 0), (33, 65)] {
-        assert_eq!(rt;
-            Board::new(alloc, instances, capacity).err(),
-            Some(BoardError::Instances)
-        );
+fn a_board_within_limits(rt: HostRuntime) {
+    for (instances, capacity, error) in &NO_BOARDS {
+        let refused = Board::new(rt.alloc(), *instances, *capacity).err();
+        assert_eq!(rt; refused, Some(*error));
     }
-    for (instances, capacity) in [(2, 0), (32, 65)] {
-        assert_eq!(rt;
-            Board::new(alloc, instances, capacity).err(),
-            Some(BoardError::Capacity)
-        );
-    }
-    let mut board = Board::new(alloc, 32, 64)?;
-    assert_eq!(rt; board.posts()?.len(), 32);
+    let mut board = Board::new(rt.alloc(), 32, 64).expect(&rt, "a board");
+    let many = board.posts().expect(&rt, "posts").len();
+    assert_eq!(rt; many, 32);
     assert!(rt; matches!(board.posts(), Err(PostsError::PostsTaken)));
-    Ok(())
 }
 
 static NO_SUCH_PARTNER: [(usize, Call); 8] = [

@@ -1,11 +1,10 @@
 //! The worked schedules as calls of posts, with a meeting of all posts before each: their charts, races and notes are
 //! those of `cases/`.
-ghost use Rattle.std.specs.Prelude.{◌≡◌};
 ghost use Rattle.board.specs.Meeting.{AreOfOneBoard};
 
 use crate::calls::{instance, name};
 use crate::meetings::all_meet;
-use crate::tables::{Call, Missed, make};
+use crate::tables::{Call, Missed, make_at};
 use board::{Board, Post, SendError};
 use chart::Event;
 use std::alloc::Global;
@@ -56,8 +55,7 @@ fn meet_and_make(rt: &impl Abort, alloc: Global, posts: &mut [Post], by: usize, 
     ensures { AreOfOneBoard posts.new }
 {
     all_meet(rt, posts);
-    assert!(rt; 1 <= by && by <= posts.len());
-    make(rt, alloc, &mut posts[by - 1], call);
+    make_at(rt, alloc, posts, by, call);
 }
 
 /// Makes the calls, each by an instance, with a meeting before each.

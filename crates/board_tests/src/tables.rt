@@ -1,5 +1,6 @@
 //! Tables of calls: what posts are asked, and what they answer.
 ghost use Rattle.std.specs.Prelude.{◌≡◌, ◌≤◌};
+ghost use Rattle.board.specs.Meeting.{AreOfOneBoard};
 
 use crate::calls::{are_named, gets, have_come, instance, message, messages, send};
 use board::{
@@ -148,7 +149,7 @@ fn misses_all(rt: &impl Abort, post: &mut Post, from: usize, max: usize) -> Miss
 }
 
 /// Makes the call, which answers so.
-pub fn make(rt: &impl Abort, alloc: Global, post: &mut Post, call: &Call)
+fn make(rt: &impl Abort, alloc: Global, post: &mut Post, call: &Call)
     ensures { post.new.board ≡ post.old.board }
 {
     match *call {
@@ -178,13 +179,22 @@ pub fn make(rt: &impl Abort, alloc: Global, post: &mut Post, call: &Call)
     }
 }
 
+/// The post of this number makes the call.
+pub fn make_at(rt: &impl Abort, alloc: Global, posts: &mut [Post], by: usize, call: &Call)
+    requires { AreOfOneBoard posts.old }
+    ensures { AreOfOneBoard posts.new }
+{
+    assert!(rt; 1 <= by && by <= posts.len());
+    make(rt, alloc, &mut posts[by - 1], call);
+}
+
 /// Makes the calls, each by an instance.
-fn make_all(rt: &impl Abort, alloc: Global, posts: &mut [Post], calls: &[(usize, Call)]) {
+pub fn make_all(rt: &impl Abort, alloc: Global, posts: &mut [Post], calls: &[(usize, Call)])
+    requires { AreOfOneBoard posts.old }
+    ensures { AreOfOneBoard posts.new }
+{
     for (by, call) in calls {
-        assert!(rt; 1 <= *by && *by <= posts.len());
-        let post = &mut posts[*by - 1];
-        assert_eq!(rt; post.number().number(), *by);
-        make(rt, alloc, post, call);
+        make_at(rt, alloc, posts, *by, call);
     }
 }
 

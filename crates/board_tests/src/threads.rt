@@ -9,7 +9,6 @@ use chart::{InstanceNo, MAX_EVENTS, Message, Name};
 use std::alloc::Global;
 use std::process::Abort;
 use std::sync::Wait;
-use std::test::Fail;
 use std::thread;
 use std::thread::Threads;
 
@@ -198,27 +197,24 @@ fn pass<R: Threads + Wait + Abort + Sync>(
     calls: Calls,
     capacity: usize,
     many: u32,
-) -> Result<(), Fail> {
-    let mut board = Board::new(alloc, 2, capacity)?;
-    let mut posts = board.posts()?;
-    let second = posts.pop().ok_or("two posts")?;
-    let first = posts.pop().ok_or("two posts")?;
+) {
+    let mut board = Board::new(alloc, 2, capacity).expect(rt, "a board");
+    let mut posts = board.posts().expect(rt, "posts");
+    let second = posts.pop().expect(rt, "a post");
+    let first = posts.pop().expect(rt, "another post");
     hold(rt, alloc, calls, first, second, many);
-    Ok(())
 }
 
 #[test]
-fn two_holders(rt: HostRuntime) -> Result<(), Fail> {
-    pass(&rt, rt.alloc(), Calls::Single, 1, 2)
+fn two_holders(rt: HostRuntime) {
+    pass(&rt, rt.alloc(), Calls::Single, 1, 2);
 }
 
 #[test]
-fn two_thousand_messages(rt: HostRuntime) -> Result<(), Fail> {
-    let alloc = rt.alloc();
+fn two_thousand_messages(rt: HostRuntime) {
     for calls in [Calls::Single, Calls::Several] {
-        pass(&rt, alloc, calls, 64, 2000)?;
+        pass(&rt, rt.alloc(), calls, 64, 2000);
     }
-    Ok(())
 }
 
 /// How many messages an instance of four sends to another one: its line is then full.
@@ -288,12 +284,10 @@ fn fill_lines<R: Threads + Abort + Sync>(rt: &R, alloc: Global, posts: &mut [Pos
 }
 
 #[test]
-fn four_to_full_lines(rt: HostRuntime) -> Result<(), Fail> {
-    let alloc = rt.alloc();
+fn four_to_full_lines(rt: HostRuntime) {
     for capacity in [1, 64] {
-        let mut board = Board::new(alloc, 4, capacity)?;
-        let mut posts = board.posts()?;
-        fill_lines(&rt, alloc, posts.as_mut_slice());
+        let mut board = Board::new(rt.alloc(), 4, capacity).expect(&rt, "a board");
+        let mut posts = board.posts().expect(&rt, "posts");
+        fill_lines(&rt, rt.alloc(), posts.as_mut_slice());
     }
-    Ok(())
 }

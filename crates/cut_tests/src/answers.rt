@@ -1,7 +1,7 @@
 //! What the program writes and says, with each put to standard output and to standard error refused in turn.
 
 use crate::slow::is_cut;
-use crate::worked::{Worked, worked_texts};
+use crate::worked::{WORKED, Worked};
 use slow_out::SlowOut;
 use std::alloc::Global;
 use std::process::Abort;
@@ -36,7 +36,7 @@ fn is_performed(
 
 #[test]
 fn answers_are_cut_at_each_byte(rt: HostRuntime) {
-    for worked in &worked_texts() {
+    for worked in &WORKED {
         for many_written in 0..=worked.written.len() {
             for many_said in 0..=LONGEST_LINE {
                 is_performed(&rt, rt.alloc(), worked, many_written, many_said);

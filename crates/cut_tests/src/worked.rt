@@ -23,35 +23,33 @@ pub const CHART: &[u8] =
     b"msc run;\ninstance a;\nout x to b;\nendinstance;\ninstance b;\nout m to c;\nin y from c;\nin x from a;\nendinstance;\ninstance c;\nin m from b;\nout y to b;\nendinstance;\nendmsc;\n";
 
 /// A replay, a check, and a refusal of each.
-pub fn worked_texts() -> [Worked<'static>; 4] {
-    [
-        Worked {
-            task: Task::Replay,
-            text: SCHEDULE,
-            written: OUTCOME,
-            said: b"",
-            status: 1,
-        },
-        Worked {
-            task: Task::Check,
-            text: CHART,
-            written: b"race b 1 3\nrace b 2 3\n",
-            said: b"",
-            status: 1,
-        },
-        Worked {
-            task: Task::Replay,
-            text: b"instances a b\ncapacity 1\na send b x-y\n",
-            written: b"",
-            said: b"refused: F3 NameBadByte 3 2\n",
-            status: 2,
-        },
-        Worked {
-            task: Task::Check,
-            text: b"msc run;\ninstance a;\nin x from b;\nendinstance;\ninstance b;\nendinstance;\nendmsc;\n",
-            written: b"",
-            said: b"refused: F16 ReceiveWithoutSend a 1\n",
-            status: 2,
-        },
-    ]
-}
+pub static WORKED: [Worked; 4] = [
+    Worked {
+        task: Task::Replay,
+        text: SCHEDULE,
+        written: OUTCOME,
+        said: b"",
+        status: 1,
+    },
+    Worked {
+        task: Task::Check,
+        text: CHART,
+        written: b"race b 1 3\nrace b 2 3\n",
+        said: b"",
+        status: 1,
+    },
+    Worked {
+        task: Task::Replay,
+        text: b"instances a b\ncapacity 1\na send b x-y\n",
+        written: b"",
+        said: b"refused: F3 NameBadByte 3 2\n",
+        status: 2,
+    },
+    Worked {
+        task: Task::Check,
+        text: b"msc run;\ninstance a;\nin x from b;\nendinstance;\ninstance b;\nendinstance;\nendmsc;\n",
+        written: b"",
+        said: b"refused: F16 ReceiveWithoutSend a 1\n",
+        status: 2,
+    },
+];

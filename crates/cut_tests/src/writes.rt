@@ -7,29 +7,26 @@ use msc_text::write;
 use replayer::replay;
 use schedule::Schedule;
 use slow_out::SlowOut;
-use std::test::Fail;
 
 #[test]
-fn charts_are_cut_at_each_byte(rt: HostRuntime) -> Result<(), Fail> {
-    let (names, chart) = read(rt.alloc(), CHART)?;
+fn charts_are_cut_at_each_byte(rt: HostRuntime) {
+    let (names, chart) = read(rt.alloc(), CHART).expect(&rt, "a chart");
     for many in 0..=CHART.len() {
         let mut out = SlowOut::new(rt.alloc(), many);
         let is_written = write(&names, &chart, &mut out).is_ok();
         assert_eq!(rt; is_written, many == CHART.len(), "at {many}");
         is_cut(&rt, &out, CHART, many);
     }
-    Ok(())
 }
 
 #[test]
-fn outcomes_are_cut_at_each_byte(rt: HostRuntime) -> Result<(), Fail> {
-    let schedule = Schedule::read(rt.alloc(), SCHEDULE)?;
-    let outcome = replay(rt.alloc(), &schedule)?;
+fn outcomes_are_cut_at_each_byte(rt: HostRuntime) {
+    let schedule = Schedule::read(rt.alloc(), SCHEDULE).expect(&rt, "a schedule");
+    let outcome = replay(rt.alloc(), &schedule).expect(&rt, "an outcome");
     for many in 0..=OUTCOME.len() {
         let mut out = SlowOut::new(rt.alloc(), many);
         let is_written = outcome.write(&mut out).is_ok();
         assert_eq!(rt; is_written, many == OUTCOME.len(), "at {many}");
         is_cut(&rt, &out, OUTCOME, many);
     }
-    Ok(())
 }

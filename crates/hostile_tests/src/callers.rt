@@ -16,9 +16,6 @@ pub trait Caller<'a>: Drop {
 
     /// Receives a message from whichever instance has one.
     fn any(&mut self) -> Result<Option<Arrival>, TakeError>;
-
-    /// How many events its line has.
-    fn events(&self) -> usize;
 }
 
 /// A message, if one was taken.
@@ -47,10 +44,6 @@ impl<'a> Caller<'a> for Mailbox<'a> {
 
     fn any(&mut self) -> Result<Option<Arrival>, TakeError> {
         Ok(arrival(Mailbox::any(self)?))
-    }
-
-    fn events(&self) -> usize {
-        self.line().len()
     }
 }
 
@@ -88,10 +81,6 @@ impl<'a> Caller<'a> for Single<'a> {
             self.last = Some(arrival.from);
         }
         Ok(found)
-    }
-
-    fn events(&self) -> usize {
-        self.post.line().len()
     }
 }
 
@@ -134,9 +123,5 @@ impl<'a> Caller<'a> for Listed<'a> {
 
     fn any(&mut self) -> Result<Option<Arrival>, TakeError> {
         self.single.any()
-    }
-
-    fn events(&self) -> usize {
-        self.single.events()
     }
 }

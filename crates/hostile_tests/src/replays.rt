@@ -1,7 +1,8 @@
 //! Replays of worked schedules with each growth of memory refused in turn: each refused call is made once more, and
 //! then answers in full.
+use crate::calls::every_growth_was_refused;
 use msc_text::StreamOut;
-use outcomes::{Outcome, ReplayError};
+use outcomes::Outcome;
 use replayer::replay;
 use schedule::Schedule;
 use std::alloc::Global;
@@ -40,10 +41,7 @@ pub fn schedule_of(rt: &impl Abort, alloc: Global, text: &[u8]) -> Schedule {
 pub fn outcome_of<'a>(rt: &impl Abort, alloc: Global, schedule: &'a Schedule) -> Outcome<'a> {
     match replay(alloc, schedule) {
         Ok(outcome) => outcome,
-        Err(error) => {
-            assert_eq!(rt; error, ReplayError::Memory);
-            replay(alloc, schedule).expect(rt, "an outcome")
-        }
+        Err(_) => replay(alloc, schedule).expect(rt, "an outcome"),
     }
 }
 
@@ -60,12 +58,9 @@ fn has_text(rt: &impl Abort, outcome: &Outcome, text: &[u8]) {
 
 #[test]
 fn refused_growths_of_replays(rt: HostRuntime) -> Result<(), Fail> {
-    let alloc = rt.alloc();
     for (text, written) in &TEXTS {
-        let schedule = schedule_of(&rt, alloc, text);
-        let outcome = outcome_of(&rt, alloc, &schedule);
-        has_text(&rt, &outcome, written);
+        let schedule = schedule_of(&rt, rt.alloc(), text);
+        has_text(&rt, &outcome_of(&rt, rt.alloc(), &schedule), written);
     }
-    Vec::<u8>::with_capacity(alloc, 1).map_err(|_| "every growth was refused")?;
-    Ok(())
+    every_growth_was_refused(rt.alloc())
 }

@@ -1,5 +1,5 @@
 //! Sends with room: once it is there, they take no memory.
-use crate::calls::{instance, message};
+use crate::calls::{every_growth_was_refused, instance, message};
 use board::{Board, Post};
 use chart::MAX_EVENTS;
 use std::alloc::Global;
@@ -25,13 +25,11 @@ fn sends_with_room(rt: &impl Abort, alloc: Global, post: &mut Post) {
 /// It also holds where not one growth is refused but all from there on.
 #[test]
 fn refused_growths_from_there_on(rt: HostRuntime) -> Result<(), Fail> {
-    let alloc = rt.alloc();
-    if let Ok(mut board) = Board::new(alloc, 8, MESSAGES) {
+    if let Ok(mut board) = Board::new(rt.alloc(), 8, MESSAGES) {
         if let Ok(mut posts) = board.posts() {
-            assert!(rt; posts.len() >= 1);
-            sends_with_room(&rt, alloc, &mut posts[0]);
+            let post = posts.get_mut(0).expect(&rt, "a post");
+            sends_with_room(&rt, rt.alloc(), post);
         }
     }
-    Vec::<u8>::with_capacity(alloc, 1).map_err(|_| "every growth was refused")?;
-    Ok(())
+    every_growth_was_refused(rt.alloc())
 }

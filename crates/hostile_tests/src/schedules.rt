@@ -19,52 +19,50 @@ pub struct Worked<'d> {
     pub deeds: &'d [(usize, Deed)],
 }
 
-static REPLY: [(usize, Deed); 6] = [
-    (1, Deed::Sends(b'x', 2)),
-    (2, Deed::Gets(b'x', 1, None)),
-    (2, Deed::Sends(b'm', 3)),
-    (3, Deed::Gets(b'm', 2, None)),
-    (3, Deed::Sends(b'y', 2)),
-    (2, Deed::Gets(b'y', 3, None)),
-];
-
-static CROSSING: [(usize, Deed); 4] = [
-    (1, Deed::Sends(b'q', 2)),
-    (2, Deed::Sends(b'p', 1)),
-    (1, Deed::Gets(b'p', 2, Some(1))),
-    (2, Deed::Gets(b'q', 1, Some(1))),
-];
-
-static TURNS: [(usize, Deed); 6] = [
-    (1, Deed::Sends(b'x', 2)),
-    (1, Deed::Sends(b'z', 2)),
-    (3, Deed::Sends(b'y', 2)),
-    (2, Deed::GetsAny(b'x', 1, None)),
-    (2, Deed::GetsAny(b'y', 3, Some(1))),
-    (2, Deed::GetsAny(b'z', 1, Some(2))),
-];
-
-static NINE: [(usize, Deed); 4] = [
-    (9, Deed::Sends(b'x', 1)),
-    (8, Deed::Sends(b'y', 1)),
-    (1, Deed::GetsAny(b'y', 8, None)),
-    (1, Deed::GetsAny(b'x', 9, Some(1))),
-];
-
 /// `no_race_through_a_reply`, `crossing_messages_race`, `any_takes_turns`, and the one among nine instances.
-pub fn worked_schedules() -> [Worked<'static>; 4] {
-    [
-        schedule(3, 1, REPLY.as_slice()),
-        schedule(2, 1, CROSSING.as_slice()),
-        schedule(3, 2, TURNS.as_slice()),
-        schedule(9, 1, NINE.as_slice()),
-    ]
-}
-
-fn schedule<'d>(instances: usize, capacity: usize, deeds: &'d [(usize, Deed)]) -> Worked<'d> {
+pub static WORKED: [Worked; 4] = [
     Worked {
-        instances,
-        capacity,
-        deeds,
-    }
-}
+        instances: 3,
+        capacity: 1,
+        deeds: &[
+            (1, Deed::Sends(b'x', 2)),
+            (2, Deed::Gets(b'x', 1, None)),
+            (2, Deed::Sends(b'm', 3)),
+            (3, Deed::Gets(b'm', 2, None)),
+            (3, Deed::Sends(b'y', 2)),
+            (2, Deed::Gets(b'y', 3, None)),
+        ],
+    },
+    Worked {
+        instances: 2,
+        capacity: 1,
+        deeds: &[
+            (1, Deed::Sends(b'q', 2)),
+            (2, Deed::Sends(b'p', 1)),
+            (1, Deed::Gets(b'p', 2, Some(1))),
+            (2, Deed::Gets(b'q', 1, Some(1))),
+        ],
+    },
+    Worked {
+        instances: 3,
+        capacity: 2,
+        deeds: &[
+            (1, Deed::Sends(b'x', 2)),
+            (1, Deed::Sends(b'z', 2)),
+            (3, Deed::Sends(b'y', 2)),
+            (2, Deed::GetsAny(b'x', 1, None)),
+            (2, Deed::GetsAny(b'y', 3, Some(1))),
+            (2, Deed::GetsAny(b'z', 1, Some(2))),
+        ],
+    },
+    Worked {
+        instances: 9,
+        capacity: 1,
+        deeds: &[
+            (9, Deed::Sends(b'x', 1)),
+            (8, Deed::Sends(b'y', 1)),
+            (1, Deed::GetsAny(b'y', 8, None)),
+            (1, Deed::GetsAny(b'x', 9, Some(1))),
+        ],
+    },
+];

@@ -1,8 +1,9 @@
 //! The charts of worked schedules, searched and audited with each growth of memory refused in turn: each refused call
 //! is made once more, and then answers in full.
+use crate::calls::every_growth_was_refused;
 use crate::replays::{TEXTS, outcome_of, schedule_of};
 use chart::{Chart, EventNo, Report};
-use closure::{AuditError, ChartError, Closure, audit};
+use closure::{Closure, audit};
 use outcomes::Outcome;
 use std::alloc::Global;
 use std::process::Abort;
@@ -12,13 +13,7 @@ use std::test::Fail;
 fn closure_of<'a>(rt: &impl Abort, alloc: Global, chart: &'a Chart) -> Closure<'a> {
     match Closure::of(alloc, chart) {
         Ok(closure) => closure,
-        Err(error) => {
-            assert_eq!(rt; error, ChartError::Memory);
-            match Closure::of(alloc, chart) {
-                Ok(closure) => closure,
-                Err(_) => panic!(rt; "a closure"),
-            }
-        }
+        Err(_) => Closure::of(alloc, chart).expect(rt, "a closure"),
     }
 }
 
@@ -58,8 +53,7 @@ fn finds(rt: &impl Abort, closure: &Closure, reports: &[Report]) {
 
 /// The audit accepts the chart with its reports.
 fn accepts(rt: &impl Abort, alloc: Global, chart: &Chart, reports: &[Report]) {
-    if let Err(error) = audit(alloc, chart, reports) {
-        assert_eq!(rt; error, AuditError::Chart(ChartError::Memory));
+    if audit(alloc, chart, reports).is_err() {
         assert!(rt; audit(alloc, chart, reports).is_ok());
     }
 }
@@ -73,12 +67,9 @@ fn is_searched(rt: &impl Abort, alloc: Global, outcome: &Outcome) {
 
 #[test]
 fn refused_growths_of_searches(rt: HostRuntime) -> Result<(), Fail> {
-    let alloc = rt.alloc();
     for (text, _) in &TEXTS {
-        let schedule = schedule_of(&rt, alloc, text);
-        let outcome = outcome_of(&rt, alloc, &schedule);
-        is_searched(&rt, alloc, &outcome);
+        let schedule = schedule_of(&rt, rt.alloc(), text);
+        is_searched(&rt, rt.alloc(), &outcome_of(&rt, rt.alloc(), &schedule));
     }
-    Vec::<u8>::with_capacity(alloc, 1).map_err(|_| "every growth was refused")?;
-    Ok(())
+    every_growth_was_refused(rt.alloc())
 }

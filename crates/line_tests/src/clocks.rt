@@ -1,86 +1,114 @@
 //! Each call with memory, the worked differences, and each refusal of memory at nine instances.
 //!
 //! Where memory is refused, the same call is made once more, and gives the full answer.
-ghost use Rattle.std.specs.Prelude.{◌≡◌, ◌≤◌, length, IfOk};
+ghost use Rattle.std.specs.Prelude.{◌≡◌, ◌≤◌, length, All};
 
+use crate::named::{every_growth_was_refused, instance};
 use chart::{InstanceNo, MAX_INSTANCES};
-use clock::{Change, Clock, Diff};
-use std::alloc::{AllocError, Global};
+use clock::{Clock, Diff};
+use std::alloc::Global;
 use std::process::Abort;
 use std::test::Fail;
 
-/// The clock with these entries.
-fn clock(alloc: Global, entries: &[u32]) -> Result<Clock, AllocError>
-    requires at_least_two { 2 ≤ length entries.now }
-    requires at_most { length entries.now ≤ MAX_INSTANCES }
-    ensures { IfOk result (λ clock. length clock ≡ length entries.now) }
+/// The clock of no events, asked for once more where memory was refused.
+pub fn zero(rt: &impl Abort, alloc: Global, n: usize) -> Clock
+    requires at_least_two { 2 ≤ n }
+    requires at_most { n ≤ MAX_INSTANCES }
+    ensures { length result ≡ n }
 {
-    let mut clock = Clock::zero(alloc, entries.len())?;
-    for (place, entry) in entries.iter().enumerate() {
-        clock = clock.stamped(alloc, InstanceNo::at_place(place), *entry)?;
+    match Clock::zero(alloc, n) {
+        Ok(clock) => clock,
+        Err(_) => Clock::zero(alloc, n).expect(rt, "a clock"),
     }
-    Ok(clock)
+}
+
+/// The stamped clock, asked for alike.
+fn stamped(rt: &impl Abort, alloc: Global, clock: &Clock, p: InstanceNo, entry: u32) -> Clock
+    requires { p ≤ length clock.now }
+    ensures { length result ≡ length clock.now }
+{
+    match clock.stamped(alloc, p, entry) {
+        Ok(stamped) => stamped,
+        Err(_) => clock.stamped(alloc, p, entry).expect(rt, "a clock"),
+    }
+}
+
+/// The clock's difference from the base, asked for alike.
+pub fn difference(rt: &impl Abort, alloc: Global, clock: &Clock, base: &Clock) -> Diff
+    requires { length clock.now ≡ length base.now }
+    ensures { All (λ change. change.instance ≤ length clock.now) result }
+{
+    match clock.diff_from(alloc, base) {
+        Ok(diff) => diff,
+        Err(_) => clock.diff_from(alloc, base).expect(rt, "a difference"),
+    }
+}
+
+/// A copy, asked for alike, is equal to the clock, and not to another one.
+fn copies(rt: &impl Abort, alloc: Global, clock: &Clock, other: &Clock) {
+    let copied = match clock.copied(alloc) {
+        Ok(copied) => copied,
+        Err(_) => clock.copied(alloc).expect(rt, "a copy"),
+    };
+    assert!(rt; copied == *clock && copied != *other);
+}
+
+/// The clock with these entries.
+fn clock(rt: &impl Abort, alloc: Global, entries: &[u32]) -> Clock
+    ensures { length result ≡ length entries.now }
+{
+    assert!(rt; 2 <= entries.len() && entries.len() <= MAX_INSTANCES);
+    let mut clock = zero(rt, alloc, entries.len());
+    for (place, entry) in entries.iter().enumerate() {
+        clock = stamped(rt, alloc, &clock, InstanceNo::at_place(place), *entry);
+    }
+    clock
 }
 
 /// The clock's entries are these.
-fn holds(rt: &impl Abort, clock: &Clock, entries: &[u32]) {
+pub fn holds(rt: &impl Abort, clock: &Clock, entries: &[u32]) {
     assert_eq!(rt; clock.len(), entries.len());
     for (place, entry) in entries.iter().enumerate() {
         assert_eq!(rt; clock.entry(InstanceNo::at_place(place)), *entry);
     }
 }
 
-fn merges(
-    rt: &impl Abort,
-    alloc: Global,
-    ours: &[u32],
-    theirs: &[u32],
-    merged: &[u32],
-) -> Result<(), AllocError> {
-    assert!(rt; 2 <= ours.len() && ours.len() <= MAX_INSTANCES);
+fn merges(rt: &impl Abort, alloc: Global, ours: &[u32], theirs: &[u32], merged: &[u32]) {
     assert!(rt; ours.len() == theirs.len());
-    let mut clock_of_ours = clock(alloc, ours).or_else(|_| clock(alloc, ours))?;
-    let clock_of_theirs = clock(alloc, theirs).or_else(|_| clock(alloc, theirs))?;
+    let mut clock_of_ours = clock(rt, alloc, ours);
+    let clock_of_theirs = clock(rt, alloc, theirs);
     clock_of_ours.merge(&clock_of_theirs);
     holds(rt, &clock_of_ours, merged);
     holds(rt, &clock_of_theirs, theirs);
-    Ok(())
 }
 
-fn stamps(
-    rt: &impl Abort,
-    alloc: Global,
-    entries: &[u32],
-    number: usize,
-    stamped: &[u32],
-) -> Result<(), AllocError> {
-    let p = InstanceNo::new(number).expect(rt, "an instance");
-    assert!(rt; 2 <= entries.len() && entries.len() <= MAX_INSTANCES);
+fn stamps(rt: &impl Abort, alloc: Global, entries: &[u32], number: usize, after: &[u32]) {
+    let p = instance(rt, number);
     assert!(rt; p.number() <= entries.len());
-    let before = clock(alloc, entries).or_else(|_| clock(alloc, entries))?;
-    let after = before
-        .stamped(alloc, p, 77)
-        .or_else(|_| before.stamped(alloc, p, 77))?;
-    holds(rt, &after, stamped);
+    let before = clock(rt, alloc, entries);
+    let stamped = stamped(rt, alloc, &before, p, 77);
+    holds(rt, &stamped, after);
     holds(rt, &before, entries);
-    copies(rt, alloc, &before, &after)
-}
-
-/// A copy is equal to the clock, and not to another one.
-fn copies(rt: &impl Abort, alloc: Global, clock: &Clock, other: &Clock) -> Result<(), AllocError> {
-    let copied = clock.copied(alloc).or_else(|_| clock.copied(alloc))?;
-    assert!(rt; copied == *clock && copied != *other);
-    Ok(())
+    copies(rt, alloc, &before, &stamped);
 }
 
 /// The difference lists these instances with these entries.
-fn lists(rt: &impl Abort, diff: &Diff, changes: &[(usize, u32)]) {
+pub fn lists(rt: &impl Abort, diff: &Diff, changes: &[(usize, u32)]) {
     assert_eq!(rt; diff.len(), changes.len());
     assert_eq!(rt; diff.is_empty(), changes.is_empty());
     for (change, (number, entry)) in diff.changes().iter().zip(changes) {
         assert_eq!(rt; change.instance.number(), *number);
         assert_eq!(rt; change.entry, *entry);
     }
+}
+
+/// A difference that was asked for again is the same, and the one the other way round is not, unless there is none.
+fn is_asked_again(rt: &impl Abort, alloc: Global, diff: &Diff, clock: &Clock, base: &Clock)
+    requires { length clock.now ≡ length base.now }
+{
+    assert!(rt; difference(rt, alloc, clock, base) == *diff);
+    let back = difference(rt, alloc, base, clock);
+    assert_eq!(rt; back == *diff, diff.is_empty());
 }
 
 /// The difference lists these instances with these entries, and makes the base the clock.
@@ -90,28 +118,24 @@ fn differs(
     base: &[u32],
     entries: &[u32],
     changes: &[(usize, u32)],
-) -> Result<(), AllocError> {
-    assert!(rt; 2 <= entries.len() && entries.len() <= MAX_INSTANCES);
+) {
     assert!(rt; entries.len() == base.len());
-    let after = clock(alloc, entries).or_else(|_| clock(alloc, entries))?;
-    let mut before = clock(alloc, base).or_else(|_| clock(alloc, base))?;
-    let diff = after
-        .diff_from(alloc, &before)
-        .or_else(|_| after.diff_from(alloc, &before))?;
+    let after = clock(rt, alloc, entries);
+    let mut before = clock(rt, alloc, base);
+    let diff = difference(rt, alloc, &after, &before);
     lists(rt, &diff, changes);
+    is_asked_again(rt, alloc, &diff, &after, &before);
     before.apply(&diff);
-    assert_eq!(rt; before, after);
-    Ok(())
+    assert!(rt; before == after);
 }
 
 #[test]
-fn zeros(rt: HostRuntime) -> Result<(), Fail> {
-    let alloc = rt.alloc();
-    holds(&rt, &Clock::zero(alloc, 3)?, &[0, 0, 0]);
-    holds(&rt, &Clock::zero(alloc, 8)?, &[0; 8]);
-    let nine = Clock::zero(alloc, 9).or_else(|_| Clock::zero(alloc, 9))?;
-    holds(&rt, &nine, &[0; 9]);
-    Ok(())
+fn zeros(rt: HostRuntime) {
+    for entries in [[0; 3].as_slice(), &[0; 8], &[0; 9]] {
+        let many = entries.len();
+        assert!(rt; 2 <= many && many <= MAX_INSTANCES);
+        holds(&rt, &zero(&rt, rt.alloc(), many), entries);
+    }
 }
 
 /// Two clocks, and the one merged with the other.
@@ -125,11 +149,10 @@ static MERGES: [[&[u32]; 3]; 2] = [
 ];
 
 #[test]
-fn merged_clocks(rt: HostRuntime) -> Result<(), Fail> {
+fn merged_clocks(rt: HostRuntime) {
     for [ours, theirs, merged] in &MERGES {
-        merges(&rt, rt.alloc(), ours, theirs, merged)?;
+        merges(&rt, rt.alloc(), ours, theirs, merged);
     }
-    Ok(())
 }
 
 /// A clock, whose entry is stamped, and the clock after that.
@@ -143,11 +166,10 @@ static STAMPS: [(&[u32], usize, &[u32]); 2] = [
 ];
 
 #[test]
-fn stamped_clocks(rt: HostRuntime) -> Result<(), Fail> {
+fn stamped_clocks(rt: HostRuntime) {
     for (entries, number, stamped) in &STAMPS {
-        stamps(&rt, rt.alloc(), entries, *number, stamped)?;
+        stamps(&rt, rt.alloc(), entries, *number, stamped);
     }
-    Ok(())
 }
 
 /// A base, a clock, and how it differs from the base.
@@ -162,11 +184,10 @@ static DIFFERENCES: [Difference; 5] = [
 ];
 
 #[test]
-fn differences(rt: HostRuntime) -> Result<(), Fail> {
+fn differences(rt: HostRuntime) {
     for (base, entries, changes) in &DIFFERENCES {
-        differs(&rt, rt.alloc(), base, entries, changes)?;
+        differs(&rt, rt.alloc(), base, entries, changes);
     }
-    Ok(())
 }
 
 static DIFFERENCES_OF_NINE: [Difference; 2] = [
@@ -193,57 +214,38 @@ static DIFFERENCES_OF_NINE: [Difference; 2] = [
 ];
 
 #[test]
-fn differences_of_nine(rt: HostRuntime) -> Result<(), Fail> {
+fn differences_of_nine(rt: HostRuntime) {
     for (base, entries, changes) in &DIFFERENCES_OF_NINE {
-        differs(&rt, rt.alloc(), base, entries, changes)?;
+        differs(&rt, rt.alloc(), base, entries, changes);
     }
-    Ok(())
 }
 
-/// The clock is equal to a copy, and its difference from the base, of so many entries, to another such difference. Each
-/// call is made once.
-fn compares(
-    rt: &impl Abort,
-    alloc: Global,
-    clock: &Clock,
-    base: &Clock,
-    changes: usize,
-) -> Result<(), AllocError> {
-    assert!(rt; clock.len() == base.len());
-    assert_eq!(rt; clock.copied(alloc)?, *clock);
-    let diff = clock.diff_from(alloc, base)?;
-    assert_eq!(rt; diff.len(), changes);
-    assert_eq!(rt; diff, clock.diff_from(alloc, base)?);
-    assert_ne!(rt; diff, base.diff_from(alloc, base)?);
-    Ok(())
-}
+/// Up to eight instances a difference lies in place.
+static DIFFERENCE_OF_EIGHT: Difference = (
+    &[0, 0, 0, 0, 0, 0, 0, 0],
+    &[1, 2, 3, 4, 5, 6, 7, 8],
+    &[
+        (1, 1),
+        (2, 2),
+        (3, 3),
+        (4, 4),
+        (5, 5),
+        (6, 6),
+        (7, 7),
+        (8, 8),
+    ],
+);
 
-static EIGHT: [u32; 8] = [1, 2, 3, 4, 5, 6, 7, 8];
-
-/// Up to eight instances no memory is taken, so no refusal comes.
 #[test]
-fn difference_of_eight(rt: HostRuntime) -> Result<(), Fail> {
-    let alloc = rt.alloc();
-    let entries = EIGHT.as_slice();
-    assert!(rt; entries.len() == 8);
-    let zero = Clock::zero(alloc, 8)?;
-    compares(&rt, alloc, &clock(alloc, entries)?, &zero, 8)?;
-    Ok(())
+fn difference_of_eight(rt: HostRuntime) {
+    let (base, entries, changes) = DIFFERENCE_OF_EIGHT;
+    differs(&rt, rt.alloc(), base, entries, changes);
 }
 
 /// Past eight instances a clock lies on the heap. Where its growth is refused, the same call gives the full answer.
 #[test]
 fn refused_growths(rt: HostRuntime) -> Result<(), Fail> {
-    let alloc = rt.alloc();
-    let zero = Clock::zero(alloc, 9).or_else(|_| Clock::zero(alloc, 9))?;
-    let ninth = InstanceNo::at_place(8);
-    let stamped = zero
-        .stamped(alloc, ninth, 7)
-        .or_else(|_| zero.stamped(alloc, ninth, 7))?;
-    let copied = stamped.copied(alloc).or_else(|_| stamped.copied(alloc))?;
-    holds(&rt, &zero, &[0; 9]);
-    holds(&rt, &copied, &[0, 0, 0, 0, 0, 0, 0, 0, 7]);
-    // A last growth, whose refusal tells that each one before it was refused in an earlier run of the test.
-    Vec::<u8>::with_capacity(alloc, 1).map_err(|_| "every growth was refused")?;
-    Ok(())
+    let stamped = [0, 0, 0, 0, 0, 0, 0, 0, 77];
+    stamps(&rt, rt.alloc(), &[0; 9], 9, &stamped);
+    every_growth_was_refused(rt.alloc())
 }

@@ -10,6 +10,8 @@ mod clocks;
 #[cfg(test)]
 mod closures;
 #[cfg(test)]
+mod named;
+#[cfg(test)]
 mod races;
 #[cfg(test)]
 mod recorders;

@@ -1,9 +1,11 @@
 //! Worked schedules of three instances, calls at nine instances, and calls whose growth is refused.
-ghost use Rattle.std.specs.Prelude.{◌≡◌, ◌≢◌, ◌≤◌, length};
+ghost use Rattle.std.specs.Prelude.{◌≡◌, ◌≢◌, ◌≤◌, length, All};
 
+use crate::clocks::{difference, holds, lists, zero};
+use crate::named::{every_growth_was_refused, instance, name};
 use chart::{InstanceNo, MAX_INSTANCES, Name, Report};
 use clock::{Clock, Diff};
-use line_recorder::{RecordError, Recorder};
+use line_recorder::Recorder;
 use std::alloc::Global;
 use std::process::Abort;
 use std::test::Fail;
@@ -36,17 +38,14 @@ enum Step {
 
 use Step::{Differs, Knows, Receive, Reported, Send, SendTwo};
 
-fn name(rt: &impl Abort, letter: u8) -> Name {
-    Name::new(&[letter]).expect(rt, "a name")
-}
-
 /// The recorder of one of so many instances, asked for once more where the growth was refused.
 fn one_of(rt: &impl Abort, alloc: Global, p: usize, n: usize) -> Recorder {
-    let p = InstanceNo::new(p).expect(rt, "an instance");
+    let p = instance(rt, p);
     assert!(rt; 2 <= n && n <= MAX_INSTANCES && p.number() <= n);
-    Recorder::new(alloc, p, n)
-        .or_else(|_| Recorder::new(alloc, p, n))
-        .expect(rt, "a recorder")
+    match Recorder::new(alloc, p, n) {
+        Ok(recorder) => recorder,
+        Err(_) => Recorder::new(alloc, p, n).expect(rt, "a recorder"),
+    }
 }
 
 /// Another of the recorder's instances.
@@ -54,32 +53,19 @@ fn other(rt: &impl Abort, recorder: &Recorder, number: usize) -> InstanceNo
     ensures among { result ≤ length recorder.now.knowledge }
     ensures not_itself { result ≢ recorder.now.line.instance }
 {
-    let to = InstanceNo::new(number).expect(rt, "an instance");
+    let to = instance(rt, number);
     assert!(rt; to.number() <= recorder.knowledge().len());
     assert!(rt; to != recorder.line().instance());
     to
 }
 
-/// The clock's entries are these.
-fn holds(rt: &impl Abort, clock: &Clock, entries: &[u32]) {
-    assert_eq!(rt; clock.len(), entries.len());
-    for (place, entry) in entries.iter().enumerate() {
-        assert_eq!(rt; clock.entry(InstanceNo::at_place(place)), *entry);
-    }
-}
-
-/// A send whose clock has these entries, made once more where the growth was refused: that changed nothing.
+/// A send whose clock has these entries, made once more where the growth was refused.
 fn send(rt: &impl Abort, recorder: &mut Recorder, to: usize, letter: u8, entries: &[u32]) -> Clock {
     let to = other(rt, recorder, to);
-    let message = name(rt, letter);
-    let events = recorder.line().len();
+    let message = name(rt, &[letter]);
     let clock = match recorder.send(to, message) {
         Ok(clock) => clock,
-        Err(error) => {
-            assert_eq!(rt; error, RecordError::Memory);
-            assert_eq!(rt; recorder.line().len(), events);
-            recorder.send(to, message).expect(rt, "a send")
-        }
+        Err(_) => recorder.send(to, message).expect(rt, "a send"),
     };
     holds(rt, &clock, entries);
     clock
@@ -88,14 +74,10 @@ fn send(rt: &impl Abort, recorder: &mut Recorder, to: usize, letter: u8, entries
 /// The same of two sends at once.
 fn send_two(rt: &impl Abort, recorder: &mut Recorder, to: usize, names: &[Name]) -> Vec<Clock> {
     let to = other(rt, recorder, to);
-    let events = recorder.line().len();
-    let error = match recorder.send_many(to, names) {
-        Ok(clocks) => return clocks,
-        Err(error) => error,
-    };
-    assert_eq!(rt; error, RecordError::Memory);
-    assert_eq!(rt; recorder.line().len(), events);
-    recorder.send_many(to, names).expect(rt, "two sends")
+    match recorder.send_many(to, names) {
+        Ok(clocks) => clocks,
+        Err(_) => recorder.send_many(to, names).expect(rt, "two sends"),
+    }
 }
 
 /// The report is of the receive of this index, and has these earlier events.
@@ -108,7 +90,7 @@ fn reports(rt: &impl Abort, report: &Report, receive: usize, earlier: &[u32]) {
     }
 }
 
-/// A receive with these races, made once more where the growth was refused: that changed nothing.
+/// A receive with these races, made once more where the growth was refused.
 fn receive(
     rt: &impl Abort,
     recorder: &mut Recorder,
@@ -118,20 +100,13 @@ fn receive(
     earlier: &[u32],
 ) {
     let from = other(rt, recorder, from);
-    let message = name(rt, letter);
+    let message = name(rt, &[letter]);
     assert!(rt; clock.len() == recorder.knowledge().len());
-    let events = recorder.line().len();
-    let kept = recorder.reports().len();
     let report = match recorder.receive(from, message, clock, 0) {
         Ok(report) => report,
-        Err(error) => {
-            assert_eq!(rt; error, RecordError::Memory);
-            assert_eq!(rt; recorder.line().len(), events);
-            assert_eq!(rt; recorder.reports().len(), kept);
-            recorder
-                .receive(from, message, clock, 0)
-                .expect(rt, "a receive")
-        }
+        Err(_) => recorder
+            .receive(from, message, clock, 0)
+            .expect(rt, "a receive"),
     };
     reports(rt, &report, recorder.line().len(), earlier);
 }
@@ -139,19 +114,7 @@ fn receive(
 /// The clock differs from the base by these entries.
 fn differs(rt: &impl Abort, alloc: Global, clock: &Clock, base: &Clock, changes: &[(usize, u32)]) {
     assert!(rt; clock.len() == base.len());
-    let diff = clock.diff_from(alloc, base).expect(rt, "a difference");
-    assert_eq!(rt; diff.len(), changes.len());
-    for (change, (p, entry)) in diff.changes().iter().zip(changes) {
-        assert_eq!(rt; change.instance.number(), *p);
-        assert_eq!(rt; change.entry, *entry);
-    }
-}
-
-fn zero(rt: &impl Abort, alloc: Global, n: usize) -> Clock {
-    assert!(rt; 2 <= n && n <= MAX_INSTANCES);
-    Clock::zero(alloc, n)
-        .or_else(|_| Clock::zero(alloc, n))
-        .expect(rt, "a clock")
+    lists(rt, &difference(rt, alloc, clock, base), changes);
 }
 
 fn keep(rt: &impl Abort, clocks: &mut Vec<Clock>, clock: Clock) {
@@ -169,7 +132,7 @@ fn record(rt: &impl Abort, recorder: &mut Recorder, clocks: &mut Vec<Clock>, ste
             keep(rt, clocks, clock);
         }
         SendTwo(_, to, first, second) => {
-            let two = send_two(rt, recorder, to, &[name(rt, first), name(rt, second)]);
+            let two = send_two(rt, recorder, to, &[name(rt, &[first]), name(rt, &[second])]);
             assert_eq!(rt; two.len(), 2);
             for clock in two {
                 keep(rt, clocks, clock);
@@ -196,6 +159,7 @@ fn play(rt: &impl Abort, alloc: Global, n: usize, steps: &[Step]) {
         one_of(rt, alloc, C, n),
     ];
     let mut clocks = Vec::new(alloc);
+    assert!(rt; 2 <= n && n <= MAX_INSTANCES);
     keep(rt, &mut clocks, zero(rt, alloc, n));
     for step in steps {
         match *step {
@@ -209,7 +173,7 @@ fn play(rt: &impl Abort, alloc: Global, n: usize, steps: &[Step]) {
                 differs(rt, alloc, clock, base, changes);
             }
             Send(at, ..) | SendTwo(at, ..) | Receive(at, ..) | Knows(at, ..) | Reported(at, ..) => {
-                let place = InstanceNo::new(at).expect(rt, "an instance").place();
+                let place = instance(rt, at).place();
                 let recorder = recorders.get_mut(place).expect(rt, "a recorder");
                 record(rt, recorder, &mut clocks, *step);
             }
@@ -269,35 +233,63 @@ fn two_on_one_lane(rt: HostRuntime) {
 
 /// A message whose clock is told as what changed in it: the receiver's base is this clock from then on.
 #[test]
-fn over_a_base(rt: HostRuntime) -> Result<(), Fail> {
+fn over_a_base(rt: HostRuntime) {
     let alloc = rt.alloc();
     let mut a = one_of(&rt, alloc, A, 3);
     let mut b = one_of(&rt, alloc, B, 3);
-    let to = other(&rt, &a, B);
-    let from = other(&rt, &b, A);
     let mut base = zero(&rt, alloc, 3);
-    assert_eq!(rt; base.len(), a.knowledge().len());
-    assert_eq!(rt; base.len(), b.knowledge().len());
     let mut diff = Diff::none(alloc);
-    a.send_over(to, name(&rt, b'x'), &base, &mut diff)?;
-    let report = b.receive_over(from, name(&rt, b'x'), &mut base, &diff, 0)?;
-    reports(&rt, &report, 1, &[]);
+    sends_over(&rt, &mut a, &base, &mut diff);
+    gets_over(&rt, &mut b, &mut base, &diff);
     holds(&rt, &base, &[1, 0, 0]);
     holds(&rt, b.knowledge(), &[1, 0, 0]);
-    Ok(())
+}
+
+/// The first instance sends x to the second.
+fn sends_over(rt: &impl Abort, a: &mut Recorder, base: &Clock, diff: &mut Diff)
+    ensures { All (λ change. change.instance ≤ length base.now) diff.new }
+{
+    let to = other(rt, a, B);
+    assert!(rt; base.len() == a.knowledge().len());
+    a.send_over(to, name(rt, b"x"), base, diff)
+        .expect(rt, "a send");
+}
+
+/// The second instance receives it.
+fn gets_over(rt: &impl Abort, b: &mut Recorder, base: &mut Clock, diff: &Diff)
+    requires { All (λ change. change.instance ≤ length base.old) diff.now }
+{
+    let from = other(rt, b, A);
+    assert!(rt; base.len() == b.knowledge().len());
+    let report = b.receive_over(from, name(rt, b"x"), base, diff, 0);
+    reports(rt, &report.expect(rt, "a receive"), 1, &[]);
 }
 
 /// Receives of one coregion are no races of one another.
 #[test]
-fn coregion(rt: HostRuntime) -> Result<(), Fail> {
+fn coregion(rt: HostRuntime) {
     let alloc = rt.alloc();
-    let zero = Clock::zero(alloc, 3)?;
-    let mut b = Recorder::new(alloc, InstanceNo::at_place(1), 3)?;
-    let x = b.receive(InstanceNo::at_place(0), name(&rt, b'x'), &zero, 1)?;
-    let z = b.receive(InstanceNo::at_place(2), name(&rt, b'z'), &zero, 1)?;
-    reports(&rt, &x, 1, &[]);
-    reports(&rt, &z, 2, &[]);
-    Ok(())
+    let zero = zero(&rt, alloc, 3);
+    let Ok(mut b) = Recorder::new(alloc, InstanceNo::at_place(1), 3) else {
+        panic!(rt; "a recorder")
+    };
+    let Ok(first) = b.receive(InstanceNo::at_place(0), name(&rt, b"x"), &zero, 1) else {
+        panic!(rt; "x is received")
+    };
+    let Ok(second) = b.receive(InstanceNo::at_place(2), name(&rt, b"z"), &zero, 1) else {
+        panic!(rt; "z is received")
+    };
+    reports(&rt, &first, 1, &[]);
+    reports(&rt, &second, 2, &[]);
+}
+
+/// Makes room for two events, once more where memory was refused.
+fn makes_room(rt: &impl Abort, recorder: &mut Recorder) {
+    if recorder.reserve(2).is_err() {
+        assert_eq!(rt; recorder.room(), 0);
+        assert!(rt; recorder.reserve(2).is_ok());
+    }
+    assert!(rt; recorder.room() >= 2);
 }
 
 /// A recorder with room for two events sends twice with no memory.
@@ -305,18 +297,13 @@ fn coregion(rt: HostRuntime) -> Result<(), Fail> {
 fn refused_growths_reserve(rt: HostRuntime) -> Result<(), Fail> {
     let alloc = rt.alloc();
     let mut a = one_of(&rt, alloc, A, 8);
-    if a.reserve(2).is_err() {
-        assert_eq!(rt; a.room(), 0);
-        a.reserve(2)?;
-    }
-    assert!(rt; a.room() >= 2);
+    makes_room(&rt, &mut a);
     for number in [B, C] {
         let to = other(&rt, &a, number);
-        assert!(rt; a.send(to, name(&rt, b'x')).is_ok());
+        assert!(rt; a.send(to, name(&rt, b"x")).is_ok());
     }
-    // A last growth, whose refusal tells that each one before it was refused in an earlier run of the test.
-    Vec::<u8>::with_capacity(alloc, 1).map_err(|_| "every growth was refused")?;
-    Ok(())
+    drop(a);
+    every_growth_was_refused(alloc)
 }
 
 static NINE: [Step; 6] = [
@@ -333,7 +320,5 @@ static NINE: [Step; 6] = [
 fn refused_growths(rt: HostRuntime) -> Result<(), Fail> {
     let alloc = rt.alloc();
     play(&rt, alloc, 9, &NINE);
-    // A last growth, whose refusal tells that each one before it was refused in an earlier run of the test.
-    Vec::<u8>::with_capacity(alloc, 1).map_err(|_| "every growth was refused")?;
-    Ok(())
+    every_growth_was_refused(alloc)
 }

@@ -222,6 +222,25 @@ module _ (old mid : PostView) (order : List ℕ) (a b : ℕ) (its_end : Bool) (l
       let one = takes-one mid new (a + 1) result later (omega (arith, less, within, size)) (λ same. other (number ∙ same ∙ looked.sound.same.number)) (subst (λ x. Takes mid x result new) number takes) in
       goes-on old mid new first order ((a + 1) ∷ []) (others old.number (a + 1) b) its_end here later result one.0 one.1
 
+-- a post that only saw more still has looked
+still-looked : (old mid now : PostView) (order rest : List ℕ) (its_end : Bool) → Sound old old → HasLooked old order rest its_end mid → Sound mid now → Stays mid now → HasLooked old order rest its_end now
+still-looked old mid now order rest its_end first looked later stays =
+    subst (λ e. HasLooked old order rest e now) (and_true its_end)
+    (looked-on old mid now first order [] rest its_end looked later true stays (record { found = ([], refl, later.later, All-nil (IsDrained now)); before = All-nil (λ q. waiting mid.seen q mid.number ≡ []) }) (omega (arith, later.looks)))
+
+waits-none : (q : ℕ) (now : PostView) → 0 < length (waiting now.seen q now.number) → waiting now.seen q now.number ≡ [] → ⊥
+waits-none q now some none = absurd (omega (arith, some, ap length none))
+
+-- a look at the next of them found that a message waits, and then it was received, or refused
+pub message-next : (old mid now new : PostView) (order : List ℕ) (a b : ℕ) (its_end : Bool) → a < b → HasLooked old order (others old.number a b) its_end mid → (q : ℕ) (result : Result Taken TakeError) → Sound old old → q ≡ suc a → q ≢ old.number → b ≤ old.board.size → Sound mid now → Stays mid now → 0 < length (waiting now.seen q now.number) → Sound now new → Takes now q result new
+    → TakesFirst old order result new × LooksAtAll (length order) old result new
+message-next old mid now new order a b its_end less looked q (Ok (Got arrival)) first is other within later stays some last takes =
+    (received-next old now order a b its_end less (still-looked old mid now order (others old.number a b) its_end first looked later stays) new q (Ok (Got arrival)) first is other within last takes, tt)
+message-next old mid now new order a b its_end less looked q (Ok Nothing) first is other within later stays some last takes = absurd (waits-none q now some takes.1.before)
+message-next old mid now new order a b its_end less looked q (Ok Ended) first is other within later stays some last takes = absurd (waits-none q now some takes.1.before)
+message-next old mid now new order a b its_end less looked q (Err error) first is other within later stays some last takes =
+    (received-next old now order a b its_end less (still-looked old mid now order (others old.number a b) its_end first looked later stays) new q (Err error) first is other within last takes, tt)
+
 -- a refusal that is handed on
 pub refused : (old : PostView) (order : List ℕ) (new : PostView) (result : Result Taken TakeError) (error : TakeError) → IsErrAnd result (λ e. e ≡ error) → TakesFirst old order (Err error) new → TakesFirst old order result new
 refused old order new (Ok taken) error never takes = absurd never

@@ -3,7 +3,7 @@ ghost use Rattle.std.specs.Prelude.{◌≤◌, length, unwrap_or};
 ghost use Rattle.board.specs.Views.{Sound};
 ghost use Rattle.mailbox.specs.TakingAny.{others, TakesFirst, LooksAtAll, TakesAny};
 
-use board::{Post, TakeError, Taken};
+use board::{Glance, Post, TakeError, Taken};
 use chart::InstanceNo;
 
 /// Receives the first message that waits on the lanes to a post, which are looked at in cyclic order: after the lane
@@ -57,10 +57,10 @@ fn any_among(post: &mut Post, from: usize, to: usize) -> Result<Taken, TakeError
         if other == me {
             continue;
         }
-        match post.receive(other)? {
-            Taken::Got(arrival) => return Ok(Taken::Got(arrival)),
-            Taken::Nothing => is_end = false,
-            Taken::Ended => {}
+        match post.glance(other)? {
+            Glance::Nothing => is_end = false,
+            Glance::Ended => {}
+            Glance::Message => return post.receive(other),
         }
     }
     Ok(if is_end { Taken::Ended } else { Taken::Nothing })

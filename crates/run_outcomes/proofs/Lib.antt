@@ -3,3 +3,4 @@ pub mod Boards
 pub mod OneRun
 pub mod Turns
 pub mod Boxes
+pub mod SpentNames

@@ -1,5 +1,7 @@
 //! That a schedule comes to the same over running posts and plainly: worked schedules and drawn ones.
 
+use crate::chart_texts::repeated as text_repeated;
+use crate::replays::schedule;
 use closure::audit;
 use interleaver::drawn;
 use msc_text::MemoryOut;
@@ -9,7 +11,6 @@ use replayer::replay;
 use schedule::Schedule;
 use std::alloc::Global;
 use std::process::Abort;
-use std::test::Fail;
 
 /// The outcome's text, where the audit accepts its reports.
 fn text_of(rt: &impl Abort, alloc: Global, outcome: &Outcome<'_>) -> MemoryOut {
@@ -19,12 +20,13 @@ fn text_of(rt: &impl Abort, alloc: Global, outcome: &Outcome<'_>) -> MemoryOut {
     text
 }
 
-/// Both replays come to the same.
-fn agree(rt: &impl Abort, alloc: Global, schedule: &Schedule) {
+/// Both replays come to the same text.
+pub fn agree(rt: &impl Abort, alloc: Global, schedule: &Schedule) -> MemoryOut {
     let outcome = replay(alloc, schedule).expect(rt, "an outcome");
     let plain = plain_replay(alloc, schedule).expect(rt, "a plain outcome");
     let text = text_of(rt, alloc, &outcome);
     assert_eq!(rt; text_of(rt, alloc, &plain).as_bytes(), text.as_bytes());
+    text
 }
 
 /// The schedules that were worked by hand, which `tasks` compares with what they come to.
@@ -55,38 +57,40 @@ static WORKED: [&[u8]; 23] = [
 ];
 
 #[test]
-fn worked_schedules(rt: HostRuntime) -> Result<(), Fail> {
+fn worked_schedules(rt: HostRuntime) {
     for text in WORKED {
-        let schedule = Schedule::read(rt.alloc(), text)?;
-        agree(&rt, rt.alloc(), &schedule);
+        agree(&rt, rt.alloc(), &schedule(&rt, rt.alloc(), text));
     }
-    Ok(())
 }
 
-/// A front, and so many times the same commands.
-fn repeated(alloc: Global, front: &[u8], turn: &[u8], times: usize) -> Result<Schedule, Fail> {
-    let mut text = Vec::from_slice(alloc, front)?;
-    for _ in 0..times {
-        text.extend_from_slice(turn)?;
-    }
-    Ok(Schedule::read(alloc, text.as_slice())?)
+/// A front, so many times the same commands, and an end.
+pub fn repeated(
+    rt: &impl Abort,
+    alloc: Global,
+    front: &[u8],
+    turn: &[u8],
+    times: usize,
+    end: &[u8],
+) -> Schedule {
+    let text = text_repeated(rt, alloc, front, turn, times, end);
+    schedule(rt, alloc, text.as_slice())
 }
 
 #[test]
-fn lines_that_fill(rt: HostRuntime) -> Result<(), Fail> {
+fn lines_that_fill(rt: HostRuntime) {
     let turn = b"a send b m\nb receive a\n";
-    let schedule = repeated(rt.alloc(), b"instances a b\ncapacity 64\n", turn, 4097)?;
+    let front = b"instances a b\ncapacity 64\n";
+    let schedule = repeated(&rt, rt.alloc(), front, turn, 4097, b"");
     agree(&rt, rt.alloc(), &schedule);
-    Ok(())
 }
 
 #[test]
-fn a_thousand_drawn(rt: HostRuntime) -> Result<(), Fail> {
+fn a_thousand_drawn(rt: HostRuntime) {
     let turn = b"a send b x\nb send c y\nc send a z\na any\nb any\nc any\n";
-    let schedule = repeated(rt.alloc(), b"instances a b c\ncapacity 2\n", turn, 20)?;
+    let front = b"instances a b c\ncapacity 2\n";
+    let schedule = repeated(&rt, rt.alloc(), front, turn, 20, b"");
     for seed in 0..1000 {
-        let drawn = drawn(rt.alloc(), &schedule, seed)?;
+        let drawn = drawn(rt.alloc(), &schedule, seed).expect(&rt, "an order");
         agree(&rt, rt.alloc(), &drawn);
     }
-    Ok(())
 }

@@ -3,7 +3,9 @@
 mod charts;
 mod refusals;
 
-use chart::Event;
+ghost use Rattle.std.specs.Prelude.{◌≡◌, length};
+
+use chart::{Chart, Names};
 use msc_reader::read;
 use msc_text::{Cause, Fault, MemoryOut, StreamOut, TextError, write};
 use std::alloc::Global;
@@ -23,37 +25,37 @@ fn refusal(alloc: Global, text: &[u8]) -> Option<TextError> {
     read(alloc, text).err()
 }
 
-fn is_written_back(rt: &impl Abort, alloc: Global, text: &[u8]) -> Result<(), Fail> {
-    let (names, chart) = read(alloc, text)?;
+fn is_written_back(rt: &impl Abort, alloc: Global, text: &[u8]) {
+    let (names, chart) = read(alloc, text).expect(rt, "a chart");
     let mut out = MemoryOut::new(alloc);
-    write(&names, &chart, &mut out)?;
+    write(&names, &chart, &mut out).expect(rt, "its text");
     assert_eq!(rt; out.as_bytes(), text);
-    Ok(())
 }
 
 /// The piece, so many times, after the front and before the end.
-fn repeated(
+pub fn repeated(
+    rt: &impl Abort,
     alloc: Global,
     front: &[u8],
     piece: &[u8],
     times: usize,
     end: &[u8],
-) -> Result<Vec<u8>, Fail> {
-    let mut text = Vec::from_slice(alloc, front)?;
+) -> Vec<u8> {
+    let mut text = Vec::new(alloc);
+    text.extend_from_slice(front).expect(rt, "a front");
     for _ in 0..times {
-        text.extend_from_slice(piece)?;
+        text.extend_from_slice(piece).expect(rt, "a piece");
     }
-    text.extend_from_slice(end)?;
-    Ok(text)
+    text.extend_from_slice(end).expect(rt, "an end");
+    text
 }
 
 /// Two instances: `a` with this piece so many times, and `b` with the other.
-fn pair(alloc: Global, times: usize, of_a: &[u8], of_b: &[u8]) -> Result<Vec<u8>, Fail> {
+fn pair(rt: &impl Abort, alloc: Global, times: usize, of_a: &[u8], of_b: &[u8]) -> Vec<u8> {
     let middle = b"endinstance;\ninstance b;\n";
-    let mut text = repeated(alloc, b"msc run;\ninstance a;\n", of_a, times, middle)?;
-    let end = repeated(alloc, b"", of_b, times, b"endinstance;\nendmsc;\n")?;
-    text.extend_from_slice(end.as_slice())?;
-    Ok(text)
+    let first = repeated(rt, alloc, b"msc run;\ninstance a;\n", of_a, times, middle);
+    let front = first.as_slice();
+    repeated(rt, alloc, front, of_b, times, b"endinstance;\nendmsc;\n")
 }
 
 #[test]
@@ -69,114 +71,102 @@ fn each_beginning_is_unfinished(rt: HostRuntime) {
     assert_eq!(rt; refusal(rt.alloc(), TWO_SENDERS), None);
 }
 
-#[test]
-fn full_lines(rt: HostRuntime) -> Result<(), Fail> {
-    let alloc = rt.alloc();
-    let text = pair(alloc, 4096, b"out m to b;\n", b"in m from a;\n")?;
-    is_written_back(&rt, alloc, text.as_slice())?;
-    let text = pair(alloc, 4097, b"out m to b;\n", b"in m from a;\n")?;
+/// The text is refused at this line.
+fn is_refused(rt: &impl Abort, alloc: Global, text: &[u8], line: u64, cause: Cause) {
     assert_eq!(rt;
-        refusal(alloc, text.as_slice()),
-        Some(TextError::Fault(Fault::Line(4099, Cause::LineFull)))
+        refusal(alloc, text),
+        Some(TextError::Fault(Fault::Line(line, cause)))
     );
-    Ok(())
 }
 
 #[test]
-fn thousand_replies(rt: HostRuntime) -> Result<(), Fail> {
+fn full_lines(rt: HostRuntime) {
     let alloc = rt.alloc();
+    let text = pair(&rt, alloc, 4096, b"out m to b;\n", b"in m from a;\n");
+    is_written_back(&rt, alloc, text.as_slice());
+    let text = pair(&rt, alloc, 4097, b"out m to b;\n", b"in m from a;\n");
+    is_refused(&rt, alloc, text.as_slice(), 4099, Cause::LineFull);
+}
+
+#[test]
+fn thousand_replies(rt: HostRuntime) {
     let asks = b"out ping to b;\nin pong from b;\n";
     let answers = b"in ping from a;\nout pong to a;\n";
-    let text = pair(alloc, 1000, asks, answers)?;
-    is_written_back(&rt, alloc, text.as_slice())
+    let text = pair(&rt, rt.alloc(), 1000, asks, answers);
+    is_written_back(&rt, rt.alloc(), text.as_slice());
 }
 
 #[test]
-fn thirty_three_instances(rt: HostRuntime) -> Result<(), Fail> {
-    let alloc = rt.alloc();
-    let mut text = Vec::from_slice(alloc, b"msc run;\n")?;
+fn thirty_three_instances(rt: HostRuntime) {
+    let mut text = repeated(&rt, rt.alloc(), b"msc run;\n", b"", 0, b"");
     for number in 0..33u8 {
-        text.extend_from_slice(b"instance n")?;
-        text.push(b'A' + number % 26)?;
-        text.push(b'a' + number / 26)?;
-        text.extend_from_slice(b";\nendinstance;\n")?;
+        let letters = [b'A' + number % 26, b'a' + number / 26];
+        for piece in [b"instance n".as_slice(), &letters, b";\nendinstance;\n"] {
+            text.extend_from_slice(piece).expect(&rt, "a piece");
+        }
     }
-    assert_eq!(rt;
-        refusal(alloc, text.as_slice()),
-        Some(TextError::Fault(Fault::Line(66, Cause::Instances)))
-    );
-    Ok(())
+    is_refused(&rt, rt.alloc(), text.as_slice(), 66, Cause::Instances);
 }
 
-/// The coregion of the event, or of none.
-fn region_of(events: &[Event], place: usize) -> u32 {
-    match events.get(place) {
-        Some(event) => event.region(),
-        None => 0,
+static COREGIONS: &[u8] =
+    b"concurrent;\nin x from a;\nin y from a;\nendconcurrent;\nconcurrent;\nin z from a;\nendconcurrent;\n";
+
+#[test]
+fn coregions_that_touch_are_two(rt: HostRuntime) {
+    let text = pair(&rt, rt.alloc(), 1, b"", COREGIONS);
+    let (_, chart) = read(rt.alloc(), text.as_slice()).expect(&rt, "a chart");
+    let line = chart.lines().get(1).expect(&rt, "a second line");
+    assert_eq!(rt; line.events().len(), 3);
+    for (event, region) in line.events().iter().zip(&[1, 1, 2]) {
+        assert_eq!(rt; event.region(), *region);
     }
+    is_written_back(&rt, rt.alloc(), text.as_slice());
+}
+
+/// The first so many bytes of the text are written, where there is room for no more.
+fn is_cut_at(rt: &impl Abort, names: &Names, chart: &Chart, text: &[u8], left: usize)
+    requires { length names.now ≡ length chart.now }
+{
+    let mut place = [0; 1024];
+    assert!(rt; left <= text.len() && text.len() <= place.len());
+    let mut out = StreamOut::new(&mut place[..left]);
+    let written = write(names, chart, &mut out).is_ok();
+    drop(out);
+    assert_eq!(rt; written, left == text.len(), "at {left}");
+    assert_eq!(rt; &place[..left], &text[..left], "at {left}");
 }
 
 #[test]
-fn coregions_that_touch_are_two(rt: HostRuntime) -> Result<(), Fail> {
-    let alloc = rt.alloc();
-    let events =
-        b"concurrent;\nin x from a;\nin y from a;\nendconcurrent;\nconcurrent;\nin z from a;\nendconcurrent;\n";
-    let text = pair(alloc, 1, b"", events)?;
-    let (_, chart) = read(alloc, text.as_slice())?;
-    let line = chart.lines().get(1).ok_or("no second line")?;
-    let events = line.events();
-    assert_eq!(rt; events.len(), 3);
-    assert_eq!(rt; region_of(events, 0), 1);
-    assert_eq!(rt; region_of(events, 1), 1);
-    assert_eq!(rt; region_of(events, 2), 2);
-    is_written_back(&rt, alloc, text.as_slice())
-}
-
-#[test]
-fn writing_is_cut_at_each_byte(rt: HostRuntime) -> Result<(), Fail> {
-    let (names, chart) = read(rt.alloc(), THREE_INSTANCES)?;
+fn writing_is_cut_at_each_byte(rt: HostRuntime) {
+    let (names, chart) = read(rt.alloc(), THREE_INSTANCES).expect(&rt, "a chart");
     for left in 0..=THREE_INSTANCES.len() {
-        let mut place = [0; 1024];
-        let mut out = StreamOut::new(&mut place[..left]);
-        let result = write(&names, &chart, &mut out);
-        drop(out);
-        assert_eq!(rt; result.is_ok(), left == THREE_INSTANCES.len(), "at {left}");
-        assert_eq!(rt; &place[..left], &THREE_INSTANCES[..left], "at {left}");
+        is_cut_at(&rt, &names, &chart, THREE_INSTANCES, left);
     }
-    Ok(())
 }
 
 /// F6, or exactly the full answer: it is written back without memory.
-fn is_read_or_refused(rt: &impl Abort, alloc: Global, text: &[u8]) -> Result<(), Fail> {
+fn is_read_or_refused(rt: &impl Abort, alloc: Global, text: &[u8]) {
     let (names, chart) = match read(alloc, text) {
         Ok(parts) => parts,
-        Err(error) => {
-            assert_eq!(rt; error, TextError::Memory);
-            read(alloc, text)?
-        }
+        Err(_) => read(alloc, text).expect(rt, "a chart"),
     };
-    let mut place = [0; 1024];
-    let mut out = StreamOut::new(&mut place[..]);
-    write(&names, &chart, &mut out)?;
-    drop(out);
-    assert!(rt; place.starts_with(text));
-    Ok(())
+    is_cut_at(rt, &names, &chart, text, text.len());
 }
 
 #[test]
 fn refused_growths_of_three(rt: HostRuntime) -> Result<(), Fail> {
-    is_read_or_refused(&rt, rt.alloc(), THREE_INSTANCES)?;
+    is_read_or_refused(&rt, rt.alloc(), THREE_INSTANCES);
     every_growth_was_refused(rt.alloc())
 }
 
 #[test]
 fn refused_growths_of_nine(rt: HostRuntime) -> Result<(), Fail> {
-    is_read_or_refused(&rt, rt.alloc(), NINE_INSTANCES)?;
+    is_read_or_refused(&rt, rt.alloc(), NINE_INSTANCES);
     every_growth_was_refused(rt.alloc())
 }
 
 /// A last growth, whose refusal tells that each one before it was refused in an earlier run of the test.
-fn every_growth_was_refused(alloc: Global) -> Result<(), Fail> {
+pub fn every_growth_was_refused(alloc: Global) -> Result<(), Fail> {
     Vec::<u8>::with_capacity(alloc, 1).map_err(|_| "every growth was refused")?;
     Ok(())
 }

@@ -1,5 +1,7 @@
 //! What no contract says: orders that were drawn by hand, and calls with ample memory.
 
+use crate::chart_texts::every_growth_was_refused;
+use crate::replays::schedule;
 use interleaver::{Memory, drawn};
 use rand_core::SeedableRng;
 use rand_core::utils::NextWord;
@@ -42,41 +44,40 @@ fn are_of_lines(schedule: &Schedule, lines: &[u64]) -> bool {
             .all(|(command, line)| command.line == *line)
 }
 
-/// Whether the seed draws the lines of the schedule in this order, and leaves the rest as it was.
-fn draws(alloc: Global, schedule: &Schedule, seed: u64, lines: &[u64]) -> Result<bool, Memory> {
-    let drawn = drawn(alloc, schedule, seed)?;
-    Ok(
-        are_of_lines(&drawn, lines)
-            && drawn.names().len() == schedule.names().len()
-            && drawn.capacity() == schedule.capacity(),
-    )
+/// The seed draws the lines of the schedule in this order, at the second attempt where the first found no memory, and
+/// leaves the rest as it was.
+fn draws(rt: &impl Abort, alloc: Global, schedule: &Schedule, seed: u64, lines: &[u64]) {
+    let drawn = match drawn(alloc, schedule, seed) {
+        Ok(drawn) => drawn,
+        Err(Memory) => drawn(alloc, schedule, seed).expect(rt, "an order"),
+    };
+    assert!(rt; are_of_lines(&drawn, lines));
+    assert_eq!(rt; drawn.names().len(), schedule.names().len());
+    assert!(rt; drawn.capacity() == schedule.capacity());
 }
 
 #[test]
-fn uneven(rt: HostRuntime) -> Result<(), Fail> {
-    let schedule = Schedule::read(rt.alloc(), UNEVEN)?;
+fn uneven(rt: HostRuntime) {
+    let schedule = schedule(&rt, rt.alloc(), UNEVEN);
     for (seed, lines) in SEEDS.iter().zip(UNEVEN_LINES.iter()) {
-        assert!(rt; draws(rt.alloc(), &schedule, *seed, lines)?);
+        draws(&rt, rt.alloc(), &schedule, *seed, lines);
     }
-    Ok(())
 }
 
 /// An instance alone makes its commands in their order, whatever the seed.
 #[test]
-fn one_instance(rt: HostRuntime) -> Result<(), Fail> {
+fn one_instance(rt: HostRuntime) {
     let text = b"instances a b\ncapacity 1\na send b x\na close b\na send b y\n";
-    let schedule = Schedule::read(rt.alloc(), text)?;
+    let schedule = schedule(&rt, rt.alloc(), text);
     for seed in SEEDS {
-        assert!(rt; draws(rt.alloc(), &schedule, seed, &[3, 4, 5])?);
+        draws(&rt, rt.alloc(), &schedule, seed, &[3, 4, 5]);
     }
-    Ok(())
 }
 
 #[test]
-fn no_commands(rt: HostRuntime) -> Result<(), Fail> {
-    let schedule = Schedule::read(rt.alloc(), b"instances a b\ncapacity 1\n")?;
-    assert!(rt; draws(rt.alloc(), &schedule, 7, &[])?);
-    Ok(())
+fn no_commands(rt: HostRuntime) {
+    let schedule = schedule(&rt, rt.alloc(), b"instances a b\ncapacity 1\n");
+    draws(&rt, rt.alloc(), &schedule, 7, &[]);
 }
 
 /// The seed 0 draws the lines of the text in this order, or F6 comes and then, with memory, it does.
@@ -86,18 +87,8 @@ fn draws_or_refuses(
     text: &[u8],
     lines: &[u64],
 ) -> Result<(), Fail> {
-    let schedule = match Schedule::read(alloc, text) {
-        Ok(schedule) => schedule,
-        Err(_) => Schedule::read(alloc, text)?,
-    };
-    let holds = match draws(alloc, &schedule, 0, lines) {
-        Ok(holds) => holds,
-        Err(Memory) => draws(alloc, &schedule, 0, lines)?,
-    };
-    assert!(rt; holds);
-    // A last growth, whose refusal tells that each one before it was refused in an earlier run of the test.
-    Vec::<u8>::with_capacity(alloc, 1).map_err(|_| "every growth was refused")?;
-    Ok(())
+    draws(rt, alloc, &schedule(rt, alloc, text), 0, lines);
+    every_growth_was_refused(alloc)
 }
 
 #[test]

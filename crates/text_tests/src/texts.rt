@@ -1,6 +1,7 @@
 //! Each public function once, and a failure of each put.
 ghost use Rattle.std.specs.Prelude.{◌≡◌, None};
 
+use crate::chart_texts::every_growth_was_refused;
 use crate::sample::write_sample;
 use chart::NameError;
 use msc_text::{
@@ -9,6 +10,7 @@ use msc_text::{
 };
 use std::alloc::{AllocError, Global};
 use std::io::{self, ErrorKind, Write};
+use std::process::Abort;
 use std::test::Fail;
 
 const SAMPLE: &[u8] = b"sample abc:\nabc 7\nabc 40\nend\n";
@@ -60,38 +62,40 @@ fn fails_at_each_put(rt: HostRuntime) {
 }
 
 #[test]
-fn writes_to_memory(rt: HostRuntime) -> Result<(), Fail> {
+fn writes_to_memory(rt: HostRuntime) {
     let mut out = MemoryOut::new(rt.alloc());
-    write_sample(b"abc", &[7, 40], &mut out)?;
+    assert_eq!(rt; write_sample(b"abc", &[7, 40], &mut out), Ok(()));
     assert_eq!(rt; out.as_bytes(), SAMPLE);
     assert_eq!(rt; out.into_bytes().as_slice(), SAMPLE);
-    Ok(())
 }
 
-#[test]
-fn takes_pieces_of_any_length(rt: HostRuntime) -> Result<(), Fail> {
+/// Adds pieces that fill the buffer at different places, a number, and short pieces.
+fn adds_pieces(rt: &impl Abort, out: &mut MemoryOut) {
     let long = [b'x'; 5000];
-    let mut out = MemoryOut::new(rt.alloc());
-    let mut text = TextBuffer::new(&mut out);
     let front = &long[..BUFFERED - 1];
     let full = &long[..BUFFERED];
-    text.add_all(&[b"", b"x", front, b"x", full, &long, b"x"])?;
-    text.add_number(u64::MAX)?;
-    text.add_all(&[b"a", b"", b"bc"])?;
-    text.finish()?;
-    drop(text);
-    let bytes = out.into_bytes();
-    assert_eq!(rt; bytes.len(), 2 * BUFFERED + 5002 + 20 + 3);
-    assert!(rt; bytes.ends_with(b"x18446744073709551615abc"));
-    Ok(())
+    let mut text = TextBuffer::new(out);
+    let first = text.add_all(&[b"", b"x", front, b"x", full, &long, b"x"]);
+    let number = text.add_number(u64::MAX);
+    let last = text.add_all(&[b"a", b"", b"bc"]);
+    assert!(rt; first.is_ok() && number.is_ok() && last.is_ok());
+    assert!(rt; text.finish().is_ok());
 }
 
 #[test]
-fn writes_to_a_stream(rt: HostRuntime) -> Result<(), Fail> {
+fn takes_pieces_of_any_length(rt: HostRuntime) {
+    let mut out = MemoryOut::new(rt.alloc());
+    adds_pieces(&rt, &mut out);
+    let bytes = out.as_bytes();
+    assert_eq!(rt; bytes.len(), 2 * BUFFERED + 5002 + 20 + 3);
+    assert!(rt; bytes.ends_with(b"x18446744073709551615abc"));
+}
+
+#[test]
+fn writes_to_a_stream(rt: HostRuntime) {
     let mut out = StreamOut::new(Vec::new(rt.alloc()));
-    write_sample(b"abc", &[7, 40], &mut out)?;
+    assert_eq!(rt; write_sample(b"abc", &[7, 40], &mut out), Ok(()));
     assert_eq!(rt; out.into_inner().as_slice(), SAMPLE);
-    Ok(())
 }
 
 #[test]
@@ -131,61 +135,77 @@ impl Write for Interrupted {
 }
 
 #[test]
-fn interrupted_writes_are_tried_again(rt: HostRuntime) -> Result<(), Fail> {
+fn interrupted_writes_are_tried_again(rt: HostRuntime) {
     let mut out = StreamOut::new(Interrupted {
         times: 1,
         taken: Vec::new(rt.alloc()),
     });
-    write_sample(b"abc", &[7, 40], &mut out)?;
+    assert_eq!(rt; write_sample(b"abc", &[7, 40], &mut out), Ok(()));
     assert_eq!(rt; out.into_inner().taken.as_slice(), SAMPLE);
-    Ok(())
 }
+
+/// Texts, and their first lines with what follows.
+static LINES: [(&[u8], Option<(&[u8], &[u8])>); 4] = [
+    (b"one two\n\nrest", Some((b"one two", b"\nrest"))),
+    (b"\nrest", Some((b"", b"rest"))),
+    (b"rest", None),
+    (b"", None),
+];
 
 #[test]
 fn cuts_lines(rt: HostRuntime) {
-    assert_eq!(rt;
-        next_line(b"one two\n\nrest"),
-        Some((b"one two".as_slice(), b"\nrest".as_slice()))
-    );
-    assert_eq!(rt;
-        next_line(b"\nrest"),
-        Some((b"".as_slice(), b"rest".as_slice()))
-    );
-    assert_eq!(rt; next_line(b"rest"), None);
-    assert_eq!(rt; next_line(b""), None);
+    for (text, line) in &LINES {
+        assert!(rt; next_line(text) == *line);
+    }
+}
+
+/// Texts, and their first words with what follows.
+static FIRST_WORDS: [(&[u8], (&[u8], Option<&[u8]>)); 2] =
+    [(b"a  b", (b"a", Some(b" b"))), (b"", (b"", None))];
+
+/// Lines, and their words, if they are at most four.
+static WORDS: [(&[u8], &[&[u8]]); 5] = [
+    (b"", &[b""]),
+    (b"a b", &[b"a", b"b"]),
+    (b"a b ", &[b"a", b"b", b""]),
+    (b"a send b x", &[b"a", b"send", b"b", b"x"]),
+    (b"a send b x y", &[]),
+];
+
+fn are_words(words: Words<'_>, expected: &[&[u8]]) -> bool {
+    match words {
+        Words::One(a) => expected == [a].as_slice(),
+        Words::Two(a, b) => expected == [a, b].as_slice(),
+        Words::Three(a, b, c) => expected == [a, b, c].as_slice(),
+        Words::Four(a, b, c, d) => expected == [a, b, c, d].as_slice(),
+        Words::More => expected.is_empty(),
+    }
 }
 
 #[test]
 fn cuts_words(rt: HostRuntime) {
-    assert_eq!(rt;
-        next_word(b"a  b"),
-        (b"a".as_slice(), Some(b" b".as_slice()))
-    );
-    assert_eq!(rt; next_word(b""), (b"".as_slice(), None));
-    assert!(rt; matches!(words_in(b""), Words::One(b"")));
-    assert!(rt; matches!(words_in(b"a b"), Words::Two(b"a", b"b")));
-    assert!(rt; matches!(words_in(b"a b "), Words::Three(b"a", b"b", b"")));
-    assert!(rt;
-        matches!(
-            words_in(b"a send b x"),
-            Words::Four(b"a", b"send", b"b", b"x")
-        )
-    );
-    assert!(rt; matches!(words_in(b"a send b x y"), Words::More));
+    for (text, word) in &FIRST_WORDS {
+        assert!(rt; next_word(text) == *word);
+    }
+    for (line, words) in &WORDS {
+        assert!(rt; are_words(words_in(line), words));
+    }
 }
 
 #[test]
-fn reads_names(rt: HostRuntime) -> Result<(), Fail> {
-    assert_eq!(rt; name_in(b"alice")?.as_bytes(), b"alice".as_slice());
-    assert_eq!(rt;
-        name_in(b"x-y").err(),
-        Some(Cause::Name(NameError::BadByte(2)))
-    );
-    let fault = Fault::Line(3, Cause::ToItself);
-    let text = format!(in rt.alloc(); "{fault}")?;
-    assert_eq!(rt; text.as_str(), "line 3: an instance sends to itself");
+fn reads_names(rt: HostRuntime) {
+    let alice = name_in(b"alice").expect(&rt, "a name");
+    assert_eq!(rt; alice.as_bytes(), b"alice".as_slice());
+    let refused = Cause::Name(NameError::BadByte(2));
+    assert_eq!(rt; name_in(b"x-y").err(), Some(refused));
     assert_eq!(rt; TextError::from(AllocError), TextError::Memory);
-    Ok(())
+}
+
+#[test]
+fn tells_a_fault(rt: HostRuntime) {
+    let fault = Fault::Line(3, Cause::ToItself);
+    let text = format!(in rt.alloc(); "{fault}").expect(&rt, "a text");
+    assert_eq!(rt; text.as_str(), "line 3: an instance sends to itself");
 }
 
 #[test]
@@ -194,10 +214,9 @@ fn refused_growths(rt: HostRuntime) -> Result<(), Fail> {
     if let Err(fault) = out.put(b"abc") {
         assert_eq!(rt; fault, OutFault::Memory);
         assert!(rt; out.as_bytes().is_empty());
-        out.put(b"abc")?;
+        assert!(rt; out.put(b"abc").is_ok());
     }
     assert_eq!(rt; out.as_bytes(), b"abc".as_slice());
-    // A last growth, whose refusal tells that each one before it was refused in an earlier run of the test.
-    Vec::<u8>::with_capacity(rt.alloc(), 1).map_err(|_| "every growth was refused")?;
-    Ok(())
+    drop(out);
+    every_growth_was_refused(rt.alloc())
 }

@@ -9,9 +9,8 @@ use rand_core::SeedableRng;
 use rand_core::utils::NextWord;
 use rand_pcg::Lcg64Xsh32;
 use schedule::Schedule;
-use std::alloc::{AllocError, Global};
+use std::alloc::Global;
 use std::process::Abort;
-use std::test::Fail;
 use witness::Step;
 
 /// The most events of a run all of whose orders are tried.
@@ -27,8 +26,9 @@ fn orders(many: usize) -> usize {
 }
 
 /// The events in the order of this number.
-fn ordered(alloc: Global, events: &[Told], order: usize) -> Result<Vec<Told>, AllocError> {
-    let mut left = Vec::from_slice(alloc, events)?;
+fn ordered(rt: &impl Abort, alloc: Global, events: &[Told], order: usize) -> Vec<Told> {
+    let mut left = Vec::new(alloc);
+    assert!(rt; left.extend_from_slice(events).is_ok());
     let mut run = Vec::new(alloc);
     let mut order = order;
     for _ in events {
@@ -36,22 +36,22 @@ fn ordered(alloc: Global, events: &[Told], order: usize) -> Result<Vec<Told>, Al
         if many == 0 {
             break;
         }
-        run.push(left.remove(order % many))?;
+        assert!(rt; run.push(left.remove(order % many)).is_ok());
         order /= many;
     }
-    Ok(run)
+    run
 }
 
 /// All runs with the same events and causes within so many slots.
-fn other_runs(alloc: Global, events: &[Told], slots: usize) -> Result<Vec<Vec<Moved>>, AllocError> {
+fn other_runs(rt: &impl Abort, alloc: Global, events: &[Told], slots: usize) -> Vec<Vec<Moved>> {
     let mut runs = Vec::new(alloc);
     for order in 0..orders(events.len()) {
-        let run = ordered(alloc, events, order)?;
-        if let Some(all) = as_other_run(alloc, events, run.as_slice(), slots)? {
-            runs.push(all)?;
+        let run = ordered(rt, alloc, events, order);
+        if let Some(all) = as_other_run(rt, alloc, events, run.as_slice(), slots) {
+            assert!(rt; runs.push(all).is_ok());
         }
     }
-    Ok(runs)
+    runs
 }
 
 fn some_overtakes(runs: &[Vec<Moved>], receive: usize, earlier: usize) -> bool {
@@ -86,76 +86,114 @@ fn share_region(step: &Step, other: &Step) -> bool {
     }
 }
 
-/// For each receive and other step a run is found within so many slots exactly where one has the receive first.
-fn finds_what_runs_do(
+/// Whether a run within so many slots is found, which is then gone over.
+pub fn has_witness(
     rt: &impl Abort,
     alloc: Global,
     steps: &[Step],
     slots: usize,
-) -> Result<usize, Fail> {
-    let events = events_of(alloc, steps)?;
-    let runs = other_runs(alloc, events.as_slice(), slots)?;
+    receive: usize,
+    earlier: usize,
+) -> bool {
+    match found(rt, alloc, steps, slots, receive, earlier) {
+        Some(run) => {
+            let run = run.as_slice();
+            assert!(rt; is_witness(rt, alloc, steps, run, slots, receive, earlier));
+            true
+        }
+        None => false,
+    }
+}
+
+/// For each receive and other step a run is found within so many slots exactly where one has the receive first.
+fn finds_what_runs_do(rt: &impl Abort, alloc: Global, steps: &[Step], slots: usize) -> usize {
+    let events = events_of(rt, alloc, steps);
+    let runs = other_runs(rt, alloc, events.as_slice(), slots);
     let mut many = 0usize;
     for receive in 0..steps.len() {
         if let Step::Receive { .. } = steps[receive] {
             for earlier in 0..steps.len() {
-                let found = found(alloc, steps, slots, receive, earlier)?;
-                let overtakes = some_overtakes(runs.as_slice(), receive, earlier);
-                assert_eq!(rt; found.is_some(), overtakes);
-                if let Some(run) = found {
-                    let run = run.as_slice();
-                    assert!(rt; is_witness(alloc, steps, run, slots, receive, earlier)?);
-                    many = many.saturating_add(1);
-                }
+                let found = has_witness(rt, alloc, steps, slots, receive, earlier);
+                assert_eq!(rt; found, some_overtakes(runs.as_slice(), receive, earlier));
+                many = many.saturating_add(usize::from(found));
             }
         }
     }
-    Ok(many)
+    many
+}
+
+/// Of a receive and another step a run is found exactly where the search has no order. Answers whether one is.
+fn is_found_unordered(
+    rt: &impl Abort,
+    alloc: Global,
+    closure: &Closure,
+    steps: &[Step],
+    receive: usize,
+    number: usize,
+) -> bool {
+    let found = found(rt, alloc, steps, MAX_CAPACITY, receive, number).is_some();
+    let earlier = event_no(steps, number).expect(rt, "an event");
+    let later = event_no(steps, receive).expect(rt, "a receive");
+    let before = closure.before(earlier, later).expect(rt, "an order");
+    assert!(rt; number == receive || found != before);
+    found
+}
+
+/// Whether the receive's report has the event of the other step.
+fn has_race_of(
+    rt: &impl Abort,
+    reports: &[Report],
+    steps: &[Step],
+    receive: usize,
+    number: usize,
+) -> bool {
+    let earlier = event_no(steps, number).expect(rt, "an event");
+    let later = event_no(steps, receive).expect(rt, "a receive");
+    has_race(reports, later, earlier)
+}
+
+/// Whether the other step's event stands above the receive on its line, and not in its coregion.
+fn may_race(rt: &impl Abort, steps: &[Step], receive: usize, number: usize) -> bool {
+    let earlier = event_no(steps, number).expect(rt, "an event");
+    let later = event_no(steps, receive).expect(rt, "a receive");
+    let on_line = earlier.instance == later.instance && earlier.index < later.index;
+    match (steps.get(receive), steps.get(number)) {
+        (Some(receive), Some(other)) => on_line && !share_region(receive, other),
+        _ => false,
+    }
 }
 
 /// Where lanes have room, a run is found exactly where the search has no order: of earlier events of the line, these
 /// are the reported races and what a coregion alone hides.
-fn finds_what_is_reported(
-    rt: &impl Abort,
-    alloc: Global,
-    chart: &Chart,
-    steps: &[Step],
-) -> Result<(), Fail> {
+fn finds_what_is_reported(rt: &impl Abort, alloc: Global, chart: &Chart, steps: &[Step]) {
     let closure = Closure::of(alloc, chart).expect(rt, "a closure");
-    let reports = closure.races()?;
+    let reports = closure.races().expect(rt, "the reports");
     for receive in 0..steps.len() {
         if let Step::Receive { .. } = steps[receive] {
-            let later = event_no(steps, receive).ok_or("no such step")?;
             for number in 0..steps.len() {
-                let earlier = event_no(steps, number).ok_or("no such step")?;
-                let found = found(alloc, steps, MAX_CAPACITY, receive, number)?.is_some();
-                if number != receive {
-                    assert_eq!(rt; found, !closure.before(earlier, later)?);
-                }
-                let on_line = earlier.instance == later.instance && earlier.index < later.index;
-                let races = has_race(reports.as_slice(), later, earlier);
-                let hidden = share_region(&steps[receive], &steps[number]);
-                assert_eq!(rt; races, on_line && found && !hidden);
+                let found = is_found_unordered(rt, alloc, &closure, steps, receive, number);
+                let wanted = found && may_race(rt, steps, receive, number);
+                let races = has_race_of(rt, reports.as_slice(), steps, receive, number);
+                assert_eq!(rt; races, wanted);
             }
         }
     }
-    Ok(())
 }
 
 /// What is found of a schedule's steps, unless they are more than so many. How many pairs are turned round is answered.
-pub fn finds_all(rt: &impl Abort, alloc: Global, schedule: &Schedule) -> Result<usize, Fail> {
+pub fn finds_all(rt: &impl Abort, alloc: Global, schedule: &Schedule) -> usize {
     let outcome = plain_replay(alloc, schedule).expect(rt, "an outcome");
-    let steps = steps_of(alloc, schedule, &outcome)?;
+    let steps = steps_of(rt, alloc, schedule, &outcome);
     let steps = steps.as_slice();
     if steps.len() > MOST {
-        return Ok(0);
+        return 0;
     }
-    finds_what_is_reported(rt, alloc, outcome.chart(), steps)?;
+    finds_what_is_reported(rt, alloc, outcome.chart(), steps);
     let slots = schedule.capacity().slots();
-    let within = finds_what_runs_do(rt, alloc, steps, slots)?;
-    let any = finds_what_runs_do(rt, alloc, steps, MAX_CAPACITY)?;
+    let within = finds_what_runs_do(rt, alloc, steps, slots);
+    let any = finds_what_runs_do(rt, alloc, steps, MAX_CAPACITY);
     assert!(rt; within <= any);
-    Ok(any)
+    any
 }
 
 /// The commands that are drawn from; a command that isn't accepted makes no step.
@@ -192,22 +230,24 @@ fn piece<'a>(pieces: &'a [&'static [u8]], word: u32) -> &'a [u8] {
 }
 
 /// The schedule of so many commands that a seed draws.
-pub fn drawn_schedule(alloc: Global, seed: u64, commands: usize) -> Result<Schedule, Fail> {
+pub fn drawn_schedule(rt: &impl Abort, alloc: Global, seed: u64, commands: usize) -> Schedule {
     let mut generator = Lcg64Xsh32::seed_from_u64(seed);
-    let mut text = Vec::from_slice(alloc, piece(FRONTS.as_slice(), generator.next_word()))?;
+    let mut text = Vec::new(alloc);
+    let front = piece(FRONTS.as_slice(), generator.next_word());
+    assert!(rt; text.extend_from_slice(front).is_ok());
     for _ in 0..commands {
-        text.extend_from_slice(piece(COMMANDS.as_slice(), generator.next_word()))?;
+        let command = piece(COMMANDS.as_slice(), generator.next_word());
+        assert!(rt; text.extend_from_slice(command).is_ok());
     }
-    Ok(Schedule::read(alloc, text.as_slice())?)
+    Schedule::read(alloc, text.as_slice()).expect(rt, "a schedule")
 }
 
 #[test]
-fn drawn_schedules(rt: HostRuntime) -> Result<(), Fail> {
+fn drawn_schedules(rt: HostRuntime) {
     let mut many = 0usize;
     for seed in 0..200 {
-        let schedule = drawn_schedule(rt.alloc(), seed, 11)?;
-        many = many.saturating_add(finds_all(&rt, rt.alloc(), &schedule)?);
+        let schedule = drawn_schedule(&rt, rt.alloc(), seed, 11);
+        many = many.saturating_add(finds_all(&rt, rt.alloc(), &schedule));
     }
     assert!(rt; many > 300, "{many} pairs");
-    Ok(())
 }

@@ -1,16 +1,15 @@
 //! A long recorded run, of which a hundred races have witnesses.
 
-use crate::recorded::{found, number_of, steps_of};
-use crate::runs::is_witness;
+use crate::every_run::has_witness;
+use crate::recorded::{found, numbers_of, steps_of};
 use chart::{MAX_CAPACITY, Report};
 use plain_replayer::plain_replay;
 use rand_core::SeedableRng;
 use rand_core::utils::NextWord;
 use rand_pcg::Lcg64Xsh32;
 use schedule::Schedule;
-use std::alloc::{AllocError, Global};
+use std::alloc::Global;
 use std::process::Abort;
-use std::test::Fail;
 use witness::Step;
 
 /// How many events each line has.
@@ -33,86 +32,111 @@ static LANES: [Lane; 6] = [
     (2, 1, b"c send b m\n", b"b receive c\n"),
 ];
 
-/// The text of a schedule that a seed draws, each of whose commands is accepted.
-fn drawn_text(alloc: Global, seed: u64) -> Result<Vec<u8>, Fail> {
-    let mut generator = Lcg64Xsh32::seed_from_u64(seed);
-    let mut made = [0usize; 3];
-    let mut waiting = [0usize; 6];
-    let mut text = Vec::from_slice(alloc, b"instances a b c\ncapacity 64\n")?;
-    for _ in 0..100000 {
-        let word = generator.next_word() as usize;
-        let lane = word / 2 % 6;
-        let sends = word % 2 == 0;
-        let (from, to, send, receive) = LANES[lane];
-        let maker = if sends { from } else { to };
-        let waits = waiting[lane];
-        let made_so_far = made[maker % 3];
-        if made_so_far < EVENTS && sends && waits < MAX_CAPACITY {
-            made[maker % 3] = made_so_far + 1;
-            waiting[lane] = waits + 1;
-            text.extend_from_slice(send)?;
-        }
-        if made_so_far < EVENTS && !sends && waits > 0 {
-            made[maker % 3] = made_so_far + 1;
-            waiting[lane] = waits - 1;
-            text.extend_from_slice(receive)?;
-        }
-    }
-    Ok(text)
+/// What a drawn run has come to: how many events of each line, and how many messages on each lane.
+#[derive(Drop)]
+struct Drawn {
+    made: [usize; 3],
+    waiting: [usize; 6],
 }
 
-/// A hundred races, equally far apart in the reports: the numbers of the receive's step and of the other's.
-fn some_races(
-    alloc: Global,
-    steps: &[Step],
-    reports: &[Report],
-) -> Result<Vec<(usize, usize)>, AllocError> {
+/// The command that a word draws, where it is accepted.
+fn next_command(drawn: &mut Drawn, word: usize) -> &'static [u8] {
+    let lane = word / 2 % 6;
+    let sends = word % 2 == 0;
+    let (from, to, send, receive) = LANES[lane];
+    let maker = if sends { from % 3 } else { to % 3 };
+    let waits = drawn.waiting[lane];
+    let made = drawn.made[maker];
+    if made >= EVENTS || sends && waits >= MAX_CAPACITY || !sends && waits == 0 {
+        return b"";
+    }
+    drawn.made[maker] = made + 1;
+    drawn.waiting[lane] = if sends { waits + 1 } else { waits - 1 };
+    if sends { send } else { receive }
+}
+
+/// The text of a schedule that a seed draws, each of whose commands is accepted.
+fn drawn_text(rt: &impl Abort, alloc: Global, seed: u64) -> Vec<u8> {
+    let mut generator = Lcg64Xsh32::seed_from_u64(seed);
+    let mut drawn = Drawn {
+        made: [0; 3],
+        waiting: [0; 6],
+    };
+    let mut text = Vec::new(alloc);
+    let front = b"instances a b c\ncapacity 64\n";
+    assert!(rt; text.extend_from_slice(front).is_ok());
+    for _ in 0..100000 {
+        let command = next_command(&mut drawn, generator.next_word() as usize);
+        assert!(rt; text.extend_from_slice(command).is_ok());
+    }
+    text
+}
+
+/// How many races the reports have.
+fn count(reports: &[Report]) -> usize {
     let mut all = 0usize;
     for report in reports {
         all = all.saturating_add(report.earlier().len());
     }
-    let distance = (all / RACES).max(1);
+    all
+}
+
+/// A hundred races, equally far apart in the reports: the numbers of the receive's step and of the other's.
+fn some_races(
+    rt: &impl Abort,
+    alloc: Global,
+    steps: &[Step],
+    reports: &[Report],
+) -> Vec<(usize, usize)> {
+    let distance = (count(reports) / RACES).max(1);
     let mut passed = 0usize;
     let mut races = Vec::new(alloc);
     for report in reports {
         for event in report.earlier().iter() {
             passed = passed.saturating_add(1);
             if passed % distance == 0 && races.len() < RACES {
-                let receive = number_of(steps, report.receive());
-                if let (Some(receive), Some(earlier)) = (receive, number_of(steps, event)) {
-                    races.push((receive, earlier))?;
-                }
+                let race = numbers_of(rt, steps, report.receive(), event);
+                assert!(rt; races.push(race).is_ok());
             }
         }
     }
-    Ok(races)
+    races
 }
 
 #[test]
-fn hundred_races(rt: HostRuntime) -> Result<(), Fail> {
-    witness_each(&rt, rt.alloc(), 1)
+fn hundred_races(rt: HostRuntime) {
+    let text = drawn_text(&rt, rt.alloc(), 1);
+    let schedule = Schedule::read(rt.alloc(), text.as_slice()).expect(&rt, "a schedule");
+    witness_each(&rt, rt.alloc(), &schedule);
 }
 
 /// Each of a hundred races of a drawn run has a witness with as many slots.
-fn witness_each(rt: &impl Abort, alloc: Global, seed: u64) -> Result<(), Fail> {
-    let text = drawn_text(alloc, seed)?;
-    let schedule = Schedule::read(alloc, text.as_slice())?;
-    let outcome = plain_replay(alloc, &schedule).expect(rt, "an outcome");
+fn witness_each(rt: &impl Abort, alloc: Global, schedule: &Schedule) {
+    let outcome = plain_replay(alloc, schedule).expect(rt, "an outcome");
     for line in outcome.chart().lines() {
         assert_eq!(rt; line.len(), EVENTS);
     }
-    let steps = steps_of(alloc, &schedule, &outcome)?;
-    let steps = steps.as_slice();
-    let races = some_races(alloc, steps, outcome.reports())?;
+    let steps = steps_of(rt, alloc, schedule, &outcome);
+    let races = some_races(rt, alloc, steps.as_slice(), outcome.reports());
     assert_eq!(rt; races.len(), RACES);
-    let mut many = 0usize;
-    for (receive, earlier) in races {
-        let run = found(alloc, steps, MAX_CAPACITY, receive, earlier)?.ok_or("no witness")?;
-        if many % APART == 0 {
-            let run = run.as_slice();
-            assert!(rt; is_witness(alloc, steps, run, MAX_CAPACITY, receive, earlier)?);
-        }
-        many = many.saturating_add(1);
+    for number in 0..races.len() {
+        let (receive, earlier) = races[number];
+        is_found(rt, alloc, steps.as_slice(), number, receive, earlier);
     }
-    Ok(())
+}
+
+/// The race of this number has a witness, of which some are gone over.
+fn is_found(
+    rt: &impl Abort,
+    alloc: Global,
+    steps: &[Step],
+    number: usize,
+    receive: usize,
+    earlier: usize,
+) {
+    if number % APART == 0 {
+        assert!(rt; has_witness(rt, alloc, steps, MAX_CAPACITY, receive, earlier));
+    } else {
+        assert!(rt; found(rt, alloc, steps, MAX_CAPACITY, receive, earlier).is_some());
+    }
 }

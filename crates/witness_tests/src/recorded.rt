@@ -3,7 +3,8 @@
 use chart::{Event, EventNo, InstanceNo};
 use outcomes::Outcome;
 use schedule::{Action, Note, Schedule};
-use std::alloc::{AllocError, Global};
+use std::alloc::Global;
+use std::process::Abort;
 use witness::{Step, overtake};
 
 pub fn maker(step: &Step) -> InstanceNo {
@@ -55,10 +56,11 @@ fn has_note(notes: &[Note], line: u64) -> bool {
 
 /// The steps that the accepted commands make, in their order.
 pub fn steps_of(
+    rt: &impl Abort,
     alloc: Global,
     schedule: &Schedule,
     outcome: &Outcome<'_>,
-) -> Result<Vec<Step>, AllocError> {
+) -> Vec<Step> {
     let mut steps = Vec::new(alloc);
     for command in schedule.commands() {
         let makes = matches!(
@@ -69,11 +71,11 @@ pub fn steps_of(
             let actor = command.actor;
             let number = made_by(steps.as_slice(), actor);
             if let Some(event) = event_of(outcome, actor, number) {
-                steps.push(step_of(actor, event))?;
+                assert!(rt; steps.push(step_of(actor, event)).is_ok());
             }
         }
     }
-    Ok(steps)
+    steps
 }
 
 /// The number of the step that makes an event.
@@ -90,6 +92,19 @@ pub fn number_of(steps: &[Step], event: EventNo) -> Option<usize> {
     None
 }
 
+/// The numbers of the steps that make a receive and an earlier event.
+pub fn numbers_of(
+    rt: &impl Abort,
+    steps: &[Step],
+    receive: EventNo,
+    earlier: EventNo,
+) -> (usize, usize) {
+    (
+        number_of(steps, receive).expect(rt, "a receive"),
+        number_of(steps, earlier).expect(rt, "an earlier event"),
+    )
+}
+
 /// The event that a step makes.
 pub fn event_no(steps: &[Step], number: usize) -> Option<EventNo> {
     let instance = maker(steps.get(number)?);
@@ -100,16 +115,17 @@ pub fn event_no(steps: &[Step], number: usize) -> Option<EventNo> {
 
 /// What is found for two steps, where the first receives.
 pub fn found(
+    rt: &impl Abort,
     alloc: Global,
     steps: &[Step],
     slots: usize,
     receive: usize,
     earlier: usize,
-) -> Result<Option<Vec<Step>>, AllocError> {
+) -> Option<Vec<Step>> {
     if receive < steps.len() && earlier < steps.len() {
         if let Step::Receive { .. } = steps[receive] {
-            return overtake(alloc, steps, slots, receive, earlier);
+            return overtake(alloc, steps, slots, receive, earlier).expect(rt, "memory");
         }
     }
-    Ok(None)
+    None
 }

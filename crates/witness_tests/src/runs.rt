@@ -1,7 +1,8 @@
 //! Runs whose events are told by lane and turn, and what it takes to be another run of the same events.
 
 use chart::InstanceNo;
-use std::alloc::{AllocError, Global};
+use std::alloc::Global;
+use std::process::Abort;
 use witness::Step;
 
 /// An event, told by its lane and its turn there, from 1.
@@ -51,14 +52,14 @@ impl Told {
 }
 
 /// The events of these steps.
-pub fn events_of(alloc: Global, steps: &[Step]) -> Result<Vec<Told>, AllocError> {
+pub fn events_of(rt: &impl Abort, alloc: Global, steps: &[Step]) -> Vec<Told> {
     let mut events = Vec::new(alloc);
     for step in steps {
         let mut event = Told::first(step);
         event.turn = count(events.as_slice(), &event, event.receives).saturating_add(1);
-        events.push(event)?;
+        assert!(rt; events.push(event).is_ok());
     }
-    Ok(events)
+    events
 }
 
 /// How many events there are of the lane of this one, receives or sends.
@@ -81,19 +82,18 @@ pub struct Moved {
 
 /// Where the recorded events stand in the run, if they all do.
 fn events_in(
+    rt: &impl Abort,
     alloc: Global,
     recorded: &[Told],
     run: &[Told],
-) -> Result<Option<Vec<Moved>>, AllocError> {
+) -> Option<Vec<Moved>> {
     let mut all = Vec::new(alloc);
     for event in recorded {
         let event = *event;
-        let Some(place) = place_of(run, &event) else {
-            return Ok(None);
-        };
-        all.push(Moved { event, place })?;
+        let place = place_of(run, &event)?;
+        assert!(rt; all.push(Moved { event, place }).is_ok());
     }
-    Ok(Some(all))
+    Some(all)
 }
 
 fn place_of(run: &[Told], event: &Told) -> Option<usize> {
@@ -135,22 +135,17 @@ fn is_within(run: &[Told], slots: usize) -> bool {
 
 /// The recorded events in the other run, where this is one with the same events and causes within so many slots.
 pub fn as_other_run(
+    rt: &impl Abort,
     alloc: Global,
     recorded: &[Told],
     run: &[Told],
     slots: usize,
-) -> Result<Option<Vec<Moved>>, AllocError> {
+) -> Option<Vec<Moved>> {
     if run.len() != recorded.len() || !is_within(run, slots) {
-        return Ok(None);
+        return None;
     }
-    let Some(all) = events_in(alloc, recorded, run)? else {
-        return Ok(None);
-    };
-    if keep_causes(all.as_slice()) {
-        Ok(Some(all))
-    } else {
-        Ok(None)
-    }
+    let all = events_in(rt, alloc, recorded, run)?;
+    keep_causes(all.as_slice()).then_some(all)
 }
 
 /// Whether the other run has the receive before the other event.
@@ -173,21 +168,20 @@ fn has_steps(all: &[Moved], steps: &[Step], run: &[Step]) -> bool {
 
 /// Whether a run has the same events and causes as the recorded one, so many slots, and the receive before the event.
 pub fn is_witness(
+    rt: &impl Abort,
     alloc: Global,
     steps: &[Step],
     run: &[Step],
     slots: usize,
     receive: usize,
     earlier: usize,
-) -> Result<bool, AllocError> {
-    let recorded = events_of(alloc, steps)?;
-    let other = events_of(alloc, run)?;
-    Ok(
-        match as_other_run(alloc, recorded.as_slice(), other.as_slice(), slots)? {
-            Some(all) => {
-                has_steps(all.as_slice(), steps, run) && overtakes(all.as_slice(), receive, earlier)
-            }
-            None => false,
-        },
-    )
+) -> bool {
+    let recorded = events_of(rt, alloc, steps);
+    let other = events_of(rt, alloc, run);
+    match as_other_run(rt, alloc, recorded.as_slice(), other.as_slice(), slots) {
+        Some(all) => {
+            has_steps(all.as_slice(), steps, run) && overtakes(all.as_slice(), receive, earlier)
+        }
+        None => false,
+    }
 }

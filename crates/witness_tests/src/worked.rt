@@ -1,14 +1,12 @@
 //! Worked schedules: each reported race has a witness.
 
-use crate::every_run::finds_all;
-use crate::recorded::{found, number_of, steps_of};
-use crate::runs::is_witness;
+use crate::every_run::{finds_all, has_witness};
+use crate::recorded::{numbers_of, steps_of};
 use chart::MAX_CAPACITY;
 use plain_replayer::plain_replay;
 use schedule::Schedule;
 use std::alloc::Global;
 use std::process::Abort;
-use std::test::Fail;
 use witness::Step;
 
 /// A schedule, how many races it has, and how many of them another run with as many slots turns round.
@@ -52,50 +50,42 @@ pub static WORKED: [Worked; 7] = [
     ),
 ];
 
-/// Whether a witness within so many slots is found, which is then gone over.
-fn has_witness(
+/// How many races are reported, and how many of them have a witness with as many slots; each has one with the most.
+fn witnessed(rt: &impl Abort, alloc: Global, schedule: &Schedule) -> (usize, usize) {
+    let outcome = plain_replay(alloc, schedule).expect(rt, "an outcome");
+    let steps = steps_of(rt, alloc, schedule, &outcome);
+    let slots = schedule.capacity().slots();
+    let mut races = 0usize;
+    let mut within = 0usize;
+    for report in outcome.reports() {
+        for event in report.earlier().iter() {
+            let (receive, earlier) = numbers_of(rt, steps.as_slice(), report.receive(), event);
+            let found = has_both(rt, alloc, steps.as_slice(), slots, receive, earlier);
+            races = races.saturating_add(1);
+            within = within.saturating_add(usize::from(found));
+        }
+    }
+    (races, within)
+}
+
+/// The race has a witness with the most slots. Whether it has one with so many is answered.
+fn has_both(
     rt: &impl Abort,
     alloc: Global,
     steps: &[Step],
     slots: usize,
     receive: usize,
     earlier: usize,
-) -> Result<bool, Fail> {
-    let Some(run) = found(alloc, steps, slots, receive, earlier)? else {
-        return Ok(false);
-    };
-    assert!(rt; is_witness(alloc, steps, run.as_slice(), slots, receive, earlier)?);
-    Ok(true)
-}
-
-/// How many races are reported, and how many of them have a witness with as many slots; each has one with the most.
-fn witnessed(rt: &impl Abort, alloc: Global, schedule: &Schedule) -> Result<(usize, usize), Fail> {
-    let outcome = plain_replay(alloc, schedule).expect(rt, "an outcome");
-    let steps = steps_of(alloc, schedule, &outcome)?;
-    let steps = steps.as_slice();
-    let mut races = 0usize;
-    let mut within = 0usize;
-    for report in outcome.reports() {
-        let receive = number_of(steps, report.receive()).ok_or("no such receive")?;
-        for event in report.earlier().iter() {
-            let earlier = number_of(steps, event).ok_or("no such event")?;
-            assert!(rt; has_witness(rt, alloc, steps, MAX_CAPACITY, receive, earlier)?);
-            races = races.saturating_add(1);
-            let slots = schedule.capacity().slots();
-            if has_witness(rt, alloc, steps, slots, receive, earlier)? {
-                within = within.saturating_add(1);
-            }
-        }
-    }
-    Ok((races, within))
+) -> bool {
+    assert!(rt; has_witness(rt, alloc, steps, MAX_CAPACITY, receive, earlier));
+    has_witness(rt, alloc, steps, slots, receive, earlier)
 }
 
 #[test]
-fn worked_schedules(rt: HostRuntime) -> Result<(), Fail> {
+fn worked_schedules(rt: HostRuntime) {
     for (text, races, within) in WORKED {
-        let schedule = Schedule::read(rt.alloc(), text)?;
-        assert_eq!(rt; witnessed(&rt, rt.alloc(), &schedule)?, (races, within));
-        finds_all(&rt, rt.alloc(), &schedule)?;
+        let schedule = Schedule::read(rt.alloc(), text).expect(&rt, "a schedule");
+        assert!(rt; witnessed(&rt, rt.alloc(), &schedule) == (races, within));
+        finds_all(&rt, rt.alloc(), &schedule);
     }
-    Ok(())
 }

@@ -6,7 +6,8 @@ use super::{
     A, B, C, Lines, Order, Place, Races, TURNS, TURNS_RACES, answers, audited, before, chart,
     chart_of, closure_of, event, event_no, line, push, races, refuses, reports, reports_of,
 };
-use chart::{Chart, Event, InstanceNo, Line, Name};
+use crate::named::name;
+use chart::{Chart, Event, InstanceNo, Line};
 use closure::{AuditError, ChartError};
 use std::alloc::Global;
 use std::process::Abort;
@@ -119,12 +120,12 @@ fn coregion(rt: &impl Abort, alloc: Global) -> Line
     let mut b = Line::new(alloc, InstanceNo::at_place(1));
     let x = Event::Receive {
         from: InstanceNo::at_place(0),
-        name: Name::new(b"x").expect(rt, "a name"),
+        name: name(rt, b"x"),
         region: 1,
     };
     let y = Event::Receive {
         from: InstanceNo::at_place(2),
-        name: Name::new(b"y").expect(rt, "a name"),
+        name: name(rt, b"y"),
         region: 1,
     };
     b.push(x).expect(rt, "an event");

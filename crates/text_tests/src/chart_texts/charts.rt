@@ -1,7 +1,6 @@
 //! Charts of worked cases, to the byte: each is read, and written back.
 
 use super::is_written_back;
-use std::test::Fail;
 
 static CHARTS: [&[u8]; 15] = [
     // any takes turns
@@ -37,9 +36,8 @@ static CHARTS: [&[u8]; 15] = [
 ];
 
 #[test]
-fn are_written_back(rt: HostRuntime) -> Result<(), Fail> {
+fn are_written_back(rt: HostRuntime) {
     for text in CHARTS {
-        is_written_back(&rt, rt.alloc(), text)?;
+        is_written_back(&rt, rt.alloc(), text);
     }
-    Ok(())
 }

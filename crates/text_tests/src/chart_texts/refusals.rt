@@ -1,6 +1,6 @@
 //! Texts that are no chart's: worked cases, and the order of the checks.
 
-use super::refusal;
+use super::{is_refused, refusal};
 use chart::NameError;
 use msc_text::{Cause, Fault, TextError};
 
@@ -161,10 +161,7 @@ static UNFINISHED: [&[u8]; 4] = [
 #[test]
 fn first_faults(rt: HostRuntime) {
     for (text, line, cause) in FAULTY {
-        assert_eq!(rt;
-            refusal(rt.alloc(), text),
-            Some(TextError::Fault(Fault::Line(line, cause)))
-        );
+        is_refused(&rt, rt.alloc(), text, line, cause);
     }
 }
 

@@ -4,7 +4,7 @@ use Rattle.chart.proofs.HistoryLines.{lines-numbered, lines-partnered, length-hi
 use Rattle.board.specs.declared.gathering.Gathered.{Gathered}
 use Rattle.board.specs.Views.{PostView}
 use Rattle.board.specs.Gathering.{left_on, IsGathered}
-use Rattle.board.proofs.WholeBoards.{some_posts, going, its_reports, its_rooms, its_lanes, its_ready, all_reports}
+use Rattle.board.proofs.WholeBoards.{some_posts, going, its_reports, its_rooms, its_lanes, its_closed, its_ready, all_reports}
 use Rattle.board.proofs.gathering.gather_all.Goals as goal
 
 -- an element that is there needs no default
@@ -95,7 +95,7 @@ returns c =
     let table : words ≡ x.board.table = c.words-words.ensures ∙ ap (λ (post : PostView). post.board.table) (c.index-2.ensures ∙ same_default posts c.index-2.result.now x (some_posts posts c.requires.all) ∙ sym c.index.ensures) in
     let ready = its_ready posts rest n x.board.capacity x.board.table h g it c.requires.provision c.part_all.new.lines.items c.part_all.new.reports.items c.part_all.new.leavers.items c.deref_mut-2.result.now words parted c.deref_mut-2.ensures.value table in
     let rooms = its_rooms posts rest n x.board.capacity x.board.table h g it c.requires.provision in
-    let result : Gathered = record { chart = c.whole_chart.result; reports = c.part_all.new.reports; left = c.draw_lanes.new.left } in
+    let result : Gathered = record { chart = c.whole_chart.result; reports = c.part_all.new.reports; left = c.draw_lanes.new.left; closed = it.closed } in
     record {
       all = c.requires.all;
       history = h;
@@ -104,5 +104,6 @@ returns c =
         chart = c.whole_chart.ensures ∙ parted.lined;
         reports = all_reports n x.board.capacity x.board.table h c.part_all.new.lines.items c.part_all.new.reports.items c.part_all.new.leavers.items parted g.legal;
         left = c.draw_lanes.ensures n x.board.capacity h ready (rooms.each h g.joint) ∙ ap (map (left_on h)) (its_lanes posts rest n x.board.capacity x.board.table h g it c.requires.provision);
+        closed = its_closed posts rest n x.board.capacity x.board.table h g it c.requires.provision;
       });
     }

@@ -1,4 +1,5 @@
 use Rattle.std.proofs.Common.{◌≡◌, ◌+◌, ℕ, suc, List, refl, sym, ap, ◌∙◌, subst, arith}
+use Rattle.atomic_table.specs.Seated.{TableId}
 use Rattle.board_table.specs.Knowing.{Mine}
 use Rattle.board_table.specs.declared.held.Held.{Held}
 use Rattle.board.specs.Views.{BoardView, PostView}
@@ -36,10 +37,7 @@ deal-chair-requires-clause-some c =
 pub make_post-requires-clause-seat : goal.make_post-requires-clause-seat
 make_post-requires-clause-seat c =
     let its = deal_next _ _ c.loop-place.place (suc c.loop-place.place) c.loop-place.seat.me c.loop-place.invariant.left (omega arith) refl in
-    record {
-      same = c.deal-chair.ensures.table.2 ∙ c.loop-place.invariant.seated;
-      new = new_seat_is c.args.shape.instances c.args.shape.capacity (suc c.loop-place.place) c.at_place-number.result c.loop-place.seat.me c.deal-chair.result.me its.1 c.at_place-number.ensures c.deal-chair.ensures.first;
-    }
+    new_seat_is c.args.shape.instances c.args.shape.capacity (suc c.loop-place.place) c.at_place-number.result c.loop-place.seat.me c.deal-chair.result.me its.1 c.at_place-number.ensures c.deal-chair.ensures.first
 
 pub loop-place-preserved : goal.loop-place-preserved
 loop-place-preserved c =
@@ -49,7 +47,7 @@ loop-place-preserved c =
     let its = deal_next c.args.shape.instances c.args.shape.capacity place (place + 1) c.loop-place.seat.me c.loop-place.invariant.left (omega arith) onward in
     record {
       posts = subst (λ (xs : List PostView). FirstPosts (place + 1) board xs) (sym c.in_ok-push.ensures.items)
-          (first_next place (place + 1) board c.loop-place.posts.items c.in_ok-post.post c.loop-place.invariant.posts (c.in_ok-post.ensures ∙ ap (λ (i : ℕ). new_post board i) c.at_place-number.ensures) onward);
+          (first_next place (place + 1) board c.loop-place.posts.items c.in_ok-post.post c.loop-place.invariant.posts (c.in_ok-post.ensures ∙ ap (λ (t : TableId). new_post (record board { table = t }) c.at_place-number.result) (c.deal-chair.ensures.table.2 ∙ c.loop-place.invariant.seated) ∙ ap (λ (i : ℕ). new_post board i) c.at_place-number.ensures) onward);
       seated = c.deal-chair.ensures.table.0 ∙ c.loop-place.invariant.seated;
       left = subst (λ (m : Mine). AreLeft c.args.shape.instances c.args.shape.capacity (place + 1) m) (sym c.deal-chair.ensures.others) its.2;
     }

@@ -1,4 +1,4 @@
-use Rattle.std.proofs.Common.{sym, subst}
+use Rattle.std.proofs.Common.{subst}
 use Rattle.std.specs.Prelude.{All}
 use Rattle.chart.specs.Histories.{chart_of}
 use Rattle.chart.specs.Reports.{IsReportIn}
@@ -7,5 +7,4 @@ use Rattle.board.proofs.post.Post.part.Goals as goal
 
 pub returns-clause-reports : goal.returns-clause-reports
 returns-clause-reports c =
-    subst (All (IsReportIn (chart_of c.args.self.seen))) (sym c.into_parts-line.ensures.reports)
-    (subst (λ (post : PostView). All (IsReportIn (chart_of post.seen)) c.self.inside.recorder.reports) c.self.view_is c.self.invariant.knows.own.recorder.reports)
+    subst (λ (post : PostView). All (IsReportIn (chart_of post.seen)) c.part.result.1.items) c.self.view_is c.part.ensures.reports

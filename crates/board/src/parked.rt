@@ -1,0 +1,105 @@
+//! A post without its board's words.
+ghost use Rattle.std.specs.Prelude.{◌≡◌, ◌+◌, ◌<◌, ◌≤◌, ◌↔◌, Ok, Err, OnOk, OnErr};
+ghost use Rattle.chart.specs.declared.history.TheConstants.{MAX_CAPACITY};
+ghost use Rattle.chart.specs.declared.instance.TheConstants.{MAX_INSTANCES};
+ghost use Rattle.chart.specs.Events.{greatest_region};
+ghost use Rattle.board.specs.Views.{Sound, line_of};
+ghost use Rattle.board.specs.declared.error.RegionError.TheVariants.{CoregionOpen, CoregionNotOpen};
+
+use crate::ends::{Incoming, Outgoing};
+use crate::error::RegionError;
+use board_table::{Seat, Shape};
+use chart::{GrowingLine, InstanceNo, MAX_EVENTS};
+use line_recorder::Recorder;
+use std::alloc::Global;
+use std::marker::Model;
+
+/// A post that borrows nothing: all that a [`crate::Post`] is but its board's words, which each call takes. So it can
+/// be kept beside the table that has them, or be sent where that is shared.
+///
+/// A contract sees of it what it sees of a post. Each call wants the words of its own board.
+#[derive(Drop)]
+pub struct Parked {
+    pub(crate) seat: Seat,
+    pub(crate) alloc: Global,
+    pub(crate) shape: Shape,
+    pub(crate) number: InstanceNo,
+    pub(crate) recorder: Recorder,
+    /// By the other instance's place.
+    pub(crate) outgoing: Vec<Outgoing>,
+    pub(crate) incoming: Vec<Incoming>,
+    /// The open coregion, 0 for none.
+    pub(crate) region: u32,
+}
+
+impl Model for Parked {
+    ghost use Rattle.board.specs.Views.{PostView};
+    ghost use Rattle.board.specs.Known.{IsPost, view_of};
+
+    ghost Value = { PostView };
+
+    ghost view = { λ post. view_of post.seat.table_id post.seat.me post.shape.instances post.shape.capacity
+        post.number post.region post.recorder.room };
+
+    ghost invariant = { λ post. IsPost post.seat.me post.shape.instances post.shape.capacity post.number
+        post.recorder post.region post.outgoing.items post.incoming.items };
+}
+
+impl Parked {
+    /// The post's number among the instances of its board.
+    pub fn number(&self) -> InstanceNo
+        ensures { result ≡ self.now.number }
+    {
+        self.number
+    }
+
+    /// How many posts its board has. Its lanes have 1 to [`chart::MAX_CAPACITY`] slots, and what it has seen is sound,
+    /// before its first call too.
+    pub fn board_size(&self) -> usize
+        ensures value { result ≡ self.now.board.size }
+        ensures sized { (2 ≤ result) × (result ≤ MAX_INSTANCES) }
+        ensures among { (1 ≤ self.now.number) × (self.now.number ≤ self.now.board.size) }
+        ensures slots { (1 ≤ self.now.board.capacity) × (self.now.board.capacity ≤ MAX_CAPACITY) }
+        ensures sound { Sound self.now self.now }
+    {
+        self.shape.instances
+    }
+
+    /// Its line in the chart of what it has seen. It takes no memory.
+    pub fn line(&self) -> &GrowingLine
+        ensures { result.now.line ≡ record { instance = self.now.number; events = line_of self.now } }
+    {
+        self.recorder.line()
+    }
+
+    /// Opens a coregion, which its receives are in from now on. F28: one is open. It takes no memory and looks at
+    /// nothing.
+    pub fn open_coregion(&mut self) -> Result<(), RegionError>
+        ensures ok { OnOk result (self.new ≡ record self.old { region = greatest_region (line_of self.old) + 1 }) }
+        ensures open { (result ≡ Err RegionError.CoregionOpen) ↔ (0 < self.old.region) }
+        ensures not_open { (result ≡ Err RegionError.CoregionNotOpen) → ⊥ }
+        ensures err { OnErr result (self.new ≡ self.old) }
+    {
+        if self.region > 0 {
+            return Err(RegionError::CoregionOpen);
+        }
+        let line = self.recorder.line();
+        prove!(line.len() <= MAX_EVENTS);
+        self.region = line.greatest_region() + 1;
+        Ok(())
+    }
+
+    /// Closes the coregion that is open. F29: none is. It takes no memory and looks at nothing.
+    pub fn close_coregion(&mut self) -> Result<(), RegionError>
+        ensures ok { OnOk result (self.new ≡ record self.old { region = 0 }) }
+        ensures not_open { (result ≡ Err RegionError.CoregionNotOpen) ↔ (self.old.region ≡ 0) }
+        ensures open { (result ≡ Err RegionError.CoregionOpen) → ⊥ }
+        ensures err { OnErr result (self.new ≡ self.old) }
+    {
+        if self.region == 0 {
+            return Err(RegionError::CoregionNotOpen);
+        }
+        self.region = 0;
+        Ok(())
+    }
+}
