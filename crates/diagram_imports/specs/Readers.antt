@@ -5,10 +5,11 @@ use Rattle.diagrams.specs.declared.drawn.DrawError.TheVariants.{Instances}
 use Rattle.line_diagrams.specs.Folds as folds
 use Rattle.line_diagrams.specs.declared.labels.Breaks.{Breaks}
 use Rattle.line_diagrams.specs.declared.labels.Breaks.TheVariants as breaks
-use Rattle.line_statements.specs.Statements.{StatementView}
+use Rattle.line_statements.specs.Readings.{ReadView}
 use Rattle.line_statements.specs.declared.statement.Fault.{Fault}
 use Rattle.line_statements.specs.declared.statement.Fault.TheVariants as faults
 use Rattle.mermaid_text.specs.Diagrams as mermaid
+use Rattle.plantuml_text.specs.Diagrams as plantuml
 use Rattle.mscgen_diagrams.specs.Reading as mscgen
 use Rattle.mscgen_diagrams.specs.declared.error.Fault.{Fault as MscgenFault}
 use Rattle.mscgen_diagrams.specs.declared.error.Fault.TheVariants as mscgen_faults
@@ -50,14 +51,12 @@ unfoldable pub tool_in : Option Tool → List ℕ → Result Tool Refusal
 tool_in (Some tool) text = Ok tool
 tool_in None text = refused_as (of_untold text) (told_tool text)
 
--- the diagram of a text of lines
-unfoldable pub lines_in : Breaks → List ℕ → Result (List StatementView) Fault → Result DiagramView Refusal
-lines_in breaks text read = do
-  statements ← refused_as (of_lines text) read
-  refused_as (of_lines text) (folds.diagram_of breaks statements)
+-- the diagram of what is read of a text of lines
+abbrev pub lines_in : Breaks → List ℕ → ReadView → Result DiagramView Refusal
+lines_in breaks text read = refused_as (of_lines text) (folds.diagram_of breaks read)
 
--- the diagram that a text says. PlantUML's isn't read here
+-- the diagram that a text says
 unfoldable pub diagram_in : Tool → List ℕ → Result DiagramView Refusal
 diagram_in Mscgen text = refused_as (of_mscgen text) (mscgen.diagram_of text)
 diagram_in Mermaid text = lines_in breaks.Mermaid text (mermaid.diagram_of text)
-diagram_in PlantUml text = Err (not_read text 1 1)
+diagram_in PlantUml text = lines_in breaks.PlantUml text (plantuml.diagram_of text)

@@ -1,11 +1,10 @@
 //! The diagram that a text says, in the language of its tool.
-ghost use Rattle.std.specs.Prelude.{map};
 ghost use Rattle.diagrams.specs.Diagrams.{diagram_view};
-ghost use Rattle.line_diagrams.specs.Folds.{diagram_of};
-ghost use Rattle.line_diagrams.specs.declared.labels.Breaks.TheVariants.{Mermaid};
-ghost use Rattle.line_statements.specs.Statements.{statement_view};
+ghost use Rattle.line_diagrams.specs.declared.labels.Breaks.TheVariants.{Mermaid, PlantUml};
+ghost use Rattle.line_statements.specs.Readings.{read_view};
 ghost use Rattle.mermaid_text.specs.Diagrams.{diagram_of as mermaid_of};
 ghost use Rattle.mscgen_diagrams.specs.Reading.{diagram_of as mscgen_of};
+ghost use Rattle.plantuml_text.specs.Diagrams.{diagram_of as plantuml_of};
 ghost use Rattle.diagram_imports.specs.Refusals.{IsOf, Gives};
 ghost use Rattle.diagram_imports.specs.Readers.{not_read, of_mscgen, of_lines, refused_as, tool_in, lines_in, diagram_in};
 
@@ -13,7 +12,7 @@ use crate::error::ImportError;
 use crate::places::words_at;
 use diagrams::{Diagram, DrawError, Place};
 use line_diagrams::Breaks;
-use line_statements::{ReadError, Statement};
+use line_statements::{ReadError, ReadText};
 use std::alloc::Global;
 use told_tools::{Untold, told_tool};
 use tool_text::Tool;
@@ -77,17 +76,16 @@ fn mscgen_in(alloc: Global, text: &[u8]) -> Result<Diagram, ImportError>
     }
 }
 
-/// The diagram that statements come to.
-fn of_statements(
+/// The diagram of what is read of a text of lines.
+fn lines_in(
     alloc: Global,
     breaks: Breaks,
     text: &[u8],
-    statements: &[Statement<'_>],
+    read: &ReadText<'_>,
 ) -> Result<Diagram, ImportError>
-    ensures { Gives diagram_view result (refused_as (of_lines text.now)
-        (diagram_of breaks (map statement_view statements.now))) }
+    ensures { Gives diagram_view result (lines_in breaks text.now (read_view read.now)) }
 {
-    match line_diagrams::diagram_of(alloc, breaks, statements) {
+    match line_diagrams::diagram_of(alloc, breaks, read) {
         Ok(diagram) => Ok(diagram),
         Err(ReadError::Memory) => Err(ImportError::Memory),
         Err(ReadError::Fault(fault)) => Err(of_lines(alloc, text, fault)),
@@ -95,18 +93,26 @@ fn of_statements(
 }
 
 /// The diagram of a text of Mermaid.
-#[tactic(auto, unfolding(crate::specs::Readers::lines_in))]
 fn mermaid_in(alloc: Global, text: &[u8]) -> Result<Diagram, ImportError>
     ensures { Gives diagram_view result (lines_in Mermaid text.now (mermaid_of text.now)) }
 {
     match mermaid_text::read(alloc, text) {
-        Ok(statements) => of_statements(alloc, Breaks::Mermaid, text, &statements),
-        Err(ReadError::Memory) => Err(ImportError::Memory),
-        Err(ReadError::Fault(fault)) => Err(of_lines(alloc, text, fault)),
+        Ok(read) => lines_in(alloc, Breaks::Mermaid, text, &read),
+        Err(_) => Err(ImportError::Memory),
     }
 }
 
-/// The diagram that a text says. PlantUML's isn't read here.
+/// The diagram of a text of PlantUML.
+fn plantuml_in(alloc: Global, text: &[u8]) -> Result<Diagram, ImportError>
+    ensures { Gives diagram_view result (lines_in PlantUml text.now (plantuml_of text.now)) }
+{
+    match plantuml_text::read(alloc, text) {
+        Ok(read) => lines_in(alloc, Breaks::PlantUml, text, &read),
+        Err(_) => Err(ImportError::Memory),
+    }
+}
+
+/// The diagram that a text says.
 #[tactic(auto, unfolding(crate::specs::Readers::diagram_in))]
 pub(crate) fn diagram_in(alloc: Global, tool: Tool, text: &[u8]) -> Result<Diagram, ImportError>
     ensures { Gives diagram_view result (diagram_in tool text.now) }
@@ -114,6 +120,6 @@ pub(crate) fn diagram_in(alloc: Global, tool: Tool, text: &[u8]) -> Result<Diagr
     match tool {
         Tool::Mscgen => mscgen_in(alloc, text),
         Tool::Mermaid => mermaid_in(alloc, text),
-        Tool::PlantUml => Err(not_read(alloc, text, 1, 1)),
+        Tool::PlantUml => plantuml_in(alloc, text),
     }
 }
