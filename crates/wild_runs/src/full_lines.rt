@@ -21,8 +21,8 @@ const SENDS: u32 = 2080;
 
 const RECEIVES: u32 = 2016;
 
-/// How many turns an instance has, to look again where a lane is full or nothing waits.
-const TURNS: u32 = 500_000;
+/// How many turns an instance has, to look again where a lane is full or nothing waits: the most that a run takes.
+const TURNS: u32 = 1_000_000;
 
 /// The instance at this place.
 fn filler(alloc: Global, place: usize) -> anyhow::Result<Filler> {
