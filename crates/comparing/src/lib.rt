@@ -1,0 +1,5 @@
+//! What two recordings of one system differ in.
+#![tactic(auto)]
+
+mod lane_end;
+mod matching;
