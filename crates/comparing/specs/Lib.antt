@@ -1,2 +1,4 @@
 pub mod Ends
 pub mod Matches
+pub mod Pairs
+pub mod Verdicts
