@@ -1,3 +1,4 @@
+pub mod Comparing
 pub mod Ends
 pub mod Matches
 pub mod Pairs
