@@ -1,10 +1,9 @@
 -- That what is found for a line is exactly what the recordings differ in there.
-use Rattle.std.proofs.Common.{◌≡◌, ℕ, zero, suc, ◌+◌, ◌<◌, ◌≤◌, ◌↔◌, inl, inr, Bool, true, false, List, [], ◌∷◌, ◌++◌, length, map, Option, None, Some, refl, sym, ap, ◌∙◌, subst, arith, add-one}
-use Rattle.std.specs.Prelude.{slice_get, Contains}
+use Rattle.std.proofs.Common.{◌≡◌, ℕ, zero, suc, ◌+◌, ◌<◌, ◌↔◌, List, [], ◌∷◌, ◌++◌, length, map, Option, None, Some, refl, sym, ap, ◌∙◌, subst, arith, add-one}
+use Rattle.std.specs.Prelude.{Contains}
 use Rattle.std.proofs.lemmas.Option.{same_Some, slice_get-get_or}
 use Rattle.std.proofs.lemmas.List.{length_push}
 use Rattle.chart.specs.declared.event.Event.{Event}
-use Rattle.chart.specs.Events.{ith}
 use Rattle.chart.specs.Charts.{Chart, at}
 use Rattle.chart.proofs.Places.{each-push}
 use Rattle.chart.proofs.Tally.{ith_within, same_from_tally}
@@ -14,8 +13,8 @@ use Rattle.comparing.specs.declared.pairs.Pair.{Pair}
 use Rattle.comparing.specs.declared.verdict.Verdict.{Verdict}
 use Rattle.comparing.specs.Comparing.{IsDifference, AreDifferences, IsOnlyHere, IsCompared, AreCompared}
 use Rattle.comparing.specs.Ends.{is_at, end_of, end_there, other_of}
-use Rattle.comparing.specs.Matches.{AreOneAt, AreOne, IsMatch, AreMatches}
-use Rattle.comparing.specs.Pairs.{found_at, pair_by, pairs_to, judged, unmatched_to}
+use Rattle.comparing.specs.Matches.{AreOneAt, AreOne, AreMatches}
+use Rattle.comparing.specs.Pairs.{found_at, pairs_to, judged, unmatched_to}
 use Rattle.comparing.specs.Verdicts.{AreFronts}
 use Rattle.comparing.proofs.PairLemmas.{pair_by-has, has-pair_by, pairs_to-has, has-pairs_to, unmatched_to-has, has-unmatched_to, has-map, map-has, has_none}
 use Rattle.comparing.proofs.VerdictLemmas.{verdict_right, one_verdict}
@@ -122,8 +121,8 @@ module _ (others : List ℕ) (c d : Chart) (p : ℕ) (found : List (Option ℕ))
       let moved = subst (λ (y : Pair). IsDifference others c d p (judged_so y)) same made in
       let mine = judged_so x.pair in
       let all : mine ≡ x = same_difference p x.pair mine.here mine.there x (sym is.line) refl
-          (one_verdict c (at p x.pair.earlier) (at p x.pair.later) mine.here x.here moved.here is.here)
-          (one_verdict d (at q x.pair.later_there) (at q x.pair.earlier_there) mine.there x.there moved.there is.there) in
+      (one_verdict c (at p x.pair.earlier) (at p x.pair.later) mine.here x.here moved.here is.here)
+      (one_verdict d (at q x.pair.later_there) (at q x.pair.earlier_there) mine.there x.there moved.there is.there) in
       subst (λ (y : Difference). Contains (map judged_so (pairs_to found (length found))) y) all
       (has-map judged_so (pairs_to found (length found)) x.pair (subst (λ (y : Pair). Contains (pairs_to found (length found)) y) same in_list))
 

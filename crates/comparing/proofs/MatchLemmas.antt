@@ -1,14 +1,14 @@
 -- How the turns of a lane's end are gone over on two lines at once.
-use Rattle.std.proofs.Common.{◌≡◌, ℕ, zero, suc, ◌+◌, ◌-◌, ◌<◌, ◌≤◌, inl, inr, Bool, true, false, List, length, get_or, count_by, Option, None, Some, refl, sym, ap, ◌∙◌, subst, arith, add-one, [], ◌∷◌, ◌++◌, eqb-true, eq-eqb}
+use Rattle.std.proofs.Common.{◌≡◌, ℕ, zero, suc, ◌+◌, ◌-◌, ◌<◌, ◌≤◌, inl, inr, Bool, true, List, length, get_or, count_by, Option, None, Some, refl, sym, ap, ◌∙◌, subst, arith, add-one, [], ◌∷◌, ◌++◌, eqb-true, eq-eqb}
 use Rattle.std.proofs.lemmas.Bool.{cases_lt, false≢true}
-use Rattle.std.specs.Prelude.{slice_get, MatchOption}
+use Rattle.std.specs.Prelude.{MatchOption}
 use Rattle.std.proofs.lemmas.Option.{same_Some, slice_get_read, slice_get-get_or}
 use Rattle.chart.proofs.Places.{each-push}
 use Rattle.chart.specs.declared.event.Event.{Event}
 use Rattle.chart.specs.declared.event.Event.TheVariants.{Send, Receive}
 use Rattle.chart.specs.Events.{name_of, ith, tally}
-use Rattle.chart.proofs.Tally.{ith_within, tally_cases, tally-le, tally-lt, same_from_tally, tally_reached, tally-le-count_by}
-use Rattle.closure.proofs.LinkLemmas.{tally_pass, tally_skip}
+use Rattle.chart.proofs.Tally.{ith_within, tally-le, tally-lt, same_from_tally, tally_reached, tally-le-count_by}
+use Rattle.closure.proofs.LinkLemmas.{tally_pass}
 use Rattle.comparing.specs.declared.lane_end.LaneEnd.{LaneEnd}
 use Rattle.comparing.specs.declared.lane_end.LaneEnd.TheVariants.{To, From}
 use Rattle.comparing.specs.Ends.{end_of, is_at, end_there}

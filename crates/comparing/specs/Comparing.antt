@@ -1,5 +1,5 @@
 -- What two recordings of one system differ in, line by line (this project's own).
-use Rattle.std.specs.Prelude.{◌≡◌, ℕ, suc, ◌<◌, ◌≤◌, ◌↔◌, List, length, slice_get, Option, None, Some, Contains}
+use Rattle.std.specs.Prelude.{◌≡◌, ℕ, suc, ◌<◌, ◌≤◌, ◌↔◌, List, length, slice_get, None, Some, Contains}
 use Rattle.chart.specs.declared.event.Event.{Event}
 use Rattle.chart.specs.Charts.{Chart, at}
 use Rattle.chart.specs.Names.{instance_of}

@@ -1,7 +1,7 @@
 -- What an earlier and a later event of a line are in a recording (over the order of Alur, Holzmann and Peled 1996, in
 -- this project's profile).
 use Rattle.std.specs.Prelude.{◌≡◌, ℕ, suc, ◌≤◌, ◌↔◌, ◌⊎◌, Bool, true, false, ◌||◌, nat_le, List, length, slice_get, Option}
-use Rattle.std.specs.Prelude.{None, Some}
+use Rattle.std.specs.Prelude.{Some}
 use Rattle.chart.specs.declared.event.Event.{Event}
 use Rattle.chart.specs.declared.event.Event.TheVariants.{Send, Receive}
 use Rattle.chart.specs.Events.{is_receive_from, is_in, region_of, ith}

@@ -117,11 +117,7 @@ pub fn compared(
 {
     let mut lines = Vec::new(alloc);
     for place in 0..recordings.here.len() {
-        lines.push(compare_line(
-            alloc,
-            recordings,
-            InstanceNo::at_place(place),
-        )?)?;
+        lines.push(compare_line(alloc, recordings, InstanceNo::at_place(place))?)?;
     }
     Ok(lines)
 }

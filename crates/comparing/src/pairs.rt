@@ -56,11 +56,7 @@ fn add_pair(
 }
 
 /// Adds the pairs of which the event at this place is the later one.
-fn add_pairs(
-    pairs: &mut Vec<Pair>,
-    found: &[Option<usize>],
-    later: usize,
-) -> Result<(), AllocError>
+fn add_pairs(pairs: &mut Vec<Pair>, found: &[Option<usize>], later: usize) -> Result<(), AllocError>
     requires { later < length found.now }
     ensures { OnOk result (pairs.new.items ≡ pairs.old.items ++ pairs_above found.now later later) }
 {

@@ -1,4 +1,4 @@
-use Rattle.std.proofs.Common.{◌≡◌, List, length, sym, ap, ◌∙◌, subst}
+use Rattle.std.proofs.Common.{List, ap, ◌∙◌}
 use Rattle.chart.specs.Charts.{LineView, chart_lines}
 use Rattle.comparing.specs.Ends.{other_of}
 use Rattle.comparing.proofs.DifferenceLemmas.{only_so}

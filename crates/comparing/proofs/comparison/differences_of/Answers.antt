@@ -1,5 +1,6 @@
-use Rattle.std.proofs.Common.{◌≡◌, List, [], length, sym, ap, ◌∙◌, subst}
+use Rattle.std.proofs.Common.{List, length, sym, ap, ◌∙◌, subst, arith, eqb-true, vec_len}
 use Rattle.std.proofs.lemmas.Result.{IfOk-weaker}
+use Rattle.std.proofs.lemmas.List.{nil_from_length}
 use Rattle.chart.specs.Charts.{LineView, chart_lines}
 use Rattle.comparing.specs.Comparing.{AreDifferences}
 use Rattle.comparing.specs.Verdicts.{AreFronts}
@@ -10,8 +11,11 @@ use Rattle.comparing.proofs.comparison.differences_of.Goals as goal
 pub returns-then-is_empty : goal.returns-then-is_empty
 returns-then-is_empty c =
     let r = c.args.recordings.now in
+    let pairs = c.in_ok-pairs.pairs in
+    let zero = eqb-true (vec_len pairs) 0 (sym c.is_empty.ensures ∙ c.if-is_empty.true) in
+    let none = sym c.in_ok-pairs.ensures ∙ nil_from_length pairs.items (omega (arith, zero, pairs.ok.0)) in
     subst (λ (l : List Difference). AreDifferences r.others.now (chart_lines r.here.now) (chart_lines r.there.now) c.args.instance l) (sym c.new.ensures.items)
-    (no_differences r.others.now (chart_lines r.here.now) (chart_lines r.there.now) c.args.instance c.args.found.now c.requires.matches c.requires.whole ?)
+    (no_differences r.others.now (chart_lines r.here.now) (chart_lines r.there.now) c.args.instance c.args.found.now c.requires.matches c.requires.whole none)
 
 pub returns : goal.returns
 returns c =

@@ -1,4 +1,4 @@
-use Rattle.std.proofs.Common.{sym, ◌∙◌, arith}
+use Rattle.std.proofs.Common.{sym, ◌∙◌}
 use Rattle.comparing.specs.Ends.{is_at}
 use Rattle.comparing.proofs.MatchLemmas.{IsNext-at}
 use Rattle.comparing.proofs.matching.next_at.Goals as goal
