@@ -45,6 +45,8 @@ pub record IsOnlyHere (others : List ℕ) (a b : List Event) (i : ℕ) : Type 0 
 -- what is found for p's line: `others` tells of each instance the number that the other recording gives it, and `back`
 -- the other way round
 pub record IsCompared (others back : List ℕ) (c d : Chart) (p : ℕ) (line : LineComparison) : Type 0 where
+  pub instance : line.instance ≡ p
+  pub other : line.other ≡ other_of others p
   pub differences : AreDifferences others c d p line.differences.items
   pub only_here : (i : ℕ) → Contains line.only_here.items i ↔ IsOnlyHere others (c p) (d (other_of others p)) i
   pub only_there : (i : ℕ) → Contains line.only_there.items i ↔ IsOnlyHere back (d (other_of others p)) (c p) i

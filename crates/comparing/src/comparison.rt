@@ -29,6 +29,9 @@ pub struct Recordings<'a> {
 /// What the two differ in on an instance's line.
 #[derive(Debug, Drop)]
 pub struct LineComparison {
+    pub instance: InstanceNo,
+    /// The number that the instance has in the second recording.
+    pub other: InstanceNo,
     /// The pairs of events that both have and that stand the other way round, by the later event and then by the
     /// earlier one.
     pub differences: Vec<Difference>,
@@ -97,6 +100,8 @@ fn compare_line(
     let only_here = unmatched(alloc, found.as_slice())?;
     let only_there = unmatched(alloc, found_there.as_slice())?;
     Ok(LineComparison {
+        instance,
+        other,
         differences,
         only_here,
         only_there,

@@ -11,7 +11,7 @@ use closure::Closure;
 use std::alloc::{AllocError, Global};
 
 /// The events of an instance's line, none where the chart has no such instance.
-pub(crate) fn events_of(lines: &[Line], instance: InstanceNo) -> &[Event]
+pub fn events_of(lines: &[Line], instance: InstanceNo) -> &[Event]
     ensures events { result.now ≡ chart_lines lines.now instance }
     ensures short { length result.now ≤ MAX_EVENTS }
 {

@@ -10,6 +10,7 @@ mod pairs;
 mod verdict;
 
 pub use comparison::{LineComparison, Recordings, compared};
+pub use fronts::events_of;
 pub use naming::counterparts;
 pub use pairs::{Difference, Pair};
-pub use verdict::Verdict;
+pub use verdict::{Verdict, event_at};

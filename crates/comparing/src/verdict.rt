@@ -51,7 +51,8 @@ fn verdict_of(earlier: &Event, later: &Event, is_first: bool) -> Verdict
     }
 }
 
-fn event_at(events: &[Event], index: usize) -> Option<Event>
+/// The event of this number, if the line has one.
+pub fn event_at(events: &[Event], index: usize) -> Option<Event>
     ensures { result ≡ ith events.now index }
 {
     if index == 0 {
