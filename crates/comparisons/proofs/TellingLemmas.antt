@@ -1,5 +1,5 @@
 -- What is told of two charts, by what was found for them.
-use Rattle.std.proofs.Common.{◌≡◌, ℕ, List, length, refl, sym, ap, ◌∙◌, subst}
+use Rattle.std.proofs.Common.{◌≡◌, ℕ, List, length, refl, ap, ◌∙◌, subst}
 use Rattle.std.specs.List.{flat_map, list_any}
 use Rattle.chart.specs.Charts.{LineView, chart_lines}
 use Rattle.files.specs.Files.{Named}

@@ -159,8 +159,20 @@ fn add_line<W: Out>(
     let here = first.line(compared.instance);
     let there = second.line(compared.other);
     add_differences(text, form, &here, compared.differences.as_slice())?;
-    add_onlys(text, form, Owner::First, &here, compared.only_here.as_slice())?;
-    add_onlys(text, form, Owner::Second, &there, compared.only_there.as_slice())
+    add_onlys(
+        text,
+        form,
+        Owner::First,
+        &here,
+        compared.only_here.as_slice(),
+    )?;
+    add_onlys(
+        text,
+        form,
+        Owner::Second,
+        &there,
+        compared.only_there.as_slice(),
+    )
 }
 
 fn add_lines<W: Out>(

@@ -1,7 +1,5 @@
-use Rattle.std.proofs.Common.{List, ℕ}
 use Rattle.msc_text.proofs.Writes.{buffers_more_read, adds_in_read}
 use Rattle.files.specs.Files.{Named}
-use Rattle.comparing.specs.declared.comparison.LineComparison.{LineComparison}
 use Rattle.comparisons.specs.Comparisons.{line_text}
 use Rattle.comparisons.proofs.comparison_text.add_lines.Goals as goal
 

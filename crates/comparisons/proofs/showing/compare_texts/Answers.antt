@@ -1,5 +1,4 @@
-use Rattle.std.proofs.lemmas.Result.{err_from_is_err_and}
-use Rattle.files.proofs.TextLemmas.{not_read, not_replayed, was_done}
+use Rattle.files.proofs.TextLemmas.{was_done}
 use Rattle.files.specs.Texts.{OfFile, named_of}
 use Rattle.comparisons.specs.declared.error.CompareError.TheVariants.{Program}
 use Rattle.comparisons.specs.Comparisons.{Compares}
