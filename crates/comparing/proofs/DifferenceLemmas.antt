@@ -11,12 +11,12 @@ use Rattle.comparing.specs.declared.comparison.LineComparison.{LineComparison}
 use Rattle.comparing.specs.declared.pairs.Difference.{Difference}
 use Rattle.comparing.specs.declared.pairs.Pair.{Pair}
 use Rattle.comparing.specs.declared.verdict.Verdict.{Verdict}
-use Rattle.comparing.specs.Comparing.{IsDifference, AreDifferences, IsOnlyHere, IsCompared, AreCompared}
+use Rattle.comparing.specs.Comparing.{IsDifference, AreDifferences, IsOnlyHere, AreOnlyHere, IsCompared, AreCompared}
 use Rattle.comparing.specs.Ends.{is_at, end_of, end_there, other_of}
 use Rattle.comparing.specs.Matches.{AreOneAt, AreOne, AreMatches}
 use Rattle.comparing.specs.Pairs.{found_at, pairs_to, judged, unmatched_to}
 use Rattle.comparing.specs.Verdicts.{AreFronts}
-use Rattle.comparing.proofs.PairLemmas.{pair_by-has, has-pair_by, pairs_to-has, has-pairs_to, unmatched_to-has, has-unmatched_to, has-map, map-has, has_none}
+use Rattle.comparing.proofs.PairLemmas.{pair_by-has, has-pair_by, pairs_to-has, has-pairs_to, unmatched_to-has, has-unmatched_to, has-map, map-has, map-rises, pairs_to-rises, unmatched_to-rises, has_none}
 use Rattle.comparing.proofs.VerdictLemmas.{verdict_right, one_verdict}
 
 module _ (others : List ℕ) (a b : List Event) where
@@ -128,26 +128,32 @@ module _ (others : List ℕ) (c d : Chart) (p : ℕ) (found : List (Option ℕ))
 
   -- the pairs that are found, with their verdicts, are the differences
   pub are_differences : AreDifferences others c d p (map judged_so (pairs_to found (length found)))
-  are_differences x = (
-    λ has.
-        let w = map-has judged_so (pairs_to found (length found)) x has in
-        subst (λ (y : Difference). IsDifference others c d p y) w.2 (sound w.0 w.1),
-    complete x,
-  )
+  are_differences = record {
+    rising = map-rises judged_so (pairs_to found (length found)) (λ x. refl) (pairs_to-rises found (length found));
+    exact = λ x. (
+      λ has.
+          let w = map-has judged_so (pairs_to found (length found)) x has in
+          subst (λ (y : Difference). IsDifference others c d p y) w.2 (sound w.0 w.1),
+      complete x,
+    );
+  }
 
 -- where no pair is found there is no difference
 pub no_differences : (others : List ℕ) (c d : Chart) (p : ℕ) (found : List (Option ℕ)) → AreMatches others (c p) (d (other_of others p)) found → length found ≡ length (c p) → pairs_to found (length found) ≡ [] → AreDifferences others c d p []
-no_differences others c d p found are whole none x = (
-  λ has. absurd (has_none x has),
-  λ is.
-      let q = other_of others p in
-      let e = there_found others (c p) (d q) found are whole x.pair.earlier x.pair.earlier_there is.earlier in
-      let f = there_found others (c p) (d q) found are whole x.pair.later x.pair.later_there is.later in
-      let has = has-pair_by (e.0 + 1) (f.0 + 1) x.pair.earlier_there x.pair.later_there (found_at found e.0) (found_at found f.0) e.3 f.3 is.turned in
-      let pair : Pair = record { earlier = e.0 + 1; later = f.0 + 1; earlier_there = x.pair.earlier_there; later_there = x.pair.later_there } in
-      let in_list = has-pairs_to found (length found) e.0 f.0 pair (omega (arith, is.less, e.1, f.1)) f.2 has in
-      absurd (has_none pair (subst (λ (l : List Pair). Contains l pair) none in_list)),
-)
+no_differences others c d p found are whole none = record {
+  rising = λ i j e less within. absurd (omega (arith, within));
+  exact = λ x. (λ has. absurd (has_none x has), never x);
+}
+  where
+    never : (x : Difference) → IsDifference others c d p x → Contains [] x
+    never x is =
+        let q = other_of others p in
+        let e = there_found others (c p) (d q) found are whole x.pair.earlier x.pair.earlier_there is.earlier in
+        let f = there_found others (c p) (d q) found are whole x.pair.later x.pair.later_there is.later in
+        let has = has-pair_by (e.0 + 1) (f.0 + 1) x.pair.earlier_there x.pair.later_there (found_at found e.0) (found_at found f.0) e.3 f.3 is.turned in
+        let pair : Pair = record { earlier = e.0 + 1; later = f.0 + 1; earlier_there = x.pair.earlier_there; later_there = x.pair.later_there } in
+        let in_list = has-pairs_to found (length found) e.0 f.0 pair (omega (arith, is.less, e.1, f.1)) f.2 has in
+        absurd (has_none pair (subst (λ (l : List Pair). Contains l pair) none in_list))
 
 -- one more line
 pub AreCompared-push : (others back : List ℕ) (c d : Chart) (n : ℕ) (lines : List LineComparison) (line : LineComparison) → AreCompared others back c d n lines → IsCompared others back c d (suc n) line → AreCompared others back c d (n + 1) (lines ++ line ∷ [])
@@ -164,8 +170,11 @@ differences_so others c d p q found a b f g pairs xs are whole qe ae be af bf pe
     subst (λ (l : List Difference). AreDifferences others c d p l) (sym is) (are_differences others c d p found f g are whole af (subst (λ x. AreFronts d x (length (d x)) g) qe bf))
 
 -- what was found of the events that the other line has not
-pub only_so : (others : List ℕ) (a b a1 b1 : List Event) (found f : List (Option ℕ)) (numbers : List ℕ) → AreMatches others a b found → length found ≡ length a → a ≡ a1 → b ≡ b1 → f ≡ found → numbers ≡ unmatched_to f (length f) → (i : ℕ) → Contains numbers i ↔ IsOnlyHere others a1 b1 i
-only_so others a b a1 b1 found f numbers are whole ae be fe made i =
-    subst (λ (l : List Event). Contains numbers i ↔ IsOnlyHere others l b1 i) ae
-    (subst (λ (l : List Event). Contains numbers i ↔ IsOnlyHere others a l i) be
-    (subst (λ (l : List ℕ). Contains l i ↔ IsOnlyHere others a b i) (sym (made ∙ ap (λ (l : List (Option ℕ)). unmatched_to l (length l)) fe)) (only_here others a b found are whole i)))
+pub only_so : (others : List ℕ) (a b a1 b1 : List Event) (found f : List (Option ℕ)) (numbers : List ℕ) → AreMatches others a b found → length found ≡ length a → a ≡ a1 → b ≡ b1 → f ≡ found → numbers ≡ unmatched_to f (length f) → AreOnlyHere others a1 b1 numbers
+only_so others a b a1 b1 found f numbers are whole ae be fe made =
+    subst (λ (l : List Event). AreOnlyHere others l b1 numbers) ae
+    (subst (λ (l : List Event). AreOnlyHere others a l numbers) be
+    (subst (λ (l : List ℕ). AreOnlyHere others a b l) (sym (made ∙ ap (λ (l : List (Option ℕ)). unmatched_to l (length l)) fe)) (record {
+      rising = unmatched_to-rises found (length found);
+      exact = only_here others a b found are whole;
+    })))

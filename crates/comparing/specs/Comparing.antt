@@ -1,5 +1,5 @@
 -- What two recordings of one system differ in, line by line (this project's own).
-use Rattle.std.specs.Prelude.{◌≡◌, ℕ, suc, ◌<◌, ◌≤◌, ◌↔◌, List, length, slice_get, None, Some, Contains}
+use Rattle.std.specs.Prelude.{◌≡◌, ℕ, suc, ◌<◌, ◌≤◌, ◌↔◌, List, length, slice_get, None, Some, AllPairs, Contains}
 use Rattle.chart.specs.declared.event.Event.{Event}
 use Rattle.chart.specs.Charts.{Chart, at}
 use Rattle.chart.specs.Names.{instance_of}
@@ -7,6 +7,7 @@ use Rattle.comparing.specs.declared.comparison.LineComparison.{LineComparison}
 use Rattle.comparing.specs.declared.pairs.Difference.{Difference}
 use Rattle.comparing.specs.Ends.{other_of}
 use Rattle.comparing.specs.Matches.{AreOne}
+use Rattle.comparing.specs.Pairs.{IsSooner}
 use Rattle.comparing.specs.Verdicts.{IsVerdict}
 
 -- of each instance the number that the other recording gives the instance of its name
@@ -32,9 +33,10 @@ pub record IsDifference (others : List ℕ) (c d : Chart) (p : ℕ) (x : Differe
   pub there : IsVerdict d (at (other_of others p) x.pair.later_there) (at (other_of others p) x.pair.earlier_there)
       x.there
 
--- the list has exactly these
-abbrev pub AreDifferences : List ℕ → Chart → Chart → ℕ → List Difference → Type 0
-AreDifferences others c d p xs = (x : Difference) → Contains xs x ↔ IsDifference others c d p x
+-- the list has exactly these, each once: by their later event, and then by their earlier one
+pub record AreDifferences (others : List ℕ) (c d : Chart) (p : ℕ) (xs : List Difference) : Type 0 where
+  pub rising : AllPairs (λ (x : Difference) (y : Difference). IsSooner x.pair y.pair) xs
+  pub exact : (x : Difference) → Contains xs x ↔ IsDifference others c d p x
 
 -- the i-th event of a line is one that the other line has not
 pub record IsOnlyHere (others : List ℕ) (a b : List Event) (i : ℕ) : Type 0 where
@@ -42,14 +44,19 @@ pub record IsOnlyHere (others : List ℕ) (a b : List Event) (i : ℕ) : Type 0 
   pub within : i ≤ length a
   pub only : (j : ℕ) → AreOne others a b i j → ⊥
 
+-- the numbers are exactly those of these events, rising
+pub record AreOnlyHere (others : List ℕ) (a b : List Event) (numbers : List ℕ) : Type 0 where
+  pub rising : AllPairs (λ i j. i < j) numbers
+  pub exact : (i : ℕ) → Contains numbers i ↔ IsOnlyHere others a b i
+
 -- what is found for p's line: `others` tells of each instance the number that the other recording gives it, and `back`
 -- the other way round
 pub record IsCompared (others back : List ℕ) (c d : Chart) (p : ℕ) (line : LineComparison) : Type 0 where
   pub instance : line.instance ≡ p
   pub other : line.other ≡ other_of others p
   pub differences : AreDifferences others c d p line.differences.items
-  pub only_here : (i : ℕ) → Contains line.only_here.items i ↔ IsOnlyHere others (c p) (d (other_of others p)) i
-  pub only_there : (i : ℕ) → Contains line.only_there.items i ↔ IsOnlyHere back (d (other_of others p)) (c p) i
+  pub only_here : AreOnlyHere others (c p) (d (other_of others p)) line.only_here.items
+  pub only_there : AreOnlyHere back (d (other_of others p)) (c p) line.only_there.items
 
 -- the same of each of n lines
 pub record AreCompared (others back : List ℕ) (c d : Chart) (n : ℕ) (lines : List LineComparison) : Type 0 where

@@ -1,10 +1,14 @@
 -- Lists of the pairs of a line's events that stand the other way round elsewhere (this project's own).
-use Rattle.std.specs.Prelude.{ℕ, zero, suc, ◌+◌, nat_lt, List, [], ◌∷◌, ◌++◌, slice_index_or, Option, None, Some}
+use Rattle.std.specs.Prelude.{◌≡◌, ◌<◌, ◌⊎◌, ℕ, zero, suc, ◌+◌, nat_lt, List, [], ◌∷◌, ◌++◌, slice_index_or, Option, None, Some}
 use Rattle.std.specs.Prelude.{if◌then◌else◌}
 use Rattle.chart.specs.declared.event.Event.{Event}
 use Rattle.comparing.specs.declared.pairs.Pair.{Pair}
 use Rattle.comparing.specs.declared.pairs.Difference.{Difference}
 use Rattle.comparing.specs.Verdicts.{verdict_at}
+
+-- a pair is told before another: its later event is earlier, or is the same and its earlier event is earlier
+abbrev pub IsSooner : Pair → Pair → Type 0
+IsSooner x y = (x.later < y.later) ⊎ ((x.later ≡ y.later) × (x.earlier < y.earlier))
 
 -- what is found for the event at a place, from 0
 abbrev pub found_at : List (Option ℕ) → ℕ → Option ℕ
