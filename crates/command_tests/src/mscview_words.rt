@@ -1,8 +1,8 @@
 //! Command lines of `mscview` that are understood, and those that aren't.
-use view_line::{CommandLineError, Draw, Export, Import, Pair, Question, Request, requested};
+use view_line::{CommandLineError, Compare, Draw, Export, Import, Pair, Question, Request, requested};
 
 /// Words that aren't a command line.
-static MISSED: [&[&str]; 22] = [
+static MISSED: [&[&str]; 24] = [
     &["mscview"],
     &["mscview", "help"],
     &["mscview", "--help"],
@@ -25,6 +25,8 @@ static MISSED: [&[&str]; 22] = [
     &["mscview", "export", "f", "--from", "mscgen"],
     &["mscview", "import", "f"],
     &["mscview", "import", "f", "--to", "mscgen"],
+    &["mscview", "compare", "f"],
+    &["mscview", "compare", "f", "g", "h"],
 ];
 
 #[test]
@@ -107,6 +109,21 @@ fn words_of_other_tools(rt: HostRuntime) {
             Ok(Request::Import(Import {
                 from: "plantuml",
                 file: "a file",
+            }))
+        )
+    );
+}
+
+#[test]
+fn words_of_two_files(rt: HostRuntime) {
+    let words = ["mscview", "compare", "--json", "a file", "another"];
+    assert!(rt;
+        matches!(
+            requested(rt.alloc(), &words),
+            Ok(Request::Compare(Compare {
+                json: true,
+                first: "a file",
+                second: "another",
             }))
         )
     );

@@ -2,6 +2,7 @@
 #![tactic(auto)]
 
 use command_line::CommandLineError;
+use comparisons::{Form, compare};
 use files::{ProgramError, number_in, refused};
 use formats::{Events, Target, Wanted, draw, events_in, export, import, target_in, tool_in};
 use msc_text::{Out, StreamOut};
@@ -9,7 +10,7 @@ use std::process::ExitCode;
 use std::rt::{Env, Files};
 use std::{env, fs, io};
 use tool_text::Tool;
-use view_line::{Draw, Export, Import, Pair, Question, Request, requested};
+use view_line::{Compare, Draw, Export, Import, Pair, Question, Request, requested};
 use views::{Asked, why, witness};
 
 /// What the system refused is F6 where memory ran out, and else the other refusal.
@@ -125,6 +126,20 @@ fn view_import<R: Files + AllocGlobal, W: Out, V: Out>(
     Ok(import(rt.alloc(), bytes.as_slice(), tool, out, err))
 }
 
+/// Compares two files.
+fn view_comparison<R: Files + AllocGlobal, W: Out, V: Out>(
+    rt: &R,
+    wanted: &Compare<'_>,
+    out: &mut W,
+    err: &mut V,
+) -> Result<u8, ProgramError> {
+    let form = if wanted.json { Form::Json } else { Form::Plain };
+    let first = bytes_of(rt, wanted.first)?;
+    let second = bytes_of(rt, wanted.second)?;
+    let (first, second) = (first.as_slice(), second.as_slice());
+    Ok(compare(rt.alloc(), first, second, form, out, err))
+}
+
 /// Does what the words ask for, and answers the exit status.
 fn view<R: Files + AllocGlobal, W: Out, V: Out>(
     rt: &R,
@@ -137,6 +152,7 @@ fn view<R: Files + AllocGlobal, W: Out, V: Out>(
         Request::Draw(picture) => view_picture(rt, &picture, out, err),
         Request::Export(exported) => view_export(rt, &exported, out, err),
         Request::Import(imported) => view_import(rt, &imported, out, err),
+        Request::Compare(wanted) => view_comparison(rt, &wanted, out, err),
     }
 }
 

@@ -51,6 +51,15 @@ pub struct Import<'a> {
     pub file: &'a str,
 }
 
+/// Two recordings to be compared.
+#[derive(Clone, Copy, Debug, PartialEq, Eq)]
+pub struct Compare<'a> {
+    /// Whether `--json` is given.
+    pub json: bool,
+    pub first: &'a str,
+    pub second: &'a str,
+}
+
 /// What a command line asks for.
 #[derive(Clone, Copy, Debug, PartialEq, Eq)]
 pub enum Request<'a> {
@@ -62,6 +71,8 @@ pub enum Request<'a> {
     Export(Export<'a>),
     /// `import --from TOOL FILE`.
     Import(Import<'a>),
+    /// `compare [--json] A B`.
+    Compare(Compare<'a>),
 }
 
 /// A word that a command needs.
@@ -109,6 +120,18 @@ fn translation<'a>(
         .arg(needed(alloc, "FILE"))
 }
 
+/// The command that compares two files.
+fn compare_command<'a>(alloc: Global) -> Result<Command<'a>, AllocError> {
+    let json = Arg::new(alloc, "json")
+        .long("json")
+        .action(ArgAction::SetTrue);
+    Command::new(alloc, "compare")
+        .disable_help_flag(true)
+        .arg(json)?
+        .arg(needed(alloc, "A"))?
+        .arg(needed(alloc, "B"))
+}
+
 /// The command line that the program understands. Help, the version, no command and an unknown one are all mistakes.
 fn command_line<'a>(alloc: Global) -> Result<Command<'a>, AllocError> {
     Command::new(alloc, "mscview")
@@ -119,7 +142,8 @@ fn command_line<'a>(alloc: Global) -> Result<Command<'a>, AllocError> {
         .subcommand(pair_command(alloc, "why")?)?
         .subcommand(draw_command(alloc)?)?
         .subcommand(translation(alloc, "export", "to")?)?
-        .subcommand(translation(alloc, "import", "from")?)
+        .subcommand(translation(alloc, "import", "from")?)?
+        .subcommand(compare_command(alloc)?)
 }
 
 /// What a command asks.
@@ -168,12 +192,22 @@ fn import_of<'a>(words: &ArgMatches<'a>) -> Option<Request<'a>> {
     }))
 }
 
+/// What the words of `compare` ask for.
+fn compare_of<'a>(words: &ArgMatches<'a>) -> Option<Request<'a>> {
+    Some(Request::Compare(Compare {
+        json: words.get_flag("json"),
+        first: words.get_str("A")?,
+        second: words.get_str("B")?,
+    }))
+}
+
 /// What a command's words ask for.
 fn request_of<'a>(command: &str, words: &ArgMatches<'a>) -> Option<Request<'a>> {
     match command {
         "draw" => draw_of(words),
         "export" => export_of(words),
         "import" => import_of(words),
+        "compare" => compare_of(words),
         _ => pair_of(question_of(command)?, words),
     }
 }
