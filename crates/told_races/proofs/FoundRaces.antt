@@ -27,19 +27,19 @@ pub any_more : {X : Type 0} (test : X → Bool) (xs : List X) (x : X) (a b : Boo
 any_more test xs x a b was is =
     ap₂ (λ y z. y || z) was is ∙ sym (or_once (list_any test xs) (test x)) ∙ sym (list_any-append test xs (x ∷ []))
 
-module _ {S : Type 0} {sink : S → Sink} {X : Type 0} (f : X → List ℕ) where
-  one_more : (xs : List X) (x : X) → flat_map f xs ++ f x ≡ flat_map f (xs ++ x ∷ [])
-  one_more xs x = flat_map_more f [] xs x
+one_more : {X : Type 0} (f : X → List ℕ) (xs : List X) (x : X) → flat_map f xs ++ f x ≡ flat_map f (xs ++ x ∷ [])
+one_more f xs x = flat_map_more f [] xs x
 
+module _ {S : Type 0} {sink : S → Sink} {X : Type 0} (f : X → List ℕ) where
   -- the text of one more was added
   pub adds_next : {a b c : TextBuffer S} (xs : List X) (x : X) → Buffers sink a b (flat_map f xs) → Buffers sink b c (f x) → Buffers sink a c (flat_map f (xs ++ x ∷ []))
-  adds_next {a} {b} {c} xs x p q = subst (Buffers sink a c) (one_more xs x) (buffers_then p q)
+  adds_next {a} {b} {c} xs x p q = subst (Buffers sink a c) (one_more f xs x) (buffers_then p q)
 
   -- where it stops, all the text stops, whatever comes later
   pub stops_at_next : {T E : Type 0} {a b c : TextBuffer S} (r : Result T E) (xs : List X) (x : X) (more : List X) → is_err r ≡ true → Buffers sink a b (flat_map f xs)
       → Stops sink b c (f x) → Adds sink a c r (flat_map f ((xs ++ x ∷ []) ++ more))
   stops_at_next {a = a} {b} {c} r xs x more failed p q =
-      let stopped = subst (Stops sink a c) (one_more xs x) (stops_then p q) in
+      let stopped = subst (Stops sink a c) (one_more f xs x) (stops_then p q) in
       subst (Adds sink a c r) (sym (flat_map-append f (xs ++ x ∷ []) more)) (adds_early r (flat_map f more) failed stopped)
 
 module _ {S : Type 0} {sink : S → Sink} where

@@ -35,9 +35,9 @@ fn add_partner_at<W: Out>(
 fn add_number<W: Out>(
     text: &mut TextBuffer<'_, W>,
     names: &Names,
-    receive: EventNo,
+    receive: &EventNo,
 ) -> Result<(), WriteError>
-    ensures { Adds W.sink text.old text.new result (number_text names.now receive) }
+    ensures { Adds W.sink text.old text.new result (number_text names.now receive.now) }
 {
     add_word(text, Word::Instance)?;
     add_name(text, names, receive.instance)?;
@@ -174,16 +174,18 @@ fn add_object<W: Out>(
     text: &mut TextBuffer<'_, W>,
     names: &Names,
     events: &[Event],
-    receive: EventNo,
+    receive: &EventNo,
     first: &EventRange,
     others: KeptRanges<'_>,
 ) -> Result<(), WriteError>
     requires { IsRange first.now }
     ensures { Adds W.sink text.old text.new result
-        (object_text names.now events.now receive (first.now ∷ others.entry)) }
+        (object_text names.now events.now receive.now (first.now ∷ others.entry)) }
 {
+    let index = receive.index as usize;
+    let event = event_at(events, index);
     add_number(text, names, receive)?;
-    add_message_and_sender(text, names, &event_at(events, receive.index as usize))?;
+    add_message_and_sender(text, names, &event)?;
     add_range(text, events, first)?;
     add_others(text, events, others)?;
     add_word(text, Word::EndObject)
@@ -194,10 +196,10 @@ pub(crate) fn add_ranges<W: Out>(
     text: &mut TextBuffer<'_, W>,
     names: &Names,
     events: &[Event],
-    receive: EventNo,
+    receive: &EventNo,
     ranges: KeptRanges<'_>,
 ) -> Result<bool, WriteError>
-    ensures object { Adds W.sink text.old text.new result (object_text names.now events.now receive ranges.entry) }
+    ensures object { Adds W.sink text.old text.new result (object_text names.now events.now receive.now ranges.entry) }
     ensures has { IfOk result (λ has. has ≡ has_ranges ranges.entry) }
 {
     let mut ranges = ranges;

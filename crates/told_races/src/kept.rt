@@ -58,8 +58,8 @@ impl<'a> Model for Coming<'a> {
 
 impl<'a> Coming<'a> {
     fn of(ranges: &'a [EventRange]) -> Coming<'a>
-        requires { All IsRange ranges.entry }
-        ensures { result ≡ events_in ranges.entry }
+        requires { All IsRange ranges.now }
+        ensures { result ≡ events_in ranges.now }
     {
         Coming { ranges, passed: 0 }
     }
@@ -68,7 +68,7 @@ impl<'a> Coming<'a> {
     fn first(&self) -> Option<EventNo>
         ensures { MatchOption result (self.now ≡ []) (λ event. self.now ≡ event ∷ drop 1 self.now) }
     {
-        let range = self.ranges.first()?;
+        let (range, _) = self.ranges.split_first()?;
         Some(range.event(self.passed))
     }
 
@@ -157,8 +157,8 @@ impl<'a> Model for KeptRanges<'a> {
 impl<'a> KeptRanges<'a> {
     /// Those of the events of these ranges, of the line with these events: all, or receives alone.
     pub fn of(events: &'a [Event], only: bool, earlier: &'a [EventRange]) -> KeptRanges<'a>
-        requires { All IsRange earlier.entry }
-        ensures { result ≡ kept_ranges events.entry only (events_in earlier.entry) }
+        requires { All IsRange earlier.now }
+        ensures { result ≡ kept_ranges events.now only (events_in earlier.now) }
     {
         KeptRanges {
             events,

@@ -95,11 +95,11 @@ fn add_line<W: Out>(
     text: &mut TextBuffer<'_, W>,
     names: &Names,
     events: &[Event],
-    receive: EventNo,
+    receive: &EventNo,
     range: &EventRange,
 ) -> Result<(), WriteError>
     requires { IsRange range.now }
-    ensures { Adds W.sink text.old text.new result (line_text names.now events.now receive range.now) }
+    ensures { Adds W.sink text.old text.new result (line_text names.now events.now receive.now range.now) }
 {
     let index = receive.index;
     add_name(text, names, receive.instance)?;
@@ -115,10 +115,10 @@ pub(crate) fn add_lines<W: Out>(
     text: &mut TextBuffer<'_, W>,
     names: &Names,
     events: &[Event],
-    receive: EventNo,
+    receive: &EventNo,
     ranges: KeptRanges<'_>,
 ) -> Result<bool, WriteError>
-    ensures lines { Adds W.sink text.old text.new result (lines_text names.now events.now receive ranges.entry) }
+    ensures lines { Adds W.sink text.old text.new result (lines_text names.now events.now receive.now ranges.entry) }
     ensures has { IfOk result (λ has. has ≡ has_ranges ranges.entry) }
 {
     let mut ranges = ranges;

@@ -72,8 +72,8 @@ fn add_ranges<W: Out>(
     ensures has { IfOk result (λ has. has ≡ has_ranges ranges.entry) }
 {
     match told.form {
-        Form::Plain => plain::add_lines(text, told.names, events, receive, ranges),
-        Form::Json => json::add_ranges(text, told.names, events, receive, ranges),
+        Form::Plain => plain::add_lines(text, told.names, events, &receive, ranges),
+        Form::Json => json::add_ranges(text, told.names, events, &receive, ranges),
     }
 }
 
