@@ -1,15 +1,16 @@
 -- Races that are told while they are found: what was added so far, and one receive more, whatever its text is.
-use Rattle.std.proofs.Common.{◌≡◌, ℕ, ap, List, [], ◌∷◌, ◌++◌, Result, Ok, Err, Bool, true, false, ◌||◌, refl, subst, sym, ap₂, ◌∙◌}
+use Rattle.std.proofs.Common.{◌≡◌, ℕ, ap, List, [], ◌∷◌, ◌++◌, Result, Ok, Err, Bool, true, false, ◌||◌, refl, subst, sym, ap₂, ◌∙◌, append_assoc, length, lt-ltb, arith}
 use Rattle.std.specs.Result.{is_err}
 use Rattle.std.specs.Prelude.{IfOk}
 use Rattle.std.specs.List.{flat_map, list_any}
-use Rattle.std.proofs.lemmas.List.{flat_map_more}
+use Rattle.std.proofs.lemmas.List.{flat_map_more, length-append}
 use Rattle.std.proofs.lemmas.List.Folds.{list_any-append}
 use Rattle.std.proofs.lemmas.List.Concat.{flat_map-append}
-use Rattle.chart.specs.Reports.{ReportView}
+use Rattle.chart.specs.declared.ranges.EventRange.{EventRange}
 use Rattle.msc_text.specs.Outs.{Sink}
 use Rattle.msc_text.specs.Writing.{Buffers, Breaks, Stops, Adds, Wrote}
 use Rattle.msc_text.specs.declared.text_buffer.TextBuffer.{TextBuffer}
+use Rattle.told_races.specs.Telling.{has_ranges}
 use Rattle.msc_text.proofs.Writes.{buffers_then, stops_then, adds_early, wrote_then}
 
 -- what holds where there is a value holds of an error
@@ -29,6 +30,14 @@ any_more test xs x a b was is =
 
 one_more : {X : Type 0} (f : X → List ℕ) (xs : List X) (x : X) → flat_map f xs ++ f x ≡ flat_map f (xs ++ x ∷ [])
 one_more f xs x = flat_map_more f [] xs x
+
+-- what is left of a list, once its first element was taken too
+pub taken_one : {X : Type 0} (all done left rest : List X) (x : X) → all ≡ done ++ left → left ≡ x ∷ rest → all ≡ (done ++ x ∷ []) ++ rest
+taken_one all done left rest x was is = was ∙ ap (λ l. done ++ l) is ∙ sym (append_assoc done (x ∷ []) rest)
+
+-- there is a range
+pub has_some : (ranges : List EventRange) (r : EventRange) → has_ranges (ranges ++ r ∷ []) ≡ true
+has_some ranges r = lt-ltb 0 (length (ranges ++ r ∷ [])) (omega (arith, length-append ranges (r ∷ [])))
 
 module _ {S : Type 0} {sink : S → Sink} {X : Type 0} (f : X → List ℕ) where
   -- the text of one more was added

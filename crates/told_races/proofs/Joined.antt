@@ -1,9 +1,9 @@
 -- Ranges that grow by one event after another: what stands behind them stays.
-use Rattle.std.proofs.Common.{◌≡◌, ℕ, suc, ◌+◌, ◌<◌, ◌≤◌, ◌^◌, Bool, true, false, ◌&&◌, ◌==◌, List, [], ◌∷◌, length, drop, filter, cond, refl, sym, ap, ap₂, ◌∙◌, arith}
+use Rattle.std.proofs.Common.{◌≡◌, ◌+◌, ◌<◌, ◌^◌, Bool, true, false, ◌&&◌, ◌==◌, List, [], ◌∷◌, length, drop, filter, cond, refl, sym, ap, ap₂, ◌∙◌, arith}
 use Rattle.std.proofs.lemmas.Bool.{eq-eqb}
 use Rattle.chart.specs.declared.instance.EventNo.{EventNo}
 use Rattle.chart.specs.declared.ranges.EventRange.{EventRange}
-use Rattle.chart.specs.Ranges.{IsRange, is_followed_by, both_before, range_before, ranges_of}
+use Rattle.chart.specs.Ranges.{IsRange, is_followed_by, both_before, range_before}
 use Rattle.chart.proofs.RangeLists.{followed-is}
 
 -- a range of one event

@@ -1,5 +1,5 @@
 -- Which earlier events of a receive are shown, and as which ranges (this project's profile).
-use Rattle.std.specs.Prelude.{ℕ, Bool, false, true, List, filter, Option, None, Some, if◌then◌else◌}
+use Rattle.std.specs.Prelude.{Bool, false, true, List, filter, Option, None, Some, if◌then◌else◌}
 use Rattle.chart.specs.declared.event.Event.{Event}
 use Rattle.chart.specs.declared.event.Event.TheVariants.{Send, Receive}
 use Rattle.chart.specs.declared.instance.EventNo.{EventNo}

@@ -1,6 +1,6 @@
 -- The races of a chart as they are told (this project's profile): of the instances that are asked for, in the order of
 -- their receives.
-use Rattle.std.specs.Prelude.{◌≡◌, ℕ, Bool, ◌&&◌, List, [], length, nat_eq, nat_lt, Result, IfOk, if◌then◌else◌}
+use Rattle.std.specs.Prelude.{◌≡◌, ℕ, Bool, List, [], length, nat_eq, nat_lt, Result, IfOk, if◌then◌else◌}
 use Rattle.std.specs.List.{flat_map, list_any}
 use Rattle.chart.specs.declared.event.Event.{Event}
 use Rattle.chart.specs.declared.instance.EventNo.{EventNo}

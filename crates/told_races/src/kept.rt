@@ -113,12 +113,7 @@ fn goes_on(range: &EventRange, event: EventNo) -> bool
 
 /// The range that this event begins, as long as it can be: the events that are shown are passed as far as they go on
 /// with it.
-fn joined(
-    events: &[Event],
-    only: bool,
-    first: EventNo,
-    coming: &mut Coming<'_>,
-) -> EventRange
+fn joined(events: &[Event], only: bool, first: EventNo, coming: &mut Coming<'_>) -> EventRange
     ensures ranges { range_before (record { first = first; count = 1 }) (kept_ranges events.now only coming.old)
         ≡ result ∷ kept_ranges events.now only coming.new }
     ensures is { IsRange result }

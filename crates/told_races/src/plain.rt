@@ -45,11 +45,7 @@ fn add_numbers<W: Out>(
 fn between(count: usize) -> Word
     ensures { result ≡ between count }
 {
-    if count == 2 {
-        Word::Comma
-    } else {
-        Word::Dots
-    }
+    if count == 2 { Word::Comma } else { Word::Dots }
 }
 
 /// `events FIRST to LAST (MESSAGE, .., MESSAGE)`.

@@ -9,9 +9,8 @@ ghost use Rattle.told_races.specs.Kept.{kept_ranges};
 ghost use Rattle.told_races.specs.Telling.{ranges_text, has_ranges, manner_of, shown_of, report_text, HasAdded};
 ghost use Rattle.told_races.specs.Telling.{HasWritten};
 
-use crate::json;
 use crate::kept::KeptRanges;
-use crate::plain;
+use crate::{json, plain};
 use chart::{Event, EventNo, EventRange, InstanceNo, Line, Names};
 use closure::Reporter;
 use msc_text::{Out, TextBuffer, WriteError};
@@ -121,7 +120,7 @@ fn add_found<W: Out>(
 
 /// Writes the races that a reporter finds in the chart with these lines, and answers whether one is shown. It takes no
 /// memory. F24: a put failed.
-#[tactic(auto, using(msc_text::proofs::Writes::joining, crate::proofs::FoundRaces::wrote_failed, crate::proofs::FoundRaces::none_told))]
+#[tactic(auto, using(msc_text::proofs::Writes::joining, crate::proofs::FoundRaces::wrote_less, crate::proofs::FoundRaces::not_told))]
 pub fn write_races<W: Out>(
     told: &Told<'_>,
     reporter: Reporter<'_>,
