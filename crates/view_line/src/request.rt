@@ -51,6 +51,19 @@ pub struct Import<'a> {
     pub file: &'a str,
 }
 
+/// Which races are to be shown, and how. The names are words still.
+#[derive(Clone, Copy, Debug, PartialEq, Eq)]
+pub struct Races<'a> {
+    /// The names behind `--only`, joined by commas.
+    pub only: Option<&'a str>,
+    /// Whether `--receives` is given.
+    pub receives: bool,
+    /// Whether `--json` is given.
+    pub json: bool,
+    /// Without it, and where it is `-`, standard input is read.
+    pub file: Option<&'a str>,
+}
+
 /// What a command line asks for.
 #[derive(Clone, Copy, Debug, PartialEq, Eq)]
 pub enum Request<'a> {
@@ -62,6 +75,8 @@ pub enum Request<'a> {
     Export(Export<'a>),
     /// `import --from TOOL FILE`.
     Import(Import<'a>),
+    /// `races [--only NAME,NAME..] [--receives] [--json] [FILE]`.
+    Races(Races<'a>),
 }
 
 /// A word that a command needs.
@@ -82,6 +97,21 @@ fn pair_command<'a>(alloc: Global, name: &'static str) -> Result<Command<'a>, Al
 /// An option that has a word, and may be left out.
 fn option<'a>(alloc: Global, name: &'static str) -> Arg<'a> {
     Arg::new(alloc, name).long(name).action(ArgAction::Set)
+}
+
+/// A word that is there or not.
+fn flag<'a>(alloc: Global, name: &'static str) -> Arg<'a> {
+    Arg::new(alloc, name).long(name).action(ArgAction::SetTrue)
+}
+
+/// The command that shows the races of a file by name.
+fn races_command<'a>(alloc: Global) -> Result<Command<'a>, AllocError> {
+    Command::new(alloc, "races")
+        .disable_help_flag(true)
+        .arg(option(alloc, "only"))?
+        .arg(flag(alloc, "receives"))?
+        .arg(flag(alloc, "json"))?
+        .arg(Arg::new(alloc, "FILE").action(ArgAction::Set))
 }
 
 /// The command that draws a file.
@@ -119,7 +149,8 @@ fn command_line<'a>(alloc: Global) -> Result<Command<'a>, AllocError> {
         .subcommand(pair_command(alloc, "why")?)?
         .subcommand(draw_command(alloc)?)?
         .subcommand(translation(alloc, "export", "to")?)?
-        .subcommand(translation(alloc, "import", "from")?)
+        .subcommand(translation(alloc, "import", "from")?)?
+        .subcommand(races_command(alloc)?)
 }
 
 /// What a command asks.
@@ -168,12 +199,23 @@ fn import_of<'a>(words: &ArgMatches<'a>) -> Option<Request<'a>> {
     }))
 }
 
+/// What the words of `races` ask for.
+fn races_of<'a>(words: &ArgMatches<'a>) -> Option<Request<'a>> {
+    Some(Request::Races(Races {
+        only: words.get_str("only"),
+        receives: words.get_flag("receives"),
+        json: words.get_flag("json"),
+        file: words.get_str("FILE"),
+    }))
+}
+
 /// What a command's words ask for.
 fn request_of<'a>(command: &str, words: &ArgMatches<'a>) -> Option<Request<'a>> {
     match command {
         "draw" => draw_of(words),
         "export" => export_of(words),
         "import" => import_of(words),
+        "races" => races_of(words),
         _ => pair_of(question_of(command)?, words),
     }
 }
