@@ -1,8 +1,8 @@
 //! Command lines of `mscview` that are understood, and those that aren't.
-use view_line::{CommandLineError, Draw, Export, Import, Pair, Question, Request, requested};
+use view_line::{CommandLineError, Draw, Export, Import, Pair, Question, Races, Request, requested};
 
 /// Words that aren't a command line.
-static MISSED: [&[&str]; 22] = [
+static MISSED: [&[&str]; 24] = [
     &["mscview"],
     &["mscview", "help"],
     &["mscview", "--help"],
@@ -25,6 +25,8 @@ static MISSED: [&[&str]; 22] = [
     &["mscview", "export", "f", "--from", "mscgen"],
     &["mscview", "import", "f"],
     &["mscview", "import", "f", "--to", "mscgen"],
+    &["mscview", "races", "f", "g"],
+    &["mscview", "races", "f", "--only"],
 ];
 
 #[test]
@@ -107,6 +109,34 @@ fn words_of_other_tools(rt: HostRuntime) {
             Ok(Request::Import(Import {
                 from: "plantuml",
                 file: "a file",
+            }))
+        )
+    );
+}
+
+#[test]
+fn words_of_races(rt: HostRuntime) {
+    let words = ["mscview", "races", "--json", "--only", "a,b", "a file"];
+    assert!(rt;
+        matches!(
+            requested(rt.alloc(), &words),
+            Ok(Request::Races(Races {
+                only: Some("a,b"),
+                receives: false,
+                json: true,
+                file: Some("a file"),
+            }))
+        )
+    );
+    let words = ["mscview", "races", "--receives"];
+    assert!(rt;
+        matches!(
+            requested(rt.alloc(), &words),
+            Ok(Request::Races(Races {
+                only: None,
+                receives: true,
+                json: false,
+                file: None,
             }))
         )
     );
