@@ -1,8 +1,8 @@
 //! Command lines of `mscview` that are understood, and those that aren't.
-use view_line::{CommandLineError, Compare, Draw, Export, Import, Pair, Question, Request, requested};
+use view_line::{CommandLineError, Compare, Draw, Export, Import, Pair, Question, Races, Request, requested};
 
 /// Words that aren't a command line.
-static MISSED: [&[&str]; 24] = [
+static MISSED: [&[&str]; 26] = [
     &["mscview"],
     &["mscview", "help"],
     &["mscview", "--help"],
@@ -27,6 +27,8 @@ static MISSED: [&[&str]; 24] = [
     &["mscview", "import", "f", "--to", "mscgen"],
     &["mscview", "compare", "f"],
     &["mscview", "compare", "f", "g", "h"],
+    &["mscview", "races", "f", "g"],
+    &["mscview", "races", "f", "--only"],
 ];
 
 #[test]
@@ -124,6 +126,34 @@ fn words_of_two_files(rt: HostRuntime) {
                 json: true,
                 first: "a file",
                 second: "another",
+            }))
+        )
+    );
+}
+
+#[test]
+fn words_of_races(rt: HostRuntime) {
+    let words = ["mscview", "races", "--json", "--only", "a,b", "a file"];
+    assert!(rt;
+        matches!(
+            requested(rt.alloc(), &words),
+            Ok(Request::Races(Races {
+                only: Some("a,b"),
+                receives: false,
+                json: true,
+                file: Some("a file"),
+            }))
+        )
+    );
+    let words = ["mscview", "races", "--receives"];
+    assert!(rt;
+        matches!(
+            requested(rt.alloc(), &words),
+            Ok(Request::Races(Races {
+                only: None,
+                receives: true,
+                json: false,
+                file: None,
             }))
         )
     );

@@ -60,6 +60,19 @@ pub struct Compare<'a> {
     pub second: &'a str,
 }
 
+/// Which races are to be shown, and how. The names are words still.
+#[derive(Clone, Copy, Debug, PartialEq, Eq)]
+pub struct Races<'a> {
+    /// The names behind `--only`, joined by commas.
+    pub only: Option<&'a str>,
+    /// Whether `--receives` is given.
+    pub receives: bool,
+    /// Whether `--json` is given.
+    pub json: bool,
+    /// Without it, and where it is `-`, standard input is read.
+    pub file: Option<&'a str>,
+}
+
 /// What a command line asks for.
 #[derive(Clone, Copy, Debug, PartialEq, Eq)]
 pub enum Request<'a> {
@@ -73,6 +86,8 @@ pub enum Request<'a> {
     Import(Import<'a>),
     /// `compare [--json] A B`.
     Compare(Compare<'a>),
+    /// `races [--only NAME,NAME..] [--receives] [--json] [FILE]`.
+    Races(Races<'a>),
 }
 
 /// A word that a command needs.
@@ -93,6 +108,21 @@ fn pair_command<'a>(alloc: Global, name: &'static str) -> Result<Command<'a>, Al
 /// An option that has a word, and may be left out.
 fn option<'a>(alloc: Global, name: &'static str) -> Arg<'a> {
     Arg::new(alloc, name).long(name).action(ArgAction::Set)
+}
+
+/// A word that is there or not.
+fn flag<'a>(alloc: Global, name: &'static str) -> Arg<'a> {
+    Arg::new(alloc, name).long(name).action(ArgAction::SetTrue)
+}
+
+/// The command that shows the races of a file by name.
+fn races_command<'a>(alloc: Global) -> Result<Command<'a>, AllocError> {
+    Command::new(alloc, "races")
+        .disable_help_flag(true)
+        .arg(option(alloc, "only"))?
+        .arg(flag(alloc, "receives"))?
+        .arg(flag(alloc, "json"))?
+        .arg(Arg::new(alloc, "FILE").action(ArgAction::Set))
 }
 
 /// The command that draws a file.
@@ -143,7 +173,8 @@ fn command_line<'a>(alloc: Global) -> Result<Command<'a>, AllocError> {
         .subcommand(draw_command(alloc)?)?
         .subcommand(translation(alloc, "export", "to")?)?
         .subcommand(translation(alloc, "import", "from")?)?
-        .subcommand(compare_command(alloc)?)
+        .subcommand(compare_command(alloc)?)?
+        .subcommand(races_command(alloc)?)
 }
 
 /// What a command asks.
@@ -201,6 +232,16 @@ fn compare_of<'a>(words: &ArgMatches<'a>) -> Option<Request<'a>> {
     }))
 }
 
+/// What the words of `races` ask for.
+fn races_of<'a>(words: &ArgMatches<'a>) -> Option<Request<'a>> {
+    Some(Request::Races(Races {
+        only: words.get_str("only"),
+        receives: words.get_flag("receives"),
+        json: words.get_flag("json"),
+        file: words.get_str("FILE"),
+    }))
+}
+
 /// What a command's words ask for.
 fn request_of<'a>(command: &str, words: &ArgMatches<'a>) -> Option<Request<'a>> {
     match command {
@@ -208,6 +249,7 @@ fn request_of<'a>(command: &str, words: &ArgMatches<'a>) -> Option<Request<'a>> 
         "export" => export_of(words),
         "import" => import_of(words),
         "compare" => compare_of(words),
+        "races" => races_of(words),
         _ => pair_of(question_of(command)?, words),
     }
 }
