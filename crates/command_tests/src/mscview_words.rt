@@ -1,5 +1,7 @@
 //! Command lines of `mscview` that are understood, and those that aren't.
-use view_line::{CommandLineError, Draw, Export, Import, Pair, Question, Races, Request, requested};
+use view_line::{
+    CommandLineError, Draw, Export, Import, Pair, Question, Races, Request, requested,
+};
 
 /// Words that aren't a command line.
 static MISSED: [&[&str]; 24] = [
