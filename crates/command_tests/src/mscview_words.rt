@@ -1,8 +1,10 @@
 //! Command lines of `mscview` that are understood, and those that aren't.
+use std::alloc::Global;
+use std::process::Abort;
 use view_line::{CommandLineError, Draw, Export, Import, Pair, Question, Request, requested};
 
 /// Words that aren't a command line.
-static MISSED: [&[&str]; 22] = [
+static MISSED: [&[&str]; 29] = [
     &["mscview"],
     &["mscview", "help"],
     &["mscview", "--help"],
@@ -23,8 +25,17 @@ static MISSED: [&[&str]; 22] = [
     &["mscview", "export", "--to", "mscgen"],
     &["mscview", "export", "f", "--to"],
     &["mscview", "export", "f", "--from", "mscgen"],
-    &["mscview", "import", "f"],
+    &["mscview", "import"],
+    &["mscview", "import", "f", "g"],
     &["mscview", "import", "f", "--to", "mscgen"],
+    &["mscview", "import", "f", "--from"],
+    &[
+        "mscview", "import", "f", "--from", "mscgen", "--from", "mscgen",
+    ],
+    &["mscview", "import", "f", "--strict", "--strict"],
+    &["mscview", "import", "f", "--skip"],
+    &["mscview", "import", "f", "--join", "a=b"],
+    &["mscview", "import", "--strict"],
 ];
 
 #[test]
@@ -100,14 +111,31 @@ fn words_of_other_tools(rt: HostRuntime) {
             }))
         )
     );
-    let words = ["mscview", "import", "--from", "plantuml", "a file"];
-    assert!(rt;
-        matches!(
-            requested(rt.alloc(), &words),
-            Ok(Request::Import(Import {
-                from: "plantuml",
-                file: "a file",
-            }))
-        )
-    );
+}
+
+/// The words of a command line that asks for an import, or ends the test.
+fn import<'a>(rt: &impl Abort, alloc: Global, words: &'a [&'a str]) -> Import<'a> {
+    match requested(alloc, words) {
+        Ok(Request::Import(import)) => import,
+        _ => panic!(rt; "not read"),
+    }
+}
+
+#[test]
+fn words_of_an_import(rt: HostRuntime) {
+    let words = ["mscview", "import", "a file"];
+    let plain = import(&rt, rt.alloc(), &words);
+    assert_eq!(&rt; plain.from, None);
+    assert!(&rt; !plain.strict);
+    assert_eq!(&rt; plain.skipped.len(), 0);
+    assert_eq!(&rt; plain.file, "a file");
+    let words = [
+        "mscview", "import", "--skip", "2..3", "--strict", "--from", "plantuml", "a file", "--skip",
+        "7..7",
+    ];
+    let full = import(&rt, rt.alloc(), &words);
+    assert_eq!(&rt; full.from, Some("plantuml"));
+    assert!(&rt; full.strict);
+    assert_eq!(&rt; full.skipped.as_slice(), ["2..3", "7..7"].as_slice());
+    assert_eq!(&rt; full.file, "a file");
 }

@@ -2,9 +2,12 @@
 #![tactic(auto)]
 
 use command_line::CommandLineError;
+use diagram_imports::{Options, Skip};
 use files::{ProgramError, number_in, refused};
-use formats::{Events, Target, Wanted, draw, events_in, export, import, target_in, tool_in};
+use formats::{Events, Target, Wanted, draw, events_in, export, target_in, tool_in};
+use import_answers::import;
 use msc_text::{Out, StreamOut};
+use std::alloc::Global;
 use std::process::ExitCode;
 use std::rt::{Env, Files};
 use std::{env, fs, io};
@@ -108,9 +111,34 @@ fn view_export<R: Files + AllocGlobal, W: Out, V: Out>(
     Ok(export(rt.alloc(), bytes.as_slice(), target, out, err))
 }
 
-/// Which tool is imported from. G1: the word names none.
-fn tool_by(imported: &Import<'_>) -> Result<Tool, ProgramError> {
-    tool_in(imported.from).ok_or(ProgramError::Usage)
+/// Which tool is imported from, if a word says so. G1: the word names none.
+fn tool_by(imported: &Import<'_>) -> Result<Option<Tool>, ProgramError> {
+    match imported.from {
+        None => Ok(None),
+        Some(word) => match tool_in(word) {
+            None => Err(ProgramError::Usage),
+            tool => Ok(tool),
+        },
+    }
+}
+
+/// The lines that a word says to skip. G1: it says none.
+fn skip_by(word: &str) -> Result<Skip, ProgramError> {
+    let lines = events_in(word).ok_or(ProgramError::Usage)?;
+    Ok(Skip {
+        first: u64::from(lines.first),
+        last: u64::from(lines.last),
+    })
+}
+
+/// The lines that are skipped. G1: a word says none.
+fn skips_by(alloc: Global, imported: &Import<'_>) -> Result<Vec<Skip>, ProgramError> {
+    let mut skips = Vec::new(alloc);
+    for word in &imported.skipped {
+        let skip = skip_by(*word)?;
+        skips.push(skip).map_err(|_| ProgramError::Memory)?;
+    }
+    Ok(skips)
 }
 
 /// Writes the chart of another tool's text.
@@ -121,8 +149,13 @@ fn view_import<R: Files + AllocGlobal, W: Out, V: Out>(
     err: &mut V,
 ) -> Result<u8, ProgramError> {
     let tool = tool_by(imported)?;
+    let skips = skips_by(rt.alloc(), imported)?;
     let bytes = bytes_of(rt, imported.file)?;
-    Ok(import(rt.alloc(), bytes.as_slice(), tool, out, err))
+    let options = Options {
+        skipped: skips.as_slice(),
+        is_strict: imported.strict,
+    };
+    Ok(import(rt.alloc(), tool, bytes.as_slice(), options, out, err))
 }
 
 /// Does what the words ask for, and answers the exit status.

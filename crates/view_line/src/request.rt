@@ -43,16 +43,20 @@ pub struct Export<'a> {
     pub file: &'a str,
 }
 
-/// What is to be read of another tool.
-#[derive(Clone, Copy, Debug, PartialEq, Eq)]
+/// What is to be read of another tool. The lines are words still.
+#[derive(Debug, Drop)]
 pub struct Import<'a> {
     /// The word behind `--from`.
-    pub from: &'a str,
+    pub from: Option<&'a str>,
+    /// Whether `--strict` is given.
+    pub strict: bool,
+    /// The lines behind each `--skip`, joined by two dots, in the order of the command line.
+    pub skipped: Vec<&'a str>,
     pub file: &'a str,
 }
 
 /// What a command line asks for.
-#[derive(Clone, Copy, Debug, PartialEq, Eq)]
+#[derive(Debug, Drop)]
 pub enum Request<'a> {
     /// `why` and `witness`, which ask about two events.
     Pair(Pair<'a>),
@@ -60,7 +64,7 @@ pub enum Request<'a> {
     Draw(Draw<'a>),
     /// `export --to TOOL FILE`.
     Export(Export<'a>),
-    /// `import --from TOOL FILE`.
+    /// `import [--from TOOL] [--strict] [--skip A..B].. FILE`.
     Import(Import<'a>),
 }
 
@@ -84,28 +88,41 @@ fn option<'a>(alloc: Global, name: &'static str) -> Arg<'a> {
     Arg::new(alloc, name).long(name).action(ArgAction::Set)
 }
 
+/// An option that has a word, and may be given several times.
+fn repeated<'a>(alloc: Global, name: &'static str) -> Arg<'a> {
+    Arg::new(alloc, name).long(name).action(ArgAction::Append)
+}
+
+/// An option without a word.
+fn flag<'a>(alloc: Global, name: &'static str) -> Arg<'a> {
+    Arg::new(alloc, name).long(name).action(ArgAction::SetTrue)
+}
+
 /// The command that draws a file.
 fn draw_command<'a>(alloc: Global) -> Result<Command<'a>, AllocError> {
-    let numbers = Arg::new(alloc, "numbers")
-        .long("numbers")
-        .action(ArgAction::SetTrue);
     Command::new(alloc, "draw")
         .disable_help_flag(true)
         .arg(option(alloc, "only"))?
         .arg(option(alloc, "events"))?
-        .arg(numbers)?
+        .arg(flag(alloc, "numbers"))?
         .arg(needed(alloc, "FILE"))
 }
 
-/// A command that writes a file for another tool, or reads one of it. The tool's name is behind this option.
-fn translation<'a>(
-    alloc: Global,
-    name: &'static str,
-    side: &'static str,
-) -> Result<Command<'a>, AllocError> {
-    Command::new(alloc, name)
+/// The command that writes a file for another tool.
+fn export_command<'a>(alloc: Global) -> Result<Command<'a>, AllocError> {
+    Command::new(alloc, "export")
         .disable_help_flag(true)
-        .arg(option(alloc, side).required(true))?
+        .arg(option(alloc, "to").required(true))?
+        .arg(needed(alloc, "FILE"))
+}
+
+/// The command that reads a file of another tool.
+fn import_command<'a>(alloc: Global) -> Result<Command<'a>, AllocError> {
+    Command::new(alloc, "import")
+        .disable_help_flag(true)
+        .arg(option(alloc, "from"))?
+        .arg(flag(alloc, "strict"))?
+        .arg(repeated(alloc, "skip"))?
         .arg(needed(alloc, "FILE"))
 }
 
@@ -118,8 +135,8 @@ fn command_line<'a>(alloc: Global) -> Result<Command<'a>, AllocError> {
         .subcommand(pair_command(alloc, "witness")?)?
         .subcommand(pair_command(alloc, "why")?)?
         .subcommand(draw_command(alloc)?)?
-        .subcommand(translation(alloc, "export", "to")?)?
-        .subcommand(translation(alloc, "import", "from")?)
+        .subcommand(export_command(alloc)?)?
+        .subcommand(import_command(alloc)?)
 }
 
 /// What a command asks.
@@ -160,21 +177,43 @@ fn export_of<'a>(words: &ArgMatches<'a>) -> Option<Request<'a>> {
     }))
 }
 
+/// The words behind each use of an option.
+fn words_of<'a>(
+    alloc: Global,
+    words: &ArgMatches<'a>,
+    option: &str,
+) -> Result<Vec<&'a str>, AllocError> {
+    Vec::from_slice(alloc, words.get_strs(option).unwrap_or(&[]))
+}
+
 /// What the words of `import` ask for.
-fn import_of<'a>(words: &ArgMatches<'a>) -> Option<Request<'a>> {
-    Some(Request::Import(Import {
-        from: words.get_str("from")?,
-        file: words.get_str("FILE")?,
+fn import_of<'a>(alloc: Global, words: &ArgMatches<'a>) -> Result<Request<'a>, CommandLineError> {
+    Ok(Request::Import(Import {
+        from: words.get_str("from"),
+        strict: words.get_flag("strict"),
+        skipped: words_of(alloc, words, "skip")?,
+        file: words.get_str("FILE").ok_or(CommandLineError::Usage)?,
     }))
 }
 
-/// What a command's words ask for.
-fn request_of<'a>(command: &str, words: &ArgMatches<'a>) -> Option<Request<'a>> {
+/// What the words of another command ask for.
+fn other_of<'a>(command: &str, words: &ArgMatches<'a>) -> Option<Request<'a>> {
     match command {
         "draw" => draw_of(words),
         "export" => export_of(words),
-        "import" => import_of(words),
         _ => pair_of(question_of(command)?, words),
+    }
+}
+
+/// What a command's words ask for.
+fn request_of<'a>(
+    alloc: Global,
+    command: &str,
+    words: &ArgMatches<'a>,
+) -> Result<Request<'a>, CommandLineError> {
+    match command {
+        "import" => import_of(alloc, words),
+        _ => other_of(command, words).ok_or(CommandLineError::Usage),
     }
 }
 
@@ -187,5 +226,5 @@ pub fn requested<'a, S: AsStr>(
 ) -> Result<Request<'a>, CommandLineError> {
     let matches = command_line(alloc)?.try_get_matches_from(words)?;
     let (command, words) = matches.subcommand().ok_or(CommandLineError::Usage)?;
-    request_of(command, words).ok_or(CommandLineError::Usage)
+    request_of(alloc, command, words)
 }

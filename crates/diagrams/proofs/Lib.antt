@@ -1,0 +1,9 @@
+pub mod CrossingLemmas
+pub mod DrawnLemmas
+pub mod FullLemmas
+pub mod ItemLemmas
+pub mod LaneTables
+pub mod LineLemmas
+pub mod LosingLemmas
+pub mod NamingLemmas
+pub mod TurnLemmas

@@ -1,0 +1,3 @@
+pub mod CommentLoops
+pub mod PlaceLoops
+pub mod TextLoops
