@@ -1,6 +1,8 @@
 pub mod CrossingLemmas
 pub mod DrawnLemmas
+pub mod EachLemmas
 pub mod FullLemmas
+pub mod HistoryLemmas
 pub mod ItemLemmas
 pub mod LaneTables
 pub mod LineLemmas

@@ -1,5 +1,6 @@
 //! The chart of a diagram.
-ghost use Rattle.std.specs.Prelude.{◌≡◌, map, IfOk};
+ghost use Rattle.std.specs.Prelude.{◌≡◌, length, map, IfOk};
+ghost use Rattle.chart.specs.Charts.{chart_lines, IsPossible};
 ghost use Rattle.diagrams.specs.Diagrams.{diagram_view, participant_view, item_view};
 ghost use Rattle.diagrams.specs.Drawing.{Gives, lines_from, staying, drawn_view, has_no_chart, drawn_of, drawn};
 ghost use Rattle.diagrams.specs.Turns.{all_ends};
@@ -153,7 +154,8 @@ fn has_no_chart(count: usize) -> bool
 /// differ have names that differ.
 #[tactic(auto, unfolding(crate::specs::Drawing::drawn, crate::specs::Drawing::drawn_by))]
 pub fn draw(alloc: Global, diagram: Diagram) -> Result<Drawn, DrawError>
-    ensures { Gives drawn_view result (drawn (diagram_view diagram)) }
+    ensures drawn { Gives drawn_view result (drawn (diagram_view diagram)) }
+    ensures possible { IfOk result (λ d. IsPossible (length d.chart) (chart_lines d.chart)) }
 {
     let Diagram {
         participants,

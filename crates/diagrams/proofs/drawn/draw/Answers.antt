@@ -3,10 +3,11 @@ use Rattle.std.proofs.lemmas.List.{length-map}
 use Rattle.diagrams.specs.Diagrams.{diagram_view, participant_view}
 use Rattle.diagrams.specs.Drawing.{has_no_chart, staying}
 use Rattle.diagrams.proofs.DrawnLemmas.{draw_steps}
+use Rattle.diagrams.proofs.HistoryLemmas.{history_legal, history_chart}
 use Rattle.diagrams.proofs.drawn.draw.Goals as goal
 
-pub returns : goal.returns
-returns c =
+pub returns-clause-drawn : goal.returns-clause-drawn
+returns-clause-drawn c =
     let d = diagram_view c.args.diagram in
     let count : c.len.result ≡ length d.participants =
         c.len.ensures ∙ sym c.deref.ensures.len ∙ ap length c.deref.ensures.value ∙ sym (length-map c.args.diagram.participants.items participant_view) in
