@@ -9,6 +9,7 @@ use Rattle.chart.specs.declared.history.Occurrence.TheVariants.{Send, Receive, C
 use Rattle.chart.specs.declared.line.TheConstants.{MAX_EVENTS}
 use Rattle.chart.specs.Messages.{Content}
 use Rattle.chart.specs.Events.{send_event, receive_event, greatest_region, MayHaveRegion}
+use Rattle.chart.specs.Events as events
 use Rattle.chart.specs.Histories.{by, is_lane, sent, received, waiting, is_closed, chart_of, AreTwo, MayFollow, IsLegal}
 use Rattle.chart.proofs.Histories.{is_lane-same, received-le, waiting-send, waiting-send_other, waiting-receive, waiting-receive_other}
 use Rattle.chart.proofs.Sends.{line_after_send, line_after_receive}
@@ -117,9 +118,6 @@ module _ (n k : ℕ) (h : List Occurrence) (lasts : ℕ → Option End) (e : End
           subst (λ l. IsOpen (lasts p) l (own_ends p ends)) (sym line) (subst (IsOpen (lasts p) (chart_of h p)) (own_other p e ends other) (s.is_open p))
 
   -- a send
-  sent_now : Occurrence
-  sent_now = Send e.instance e.partner (content_of e)
-
   send_adds : e.sends ≡ true → Adds h (Send e.instance e.partner (content_of e)) lasts e ends
   send_adds sends = record {
     who = refl;
@@ -206,7 +204,8 @@ module _ (n k : ℕ) (h : List Occurrence) (lasts : ℕ → Option End) (e : End
       (s.two.0, omega (arith, ap length first.2), omega (arith, room_here), comes)
     where
       comes : MayHaveRegion (chart_of h e.instance) (region_at h lasts e ends)
-      comes = rw receives at (may_come (lasts e.instance) (chart_of h e.instance) e (own_ends e.instance ends) open_here)
+      comes = subst (λ b. MayHaveRegion (chart_of h e.instance) (events.region_of (cond b (send_event e.partner e.name) (receive_event e.partner e.name (region_at h lasts e ends))))) receives
+          (may_come (lasts e.instance) (chart_of h e.instance) e (own_ends e.instance ends) open_here)
 
   pub receive_stands : e.sends ≡ false → Stands n k (Receive e.instance e.partner (region_at h lasts e ends) ∷ h) (with_last lasts e) ends
   receive_stands receives = record {
