@@ -1,6 +1,7 @@
 pub mod CrossingLemmas
 pub mod DrawnLemmas
 pub mod EachLemmas
+pub mod FifoLemmas
 pub mod FullLemmas
 pub mod HistoryLemmas
 pub mod ItemLemmas
@@ -8,4 +9,5 @@ pub mod LaneTables
 pub mod LineLemmas
 pub mod LosingLemmas
 pub mod NamingLemmas
+pub mod PossibleLemmas
 pub mod TurnLemmas

@@ -10,12 +10,12 @@ use Rattle.diagrams.specs.Turns.{put, in_turn}
 use Rattle.diagrams.specs.declared.end.End.{End}
 
 -- no end is of an earlier turn
-pub Least : ℕ → List End → Type 0
+unfoldable pub Least : ℕ → List End → Type 0
 Least t [] = Unit {0}
 Least t (x ∷ xs) = (t ≤ x.turn) × Least t xs
 
 -- no end stands before one of an earlier turn
-pub Rising : List End → Type 0
+unfoldable pub Rising : List End → Type 0
 Rising [] = Unit {0}
 Rising (x ∷ xs) = Least x.turn xs × Rising xs
 
