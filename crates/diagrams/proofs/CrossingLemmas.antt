@@ -1,11 +1,11 @@
 -- How far down messages of each lane are received, with one more; and what crosses by that.
-use Rattle.std.proofs.Common.{◌≡◌, ℕ, suc, ◌+◌, ◌<◌, ◌≤◌, ◌==◌, max, Bool, true, false, not, ◌&&◌, ◌||◌, cond, List, [], ◌∷◌, Option, length, drop, take, get_or, refl, sym, ap, ap₂, ◌∙◌, subst, arith, eqb-true}
+use Rattle.std.proofs.Common.{◌≡◌, ℕ, suc, ◌+◌, ◌<◌, ◌≤◌, ◌==◌, max, Bool, true, false, not, ◌&&◌, ◌||◌, cond, List, [], ◌∷◌, ◌++◌, Option, None, Some, length, drop, take, get_or, refl, sym, ap, ap₂, ◌∙◌, subst, arith, eqb-true}
 use Rattle.std.specs.Prelude.{nat_lt}
 use Rattle.std.specs.List.{list_any}
-use Rattle.std.proofs.lemmas.Bool.{and_parts, and_right, le-ltb}
-use Rattle.std.proofs.lemmas.List.{drop_all}
+use Rattle.std.proofs.lemmas.Bool.{and_parts, and_right, or_parts, le-ltb, leb-true}
+use Rattle.std.proofs.lemmas.List.{drop_all, take_more}
 use Rattle.diagrams.specs.Collecting.{first_line}
-use Rattle.diagrams.specs.Crossing.{is_received, overtakes, crosses, fault_with, fault_from}
+use Rattle.diagrams.specs.Crossing.{is_received, overtakes, crosses, fault_beside, fault_with, fault_from, is_known}
 use Rattle.diagrams.specs.Ends.{furthest, AreFurthest}
 use Rattle.diagrams.specs.Lanes.{is_on, Numbers, AreNumbers, changed}
 use Rattle.diagrams.specs.declared.message.Message.{Message}
@@ -42,30 +42,88 @@ over_at : (its : Bool) (e ends row : ℕ) (rest : Bool) → rest ≡ nat_lt e ro
 over_at true e ends row rest same = ap (λ b. nat_lt e ends || b) same ∙ sym (below_either e ends row)
 over_at false e ends row rest same = same
 
-pub overtakes_by : (earlier : List Message) (q p ends : ℕ) → overtakes earlier q p ends ≡ nat_lt ends (furthest earlier q p)
-unfolding overtakes furthest
-overtakes_by [] q p ends = sym (le-ltb ends 0 (omega arith))
-overtakes_by (m ∷ earlier) q p ends = over_at (is_received q p m) ends m.ends (furthest earlier q p) _ (overtakes_by earlier q p ends)
+pub crosses_by : (earlier : List Message) (m : Message) → m.is_lost ≡ false → crosses earlier m ≡ nat_lt m.ends (furthest earlier m.sender m.receiver)
+unfolding crosses furthest
+crosses_by [] m stays = sym (le-ltb m.ends 0 (omega arith))
+crosses_by (n ∷ earlier) m stays =
+    ap (λ b. (not b && (is_received m.sender m.receiver n && nat_lt m.ends n.ends)) || list_any (λ x. overtakes m x) earlier) stays
+    ∙ over_at (is_received m.sender m.receiver n) m.ends n.ends (furthest earlier m.sender m.receiver) _ (crosses_by earlier m stays)
 
--- what a message that is received does
-pub fault_is : (fault : Option ℕ) (earlier : List Message) (m : Message) → m.is_lost ≡ false
-    → fault_with fault earlier m ≡ cond (nat_lt m.ends (furthest earlier m.sender m.receiver)) (first_line fault m.place.line) fault
-fault_is fault earlier m stays = rw (stays, overtakes_by earlier m.sender m.receiver m.ends) refl
+-- a lost message crosses none
+pub crosses_none : (earlier : List Message) (m : Message) → m.is_lost ≡ true → crosses earlier m ≡ false
+unfolding crosses
+crosses_none [] m lost = refl
+crosses_none (n ∷ earlier) m lost =
+    ap (λ b. (not b && (is_received m.sender m.receiver n && nat_lt m.ends n.ends)) || list_any (λ x. overtakes m x) earlier) lost ∙ crosses_none earlier m lost
 
-pub fault_lost : (fault : Option ℕ) (earlier : List Message) (m : Message) → m.is_lost ≡ true → fault ≡ fault_with fault earlier m
-fault_lost fault earlier m lost = rw lost refl
+-- one that crosses none leaves the fault
+pub fault_stays : (fault : Option ℕ) (m : Message) (earlier : List Message) → crosses earlier m ≡ false → fault_with fault m earlier ≡ fault
+unfolding crosses fault_with
+fault_stays fault m [] none = refl
+fault_stays fault m (n ∷ earlier) none =
+    let parts = or_parts (overtakes m n) (list_any (λ x. overtakes m x) earlier) none in
+    rw parts.0 (fault_stays fault m earlier parts.1)
+
+-- and so does one that comes below it
+beside_known : (fault : Option ℕ) (m n : Message) → is_known fault m.whole ≡ true → fault_beside fault m n ≡ fault
+beside_known None m n known = absurd (cc known)
+beside_known (Some k) m n known = go (overtakes m n)
+  where
+    go : (its : Bool) → cond its (first_line (Some k) (max m.whole n.whole)) (Some k) ≡ Some k
+    go true = let above = leb-true k m.whole known in ap (λ b. cond b (Some (max m.whole n.whole)) (Some k)) (le-ltb (max m.whole n.whole) k (grind arith))
+    go false = refl
+
+pub fault_known : (fault : Option ℕ) (m : Message) (earlier : List Message) → is_known fault m.whole ≡ true → fault_with fault m earlier ≡ fault
+unfolding fault_with
+fault_known fault m [] known = refl
+fault_known fault m (n ∷ earlier) known = ap (λ f. fault_with f m earlier) (beside_known fault m n known) ∙ fault_known fault m earlier known
+
+-- one earlier message more
+pub beside_more : (fault more : Option ℕ) (m : Message) (n : ℕ) (earlier : List Message) (other : Message) → n < length earlier → other ≡ get_or earlier n other
+    → more ≡ fault_beside fault m other → fault_with more m (drop (n + 1) earlier) ≡ fault_with fault m (drop n earlier)
+unfolding fault_with
+beside_more fault more m n earlier other within is e = rw (from_here earlier n other within is, e) refl
+
+pub beside_end : (fault : Option ℕ) (m : Message) (n : ℕ) (earlier : List Message) → length earlier ≤ n → fault_with fault m (drop n earlier) ≡ fault
+unfolding fault_with
+beside_end fault m n earlier past = rw (drop_all n earlier past) refl
+
+-- a row furthest down is the same whichever message comes last
+furthest_push : (earlier : List Message) (m : Message) (q p : ℕ) → furthest (earlier ++ m ∷ []) q p ≡ furthest (m ∷ earlier) q p
+unfolding furthest
+furthest_push [] m q p = refl
+furthest_push (n ∷ earlier) m q p = go (is_received q p n) (is_received q p m) (furthest_push earlier m q p)
+  where
+    go : (its other : Bool) → furthest (earlier ++ m ∷ []) q p ≡ cond other (max m.ends (furthest earlier q p)) (furthest earlier q p)
+        → cond its (max n.ends (furthest (earlier ++ m ∷ []) q p)) (furthest (earlier ++ m ∷ []) q p)
+        ≡ cond other (max m.ends (cond its (max n.ends (furthest earlier q p)) (furthest earlier q p))) (cond its (max n.ends (furthest earlier q p)) (furthest earlier q p))
+    go true true e = ap (max n.ends) e ∙ exchanged n.ends m.ends (furthest earlier q p)
+      where
+        exchanged : (a b c : ℕ) → max a (max b c) ≡ max b (max a c)
+        exchanged a b c = grind arith
+    go true false e = ap (max n.ends) e
+    go false true e = e
+    go false false e = e
+
+pub furthest_next : (table : List ℕ) (m : Message) (earlier : List Message) → AreFurthest table (m ∷ earlier) → AreFurthest table (earlier ++ m ∷ [])
+furthest_next table m earlier are = numbers-same table _ _ (λ q p. sym (furthest_push earlier m q p)) are
 
 -- one message more
-pub fault_more : (fault more : Option ℕ) (earlier : List Message) (n : ℕ) (messages : List Message) (m : Message) → n < length messages → m ≡ get_or messages n m
-    → more ≡ fault_with fault earlier m
-    → fault_from more (m ∷ earlier) (drop (n + 1) messages) ≡ fault_from fault earlier (drop n messages)
+pub fault_more : (fault more : Option ℕ) (n : ℕ) (messages : List Message) (m : Message) → n < length messages → m ≡ get_or messages n m
+    → more ≡ fault_with fault m (take n messages)
+    → fault_from more (take (n + 1) messages) (drop (n + 1) messages) ≡ fault_from fault (take n messages) (drop n messages)
 unfolding fault_from
-fault_more fault more earlier n messages m within is e = rw (from_here messages n m within is, e) refl
+fault_more fault more n messages m within is e =
+    rw (from_here messages n m within is, e, take_more messages n m within) (ap (λ x. fault_from (fault_with fault m (take n messages)) (take n messages ++ x ∷ []) (drop (n + 1) messages)) (sym is))
+
+pub furthest_more : (table : List ℕ) (n : ℕ) (messages : List Message) (m : Message) → n < length messages → m ≡ get_or messages n m
+    → AreFurthest table (take n messages ++ m ∷ []) → AreFurthest table (take (n + 1) messages)
+furthest_more table n messages m within is are = subst (AreFurthest table) (ap (λ x. take n messages ++ x ∷ []) is ∙ sym (take_more messages n m within)) are
 
 -- all messages
-pub fault_end : (fault : Option ℕ) (earlier : List Message) (n : ℕ) (messages : List Message) → length messages ≤ n → fault_from fault earlier (drop n messages) ≡ fault
+pub fault_end : (fault : Option ℕ) (n : ℕ) (messages : List Message) → length messages ≤ n → fault_from fault (take n messages) (drop n messages) ≡ fault
 unfolding fault_from
-fault_end fault earlier n messages past = rw (drop_all n messages past) refl
+fault_end fault n messages past = rw (drop_all n messages past) refl
 
 -- of no messages none is received
 pub none_furthest : (table : List ℕ) → AreNumbers table (λ q p. 0) → AreFurthest table []

@@ -1,5 +1,6 @@
 -- What holds of each element of a list, and of each element and each later one.
-use Rattle.std.proofs.Common.{◌≡◌, ℕ, suc, ◌+◌, Bool, true, false, cond, List, [], ◌∷◌, ◌++◌, length, filter, refl, sym, ap, ap₂, ◌∙◌}
+use Rattle.std.proofs.Common.{◌≡◌, ℕ, zero, suc, Bool, true, false, cond, List, [], ◌∷◌, ◌++◌, Option, None, Some, filter, refl, sym, ap, ◌∙◌, subst}
+use Rattle.std.specs.Prelude.{slice_get, slice_set}
 
 abbrev pub Each : {A : Type 0} → (A → Type 0) → List A → Type 0
 Each P [] = Unit {0}
@@ -33,6 +34,21 @@ module _ {A : Type 0} (P : A → Type 0) where
       go : (its : Bool) → Each P (filter test xs) → Each P (cond its (x ∷ filter test xs) (filter test xs))
       go true rest = (all.0, rest)
       go false rest = rest
+
+  -- one of them, and another one in its place
+  pub each_get : (xs : List A) (i : ℕ) (x : A) → slice_get xs i ≡ Some x → Each P xs → P x
+  each_get [] i x at_i all = absurd (cc at_i)
+  each_get (y ∷ xs) zero x at_i all = subst P (ap (λ (o : Option A). value_or y o) at_i) all.0
+    where
+      value_or : A → Option A → A
+      value_or d None = d
+      value_or d (Some z) = z
+  each_get (y ∷ xs) (suc i) x at_i all = each_get xs i x at_i all.1
+
+  pub each_set : (xs : List A) (i : ℕ) (y : A) → Each P xs → P y → Each P (slice_set xs i y)
+  each_set [] i y all its = tt
+  each_set (x ∷ xs) zero y all its = (its, all.1)
+  each_set (x ∷ xs) (suc i) y all its = (all.0, each_set xs i y all.1 its)
 
   -- what passes a test
   pub each_passing : (test : A → Bool) (xs : List A) → Each (λ x. test x ≡ true → P x) xs → Each P (filter test xs)

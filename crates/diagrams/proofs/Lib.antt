@@ -9,5 +9,7 @@ pub mod LaneTables
 pub mod LineLemmas
 pub mod LosingLemmas
 pub mod NamingLemmas
+pub mod PlacedLemmas
+pub mod PlacingLemmas
 pub mod PossibleLemmas
 pub mod TurnLemmas

@@ -4,6 +4,7 @@ use Rattle.std.specs.Prelude.{ℕ, suc, ◌+◌, Bool, true, false, ◌==◌, �
 use Rattle.diagrams.specs.Diagrams.{ArrowView, NoteView, ItemView, AnArrow, ANote}
 use Rattle.diagrams.specs.LeftOuts.{with_one}
 use Rattle.diagrams.specs.NoteEvents.{note_event}
+use Rattle.diagrams.specs.Placing.{first_misplaced}
 use Rattle.diagrams.specs.declared.left_out.LeftOut.{LeftOut}
 use Rattle.diagrams.specs.declared.left_out.Kind.TheVariants as kinds
 use Rattle.diagrams.specs.declared.message.Message.{Message}
@@ -33,6 +34,7 @@ message_of item a = record {
   is_lost = a.is_lost;
   item = item;
   place = a.place;
+  whole = a.place.line;
 }
 
 abbrev pub with_arrow : ℕ → ArrowView → CollectedView → CollectedView
@@ -48,6 +50,7 @@ sent_by item n e = record {
   is_lost = true;
   item = item;
   place = n.place;
+  whole = n.place.line;
 }
 
 abbrev pub with_send : ℕ → NoteView → NoteEvent → CollectedView → CollectedView
@@ -60,25 +63,25 @@ with_send item n e c = record c {
 abbrev pub waits : ℕ → NoteEvent → Waiting → Bool
 waits receiver e w = w.sender == e.partner && (w.receiver == receiver && bytes_eq w.name e.name)
 
--- the message is received in this row
-abbrev pub received_in : ℕ → Message → Message
-received_in row m = record m { ends = row; is_lost = false }
+-- the message is received where the note stands
+abbrev pub received_by : NoteView → Message → Message
+received_by n m = record m { ends = n.row; is_lost = false; whole = n.place.line }
 
-abbrev pub received_at : List Message → ℕ → ℕ → Option Message → List Message
-received_at messages place row None = messages
-received_at messages place row (Some m) = slice_set messages place (received_in row m)
+abbrev pub received_at : NoteView → List Message → ℕ → Option Message → List Message
+received_at n messages place None = messages
+received_at n messages place (Some m) = slice_set messages place (received_by n m)
 
-abbrev pub with_received : ℕ → ℕ → Option Waiting → CollectedView → CollectedView
-with_received row at None c = c
-with_received row at (Some w) c = record c {
-  messages = received_at c.messages w.message row (slice_get c.messages w.message);
+abbrev pub with_received : NoteView → ℕ → Option Waiting → CollectedView → CollectedView
+with_received n at None c = c
+with_received n at (Some w) c = record c {
+  messages = received_at n c.messages w.message (slice_get c.messages w.message);
   waiting = remove c.waiting at;
 }
 
 -- the receive takes the message that waits at this place among those that wait; without one no chart is possible
 abbrev pub with_receive_at : NoteView → Option ℕ → CollectedView → CollectedView
 with_receive_at n None c = record c { fault = first_line c.fault n.place.line }
-with_receive_at n (Some at) c = with_received n.row at (slice_get c.waiting at) c
+with_receive_at n (Some at) c = with_received n at (slice_get c.waiting at) c
 
 abbrev pub with_receive : NoteView → NoteEvent → CollectedView → CollectedView
 with_receive n e c = with_receive_at n (position (waits (suc n.participant) e) c.waiting) c
@@ -100,10 +103,10 @@ unfoldable pub with_items : List (List ℕ) → ℕ → List ItemView → Collec
 with_items names item [] c = c
 with_items names item (i ∷ items) c = with_items names (item + 1) items (with_item names item i c)
 
--- nothing so far but what was left out before
-abbrev pub nothing : List LeftOut → CollectedView
-nothing left_out = record { messages = []; waiting = []; left_out = left_out; fault = None }
+-- nothing so far but what was left out before, and the line of the first item that may not stand where it does
+abbrev pub nothing : Option ℕ → List LeftOut → CollectedView
+nothing misplaced left_out = record { messages = []; waiting = []; left_out = left_out; fault = misplaced }
 
 -- what a diagram's items come to, where its participants have these names
 unfoldable pub collected : List (List ℕ) → List ItemView → List LeftOut → CollectedView
-collected names items left_out = with_items names 0 items (nothing left_out)
+collected names items left_out = with_items names 0 items (nothing (first_misplaced (length names) 0 items) left_out)

@@ -1,6 +1,6 @@
 -- Messages that cross: lanes are first in, first out (Alur, Holzmann and Peled 1996), so no message may be received above
 -- one of its lane that was sent before it.
-use Rattle.std.specs.Prelude.{ℕ, Bool, not, ◌&&◌, List, [], ◌∷◌, Option, nat_lt, if◌then◌else◌}
+use Rattle.std.specs.Prelude.{ℕ, ◌+◌, Bool, false, not, ◌&&◌, max, List, [], ◌∷◌, ◌++◌, Option, None, Some, nat_lt, nat_le, if◌then◌else◌}
 use Rattle.std.specs.List.{list_any}
 use Rattle.diagrams.specs.Collecting.{first_line}
 use Rattle.diagrams.specs.Lanes.{is_on}
@@ -10,19 +10,29 @@ use Rattle.diagrams.specs.declared.message.Message.{Message}
 abbrev pub is_received : ℕ → ℕ → Message → Bool
 is_received q p m = is_on q p m && not m.is_lost
 
--- one of the earlier messages of the lane is received further down
-unfoldable pub overtakes : List Message → ℕ → ℕ → ℕ → Bool
-overtakes earlier q p ends = list_any (λ n. is_received q p n && nat_lt ends n.ends) earlier
+-- m is received above n of its lane
+abbrev pub overtakes : Message → Message → Bool
+overtakes m n = not m.is_lost && (is_received m.sender m.receiver n && nat_lt m.ends n.ends)
 
--- it is received above an earlier one of its lane
-abbrev pub crosses : List Message → Message → Bool
-crosses earlier m = not m.is_lost && overtakes earlier m.sender m.receiver m.ends
+-- it is received above one of the earlier ones of its lane
+unfoldable pub crosses : List Message → Message → Bool
+crosses earlier m = list_any (λ n. overtakes m n) earlier
 
--- the first line with which no chart is possible, where this message comes after the earlier ones
-abbrev pub fault_with : Option ℕ → List Message → Message → Option ℕ
-fault_with fault earlier m = if crosses earlier m then first_line fault m.place.line else fault
+-- a fault so far, and one more where m overtakes n: with the line with which both are there
+abbrev pub fault_beside : Option ℕ → Message → Message → Option ℕ
+fault_beside fault m n = if overtakes m n then first_line fault (max m.whole n.whole) else fault
 
--- the same where all these come after the earlier ones, of which the last stands first
+-- the first line with which no chart is possible, where m comes after the earlier ones
+unfoldable pub fault_with : Option ℕ → Message → List Message → Option ℕ
+fault_with fault m [] = fault
+fault_with fault m (n ∷ earlier) = fault_with (fault_beside fault m n) m earlier
+
+-- the same where all these come after the earlier ones
 unfoldable pub fault_from : Option ℕ → List Message → List Message → Option ℕ
 fault_from fault earlier [] = fault
-fault_from fault earlier (m ∷ messages) = fault_from (fault_with fault earlier m) (m ∷ earlier) messages
+fault_from fault earlier (m ∷ messages) = fault_from (fault_with fault m earlier) (earlier ++ m ∷ []) messages
+
+-- a fault in this line or above
+abbrev pub is_known : Option ℕ → ℕ → Bool
+is_known None line = false
+is_known (Some k) line = nat_le k line

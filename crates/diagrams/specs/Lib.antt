@@ -14,5 +14,6 @@ pub mod Naming
 pub mod NoteEvents
 pub mod Opening
 pub mod Places
+pub mod Placing
 pub mod Regions
 pub mod Turns

@@ -8,6 +8,7 @@ use crate::diagram::{Arrow, Item, Note};
 use crate::left_out::{Kind, LeftOut, leave_out};
 use crate::message::{Message, Waiting};
 use crate::note_event::{NoteEvent, note_event};
+use crate::placing::first_misplaced;
 use chart::{InstanceNo, MAX_INSTANCES, Names};
 use std::alloc::{AllocError, Global};
 use std::marker::Model;
@@ -77,16 +78,17 @@ fn first_waiting(waiting: &[Waiting], receiver: InstanceNo, event: &NoteEvent) -
     waiting.iter().position(|w| waits(w, receiver, event))
 }
 
-/// The message at this place is received in this row.
-fn receive(messages: &mut Vec<Message>, place: usize, row: u64)
-    ensures { messages.new.items ≡ received_at messages.old.items place row (slice_get messages.old.items place) }
+/// The message at this place is received where the note stands.
+fn receive(messages: &mut Vec<Message>, place: usize, note: &Note)
+    ensures { messages.new.items ≡ received_at (note_view note.now) messages.old.items place (slice_get messages.old.items place) }
 {
     if place >= messages.len() {
         return;
     }
     let mut message = messages[place];
-    message.ends = row;
+    message.ends = note.row;
     message.is_lost = false;
+    message.whole = note.place.line;
     messages[place] = message;
 }
 
@@ -103,6 +105,7 @@ impl Collected {
             is_lost: arrow.is_lost,
             item,
             place: arrow.place,
+            whole: arrow.place.line,
         };
         self.messages.push(message)?;
         Ok(())
@@ -133,17 +136,18 @@ impl Collected {
             is_lost: true,
             item,
             place: note.place,
+            whole: note.place.line,
         })?;
         Ok(())
     }
 
-    /// The message that waits at this place is received in this row.
-    fn take(&mut self, at: usize, row: u64)
+    /// The message that waits at this place is received where the note stands.
+    fn take(&mut self, at: usize, note: &Note)
         requires { at < length self.old.waiting }
-        ensures { self.new ≡ with_received row at (slice_get self.old.waiting at) self.old }
+        ensures { self.new ≡ with_received (note_view note.now) at (slice_get self.old.waiting at) self.old }
     {
         let message = self.waiting[at].message;
-        receive(&mut self.messages, message, row);
+        receive(&mut self.messages, message, note);
         let _ = self.waiting.remove(at);
     }
 
@@ -154,7 +158,7 @@ impl Collected {
     {
         match first_waiting(self.waiting.as_slice(), own, event) {
             None => self.fault = first_line(self.fault, note.place.line),
-            Some(at) => self.take(at, note.row),
+            Some(at) => self.take(at, note),
         }
     }
 
@@ -218,7 +222,7 @@ pub(crate) fn collect(
         messages: Vec::new(alloc),
         waiting: Vec::new(alloc),
         left_out,
-        fault: None,
+        fault: first_misplaced(names.len(), items),
     };
     for (number, item) in items.iter().enumerate() {
         collected.add(names, number, item)?;

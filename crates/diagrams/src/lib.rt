@@ -15,6 +15,7 @@ mod message;
 mod naming;
 mod note_event;
 mod place;
+mod placing;
 mod renaming;
 
 pub use diagram::{Arrow, Diagram, Item, Note, Participant};

@@ -16,6 +16,8 @@ pub(crate) struct Message {
     /// The item that says it, or its send, by its place among the diagram's.
     pub item: usize,
     pub place: Place,
+    /// The line with which it is whole: that of its arrow, or of the note that says that it is received.
+    pub whole: u64,
 }
 
 /// A message that a note says is sent, while no note says that it is received.

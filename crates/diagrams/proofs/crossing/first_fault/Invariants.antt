@@ -1,9 +1,8 @@
-use Rattle.std.proofs.Common.{◌≡◌, [], List, drop}
+use Rattle.std.proofs.Common.{◌≡◌, [], take, drop}
 use Rattle.diagrams.specs.Crossing.{fault_from}
 use Rattle.diagrams.specs.Ends.{AreFurthest}
-use Rattle.diagrams.specs.declared.message.Message.{Message}
 use Rattle.diagrams.proofs.crossing.first_fault.Given as goal
 
-abbrev pub invariant-loop-message : goal.invariant-loop-message
-invariant-loop-message l = (earlier : List Message) × AreFurthest l.furthest earlier
-    × (fault_from l.first earlier (drop l.message-index l.messages) ≡ fault_from l.fn.fault [] l.messages)
+abbrev pub invariant-loop-place : goal.invariant-loop-place
+invariant-loop-place l = AreFurthest l.furthest (take l.place l.messages)
+    × (fault_from l.first (take l.place l.messages) (drop l.place l.messages) ≡ fault_from l.fn.fault [] l.messages)
