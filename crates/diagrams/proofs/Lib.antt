@@ -12,4 +12,5 @@ pub mod NamingLemmas
 pub mod PlacedLemmas
 pub mod PlacingLemmas
 pub mod PossibleLemmas
+pub mod StayingLemmas
 pub mod TurnLemmas

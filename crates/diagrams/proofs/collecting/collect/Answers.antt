@@ -10,4 +10,4 @@ loop-number-preserved c =
 pub returns : goal.returns
 unfolding collected
 returns c =
-    sym (items_end _ _ _ _ c.loop-number-test.false) ∙ c.loop-number.invariant ∙ rw (c.new.ensures.items, c.new-2.ensures.items) refl
+    sym (items_end _ _ _ _ c.loop-number-test.false) ∙ c.loop-number.invariant ∙ rw (c.new.ensures.items, c.new-2.ensures.items, c.first_misplaced.ensures, c.len.ensures.value) refl

@@ -3,7 +3,7 @@ use Rattle.std.proofs.lemmas.List.{length-map}
 use Rattle.diagrams.specs.Diagrams.{diagram_view, participant_view}
 use Rattle.diagrams.specs.Drawing.{has_no_chart, staying}
 use Rattle.diagrams.proofs.DrawnLemmas.{draw_steps}
-use Rattle.diagrams.proofs.PlacedLemmas.{items_collected, items_fault}
+use Rattle.diagrams.proofs.StayingLemmas.{stay_drawn}
 use Rattle.diagrams.proofs.drawn.draw.Goals as goal
 
 pub returns-clause-drawn : goal.returns-clause-drawn
