@@ -1,3 +1,4 @@
+pub mod ChartLemmas
 pub mod CrossingLemmas
 pub mod DrawnLemmas
 pub mod EachLemmas
