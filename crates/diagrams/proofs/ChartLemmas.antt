@@ -52,8 +52,8 @@ came_out fault messages left_out participants items names v is = go (fault_from 
 items_sound : (names : List (List ℕ)) (items : List ItemView) (left_out : List LeftOut) → (collected names items left_out).fault ≡ None
     → (row : ℕ) × AreCollected (length names) row (collected names items left_out).messages
 unfolding collected
-items_sound names items left_out none =
-    items_collected names 0 0 items (nothing (first_misplaced (length names) 0 items) left_out) (items_fault names 0 items (nothing (first_misplaced (length names) 0 items) left_out) none) (record { each = tt; order = tt })
+items_sound names items left_out no_fault =
+    items_collected names 0 0 items (nothing (first_misplaced (length names) 0 items) left_out) (items_fault names 0 items (nothing (first_misplaced (length names) 0 items) left_out) no_fault) (record { each = tt; order = tt })
 
 named_possible : (d : DiagramView) (names : List (List ℕ)) (v : DrawnView) → drawn_named d names ≡ Ok v → IsPossible (length v.lines) (chart_lines v.lines)
 unfolding drawn_by

@@ -6,7 +6,7 @@ use Rattle.std.specs.List.{list_any}
 use Rattle.std.proofs.lemmas.Bool.{and_parts, and_from, or_parts, eq-eqb, ne_eqb, eqb-true, ltb-false}
 use Rattle.chart.specs.declared.line.TheConstants.{MAX_EVENTS}
 use Rattle.chart.specs.Charts.{LineView, chart_lines, IsPossible}
-use Rattle.label_names.specs.Labels.{Labelling, none, with_label, name_of}
+use Rattle.label_names.specs.Labels.{Labelling, with_label, name_of}
 use Rattle.diagrams.specs.Collecting.{CollectedView, first_line, nothing, with_items, collected}
 use Rattle.diagrams.specs.Crossing.{is_received, overtakes, fault_beside, fault_with, fault_from}
 use Rattle.diagrams.specs.Diagrams.{ItemView, DiagramView}
@@ -149,30 +149,32 @@ module _ (P : Message → Type 0) (Q : Named → Type 0) (named : (m : Message) 
   named_each : (labels : Labelling) (items : List ItemView) (messages : List Message) → Each P messages → Each Q (named_from labels items messages)
   unfolding named_from
   named_each labels items [] all = tt
-  named_each labels items (m ∷ messages) all = (named m _ all.0, named_each _ items messages all.1)
+  named_each labels items (m ∷ messages) all = (named m _ all.0, named_each (with_label labels (label_at items m.item)) items messages all.1)
 
 module _ (R : Message → Message → Type 0) (S : Named → Named → Type 0) (named : (m k : Message) (one other : List ℕ) → R m k → S (named_as m one) (named_as k other)) where
   named_pairs : (labels : Labelling) (items : List ItemView) (messages : List Message) → Pairs R messages → Pairs S (named_from labels items messages)
   unfolding named_from
   named_pairs labels items [] all = tt
   named_pairs labels items (m ∷ messages) all =
-      (named_each (R m) (S (named_as m _)) (λ k other r. named m k _ other r) _ items messages all.0, named_pairs _ items messages all.1)
+      (named_each (R m) (S (named_as m _)) (λ k other r. named m k _ other r) (with_label labels (label_at items m.item)) items messages all.0, named_pairs (with_label labels (label_at items m.item)) items messages all.1)
 
 named_load : (labels : Labelling) (items : List ItemView) (messages : List Message) (p : ℕ) → length (own_ends p (all_ends (named_from labels items messages))) ≡ load messages p
 unfolding named_from all_ends load
 named_load labels items [] p = refl
-named_load labels items (m ∷ messages) p = go m.is_lost (m.sender == p) (m.receiver == p) refl refl refl (named_load _ items messages p)
+named_load labels items (m ∷ messages) p =
+    let more : Labelling = with_label labels (label_at items m.item) in
+    go m.is_lost (m.sender == p) (m.receiver == p) refl refl refl (name_of more (label_at items m.item)) (all_ends (named_from more items messages)) (named_load more items messages p)
   where
-    go : (lost sends gets : Bool) → m.is_lost ≡ lost → (m.sender == p) ≡ sends → (m.receiver == p) ≡ gets → {rest : List End} → length (own_ends p rest) ≡ load messages p → {name : List ℕ}
+    go : (lost sends gets : Bool) → m.is_lost ≡ lost → (m.sender == p) ≡ sends → (m.receiver == p) ≡ gets → (name : List ℕ) (rest : List End) → length (own_ends p rest) ≡ load messages p
         → length (own_ends p (cond lost (send_end (named_as m name) ∷ []) (send_end (named_as m name) ∷ receive_end (named_as m name) ∷ []) ++ rest)) ≡ load messages p + sends_of p m + receives_of p m
-    go true true true e f g is = rw (e, f, g) (omega (arith, is))
-    go true true false e f g is = rw (e, f, g) (omega (arith, is))
-    go true false true e f g is = rw (e, f, g) (omega (arith, is))
-    go true false false e f g is = rw (e, f, g) (omega (arith, is))
-    go false true true e f g is = rw (e, f, g) (omega (arith, is))
-    go false true false e f g is = rw (e, f, g) (omega (arith, is))
-    go false false true e f g is = rw (e, f, g) (omega (arith, is))
-    go false false false e f g is = rw (e, f, g) (omega (arith, is))
+    go true true true e f g name rest is = rw (e, f, g) (omega (arith, is))
+    go true true false e f g name rest is = rw (e, f, g) (omega (arith, is))
+    go true false true e f g name rest is = rw (e, f, g) (omega (arith, is))
+    go true false false e f g name rest is = rw (e, f, g) (omega (arith, is))
+    go false true true e f g name rest is = rw (e, f, g) (omega (arith, is))
+    go false true false e f g name rest is = rw (e, f, g) (omega (arith, is))
+    go false false true e f g name rest is = rw (e, f, g) (omega (arith, is))
+    go false false false e f g name rest is = rw (e, f, g) (omega (arith, is))
 
 -- Two messages that stay, of one lane or of two.
 

@@ -1,9 +1,9 @@
 use Rattle.std.proofs.Common.{◌≡◌, Ok, length, map, false, ap, sym, ◌∙◌}
 use Rattle.std.proofs.lemmas.List.{length-map}
 use Rattle.diagrams.specs.Diagrams.{diagram_view, participant_view}
-use Rattle.diagrams.specs.Drawing.{has_no_chart, staying}
+use Rattle.diagrams.specs.Drawing.{drawn_view, has_no_chart, staying}
+use Rattle.diagrams.proofs.ChartLemmas.{drawn_possible}
 use Rattle.diagrams.proofs.DrawnLemmas.{draw_steps}
-use Rattle.diagrams.proofs.StayingLemmas.{stay_drawn}
 use Rattle.diagrams.proofs.drawn.draw.Goals as goal
 
 pub returns-clause-drawn : goal.returns-clause-drawn
@@ -19,3 +19,6 @@ returns-clause-drawn c =
     let drawn = rw (c.deref-4.ensures.value, c.deref-5.ensures.value, c.deref-6.ensures.value) at c.in_ok-drawn.ensures in
     draw_steps d c.in_ok-names.names c.in_ok-collect.field-0 (c.in_ok-messages.messages.items, c.staying.new.left_out.items) several names collected stay
     ∙ ap Ok (sym drawn)
+
+pub returns-clause-possible : goal.returns-clause-possible
+returns-clause-possible c = drawn_possible (diagram_view c.args.diagram) (drawn_view c.in_ok-drawn.drawn) (returns-clause-drawn c)
