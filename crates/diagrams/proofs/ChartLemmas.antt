@@ -1,8 +1,8 @@
 -- The chart that a diagram comes to is possible.
-use Rattle.std.proofs.Common.{◌≡◌, ℕ, zero, suc, ◌+◌, ◌<◌, ◌≤◌, Bool, true, false, cond, List, [], ◌∷◌, Option, None, Some, Result, Ok, Err, length, refl, sym, ap, ◌∙◌, subst, arith}
+use Rattle.std.proofs.Common.{◌≡◌, ℕ, zero, suc, Bool, true, false, cond, List, [], Option, None, Some, Result, Ok, Err, length, refl, sym, ap, ◌∙◌, subst}
 use Rattle.chart.specs.Charts.{LineView, chart_lines, IsPossible}
 use Rattle.label_names.specs.Labels.{none}
-use Rattle.diagrams.specs.Collecting.{nothing, with_items, collected}
+use Rattle.diagrams.specs.Collecting.{nothing, collected}
 use Rattle.diagrams.specs.Crossing.{fault_from}
 use Rattle.diagrams.specs.Diagrams.{ParticipantView, ItemView, DiagramView}
 use Rattle.diagrams.specs.Drawing.{◌>>=◌, lines_from, possible, within, staying, DrawnView, drawn_of, drawn_by, drawn_named, has_no_chart, drawn}

@@ -1,5 +1,5 @@
 -- What holds of each element of a list, and of each element and each later one.
-use Rattle.std.proofs.Common.{◌≡◌, ℕ, zero, suc, Bool, true, false, cond, List, [], ◌∷◌, ◌++◌, Option, None, Some, filter, refl, sym, ap, ◌∙◌, subst}
+use Rattle.std.proofs.Common.{◌≡◌, ℕ, zero, suc, Bool, true, false, cond, List, [], ◌∷◌, ◌++◌, Option, None, Some, filter, refl, ap, subst}
 use Rattle.std.specs.Prelude.{slice_get, slice_set}
 
 abbrev pub Each : {A : Type 0} → (A → Type 0) → List A → Type 0

@@ -1,14 +1,14 @@
 -- The ends of messages that follow each other, by their turns: each lane is first in, first out.
-use Rattle.std.proofs.Common.{◌≡◌, ℕ, zero, suc, ◌+◌, ◌*◌, ◌<◌, ◌≤◌, ◌==◌, not, Bool, true, false, cond, List, [], ◌∷◌, ◌++◌, length, drop, get_or, map, filter, refl, sym, ap, ap₂, ◌∙◌, subst, arith, append_assoc, eqb-true}
+use Rattle.std.proofs.Common.{◌≡◌, ℕ, suc, ◌+◌, ◌*◌, ◌≤◌, ◌==◌, not, Bool, true, false, cond, List, [], ◌∷◌, ◌++◌, length, drop, get_or, map, filter, refl, sym, ap, ◌∙◌, subst, arith, append_assoc, eqb-true}
 use Rattle.std.specs.Prelude.{fold, nat_lt}
 use Rattle.std.proofs.lemmas.Bool.{and_parts}
 use Rattle.std.proofs.lemmas.List.{map-append}
 use Rattle.chart.specs.Messages.{Content}
 use Rattle.chart.specs.Histories.{is_lane}
-use Rattle.diagrams.specs.Turns.{send_end, receive_end, ends_of, all_ends, own_ends, put, in_turn}
+use Rattle.diagrams.specs.Turns.{send_end, receive_end, all_ends, own_ends, put, in_turn}
 use Rattle.diagrams.specs.declared.end.End.{End}
 use Rattle.diagrams.specs.declared.message.Named.{Named}
-use Rattle.diagrams.proofs.EachLemmas.{Each, Pairs, each_weaker, each_append, each_filter, each_passing, pairs_weaker, pairs_passing, filter_swap}
+use Rattle.diagrams.proofs.EachLemmas.{Each, Pairs, each_weaker, each_filter, each_passing, pairs_weaker, pairs_passing, filter_swap}
 use Rattle.diagrams.proofs.HistoryLemmas.{content_of, is_of, lane_ends, Fifo}
 use Rattle.diagrams.proofs.TurnLemmas.{Least, Rising, of_turn, turns_rise, turns_kept, same_by_turn}
 

@@ -1,11 +1,11 @@
 -- What the messages keep that a diagram's items come to, where each item may stand where it does.
-use Rattle.std.proofs.Common.{◌≡◌, ◌≢◌, ℕ, zero, suc, ◌+◌, ◌<◌, ◌≤◌, ◌==◌, ◌&&◌, not, Bool, true, false, cond, List, [], ◌∷◌, ◌++◌, Option, None, Some, Result, Ok, Err, length, refl, sym, ap, ◌∙◌, subst, arith}
-use Rattle.std.specs.Prelude.{nat_lt, slice_get, slice_set, position, bytes_eq, option_map, option_and_then}
+use Rattle.std.proofs.Common.{◌≡◌, ◌≢◌, ℕ, zero, suc, ◌+◌, ◌<◌, ◌≤◌, ◌==◌, ◌&&◌, not, Bool, true, false, cond, List, [], ◌∷◌, ◌++◌, Option, None, Some, Result, Ok, Err, length, refl, sym, ap, ◌∙◌, arith}
+use Rattle.std.specs.Prelude.{nat_lt, slice_get, slice_set, position, bytes_eq, option_map}
 use Rattle.std.proofs.lemmas.Bool.{and_parts, ltb-true, ltb-false, eqb-false}
 use Rattle.std.proofs.lemmas.List.Quantifiers.{position-Some}
 use Rattle.std.proofs.lemmas.Option.{option_and_then_some}
 use Rattle.chart.specs.Histories.{AreTwo}
-use Rattle.chart.specs.Names.{name_of, instance_of}
+use Rattle.chart.specs.Names.{name_of}
 use Rattle.chart.specs.declared.name.NameError.{NameError}
 use Rattle.diagrams.specs.Collecting.{CollectedView, first_line, message_of, with_arrow, sent_by, with_send, waits, received_by, received_at, with_received, with_receive_at, with_receive, with_event, with_note, with_item, with_items}
 use Rattle.diagrams.specs.Diagrams.{ArrowView, NoteView, ItemView, AnArrow, ANote}

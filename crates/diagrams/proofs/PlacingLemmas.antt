@@ -1,5 +1,5 @@
 -- Items one after the other, up to the first that may not stand where it does.
-use Rattle.std.proofs.Common.{◌≡◌, ℕ, ◌+◌, ◌<◌, ◌≤◌, Bool, true, false, List, Option, None, Some, length, map, drop, get_or, refl, sym, ap, ◌∙◌}
+use Rattle.std.proofs.Common.{◌≡◌, ℕ, ◌+◌, ◌<◌, ◌≤◌, true, false, List, None, Some, length, map, drop, get_or, refl}
 use Rattle.std.proofs.lemmas.List.{drop_all}
 use Rattle.diagrams.specs.Diagrams.{item_view}
 use Rattle.diagrams.specs.Placing.{row_of, place_of, may_stand, first_misplaced}

@@ -1,18 +1,18 @@
 -- The lines of messages that follow each other are a possible chart's.
-use Rattle.std.proofs.Common.{◌≡◌, ℕ, zero, suc, ◌+◌, ◌<◌, ◌≤◌, ◌==◌, Bool, true, false, cond, List, [], ◌∷◌, ◌++◌, length, map, filter, None, refl, sym, ap, ◌∙◌, subst, arith, add-one}
+use Rattle.std.proofs.Common.{◌≡◌, ℕ, zero, suc, ◌≤◌, Bool, true, false, cond, List, [], ◌∷◌, ◌++◌, length, map, None, refl, sym, ap, ◌∙◌, arith, add-one}
 use Rattle.std.specs.List.{range_with_len}
 use Rattle.chart.specs.declared.history.Occurrence.{Occurrence}
 use Rattle.chart.specs.declared.line.TheConstants.{MAX_EVENTS}
 use Rattle.chart.specs.Histories.{chart_of, AreTwo, IsLegal}
-use Rattle.chart.specs.HistoryLines.{history_line, history_lines}
-use Rattle.chart.specs.Charts.{LineView, chart_lines, IsPossible}
+use Rattle.chart.specs.HistoryLines.{history_line}
+use Rattle.chart.specs.Charts.{chart_lines, IsPossible}
 use Rattle.chart.proofs.HistoryLines.{chart-is}
 use Rattle.diagrams.specs.Drawing.{lines_from}
 use Rattle.diagrams.specs.Regions.{with_ends, line_of}
 use Rattle.diagrams.specs.Turns.{send_end, receive_end, all_ends, own_ends, in_turn}
 use Rattle.diagrams.specs.declared.end.End.{End}
 use Rattle.diagrams.specs.declared.message.Named.{Named}
-use Rattle.diagrams.proofs.EachLemmas.{Each, Pairs, each_append, each_weaker}
+use Rattle.diagrams.proofs.EachLemmas.{Each, Pairs, each_weaker}
 use Rattle.diagrams.proofs.FifoLemmas.{Follows, own_in_turn, turn_length, turn_each, lane_fifo}
 use Rattle.diagrams.proofs.HistoryLemmas.{Stands, history_from, history_legal, history_chart}
 use Rattle.diagrams.proofs.LineLemmas.{open_none}

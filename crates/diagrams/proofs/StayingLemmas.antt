@@ -1,30 +1,25 @@
 -- What the messages of a chart keep: none of those that stay overtakes another one of its lane, behind a lost one none of
 -- its lane is received, and no instance has too many events. So the chart is possible.
-use Rattle.std.proofs.Common.{◌≡◌, ℕ, zero, suc, ◌+◌, ◌<◌, ◌≤◌, ◌==◌, ◌&&◌, ◌||◌, not, Bool, true, false, cond, List, [], ◌∷◌, ◌++◌, Option, None, Some, Result, Ok, Err, length, refl, sym, ap, ◌∙◌, subst, arith}
+use Rattle.std.proofs.Common.{◌≡◌, ℕ, ◌+◌, ◌≤◌, ◌==◌, ◌&&◌, Bool, true, false, cond, List, [], ◌∷◌, ◌++◌, Option, None, Some, length, refl, sym, ◌∙◌, subst, arith}
 use Rattle.std.specs.Prelude.{nat_lt, max}
 use Rattle.std.specs.List.{list_any}
-use Rattle.std.proofs.lemmas.Bool.{and_parts, and_from, or_parts, eq-eqb, ne_eqb, eqb-true, ltb-false}
+use Rattle.std.proofs.lemmas.Bool.{or_parts, eq-eqb, eqb-true, ltb-false}
 use Rattle.chart.specs.declared.line.TheConstants.{MAX_EVENTS}
-use Rattle.chart.specs.Charts.{LineView, chart_lines, IsPossible}
 use Rattle.label_names.specs.Labels.{Labelling, with_label, name_of}
-use Rattle.diagrams.specs.Collecting.{CollectedView, first_line, nothing, with_items, collected}
+use Rattle.diagrams.specs.Collecting.{first_line}
 use Rattle.diagrams.specs.Crossing.{is_received, overtakes, fault_beside, fault_with, fault_from}
-use Rattle.diagrams.specs.Diagrams.{ItemView, DiagramView}
-use Rattle.diagrams.specs.Drawing.{◌>>=◌, lines_from, possible, within, staying, DrawnView, drawn_of, drawn_by, has_no_chart, drawn}
-use Rattle.diagrams.specs.Full.{sends_of, receives, receives_of, load, is_full, full_from}
-use Rattle.diagrams.specs.Losing.{is_received_later, is_left_out, kept, with_lost}
-use Rattle.diagrams.specs.Naming.{names_from, label_at, named_as, named_from}
-use Rattle.diagrams.specs.Placing.{first_misplaced}
+use Rattle.diagrams.specs.Diagrams.{ItemView}
+use Rattle.diagrams.specs.Full.{sends_of, receives_of, load, is_full, full_from}
+use Rattle.diagrams.specs.Losing.{is_received_later, is_left_out, kept}
+use Rattle.diagrams.specs.Naming.{label_at, named_as, named_from}
 use Rattle.diagrams.specs.Turns.{send_end, receive_end, all_ends, own_ends}
-use Rattle.diagrams.specs.declared.drawn.DrawError.{DrawError}
 use Rattle.diagrams.specs.declared.end.End.{End}
-use Rattle.diagrams.specs.declared.left_out.LeftOut.{LeftOut}
 use Rattle.diagrams.specs.declared.message.Message.{Message}
 use Rattle.diagrams.specs.declared.message.Named.{Named}
-use Rattle.diagrams.proofs.EachLemmas.{Each, Pairs, each_front, each_back, each_weaker, pairs_weaker}
+use Rattle.diagrams.proofs.EachLemmas.{Each, Pairs, each_front, each_back, each_weaker}
 use Rattle.diagrams.proofs.FifoLemmas.{Follows}
-use Rattle.diagrams.proofs.PlacedLemmas.{IsCollected, AreCollected, items_collected, items_fault, still_none}
-use Rattle.diagrams.proofs.PossibleLemmas.{IsMessage, AreDrawn, possible_lines}
+use Rattle.diagrams.proofs.PlacedLemmas.{IsCollected, AreCollected, still_none}
+use Rattle.diagrams.proofs.PossibleLemmas.{IsMessage, AreDrawn}
 
 -- No message overtakes an earlier one.
 

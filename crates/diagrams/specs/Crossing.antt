@@ -1,6 +1,6 @@
 -- Messages that cross: lanes are first in, first out (Alur, Holzmann and Peled 1996), so no message may be received above
 -- one of its lane that was sent before it.
-use Rattle.std.specs.Prelude.{ℕ, ◌+◌, Bool, false, not, ◌&&◌, max, List, [], ◌∷◌, ◌++◌, Option, None, Some, nat_lt, nat_le, if◌then◌else◌}
+use Rattle.std.specs.Prelude.{ℕ, Bool, false, not, ◌&&◌, max, List, [], ◌∷◌, ◌++◌, Option, None, Some, nat_lt, nat_le, if◌then◌else◌}
 use Rattle.std.specs.List.{list_any}
 use Rattle.diagrams.specs.Collecting.{first_line}
 use Rattle.diagrams.specs.Lanes.{is_on}

@@ -1,6 +1,6 @@
 -- Items in their places: none begins above one that stands before it in the text, no arrow ends above where it begins,
 -- and each is at participants of the diagram, an arrow at two. With another one no chart is possible.
-use Rattle.std.specs.Prelude.{ℕ, Bool, not, ◌&&◌, ◌||◌, ◌==◌, List, [], ◌∷◌, Option, None, Some, nat_lt, if◌then◌else◌}
+use Rattle.std.specs.Prelude.{ℕ, Bool, not, ◌&&◌, ◌==◌, List, [], ◌∷◌, Option, None, Some, nat_lt, if◌then◌else◌}
 use Rattle.diagrams.specs.Diagrams.{ArrowView, ItemView, AnArrow, ANote}
 
 -- the row in which it begins

@@ -1,4 +1,4 @@
-use Rattle.std.proofs.Common.{[], ◌∷◌, refl, sym, ◌∙◌}
+use Rattle.std.proofs.Common.{refl, sym, ◌∙◌}
 use Rattle.diagrams.proofs.CrossingLemmas.{none_furthest, fault_more, furthest_more, fault_end}
 use Rattle.diagrams.proofs.crossing.first_fault.Goals as goal
 

@@ -1,7 +1,7 @@
-use Rattle.std.proofs.Common.{◌≡◌, Ok, length, map, false, ap, sym, ◌∙◌}
+use Rattle.std.proofs.Common.{◌≡◌, Ok, length, false, ap, sym, ◌∙◌}
 use Rattle.std.proofs.lemmas.List.{length-map}
 use Rattle.diagrams.specs.Diagrams.{diagram_view, participant_view}
-use Rattle.diagrams.specs.Drawing.{drawn_view, has_no_chart, staying}
+use Rattle.diagrams.specs.Drawing.{drawn_view, has_no_chart}
 use Rattle.diagrams.proofs.ChartLemmas.{drawn_possible}
 use Rattle.diagrams.proofs.DrawnLemmas.{draw_steps}
 use Rattle.diagrams.proofs.drawn.draw.Goals as goal

@@ -1,7 +1,6 @@
-use Rattle.std.proofs.Common.{◌≡◌, ◌+◌, ◌++◌, ◌∷◌, [], None, drop, sym, ◌∙◌, refl, ap, subst}
+use Rattle.std.proofs.Common.{◌≡◌, ◌+◌, ◌++◌, ◌∷◌, [], None, drop, sym, ◌∙◌, refl, ap}
 use Rattle.chart.specs.Charts.{LineView}
 use Rattle.chart.specs.Events.{greatest_region}
-use Rattle.diagrams.specs.Opening.{IsOpen}
 use Rattle.diagrams.specs.Regions.{with_ends, line_of, event_of, region_of}
 use Rattle.diagrams.proofs.LineLemmas.{open_none, end_here, line_more, open_more, line_end, whole_line}
 use Rattle.diagrams.proofs.line.line_of.Goals as goal
