@@ -199,18 +199,23 @@ receive_first rest e ends [] later (g ∷ taken) next least sent received all do
     absurd (omega (arith, first, ap (λ (x : End). x.turn) its, down.0))
 receive_first rest e ends (w ∷ waits) later (g ∷ taken) next least sent received all down =
     let its : e ≡ receive_end g = ap (λ l. get_or l 0 e) received in
-    let same : w ≡ g = ap (λ l. get_or l 0 w) all in
-    (content w, map content waits, refl, ap (λ (x : Named). x.name) same ∙ sym (ap (λ (x : End). x.name) its),
-    next waits later taken sent (ap (drop 1) received) (ap (drop 1) all) down.1)
+    let same : w ≡ g = ap (λ l. get_or l 0 w) all in (
+      content w,
+      map content waits,
+      refl,
+      ap (λ (x : Named). x.name) same ∙ sym (ap (λ (x : End). x.name) its),
+      next waits later taken sent (ap (drop 1) received) (ap (drop 1) all) down.1,
+    )
 
 pub first_out : (rest : List Named) (ends : List End) → Rising ends → TakesFirst rest ends
 unfolding Rising
 first_out rest [] rising waits later taken sent received all down = tt
-first_out rest (e ∷ ends) rising waits later taken sent received all down =
-    ( λ sends. send_first rest e ends waits later taken (first_out rest ends rising.1)
-        (subst (λ b. cond b (e ∷ sends_of ends) (sends_of ends) ≡ map send_end later) sends sent) (subst (λ b. cond (not b) (e ∷ receives_of ends) (receives_of ends) ≡ map receive_end taken) sends received) all down
-    , λ receives. receive_first rest e ends waits later taken (first_out rest ends rising.1) rising.0
-        (subst (λ b. cond b (e ∷ sends_of ends) (sends_of ends) ≡ map send_end later) receives sent) (subst (λ b. cond (not b) (e ∷ receives_of ends) (receives_of ends) ≡ map receive_end taken) receives received) all down)
+first_out rest (e ∷ ends) rising waits later taken sent received all down = (
+  λ sends. send_first rest e ends waits later taken (first_out rest ends rising.1)
+      (subst (λ b. cond b (e ∷ sends_of ends) (sends_of ends) ≡ map send_end later) sends sent) (subst (λ b. cond (not b) (e ∷ receives_of ends) (receives_of ends) ≡ map receive_end taken) sends received) all down,
+  λ receives. receive_first rest e ends waits later taken (first_out rest ends rising.1) rising.0
+      (subst (λ b. cond b (e ∷ sends_of ends) (sends_of ends) ≡ map send_end later) receives sent) (subst (λ b. cond (not b) (e ∷ receives_of ends) (receives_of ends) ≡ map receive_end taken) receives received) all down,
+)
 
 is_false : (b : Bool) → not b ≡ true → b ≡ false
 is_false true e = absurd (cc e)

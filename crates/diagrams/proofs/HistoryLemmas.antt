@@ -138,10 +138,10 @@ module _ (n k : ℕ) (h : List Occurrence) (lasts : ℕ → Option End) (e : End
           let from : e.instance ≡ q = eqb-true e.instance q parts.0 in
           let to : e.partner ≡ p = eqb-true e.partner p parts.1 in
           let grown : waiting (Send e.instance e.partner (content_of e) ∷ h) e.instance e.partner ≡ waiting h e.instance e.partner ++ content_of e ∷ [] =
-              waiting-send h e.instance e.partner (content_of e) (received-le n k h s.legal e.instance e.partner) in
+          waiting-send h e.instance e.partner (content_of e) (received-le n k h s.legal e.instance e.partner) in
           let here : waiting (Send e.instance e.partner (content_of e) ∷ h) q p ≡ waiting h q p ++ content_of e ∷ [] =
-              subst (λ y. waiting (Send e.instance e.partner (content_of e) ∷ h) q y ≡ waiting h q y ++ content_of e ∷ []) to
-              (subst (λ x. waiting (Send e.instance e.partner (content_of e) ∷ h) x e.partner ≡ waiting h x e.partner ++ content_of e ∷ []) from grown) in
+          subst (λ y. waiting (Send e.instance e.partner (content_of e) ∷ h) q y ≡ waiting h q y ++ content_of e ∷ []) to
+          (subst (λ x. waiting (Send e.instance e.partner (content_of e) ∷ h) x e.partner ≡ waiting h x e.partner ++ content_of e ∷ []) from grown) in
           subst (λ ms. Fifo ms (lane_ends q p ends)) (sym here) ((before true (its_lane ∙ lane)).0 sends)
       go false other =
           subst (λ ms. Fifo ms (lane_ends q p ends)) (sym (waiting-send_other h e.instance e.partner q p (content_of e) other)) (before false (its_lane ∙ other))
@@ -164,7 +164,7 @@ module _ (n k : ℕ) (h : List Occurrence) (lasts : ℕ → Option End) (e : End
   first_waits : e.sends ≡ false → (m : Content) × (rest : List Content) × (waiting h e.partner e.instance ≡ m ∷ rest) × (m.name ≡ e.name) × Fifo rest (lane_ends e.partner e.instance ends)
   first_waits receives =
       let its : is_of e.partner e.instance e ≡ true =
-          ap (λ b. cond b (is_lane e.instance e.partner e.partner e.instance) (is_lane e.partner e.instance e.partner e.instance)) receives ∙ is_lane-same e.partner e.instance in
+      ap (λ b. cond b (is_lane e.instance e.partner e.partner e.instance) (is_lane e.partner e.instance e.partner e.instance)) receives ∙ is_lane-same e.partner e.instance in
       (subst (λ b. Fifo (waiting h e.partner e.instance) (cond b (e ∷ lane_ends e.partner e.instance ends) (lane_ends e.partner e.instance ends))) its (s.fifo e.partner e.instance)).1 receives
 
   receive_adds : e.sends ≡ false → Adds h (Receive e.instance e.partner (region_at h lasts e ends)) lasts e ends
@@ -191,7 +191,7 @@ module _ (n k : ℕ) (h : List Occurrence) (lasts : ℕ → Option End) (e : End
           let first = first_waits receives in
           let o : Occurrence = Receive e.instance e.partner (region_at h lasts e ends) in
           let here : Fifo (waiting (o ∷ h) e.partner e.instance) (lane_ends e.partner e.instance ends) =
-              subst (λ ms. Fifo ms (lane_ends e.partner e.instance ends)) (sym (waiting-receive h e.instance e.partner (region_at h lasts e ends) first.0 first.1 first.2)) first.4 in
+          subst (λ ms. Fifo ms (lane_ends e.partner e.instance ends)) (sym (waiting-receive h e.instance e.partner (region_at h lasts e ends) first.0 first.1 first.2)) first.4 in
           subst (λ y. Fifo (waiting (o ∷ h) q y) (lane_ends q y ends)) to (subst (λ x. Fifo (waiting (o ∷ h) x e.instance) (lane_ends x e.instance ends)) from here)
       go false other =
           subst (λ ms. Fifo ms (lane_ends q p ends)) (sym (waiting-receive_other h e.instance e.partner (region_at h lasts e ends) q p other))

@@ -19,7 +19,7 @@ mod placing;
 mod renaming;
 
 pub use diagram::{Arrow, Diagram, Item, Note, Participant};
-pub use left_out::{Kind, LeftOut, leave_out};
 pub use drawn::{DrawError, Drawn, draw};
+pub use left_out::{Kind, LeftOut, leave_out};
 pub use place::Place;
 pub use renaming::Renamed;

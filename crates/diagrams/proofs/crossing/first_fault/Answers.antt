@@ -7,9 +7,10 @@ loop-place-init c = (none_furthest _ c.in_ok-furthest.ensures, refl)
 
 pub loop-place-preserved : goal.loop-place-preserved
 loop-place-preserved c =
-    let are = c.loop-place.invariant.0 in
-    ( furthest_more _ _ _ _ c.loop-place-test.true c.index-messages-place.is (c.add-first.ensures.furthest are)
-    , fault_more _ _ _ _ _ c.loop-place-test.true c.index-messages-place.is (c.add-first.ensures.fault are) ∙ c.loop-place.invariant.1)
+    let are = c.loop-place.invariant.0 in (
+      furthest_more _ _ _ _ c.loop-place-test.true c.index-messages-place.is (c.add-first.ensures.furthest are),
+      fault_more _ _ _ _ _ c.loop-place-test.true c.index-messages-place.is (c.add-first.ensures.fault are) ∙ c.loop-place.invariant.1,
+    )
 
 pub returns : goal.returns
 returns c = sym (fault_end _ _ _ c.loop-place-test.false) ∙ c.loop-place.invariant.1

@@ -10,7 +10,7 @@ pub returns-clause-drawn : goal.returns-clause-drawn
 returns-clause-drawn c =
     let d = diagram_view c.args.diagram in
     let count : c.len.result ≡ length d.participants =
-        c.len.ensures ∙ sym c.deref.ensures.len ∙ ap length c.deref.ensures.value ∙ sym (length-map c.args.diagram.participants.items participant_view) in
+    c.len.ensures ∙ sym c.deref.ensures.len ∙ ap length c.deref.ensures.value ∙ sym (length-map c.args.diagram.participants.items participant_view) in
     let several : has_no_chart (length d.participants) ≡ false = ap has_no_chart (sym count) ∙ sym c.has_no_chart.ensures ∙ c.if-has_no_chart.false in
     let names = rw c.deref.ensures.value at c.in_ok-names.ensures in
     let collected = rw c.deref-2.ensures.value at c.in_ok-collect.ensures in
