@@ -1,0 +1,66 @@
+-- The messages of a diagram on the lanes between the instances of its lines.
+use Rattle.std.specs.Prelude.{ℕ, Bool, not, ◌-◌, ◌==◌, ◌&&◌, nat_lt, List, [], ◌∷◌, ◌++◌, map, filter, position, slice_get, reverse, unwrap_or, option_and_then, Option, None, Some, if◌then◌else◌}
+use Rattle.chart.specs.Names.{instance_of}
+use Rattle.diagrams.specs.Crossing.{crosses, is_received}
+use Rattle.diagrams.specs.LeftOuts.{with_one}
+use Rattle.diagrams.specs.declared.left_out.Kind.TheVariants as kinds
+use Rattle.diagrams.specs.declared.left_out.LeftOut.{LeftOut}
+use Rattle.diagrams.specs.declared.message.Message.{Message}
+use Rattle.joined_diagrams.specs.declared.moves.Overtaking.{Overtaking}
+
+-- the instance of a line, where the lines' instances have these names
+abbrev pub instance_at : List (List ℕ) → List (List ℕ) → ℕ → ℕ
+instance_at names processes line = unwrap_or (option_and_then (instance_of names) (slice_get processes (line - 1))) line
+
+-- the message goes from the sender's instance to the receiver's
+abbrev pub moved : List (List ℕ) → List (List ℕ) → Message → Message
+moved names processes m = record m {
+  sender = instance_at names processes m.sender;
+  receiver = instance_at names processes m.receiver;
+}
+
+-- it goes from one instance to another
+abbrev pub is_across : Message → Bool
+is_across m = not (m.sender == m.receiver)
+
+-- what is left out, with those of these messages that don't
+unfoldable pub with_within : List LeftOut → List Message → List LeftOut
+with_within left_out [] = left_out
+with_within left_out (m ∷ messages) =
+    with_within (if is_across m then left_out else with_one left_out kinds.MessageWithin m.place) messages
+
+-- the messages of its lane that are sent above it and received below it: with it, they aren't first in, first out
+abbrev pub is_overtaken : Message → Message → Bool
+is_overtaken m n = is_received m.sender m.receiver n && nat_lt m.ends n.ends
+
+abbrev pub line_at : List Message → Option ℕ → Option ℕ
+line_at messages None = None
+line_at messages (Some at) = line_by (slice_get messages at)
+  where
+    line_by : Option Message → Option ℕ
+    line_by None = None
+    line_by (Some n) = Some n.place.line
+
+-- the line of the first of these messages that it overtakes
+abbrev pub overtaken_in : List Message → Message → Option ℕ
+overtaken_in before m = line_at before (position (is_overtaken m) before)
+
+-- these messages without those that overtake another one, where the earlier ones stand before them, the last of them first
+unfoldable pub staying_from : List Message → List Message → List Message
+staying_from earlier [] = []
+staying_from earlier (m ∷ messages) =
+    if crosses earlier m then staying_from (m ∷ earlier) messages else m ∷ staying_from (m ∷ earlier) messages
+
+-- a message that overtakes others, with the line of the first one
+abbrev pub overtaking : List Message → Message → List Overtaking
+overtaking earlier m = told (overtaken_in (reverse earlier) m)
+  where
+    told : Option ℕ → List Overtaking
+    told None = []
+    told (Some line) = record { place = m.place; overtaken = line } ∷ []
+
+-- those that overtake
+unfoldable pub overtaking_from : List Message → List Message → List Overtaking
+overtaking_from earlier [] = []
+overtaking_from earlier (m ∷ messages) =
+    (if crosses earlier m then overtaking earlier m else []) ++ overtaking_from (m ∷ earlier) messages

@@ -1,0 +1,115 @@
+//! Messages on the lanes between instances.
+ghost use Rattle.std.specs.Prelude.{◌≡◌, ◌<◌, [], length, map, filter, position, reverse, List, IfOk, OnOk, IfSome};
+ghost use Rattle.diagrams.specs.declared.message.Message.{Message};
+ghost use Rattle.joined_diagrams.specs.Moves.{instance_at, moved, is_across, with_within, is_overtaken, overtaken_in, staying_from, overtaking_from};
+
+use chart::{InstanceNo, Name, Names};
+use diagrams::{Kind, LeftOut, Lanes, Message, Place, leave_out, pass_crossing};
+use std::alloc::{AllocError, Global};
+
+/// A message that would be received above an earlier one of its lane: it overtakes that one.
+#[derive(Clone, Copy, Debug)]
+pub struct Overtaking {
+    pub place: Place,
+    /// The line of the first message that it overtakes.
+    pub overtaken: u64,
+}
+
+/// The instance of a line, where the lines' instances have these names.
+fn instance_at(names: &Names, processes: &[Name], line: InstanceNo) -> InstanceNo
+    ensures { result ≡ instance_at names.now processes.now line }
+{
+    match processes.get(line.place()) {
+        Some(process) => match names.instance(*process) {
+            Some(instance) => instance,
+            None => line,
+        },
+        None => line,
+    }
+}
+
+/// The message, from the sender's instance to the receiver's.
+fn moved(names: &Names, processes: &[Name], message: &Message) -> Message
+    ensures { result ≡ moved names.now processes.now message.now }
+{
+    let mut moved = *message;
+    moved.sender = instance_at(names, processes, message.sender);
+    moved.receiver = instance_at(names, processes, message.receiver);
+    moved
+}
+
+/// The messages, each from the sender's instance to the receiver's.
+pub(crate) fn all_moved(
+    alloc: Global,
+    names: &Names,
+    processes: &[Name],
+    messages: &[Message],
+) -> Result<Vec<Message>, AllocError>
+    ensures { IfOk result (λ v. v.items ≡ map (moved names.now processes.now) messages.now) }
+{
+    messages
+        .iter()
+        .map(|message| moved(names, processes, message))
+        .collect(alloc)
+}
+
+fn is_across(message: &Message) -> bool
+    ensures { result ≡ is_across message.now }
+{
+    message.sender != message.receiver
+}
+
+/// The messages from one instance to another.
+pub(crate) fn across(alloc: Global, messages: &[Message]) -> Result<Vec<Message>, AllocError>
+    ensures { IfOk result (λ v. v.items ≡ filter is_across messages.now) }
+{
+    messages
+        .iter()
+        .copied()
+        .filter(|message| is_across(message))
+        .collect(alloc)
+}
+
+/// Those from an instance to itself are left out.
+#[tactic(auto, unfolding(crate::specs::Moves::with_within))]
+pub(crate) fn leave_out_within(
+    messages: &[Message],
+    left_out: &mut Vec<LeftOut>,
+) -> Result<(), AllocError>
+    ensures { IfOk result (λ _. left_out.new.items ≡ with_within left_out.old.items messages.now) }
+{
+    let mut rest = messages;
+    'messages: while let [message, others @ ..] = rest {
+        if !is_across(message) {
+            leave_out(left_out, Kind::MessageWithin, message.place)?;
+        }
+        rest = others;
+    }
+    Ok(())
+}
+
+fn is_overtaken(message: &Message, other: &Message) -> bool
+    ensures { result ≡ is_overtaken message.now other.now }
+{
+    other.sender == message.sender
+        && other.receiver == message.receiver
+        && !other.is_lost
+        && message.ends < other.ends
+}
+
+fn place_overtaken(before: &[Message], message: &Message) -> Option<usize>
+    ensures value { result ≡ position (is_overtaken message.now) before.now }
+    ensures within { IfSome result (λ place. place < length before.now) }
+{
+    before.iter().position(|other| is_overtaken(message, other))
+}
+
+/// The line of the first of these messages that a message overtakes.
+fn overtaken_in(before: &[Message], message: &Message) -> Option<u64>
+    ensures { result ≡ overtaken_in before.now message.now }
+{
+    match place_overtaken(before, message) {
+        Some(place) => Some(before[place].place.line),
+        None => None,
+    }
+}
