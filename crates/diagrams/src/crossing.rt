@@ -9,8 +9,9 @@ use crate::lanes::Lanes;
 use crate::message::Message;
 use std::alloc::{AllocError, Global};
 
-/// One more message. The table has for each lane the row furthest down in which an earlier one is received.
-fn add(furthest: &mut Lanes, fault: Option<u64>, message: &Message) -> Option<u64>
+/// One more message, and the first line with which no chart is possible. The table has for each lane the row furthest
+/// down in which an earlier one is received.
+pub fn add_crossing(furthest: &mut Lanes, fault: Option<u64>, message: &Message) -> Option<u64>
     ensures fault { (earlier : List Message) → AreFurthest furthest.old earlier
         → result ≡ fault_with fault earlier message.now }
     ensures furthest { (earlier : List Message) → AreFurthest furthest.old earlier
@@ -30,7 +31,7 @@ fn add(furthest: &mut Lanes, fault: Option<u64>, message: &Message) -> Option<u6
 
 /// The first line with which no chart is possible, if there is one: this one, or that of a message that is received
 /// above an earlier one of its lane.
-pub(crate) fn first_fault(
+pub fn first_fault(
     alloc: Global,
     fault: Option<u64>,
     messages: &[Message],
@@ -40,7 +41,7 @@ pub(crate) fn first_fault(
     let mut furthest = Lanes::zeros(alloc)?;
     let mut first = fault;
     for message in messages {
-        first = add(&mut furthest, first, message);
+        first = add_crossing(&mut furthest, first, message);
     }
     Ok(first)
 }

@@ -1,5 +1,5 @@
 -- Lines of a diagram that are one instance: one process whose state machines are drawn as several lines, say.
-use Rattle.std.specs.Prelude.{ℕ, Bool, not, ◌&&◌, nat_lt, List, [], ◌∷◌, ◌++◌, length, map, filter, position, slice_get, Option, None, Some, option_map, is_some, bytes_eq, if◌then◌else◌}
+use Rattle.std.specs.Prelude.{ℕ, Bool, not, ◌&&◌, ◌||◌, nat_lt, List, [], ◌∷◌, ◌++◌, length, filter, position, slice_get, Option, None, Some, option_map, is_some, bytes_eq, if◌then◌else◌}
 use Rattle.std.specs.List.{list_any}
 use Rattle.chart.specs.Names.{instance_of}
 use Rattle.diagrams.specs.Diagrams.{ParticipantView}
@@ -33,13 +33,25 @@ unfoldable pub all_parts : List JoinView → List (List ℕ)
 all_parts [] = []
 all_parts (j ∷ joins) = j.parts ++ all_parts joins
 
+-- one of these lines has the name
+abbrev pub is_line : List (List ℕ) → List ℕ → Bool
+is_line lines part = list_any (λ line. bytes_eq line part) lines
+
 -- one of these is the name of no line
 abbrev pub is_unknown : List (List ℕ) → List (List ℕ) → Bool
-is_unknown lines parts = list_any (λ part. not (list_any (λ line. bytes_eq line part) lines)) parts
+is_unknown lines parts = list_any (λ part. not (is_line lines part)) parts
+
+-- how often a line is there
+abbrev pub count_in : List (List ℕ) → List ℕ → ℕ
+count_in parts line = length (filter (λ part. bytes_eq part line) parts)
 
 -- one line is there more than once
 abbrev pub is_twice : List (List ℕ) → List (List ℕ) → Bool
-is_twice lines parts = list_any (λ line. nat_lt 1 (length (filter (λ part. bytes_eq part line) parts))) lines
+is_twice lines parts = list_any (λ line. nat_lt 1 (count_in parts line)) lines
+
+-- one of the names of lines is the name of none, or stands more than once
+abbrev pub is_misnamed : List (List ℕ) → List JoinView → Bool
+is_misnamed lines joins = is_unknown lines (all_parts joins) || is_twice lines (all_parts joins)
 
 -- the line is another instance's, and that has the join's name
 abbrev pub takes : List JoinView → JoinView → List ℕ → Bool

@@ -1,2 +1,3 @@
+pub mod Joined
 pub mod Joins
 pub mod Moves

@@ -1,5 +1,5 @@
 -- The messages of a diagram on the lanes between the instances of its lines.
-use Rattle.std.specs.Prelude.{ℕ, Bool, not, ◌-◌, ◌==◌, ◌&&◌, nat_lt, List, [], ◌∷◌, ◌++◌, map, filter, position, slice_get, reverse, unwrap_or, option_and_then, Option, None, Some, if◌then◌else◌}
+use Rattle.std.specs.Prelude.{ℕ, Bool, not, ◌-◌, ◌==◌, ◌&&◌, nat_lt, List, [], ◌∷◌, ◌++◌, position, slice_get, reverse, unwrap_or, option_and_then, option_map, Option, None, Some, if◌then◌else◌}
 use Rattle.chart.specs.Names.{instance_of}
 use Rattle.diagrams.specs.Crossing.{crosses, is_received}
 use Rattle.diagrams.specs.LeftOuts.{with_one}
@@ -35,32 +35,30 @@ is_overtaken m n = is_received m.sender m.receiver n && nat_lt m.ends n.ends
 
 abbrev pub line_at : List Message → Option ℕ → Option ℕ
 line_at messages None = None
-line_at messages (Some at) = line_by (slice_get messages at)
-  where
-    line_by : Option Message → Option ℕ
-    line_by None = None
-    line_by (Some n) = Some n.place.line
+line_at messages (Some at) = option_map (λ n. n.place.line) (slice_get messages at)
 
 -- the line of the first of these messages that it overtakes
 abbrev pub overtaken_in : List Message → Message → Option ℕ
 overtaken_in before m = line_at before (position (is_overtaken m) before)
 
--- these messages without those that overtake another one, where the earlier ones stand before them, the last of them first
+-- the message, unless it overtakes one of the earlier ones, the last of which stands first
+abbrev pub staying : List Message → Message → List Message
+staying earlier m = if crosses earlier m then [] else m ∷ []
+
+-- these messages without those that overtake another one
 unfoldable pub staying_from : List Message → List Message → List Message
 staying_from earlier [] = []
-staying_from earlier (m ∷ messages) =
-    if crosses earlier m then staying_from (m ∷ earlier) messages else m ∷ staying_from (m ∷ earlier) messages
+staying_from earlier (m ∷ messages) = staying earlier m ++ staying_from (m ∷ earlier) messages
 
--- a message that overtakes others, with the line of the first one
+abbrev pub told : Message → Option ℕ → List Overtaking
+told m None = []
+told m (Some line) = record { place = m.place; overtaken = line } ∷ []
+
+-- the message, with the line of the first one that it overtakes
 abbrev pub overtaking : List Message → Message → List Overtaking
-overtaking earlier m = told (overtaken_in (reverse earlier) m)
-  where
-    told : Option ℕ → List Overtaking
-    told None = []
-    told (Some line) = record { place = m.place; overtaken = line } ∷ []
+overtaking earlier m = if crosses earlier m then told m (overtaken_in (reverse earlier) m) else []
 
 -- those that overtake
 unfoldable pub overtaking_from : List Message → List Message → List Overtaking
 overtaking_from earlier [] = []
-overtaking_from earlier (m ∷ messages) =
-    (if crosses earlier m then overtaking earlier m else []) ++ overtaking_from (m ∷ earlier) messages
+overtaking_from earlier (m ∷ messages) = overtaking earlier m ++ overtaking_from (m ∷ earlier) messages

@@ -1,13 +1,39 @@
 //! The instances of lines that are joined.
-ghost use Rattle.std.specs.Prelude.{◌≡◌, map, position, IfOk, Some, OnOk, is_some, if◌then◌else◌, ◌++◌, ◌∷◌, []};
+ghost use Rattle.std.specs.Prelude.{◌≡◌, ◌<◌, length, slice_index_or, map, position, IfOk, Some, OnOk, is_some, if◌then◌else◌, ◌++◌, ◌∷◌, []};
 ghost use Rattle.chart.specs.Names.{instance_of};
 ghost use Rattle.diagrams.specs.Diagrams.{participant_view};
-ghost use Rattle.joined_diagrams.specs.Joins.{join_view, has_part, process_of, names_from, all_parts, is_unknown, is_twice, takes, text_line, other_with, taken_from};
+ghost use Rattle.joined_diagrams.specs.Joins.{join_view, has_part, process_of, names_from, all_parts, is_line, is_unknown, count_in, is_twice, is_misnamed, takes, text_line, other_with, taken_from};
 
 use crate::join::Join;
-use chart::{InstanceNo, Name, Names};
+use chart::{InstanceNo, MAX_INSTANCES, Name, Names};
 use diagrams::Participant;
 use std::alloc::{AllocError, Global};
+
+/// One name more, that of the instance at this place.
+fn add_listed(listed: &mut Vec<Name>, names: &Names, place: usize) -> Result<(), AllocError>
+    requires { place < length names.now }
+    ensures { OnOk result (listed.new.items ≡ listed.old.items ++ slice_index_or names.now place [] ∷ []) }
+{
+    if place >= MAX_INSTANCES {
+        return Err(AllocError);
+    }
+    let Some(name) = names.name(InstanceNo::at_place(place)) else {
+        return Err(AllocError);
+    };
+    listed.push(name)?;
+    Ok(())
+}
+
+/// The names of the lines.
+pub(crate) fn listed(alloc: Global, names: &Names) -> Result<Vec<Name>, AllocError>
+    ensures { IfOk result (λ listed. listed.items ≡ names.now) }
+{
+    let mut listed = Vec::new(alloc);
+    for place in 0..names.len() {
+        add_listed(&mut listed, names, place)?;
+    }
+    Ok(listed)
+}
 
 /// Whether a join stands for this line.
 fn has_part(join: &Join<'_>, line: Name) -> bool
@@ -86,22 +112,44 @@ fn all_parts(alloc: Global, joins: &[Join<'_>]) -> Result<Vec<Name>, AllocError>
     Ok(parts)
 }
 
+/// Whether one of these lines has the name.
+fn is_line(lines: &[Name], part: Name) -> bool
+    ensures { result ≡ is_line lines.now part }
+{
+    lines.iter().any(|line| *line == part)
+}
+
 /// Whether one of these is the name of no line.
 fn is_unknown(lines: &[Name], parts: &[Name]) -> bool
     ensures { result ≡ is_unknown lines.now parts.now }
 {
-    parts
-        .iter()
-        .any(|part| !lines.iter().any(|line| *line == *part))
+    parts.iter().any(|part| !is_line(lines, *part))
+}
+
+/// How often a line is there.
+fn count_in(parts: &[Name], line: Name) -> usize
+    ensures { result ≡ count_in parts.now line }
+{
+    parts.iter().filter(|part| **part == line).count()
 }
 
 /// Whether one line is there more than once.
 fn is_twice(lines: &[Name], parts: &[Name]) -> bool
     ensures { result ≡ is_twice lines.now parts.now }
 {
-    lines
-        .iter()
-        .any(|line| parts.iter().filter(|part| **part == *line).count() > 1)
+    lines.iter().any(|line| count_in(parts, *line) > 1)
+}
+
+/// Whether a name of a line is the name of none, or stands more than once.
+pub(crate) fn is_misnamed(
+    alloc: Global,
+    joins: &[Join<'_>],
+    lines: &[Name],
+) -> Result<bool, AllocError>
+    ensures { IfOk result (λ misnamed. misnamed ≡ is_misnamed lines.now (map join_view joins.now)) }
+{
+    let parts = all_parts(alloc, joins)?;
+    Ok(is_unknown(lines, &parts) || is_twice(lines, &parts))
 }
 
 /// Whether the line is another instance's, and that has the join's name.
@@ -145,11 +193,7 @@ fn line_at(participants: &[Participant], place: usize) -> Option<u64>
 
 /// Where the text names the other instance first that has the name of a join, of the first such join.
 #[tactic(auto, unfolding(crate::specs::Joins::taken_from))]
-pub(crate) fn taken(
-    joins: &[Join<'_>],
-    lines: &[Name],
-    participants: &[Participant],
-) -> Option<u64>
+pub(crate) fn taken(joins: &[Join<'_>], lines: &[Name], participants: &[Participant]) -> Option<u64>
     ensures { result ≡ taken_from (map join_view joins.now) lines.now (map participant_view participants.now) (map join_view joins.now) }
 {
     let mut rest = joins;

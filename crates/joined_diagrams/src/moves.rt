@@ -1,10 +1,11 @@
 //! Messages on the lanes between instances.
-ghost use Rattle.std.specs.Prelude.{◌≡◌, ◌<◌, [], length, map, filter, position, reverse, List, IfOk, OnOk, IfSome};
+ghost use Rattle.std.specs.Prelude.{◌≡◌, ◌++◌, [], map, filter, position, reverse, List, IfOk, Some, ◌∷◌};
+ghost use Rattle.diagrams.specs.Ends.{AreFurthest};
 ghost use Rattle.diagrams.specs.declared.message.Message.{Message};
-ghost use Rattle.joined_diagrams.specs.Moves.{instance_at, moved, is_across, with_within, is_overtaken, overtaken_in, staying_from, overtaking_from};
+ghost use Rattle.joined_diagrams.specs.Moves.{instance_at, moved, is_across, with_within, is_overtaken, line_at, overtaken_in, staying, staying_from, overtaking, overtaking_from};
 
 use chart::{InstanceNo, Name, Names};
-use diagrams::{Kind, LeftOut, Lanes, Message, Place, leave_out, pass_crossing};
+use diagrams::{Kind, Lanes, LeftOut, Message, Place, add_crossing, leave_out};
 use std::alloc::{AllocError, Global};
 
 /// A message that would be received above an earlier one of its lane: it overtakes that one.
@@ -98,8 +99,7 @@ fn is_overtaken(message: &Message, other: &Message) -> bool
 }
 
 fn place_overtaken(before: &[Message], message: &Message) -> Option<usize>
-    ensures value { result ≡ position (is_overtaken message.now) before.now }
-    ensures within { IfSome result (λ place. place < length before.now) }
+    ensures { result ≡ position (is_overtaken message.now) before.now }
 {
     before.iter().position(|other| is_overtaken(message, other))
 }
@@ -109,7 +109,72 @@ fn overtaken_in(before: &[Message], message: &Message) -> Option<u64>
     ensures { result ≡ overtaken_in before.now message.now }
 {
     match place_overtaken(before, message) {
-        Some(place) => Some(before[place].place.line),
+        Some(place) => line_at(before, place),
         None => None,
     }
+}
+
+fn line_at(messages: &[Message], place: usize) -> Option<u64>
+    ensures { result ≡ line_at messages.now (Some place) }
+{
+    match messages.get(place) {
+        Some(message) => Some(message.place.line),
+        None => None,
+    }
+}
+
+/// A message that overtakes none of the earlier ones stays, and any other is told. The table has for each lane the row
+/// furthest down in which an earlier one is received.
+fn pass(
+    furthest: &mut Lanes,
+    before: &[Message],
+    message: &Message,
+    stays: &mut Vec<Message>,
+    told: &mut Vec<Overtaking>,
+) -> Result<(), AllocError>
+    ensures stays { (earlier : List Message) → AreFurthest furthest.old earlier
+        → IfOk result (λ _. stays.new.items ≡ stays.old.items ++ staying earlier message.now) }
+    ensures told { (earlier : List Message) → AreFurthest furthest.old earlier → before.now ≡ reverse earlier
+        → IfOk result (λ _. told.new.items ≡ told.old.items ++ overtaking earlier message.now) }
+    ensures furthest { (earlier : List Message) → AreFurthest furthest.old earlier
+        → AreFurthest furthest.new (message.now ∷ earlier) }
+{
+    if add_crossing(furthest, None, message).is_none() {
+        stays.push(*message)?;
+        return Ok(());
+    }
+    if let Some(overtaken) = overtaken_in(before, message) {
+        told.push(Overtaking {
+            place: message.place,
+            overtaken,
+        })?;
+    }
+    Ok(())
+}
+
+/// The messages that stay, and those that overtake another one.
+#[derive(Drop)]
+pub(crate) struct Passed {
+    pub stays: Vec<Message>,
+    pub told: Vec<Overtaking>,
+}
+
+/// The messages without those that overtake another one, and those.
+pub(crate) fn without_overtaking(alloc: Global, messages: &[Message]) -> Result<Passed, AllocError>
+    ensures stays { IfOk result (λ p. p.stays.items ≡ staying_from [] messages.now) }
+    ensures told { IfOk result (λ p. p.told.items ≡ overtaking_from [] messages.now) }
+{
+    let mut furthest = Lanes::zeros(alloc)?;
+    let mut stays = Vec::new(alloc);
+    let mut told = Vec::new(alloc);
+    for (place, message) in messages.iter().enumerate() {
+        pass(
+            &mut furthest,
+            &messages[..place],
+            message,
+            &mut stays,
+            &mut told,
+        )?;
+    }
+    Ok(Passed { stays, told })
 }

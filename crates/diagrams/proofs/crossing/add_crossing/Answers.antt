@@ -3,9 +3,9 @@ use Rattle.std.specs.Prelude.{nat_lt}
 use Rattle.std.proofs.lemmas.Bool.{lt-ltb, le-ltb, cond-true, cond-false}
 use Rattle.diagrams.specs.Ends.{furthest}
 use Rattle.diagrams.specs.Lanes.{changed}
-use Rattle.diagrams.proofs.CrossingLemmas.{lost_same, received_next, fault_is, fault_lost}
+use Rattle.diagrams.proofs.CrossingLemmas.{lost_same, received_next, fault_is}
 use Rattle.diagrams.proofs.LaneTables.{numbers-same}
-use Rattle.diagrams.proofs.crossing.add.Goals as goal
+use Rattle.diagrams.proofs.crossing.add_crossing.Goals as goal
 
 pub returns-then-message-clause-furthest : goal.returns-then-message-clause-furthest
 returns-then-message-clause-furthest c = λ earlier are. numbers-same _ _ _ (lost_same c.args.message.now earlier c.if-message.true) are
