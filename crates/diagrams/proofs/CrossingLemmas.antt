@@ -1,14 +1,16 @@
 -- How far down messages of each lane are received, with one more; and what crosses by that.
-use Rattle.std.proofs.Common.{◌≡◌, ℕ, ◌+◌, ◌<◌, ◌≤◌, ◌==◌, max, Bool, true, false, not, ◌&&◌, ◌||◌, cond, List, [], ◌∷◌, Option, length, drop, get_or, refl, sym, ap, ap₂, ◌∙◌, arith, eqb-true}
+use Rattle.std.proofs.Common.{◌≡◌, ℕ, suc, ◌+◌, ◌<◌, ◌≤◌, ◌==◌, max, Bool, true, false, not, ◌&&◌, ◌||◌, cond, List, [], ◌∷◌, Option, length, drop, take, get_or, refl, sym, ap, ap₂, ◌∙◌, subst, arith, eqb-true}
 use Rattle.std.specs.Prelude.{nat_lt}
+use Rattle.std.specs.List.{list_any}
 use Rattle.std.proofs.lemmas.Bool.{and_parts, and_right, le-ltb}
 use Rattle.std.proofs.lemmas.List.{drop_all}
 use Rattle.diagrams.specs.Collecting.{first_line}
-use Rattle.diagrams.specs.Crossing.{is_received, overtakes, fault_with, fault_from}
+use Rattle.diagrams.specs.Crossing.{is_received, overtakes, crosses, fault_with, fault_from}
 use Rattle.diagrams.specs.Ends.{furthest, AreFurthest}
 use Rattle.diagrams.specs.Lanes.{is_on, Numbers, AreNumbers, changed}
 use Rattle.diagrams.specs.declared.message.Message.{Message}
 use Rattle.diagrams.proofs.ItemLemmas.{from_here}
+use Rattle.diagrams.proofs.LaneTables.{numbers-same}
 
 -- a lost message isn't received
 lost_never : (m : Message) (q p : ℕ) → m.is_lost ≡ true → is_received q p m ≡ false

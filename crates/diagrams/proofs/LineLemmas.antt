@@ -1,5 +1,5 @@
 -- The ends of messages, one message after the other; and the events of a line.
-use Rattle.std.proofs.Common.{◌≡◌, ℕ, ◌+◌, ◌<◌, ◌≤◌, Bool, true, false, not, ◌&&◌, ◌==◌, cond, inl, inr, List, [], ◌∷◌, ◌++◌, Option, None, Some, length, drop, get_or, refl, sym, subst, arith, append_assoc}
+use Rattle.std.proofs.Common.{◌≡◌, ℕ, ◌+◌, ◌<◌, ◌≤◌, max, Bool, true, false, not, ◌&&◌, ◌==◌, cond, inl, inr, List, [], ◌∷◌, ◌++◌, Option, None, Some, length, drop, get_or, refl, sym, ap, ◌∙◌, subst, arith, append_assoc}
 use Rattle.std.proofs.lemmas.List.{drop_all, append-nil}
 use Rattle.std.proofs.lemmas.Bool.{and_parts}
 use Rattle.chart.specs.declared.event.Event.{Event}
@@ -54,7 +54,7 @@ open_next last line e (f ∷ ends) is_open = record { held = λ h. go e.sends (g
     go : (sends on : Bool) → not sends ≡ true → are_together e f ≡ true → (on ≡ true → (0 < greatest_region line) × (greatest_region line ≡ last_region line))
         → (0 < greatest_region (line ++ cond sends (Send e.partner e.name) (Receive e.partner e.name (cond on (greatest_region line) (cond (are_together e f) (greatest_region line + 1) 0))) ∷ []))
         × (greatest_region (line ++ cond sends (Send e.partner e.name) (Receive e.partner e.name (cond on (greatest_region line) (cond (are_together e f) (greatest_region line + 1) 0))) ∷ [])
-        ≡ last_region (line ++ cond sends (Send e.partner e.name) (Receive e.partner e.name (cond on (greatest_region line) (cond (are_together e f) (greatest_region line + 1) 0))) ∷ []))
+            ≡ last_region (line ++ cond sends (Send e.partner e.name) (Receive e.partner e.name (cond on (greatest_region line) (cond (are_together e f) (greatest_region line + 1) 0))) ∷ []))
     go true on receives together kept = absurd (cc receives)
     go false true receives together kept = open_at line (Receive e.partner e.name (greatest_region line)) (kept refl).0 (omega arith)
     go false false receives together kept = rw together (open_at line (Receive e.partner e.name (greatest_region line + 1)) (omega arith) (omega arith))

@@ -1,14 +1,16 @@
 -- Lanes on which later messages are received, with one message more; and what is lost by that.
-use Rattle.std.proofs.Common.{◌≡◌, ℕ, suc, ◌+◌, ◌≤◌, ◌==◌, Bool, true, false, not, ◌&&◌, ◌||◌, cond, List, [], ◌∷◌, ◌++◌, length, drop, get_or, reverse, refl, sym, ap, ◌∙◌, subst, arith, drop-cons}
-use Rattle.std.proofs.lemmas.Bool.{and_right}
+use Rattle.std.proofs.Common.{◌≡◌, ℕ, suc, ◌+◌, ◌-◌, ◌<◌, ◌≤◌, ◌==◌, Bool, true, false, not, ◌&&◌, ◌||◌, cond, List, [], ◌∷◌, ◌++◌, length, drop, get_or, reverse, refl, sym, ap, ap₂, ◌∙◌, subst, arith, eqb-true, drop-cons}
+use Rattle.std.proofs.lemmas.Bool.{and_parts, and_right}
 use Rattle.std.proofs.lemmas.List.{drop_all, reverse-append}
-use Rattle.diagrams.specs.Lanes.{is_on, AreNumbers, changed}
+use Rattle.diagrams.specs.Crossing.{is_received}
+use Rattle.diagrams.specs.Lanes.{is_on, Numbers, AreNumbers, changed}
 use Rattle.diagrams.specs.Later.{mark, AreMarked}
 use Rattle.diagrams.specs.LeftOuts.{with_one}
 use Rattle.diagrams.specs.Losing.{is_received_later, is_left_out, kept, with_lost}
 use Rattle.diagrams.specs.declared.left_out.LeftOut.{LeftOut}
 use Rattle.diagrams.specs.declared.left_out.Kind.TheVariants as kinds
 use Rattle.diagrams.specs.declared.message.Message.{Message}
+use Rattle.diagrams.proofs.LaneTables.{numbers-same}
 
 -- a lost message marks no lane
 pub lost_marks : (m : Message) (later : List Message) → m.is_lost ≡ true → (q p : ℕ) → mark (is_received_later later q p) ≡ mark (is_received_later (m ∷ later) q p)

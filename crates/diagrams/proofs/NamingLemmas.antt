@@ -1,10 +1,10 @@
 -- Names of participants and of messages, one after the other.
-use Rattle.std.proofs.Common.{◌≡◌, ℕ, ◌+◌, ◌<◌, ◌≤◌, List, [], ◌∷◌, ◌++◌, length, map, drop, get_or, refl, append_assoc}
+use Rattle.std.proofs.Common.{◌≡◌, ℕ, ◌+◌, ◌<◌, ◌≤◌, List, [], ◌∷◌, ◌++◌, length, map, drop, get_or, refl, sym, ap, ◌∙◌, append_assoc}
 use Rattle.std.proofs.lemmas.List.{drop_all, append-nil}
 use Rattle.label_names.specs.Giving.{called}
 use Rattle.label_names.specs.Labels.{Labelling, with_label, name_of}
 use Rattle.label_names.specs.Spelling.{spelled}
-use Rattle.diagrams.specs.Diagrams.{ItemView, participant_view}
+use Rattle.diagrams.specs.Diagrams.{ParticipantView, ItemView, participant_view}
 use Rattle.diagrams.specs.Naming.{names_from, label_at, named_as, labels_from, named_from}
 use Rattle.diagrams.specs.declared.diagram.Participant.{Participant}
 use Rattle.diagrams.specs.declared.message.Message.{Message}

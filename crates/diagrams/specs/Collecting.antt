@@ -9,6 +9,7 @@ use Rattle.diagrams.specs.declared.left_out.Kind.TheVariants as kinds
 use Rattle.diagrams.specs.declared.message.Message.{Message}
 use Rattle.diagrams.specs.declared.message.Waiting.{Waiting}
 use Rattle.diagrams.specs.declared.note_event.NoteEvent.{NoteEvent}
+use Rattle.diagrams.specs.declared.place.Place.{Place}
 
 -- the messages so far, and those of notes that wait; what was left out; the first line with which no chart is possible
 pub record CollectedView : Type 0 where

@@ -18,6 +18,7 @@ use Rattle.diagrams.specs.declared.renaming.Renamed.{Renamed}
 use Rattle.diagrams.specs.declared.end.End.{End}
 use Rattle.diagrams.specs.declared.left_out.LeftOut.{LeftOut}
 use Rattle.diagrams.specs.declared.message.Message.{Message}
+use Rattle.diagrams.specs.declared.message.Named.{Named}
 
 infixl 10 ◌>>=◌
 -- what comes next, unless the diagram was refused

@@ -1,8 +1,8 @@
 -- The names of a diagram's participants and of its messages. Each participant has a name of its own; the same label of
 -- messages has the same name wherever it stands.
-use Rattle.std.specs.Prelude.{ℕ, List, [], ◌∷◌, ◌++◌, Option, None, Some, slice_get}
+use Rattle.std.specs.Prelude.{ℕ, Bool, List, [], ◌∷◌, ◌++◌, Option, None, Some, slice_get, map, filter, zip}
 use Rattle.label_names.specs.Giving.{called}
-use Rattle.label_names.specs.Labels.{Labelling, with_label, name_of}
+use Rattle.label_names.specs.Labels.{Labelling, none, with_label, name_of, is_told}
 use Rattle.label_names.specs.Spelling.{spelled}
 use Rattle.diagrams.specs.Diagrams.{ParticipantView, ItemView, AnArrow, ANote}
 use Rattle.diagrams.specs.NoteEvents.{SaidView, said_in}

@@ -1,5 +1,5 @@
 -- Lines that end in a coregion with which the next end goes on: for the crate's own functions.
-use Rattle.std.specs.Prelude.{◌≡◌, ◌<◌, Bool, true, false, List, [], ◌∷◌, Option}
+use Rattle.std.specs.Prelude.{◌≡◌, ℕ, ◌<◌, Bool, true, false, List, [], ◌∷◌, Option}
 use Rattle.chart.specs.declared.event.Event.{Event}
 use Rattle.chart.specs.Events.{greatest_region, last_region}
 use Rattle.diagrams.specs.Regions.{goes_on}

@@ -1,6 +1,6 @@
 -- The events of an instance's line, of its ends in their order. Several receives of one row are a coregion: it is what
 -- the drawing says.
-use Rattle.std.specs.Prelude.{ℕ, ◌+◌, Bool, false, not, ◌&&◌, ◌==◌, List, [], ◌∷◌, ◌++◌, Option, None, Some, if◌then◌else◌}
+use Rattle.std.specs.Prelude.{ℕ, ◌+◌, Bool, true, false, not, ◌&&◌, ◌==◌, List, [], ◌∷◌, ◌++◌, Option, None, Some, if◌then◌else◌}
 use Rattle.chart.specs.declared.event.Event.{Event}
 use Rattle.chart.specs.Charts.{LineView}
 use Rattle.chart.specs.Events.{send_event, receive_event, greatest_region}

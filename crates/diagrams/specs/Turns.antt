@@ -1,6 +1,6 @@
 -- The ends of messages, and the order in which they stand on an instance's line: by their rows, and in a row the sends
 -- first, in the order of the text, and then the receives.
-use Rattle.std.specs.Prelude.{ℕ, ◌+◌, ◌*◌, true, false, ◌==◌, nat_lt, List, [], ◌∷◌, ◌++◌, filter, fold, if◌then◌else◌}
+use Rattle.std.specs.Prelude.{ℕ, ◌+◌, ◌*◌, Bool, true, false, ◌==◌, nat_lt, List, [], ◌∷◌, ◌++◌, filter, fold, if◌then◌else◌}
 use Rattle.diagrams.specs.declared.message.Named.{Named}
 use Rattle.diagrams.specs.declared.end.End.{End}
 

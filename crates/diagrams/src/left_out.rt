@@ -113,7 +113,11 @@ fn and_one(left_out: LeftOut, place: Place) -> Result<LeftOut, AllocError>
 
 /// One more thing is left out. It fails only where there is no memory, and then nothing has changed.
 #[tactic(auto, unfolding(crate::specs::LeftOuts::with_one))]
-pub fn leave_out(left_out: &mut Vec<LeftOut>, kind: Kind, place: Place) -> Result<(), AllocError>
+pub fn leave_out(
+    left_out: &mut Vec<LeftOut>,
+    kind: Kind,
+    place: Place,
+) -> Result<(), AllocError>
     ensures ok { IfOk result (λ _. left_out.new.items ≡ with_one left_out.old.items kind place) }
     ensures err { OnErr result (left_out.new.items ≡ left_out.old.items) }
 {

@@ -99,10 +99,15 @@ fn behind(ends: &[End], place: usize) -> &[End]
 }
 
 /// An end goes behind the events of a line.
-fn add_end(line: &mut Line, last: Option<End>, end: &End, others: &[End]) -> Result<(), AllocError>
+fn add_end(
+    line: &mut Line,
+    last: Option<End>,
+    end: &End,
+    others: &[End],
+) -> Result<(), AllocError>
     requires { IsOpen last line.old.events (end.now ∷ others.now) }
     ensures { OnOk result (line.new ≡ record line.old {
-      events = line.old.events ++ event_of end.now (region_of last (greatest_region line.old.events) end.now others.now) ∷ [];
+        events = line.old.events ++ event_of end.now (region_of last (greatest_region line.old.events) end.now others.now) ∷ [];
     }) }
 {
     let region = region_of(last, greatest_region(line), end, others);

@@ -16,7 +16,12 @@ pub struct Renamed {
 }
 
 /// Tells a label and its name, unless the name is the label with one `_` for each blank.
-fn tell(alloc: Global, told: &mut Vec<Renamed>, label: &[u8], name: Name) -> Result<(), AllocError>
+fn tell(
+    alloc: Global,
+    told: &mut Vec<Renamed>,
+    label: &[u8],
+    name: Name,
+) -> Result<(), AllocError>
     ensures { OnOk result (map renamed_view told.new.items ≡ with_renamed (map renamed_view told.old.items) label.now name) }
 {
     if is_told(label, &name) {

@@ -1,5 +1,5 @@
 use Rattle.std.proofs.Common.{◌≡◌, map, drop}
-use Rattle.diagrams.specs.Collecting.{with_items}
+use Rattle.diagrams.specs.Collecting.{with_items, collected}
 use Rattle.diagrams.specs.Diagrams.{item_view}
 use Rattle.diagrams.proofs.collecting.collect.Given as goal
 

@@ -3,7 +3,7 @@ use Rattle.std.specs.Prelude.{nat_lt}
 use Rattle.std.proofs.lemmas.Bool.{lt-ltb, le-ltb, cond-true, cond-false}
 use Rattle.diagrams.specs.Ends.{furthest}
 use Rattle.diagrams.specs.Lanes.{changed}
-use Rattle.diagrams.proofs.CrossingLemmas.{lost_same, received_next, fault_is}
+use Rattle.diagrams.proofs.CrossingLemmas.{lost_same, received_next, fault_is, fault_lost}
 use Rattle.diagrams.proofs.LaneTables.{numbers-same}
 use Rattle.diagrams.proofs.crossing.add_crossing.Goals as goal
 

@@ -1,7 +1,7 @@
-use Rattle.std.proofs.Common.{◌≡◌, Ok, length, false, ap, sym, ◌∙◌}
+use Rattle.std.proofs.Common.{◌≡◌, Ok, length, map, false, ap, sym, ◌∙◌}
 use Rattle.std.proofs.lemmas.List.{length-map}
 use Rattle.diagrams.specs.Diagrams.{diagram_view, participant_view}
-use Rattle.diagrams.specs.Drawing.{has_no_chart}
+use Rattle.diagrams.specs.Drawing.{has_no_chart, staying}
 use Rattle.diagrams.proofs.DrawnLemmas.{draw_steps}
 use Rattle.diagrams.proofs.drawn.draw.Goals as goal
 
@@ -9,7 +9,7 @@ pub returns : goal.returns
 returns c =
     let d = diagram_view c.args.diagram in
     let count : c.len.result ≡ length d.participants =
-    c.len.ensures ∙ sym c.deref.ensures.len ∙ ap length c.deref.ensures.value ∙ sym (length-map c.args.diagram.participants.items participant_view) in
+        c.len.ensures ∙ sym c.deref.ensures.len ∙ ap length c.deref.ensures.value ∙ sym (length-map c.args.diagram.participants.items participant_view) in
     let several : has_no_chart (length d.participants) ≡ false = ap has_no_chart (sym count) ∙ sym c.has_no_chart.ensures ∙ c.if-has_no_chart.false in
     let names = rw c.deref.ensures.value at c.in_ok-names.ensures in
     let collected = rw c.deref-2.ensures.value at c.in_ok-collect.ensures in

@@ -1,6 +1,7 @@
-use Rattle.std.proofs.Common.{◌∷◌}
+use Rattle.std.proofs.Common.{List, ◌∷◌}
 use Rattle.diagrams.specs.Full.{load}
-use Rattle.diagrams.specs.Loads.{raised}
+use Rattle.diagrams.specs.Loads.{AreLoads, raised}
+use Rattle.diagrams.specs.declared.message.Message.{Message}
 use Rattle.diagrams.proofs.FullLemmas.{loads_next, sender_full, receiver_full}
 use Rattle.diagrams.proofs.full.add.Goals as goal
 

@@ -13,11 +13,9 @@ returns-then-branch c =
 pub loop-message-preserved : goal.loop-message-preserved
 loop-message-preserved c =
     let earlier = c.loop-message.invariant.0 in
-    let are = c.loop-message.invariant.1 in (
-      c.message-item.result ∷ earlier,
-      c.in_ok-add.ensures.loads earlier are,
-      full_more earlier _ _ _ _ c.loop-message-test.true c.message-item.is (c.in_ok-add.ensures.full earlier are) c.if-branch.false ∙ c.loop-message.invariant.2,
-    )
+    let are = c.loop-message.invariant.1 in
+    (c.message-item.result ∷ earlier, c.in_ok-add.ensures.loads earlier are,
+    full_more earlier _ _ _ _ c.loop-message-test.true c.message-item.is (c.in_ok-add.ensures.full earlier are) c.if-branch.false ∙ c.loop-message.invariant.2)
 
 pub returns : goal.returns
 returns c = sym (full_end c.loop-message.invariant.0 _ _ c.loop-message-test.false) ∙ c.loop-message.invariant.2

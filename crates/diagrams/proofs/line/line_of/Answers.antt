@@ -1,6 +1,7 @@
-use Rattle.std.proofs.Common.{◌≡◌, ◌+◌, ◌++◌, ◌∷◌, [], None, drop, sym, ◌∙◌, refl, ap}
+use Rattle.std.proofs.Common.{◌≡◌, ◌+◌, ◌++◌, ◌∷◌, [], None, drop, sym, ◌∙◌, refl, ap, subst}
 use Rattle.chart.specs.Charts.{LineView}
 use Rattle.chart.specs.Events.{greatest_region}
+use Rattle.diagrams.specs.Opening.{IsOpen}
 use Rattle.diagrams.specs.Regions.{with_ends, line_of, event_of, region_of}
 use Rattle.diagrams.proofs.LineLemmas.{open_none, end_here, line_more, open_more, line_end, whole_line}
 use Rattle.diagrams.proofs.line.line_of.Goals as goal
@@ -24,7 +25,7 @@ loop-place-preserved c =
     let line = c.loop-place.line in
     let others = drop (c.loop-place.place + 1) own in
     let more : c.add_end.new.line ≡ record line { events = line.events ++ event_of e (region_of c.loop-place.last (greatest_region line.events) e others) ∷ [] } =
-    rw c.behind-others.ensures at c.in_ok-add_end.ensures in
+        rw c.behind-others.ensures at c.in_ok-add_end.ensures in
     let events = ap (λ (l : LineView). l.events) more in
     let is_open = end_here own c.loop-place.place e c.loop-place.last line.events c.loop-place-test.true c.index-own-place.is c.loop-place.invariant.is_open in
     record {

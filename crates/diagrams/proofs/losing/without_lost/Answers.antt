@@ -1,4 +1,5 @@
-use Rattle.std.proofs.Common.{◌≡◌, ◌-◌, ◌+◌, ◌∷◌, true, false, drop, reverse, sym, ap, ◌∙◌, arith, refl}
+use Rattle.std.proofs.Common.{◌≡◌, ◌-◌, ◌+◌, ◌∷◌, true, false, drop, reverse, sym, ap, ◌∙◌, subst, arith, refl}
+use Rattle.diagrams.specs.Later.{AreMarked}
 use Rattle.diagrams.specs.LeftOuts.{with_one}
 use Rattle.diagrams.specs.Losing.{is_left_out, kept, with_lost}
 use Rattle.diagrams.specs.declared.left_out.Kind.TheVariants as kinds

@@ -9,8 +9,8 @@ loop-participant-preserved c =
     let names = c.loop-participant.names in
     let same = c.loop-participant.invariant.same in
     let name : c.in_ok-name.name ≡ called names (spelled c.participant-item.result.label.items) =
-    c.in_ok-name.ensures.value ∙ ap (λ given. called given c.in_ok-word.word) (sym same)
-    ∙ ap (called names) (c.in_ok-word.ensures ∙ ap spelled c.as_slice.ensures.value) in
+        c.in_ok-name.ensures.value ∙ ap (λ given. called given c.in_ok-word.word) (sym same)
+        ∙ ap (called names) (c.in_ok-word.ensures ∙ ap spelled c.as_slice.ensures.value) in
     record {
       same = c.in_ok-add_name.ensures ∙ ap (λ names. names ++ c.in_ok-name.name ∷ []) same ∙ sym c.in_ok-name.ensures.given;
       so_far = name_more _ _ _ _ _ c.loop-participant-test.true c.participant-item.is
