@@ -33,7 +33,7 @@ order_by blanks sign digits = if blanks == 0 || digits == 0 then None else Some 
 unfoldable pub order_length : List ℕ → Option ℕ
 order_length bytes =
     order_by (blank_length bytes) (minus_length (drop (blank_length bytes) bytes))
-      (run_length Digit (drop (blank_length bytes + minus_length (drop (blank_length bytes) bytes)) bytes))
+    (run_length Digit (drop (blank_length bytes + minus_length (drop (blank_length bytes) bytes)) bytes))
 
 abbrev pub colour_length : ℕ → Option ℕ
 colour_length length = if length == 0 then None else Some (length + 1)

@@ -57,7 +57,11 @@ fn order_length(bytes: &[u8]) -> Option<usize>
     ensures within { IfSome result (λ l. l ≤ length bytes.now) }
 {
     let blanks = blank_length(bytes);
-    let sign = if begins_with(&bytes[blanks..], b"-") { 1 } else { 0 };
+    let sign = if begins_with(&bytes[blanks..], b"-") {
+        1
+    } else {
+        0
+    };
     let digits = run_length(Class::Digit, &bytes[blanks + sign..]);
     if blanks == 0 || digits == 0 {
         None
