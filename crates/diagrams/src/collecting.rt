@@ -15,7 +15,7 @@ use std::marker::Model;
 
 /// What the items so far have come to. A contract sees a record of its fields.
 #[derive(Drop)]
-pub(crate) struct Collected {
+pub struct Collected {
     messages: Vec<Message>,
     /// Those of notes that wait.
     waiting: Vec<Waiting>,
@@ -194,7 +194,7 @@ impl Collected {
 
 impl Collected {
     /// The messages, what was left out, and the first line with which no chart is possible.
-    pub(crate) fn into_parts(self) -> (Vec<Message>, Vec<LeftOut>, Option<u64>)
+    pub fn into_parts(self) -> (Vec<Message>, Vec<LeftOut>, Option<u64>)
         ensures messages { result.0.items ≡ self.messages }
         ensures left_out { result.1.items ≡ self.left_out }
         ensures fault { result.2 ≡ self.fault }
@@ -210,7 +210,7 @@ impl Collected {
 }
 
 /// What a diagram's items come to, where its participants have these names.
-pub(crate) fn collect(
+pub fn collect(
     alloc: Global,
     names: &Names,
     items: &[Item],

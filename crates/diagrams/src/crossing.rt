@@ -10,7 +10,7 @@ use crate::message::Message;
 use std::alloc::{AllocError, Global};
 
 /// Whether the message is received above the other one of its lane.
-fn overtakes(message: &Message, other: &Message) -> bool
+pub fn overtakes(message: &Message, other: &Message) -> bool
     ensures { result ≡ overtakes message.now other.now }
 {
     !message.is_lost
@@ -53,7 +53,7 @@ fn is_known(fault: Option<u64>, line: u64) -> bool
 
 /// Whether the message overtakes an earlier one. The table has for each lane the row furthest down in which an earlier
 /// one is received.
-fn crosses(furthest: &mut Lanes, message: &Message) -> bool
+pub fn crosses(furthest: &mut Lanes, message: &Message) -> bool
     ensures value { (earlier : List Message) → AreFurthest furthest.old earlier → result ≡ crosses earlier message.now }
     ensures furthest { (earlier : List Message) → AreFurthest furthest.old earlier
         → AreFurthest furthest.new (earlier ++ message.now ∷ []) }

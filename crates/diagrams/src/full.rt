@@ -75,7 +75,7 @@ fn add(loads: &mut Loads, message: &Message) -> Result<bool, AllocError>
 }
 
 /// The line of the first message with which an instance has too many events.
-pub(crate) fn first_full(alloc: Global, messages: &[Message]) -> Result<Option<u64>, AllocError>
+pub fn first_full(alloc: Global, messages: &[Message]) -> Result<Option<u64>, AllocError>
     ensures { IfOk result (λ line. line ≡ full_from [] messages.now) }
 {
     let mut loads = Loads::zeros(alloc)?;

@@ -12,7 +12,7 @@ const LANES: usize = MAX_INSTANCES * MAX_INSTANCES;
 
 /// A number for each lane, by sender and receiver. A contract sees the list.
 #[derive(Drop)]
-pub(crate) struct Lanes {
+pub struct Lanes {
     numbers: Vec<u64>,
 }
 
@@ -38,7 +38,7 @@ fn slot(from: InstanceNo, to: InstanceNo) -> usize
 
 impl Lanes {
     /// 0 for each lane. It fails only where there is no memory.
-    pub(crate) fn zeros(alloc: Global) -> Result<Lanes, AllocError>
+    pub fn zeros(alloc: Global) -> Result<Lanes, AllocError>
         ensures { IfOk result (λ zeros. AreNumbers zeros (λ q p. 0)) }
     {
         Ok(Lanes {
@@ -47,14 +47,14 @@ impl Lanes {
     }
 
     /// The number of a lane.
-    pub(crate) fn at(&self, from: InstanceNo, to: InstanceNo) -> u64
+    pub fn at(&self, from: InstanceNo, to: InstanceNo) -> u64
         ensures { (numbers : Numbers) → AreNumbers self.now numbers → result ≡ numbers from to }
     {
         self.numbers[slot(from, to)]
     }
 
     /// Changes the number of a lane.
-    pub(crate) fn set(&mut self, from: InstanceNo, to: InstanceNo, number: u64)
+    pub fn set(&mut self, from: InstanceNo, to: InstanceNo, number: u64)
         ensures { (numbers : Numbers) → AreNumbers self.old numbers
             → AreNumbers self.new (changed numbers from to number) }
     {

@@ -18,8 +18,15 @@ mod place;
 mod placing;
 mod renaming;
 
+pub use collecting::{Collected, collect};
+pub use crossing::{crosses, first_fault, overtakes};
 pub use diagram::{Arrow, Diagram, Item, Note, Participant};
 pub use drawn::{DrawError, Drawn, draw};
+pub use full::first_full;
+pub use lanes::Lanes;
 pub use left_out::{Kind, LeftOut, leave_out};
+pub use losing::without_lost;
+pub use message::Message;
+pub use naming::names_of;
 pub use place::Place;
 pub use renaming::Renamed;

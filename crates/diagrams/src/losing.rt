@@ -23,7 +23,7 @@ fn pass(marked: &mut Lanes, message: &Message) -> bool
 }
 
 /// The messages without the lost ones behind which one of their lane is received. Those are left out.
-pub(crate) fn without_lost(
+pub fn without_lost(
     alloc: Global,
     messages: &[Message],
     left_out: &mut Vec<LeftOut>,

@@ -4,7 +4,7 @@ use chart::{InstanceNo, Name};
 
 /// A message: an arrow, or what two notes say.
 #[derive(Clone, Copy, Debug)]
-pub(crate) struct Message {
+pub struct Message {
     pub sender: InstanceNo,
     pub receiver: InstanceNo,
     /// The row in which it is sent.

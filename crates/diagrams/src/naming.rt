@@ -22,7 +22,7 @@ fn add_name(names: &mut Names, name: Name) -> Result<(), AllocError>
 }
 
 /// The names of the participants, of which there are no more than a chart has.
-pub(crate) fn names_of(alloc: Global, participants: &[Participant]) -> Result<Names, AllocError>
+pub fn names_of(alloc: Global, participants: &[Participant]) -> Result<Names, AllocError>
     ensures { IfOk result (λ names. names ≡ names_from [] (map participant_view participants.now)) }
 {
     let mut given = GivenNames::new(alloc);

@@ -60,8 +60,10 @@ branch_act parallel = Draw (if parallel then CloseRow else PassBy kinds.Branch)
 abbrev pub branch_of : Place → List Frame → FrameKind → Step
 branch_of place rest frame_kinds.Box = Err (NotRead place)
 branch_of place rest (frame_kinds.Group group) =
-    Ok (rest ++ record { kind = frame_kinds.Group group; is_taken = is_taken rest && is_parallel group } ∷ [],
-      if_taken (is_taken rest) (branch_act (is_parallel group)))
+    Ok (
+      rest ++ record { kind = frame_kinds.Group group; is_taken = is_taken rest && is_parallel group } ∷ [],
+      if_taken (is_taken rest) (branch_act (is_parallel group)),
+    )
 
 abbrev pub branch_by : Place → List Frame → Option Frame → Step
 branch_by place rest None = Err (NotRead place)
@@ -88,7 +90,7 @@ passed frames s = Ok (frames, if is_taken frames then act_of s else None)
 abbrev pub framed_by : List Frame → Place → SaidView → Step
 framed_by frames place (said.Begin group) =
     begun frames (frame_kinds.Group group) (is_taken frames && not (is_break group))
-      (if_taken (is_taken frames) (Draw (PassBy (begun_kind group))))
+    (if_taken (is_taken frames) (Draw (PassBy (begun_kind group))))
 framed_by frames place said.BeginBox =
     begun frames frame_kinds.Box (is_taken frames) (if_taken (is_taken frames) (Draw (LeaveOut kinds.Box)))
 framed_by frames place said.Branch = branched place frames

@@ -87,11 +87,7 @@ fn drawn_of(
 /// The first fault from the top: a branch or an end that stands outside of a group, or what can't be read, or an end too
 /// early. Memory, where a growth was refused.
 #[tactic(auto, unfolding(crate::specs::Folds::diagram_of))]
-pub fn diagram_of(
-    alloc: Global,
-    breaks: Breaks,
-    read: &ReadText<'_>,
-) -> Result<Diagram, ReadError>
+pub fn diagram_of(alloc: Global, breaks: Breaks, read: &ReadText<'_>) -> Result<Diagram, ReadError>
     ensures { Reads diagram_view result (diagram_of breaks (read_view read.now)) }
 {
     let diagram = drawn_of(alloc, breaks, &read.statements)?;

@@ -68,7 +68,11 @@ fn is_break(group: Group) -> bool
 fn begun_kind(group: Group) -> Kind
     ensures { result ≡ begun_kind group }
 {
-    if is_break(group) { Kind::Branch } else { Kind::Frame }
+    if is_break(group) {
+        Kind::Branch
+    } else {
+        Kind::Frame
+    }
 }
 
 /// An act, where it is taken.
@@ -159,7 +163,12 @@ pub(crate) fn framed<'a>(
     match statement.said {
         Said::Begin(group) => {
             let act = if_taken(taken, Act::Draw(Drawn::PassBy(begun_kind(group))));
-            begin(frames, FrameKind::Group(group), taken && !is_break(group), act)
+            begin(
+                frames,
+                FrameKind::Group(group),
+                taken && !is_break(group),
+                act,
+            )
         }
         Said::BeginBox => {
             let act = if_taken(taken, Act::Draw(Drawn::LeaveOut(Kind::Box)));
@@ -169,12 +178,6 @@ pub(crate) fn framed<'a>(
         Said::End => end(frames, statement.place),
         Said::Preprocessor => Ok(Some(Act::Draw(Drawn::LeaveOut(Kind::Preprocessor)))),
         Said::OtherDiagram => Ok(Some(Act::Draw(Drawn::LeaveOut(Kind::Diagram)))),
-        said => {
-            if taken {
-                Ok(act_of(said))
-            } else {
-                Ok(None)
-            }
-        }
+        said => { if taken { Ok(act_of(said)) } else { Ok(None) } }
     }
 }

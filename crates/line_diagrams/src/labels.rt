@@ -36,13 +36,7 @@ fn break_length(breaks: Breaks, bytes: &[u8]) -> usize
     ensures { result ≡ break_length breaks bytes.now }
 {
     match breaks {
-        Breaks::PlantUml => {
-            if begins_with(bytes, b"\\n") {
-                2
-            } else {
-                0
-            }
-        }
+        Breaks::PlantUml => { if begins_with(bytes, b"\\n") { 2 } else { 0 } }
         Breaks::Mermaid => {
             if begins(b"\\n", bytes) {
                 2

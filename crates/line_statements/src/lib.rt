@@ -15,6 +15,7 @@ pub use statement::{
     Arrow, ArrowForm, End, Fault, Group, NoteAt, Place, ReadError, Said, Statement,
 };
 pub use words::{
-    begins, begins_with, behind_blanks, behind_keyword, behind_keyword_of, behind_word, blank_length,
-    end_stripped, ends_word, first_place, is_blank, is_spelled, place_of, skip_word, stripped,
+    begins, begins_with, behind_blanks, behind_keyword, behind_keyword_of, behind_word,
+    blank_length, end_stripped, ends_word, first_place, is_blank, is_spelled, place_of, skip_word,
+    stripped,
 };

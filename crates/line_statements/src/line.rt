@@ -93,5 +93,9 @@ pub fn behind_line(text: &[u8]) -> &[u8]
     ensures shorter { 0 < length text.now → length result.now < length text.now }
 {
     let length = line_length(text);
-    if length < text.len() { &text[length + 1..] } else { &[] }
+    if length < text.len() {
+        &text[length + 1..]
+    } else {
+        &[]
+    }
 }

@@ -60,7 +60,7 @@ next_line text pieces more standing next number rest left line are some line_is 
     let step = stepped standing (first_line number rest) in
     let next_is : next ≡ step.1 = added.1 ∙ ap (λ l. (stepped standing l).1) line_is in
     let same : rest_of next (number + 1) left ≡ rest_of step.1 (suc number) (drop (suc (line_length rest)) rest) =
-      ap (λ n. rest_of n (number + 1) left) next_is ∙ ap (λ k. rest_of step.1 k left) (add-one number) ∙ ap (λ l. rest_of step.1 (suc number) l) left_is in
+    ap (λ n. rest_of n (number + 1) left) next_is ∙ ap (λ k. rest_of step.1 k left) (add-one number) ∙ ap (λ l. rest_of step.1 (suc number) l) left_is in
     record {
       steps = s.0;
       enough = omega arith;
@@ -72,4 +72,3 @@ next_line text pieces more standing next number rest left line are some line_is 
           ∙ ap (λ p. pieces ++ p.0) (sym s.2) ∙ are.front;
       back = ap (λ p. p.1) same ∙ ap (λ p. p.1) (sym s.2) ∙ are.back;
     }
-

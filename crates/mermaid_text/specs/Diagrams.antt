@@ -22,9 +22,10 @@ pieces_view p = (map line_view p.pieces.items, p.standing)
 -- the statements of these lines, and where their reader stands in the end
 abbrev pub pieces_in : Standing → List LineView → List LineView × Standing
 pieces_in standing [] = ([], standing)
-pieces_in standing (l ∷ ls) =
-    ((stepped standing (stripped_line l)).0 ++ (pieces_in (stepped standing (stripped_line l)).1 ls).0,
-      (pieces_in (stepped standing (stripped_line l)).1 ls).1)
+pieces_in standing (l ∷ ls) = (
+  (stepped standing (stripped_line l)).0 ++ (pieces_in (stepped standing (stripped_line l)).1 ls).0,
+  (pieces_in (stepped standing (stripped_line l)).1 ls).1,
+)
 
 -- what statements say behind those so far
 abbrev pub behind : List StatementView → ReadView → ReadView

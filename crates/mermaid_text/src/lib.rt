@@ -5,6 +5,7 @@
 #![tactic(auto)]
 
 mod arrow;
+mod diagram;
 mod names;
 mod note;
 mod participant;
@@ -12,6 +13,5 @@ mod piece;
 mod said;
 mod sign;
 mod text;
-mod diagram;
 
 pub use diagram::read;

@@ -10,7 +10,10 @@ use line_statements::{behind_blanks, behind_word, first_place, skip_word, stripp
 fn behind_wrap(bytes: &[u8]) -> Option<&[u8]>
     ensures { Finds (λ rest. rest.now) result (behind_wrap bytes.now) }
 {
-    behind_word(b"wrap:", skip_word(b"no", skip_word(b":", behind_blanks(bytes))))
+    behind_word(
+        b"wrap:",
+        skip_word(b"no", skip_word(b":", behind_blanks(bytes))),
+    )
 }
 
 /// A text without what says how it is wrapped, and without the blanks at its ends.

@@ -84,16 +84,18 @@ activates s signs =
 
 -- an arrow of this shaft: one with a head at its left end alone goes to the left
 unfoldable pub made : Bool → Option EndView → Option EndView → Shaft → BehindView → FoundView
-made is_beside first second s behind =
-    (record {
-      first = first;
-      second = second;
-      goes_back = s.left.has_head && not s.right.has_head;
-      form = form_of s;
-      label = behind.1;
-      is_beside = is_beside;
-      activates = activates s behind.0;
-    }, behind.0)
+made is_beside first second s behind = (
+  record {
+    first = first;
+    second = second;
+    goes_back = s.left.has_head && not s.right.has_head;
+    form = form_of s;
+    label = behind.1;
+    is_beside = is_beside;
+    activates = activates s behind.0;
+  },
+  behind.0,
+)
 
 abbrev pub behind_slope : List ℕ → Option (List ℕ) → List ℕ
 behind_slope bytes None = behind_blanks bytes

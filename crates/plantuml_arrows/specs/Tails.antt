@@ -68,7 +68,7 @@ behind_by signs (Some (Some text)) = Some (signs, text)
 abbrev pub signs_by : List ℕ → Option BehindView
 signs_by rest =
     behind_by (take (run_length Sign rest) rest)
-      (end_tail (behind_colour Word (behind_blanks (drop (run_length Sign rest) rest))))
+    (end_tail (behind_colour Word (behind_blanks (drop (run_length Sign rest) rest))))
 
 -- what stands behind an arrow
 unfoldable pub behind_at : List ℕ → Option BehindView

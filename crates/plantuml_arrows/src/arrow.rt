@@ -375,12 +375,7 @@ fn to_shaft<'a>(
 
 /// An arrow to the edge with a style behind its first dashes.
 #[tactic(auto, unfolding(crate::specs::Arrows::to_styled))]
-fn to_styled<'a>(
-    is_beside: bool,
-    word: &'a [u8],
-    left: Tip,
-    bytes: &'a [u8],
-) -> Option<Found<'a>>
+fn to_styled<'a>(is_beside: bool, word: &'a [u8], left: Tip, bytes: &'a [u8]) -> Option<Found<'a>>
     ensures { Finds found_view result (to_styled is_beside word.now left bytes.now) }
 {
     let (body, rest) = styled_body(bytes)?;

@@ -44,7 +44,7 @@ as_block block (Some rest) = Some (block, rest)
 unfoldable pub header_at : List ℕ → Option (Block × List ℕ)
 header_at words =
     or_else (as_block blocks.Header (behind_word (codes "header") (behind_side words)))
-      (as_block blocks.Footer (behind_word (codes "footer") (behind_side words)))
+    (as_block blocks.Footer (behind_word (codes "footer") (behind_side words)))
 
 abbrev pub text_by : Option (List ℕ) → Bool
 text_by None = false
@@ -92,7 +92,7 @@ unfoldable pub is_named_set : List ℕ → Bool
 is_named_set rest =
     begins_blank rest
     && (is_set (behind_run Style (behind_blanks rest)) || is_set_for (behind_run Style (behind_blanks rest))
-      || (nat_lt 1 (blank_length rest) && has_no_brace (behind_blanks rest)))
+    || (nat_lt 1 (blank_length rest) && has_no_brace (behind_blanks rest)))
 
 abbrev pub setting_by : Option (List ℕ) → Bool
 setting_by None = false

@@ -4,7 +4,7 @@ use Rattle.std.specs.Prelude.{◌≡◌, ℕ, zero, suc, ◌+◌, ◌-◌, Bool,
 use Rattle.std.specs.Prelude.{Option, None, Some, option_map, bytes_eq, nat_eq, if◌then◌else◌}
 use Rattle.std.specs.List.{starts_with}
 use Rattle.line_statements.specs.Statements.{EndView, end_view}
-use Rattle.line_statements.specs.Words.{begins, behind_keyword_of, behind_word, blank_length, is_blank, place_of, or_else}
+use Rattle.line_statements.specs.Words.{begins, behind_keyword_of, behind_word, blank_length, is_blank, or_else}
 use Rattle.plantuml_arrows.specs.Names.{behind_gap, name_at, quoted_at}
 use Rattle.plantuml_arrows.specs.Runs.{◌>>=◌, run_at, run_length}
 use Rattle.plantuml_arrows.specs.declared.runs.Class.TheVariants.{Name, Digit, Solid}
@@ -17,11 +17,11 @@ DeclaredView = EndView × Bool
 abbrev pub declared_view : Declared → DeclaredView
 declared_view d = (end_view d.end, d.opens)
 
--- the place where the bytes that end a stereotype last stand
-unfoldable pub last_place : List ℕ → Option ℕ
-last_place [] = None
-last_place (b ∷ bs) =
-    or_else (option_map suc (last_place bs)) (if starts_with nat_eq (b ∷ bs) (codes ">>") then Some 0 else None)
+-- the place where these bytes last stand
+unfoldable pub last_place : List ℕ → List ℕ → Option ℕ
+last_place known [] = None
+last_place known (b ∷ bs) =
+    or_else (option_map suc (last_place known bs)) (if starts_with nat_eq (b ∷ bs) known then Some 0 else None)
 
 abbrev pub minus_length : List ℕ → ℕ
 minus_length bytes = if starts_with nat_eq bytes (codes "-") then 1 else 0
@@ -33,18 +33,19 @@ order_by blanks sign digits = if blanks == 0 || digits == 0 then None else Some 
 unfoldable pub order_length : List ℕ → Option ℕ
 order_length bytes =
     order_by (blank_length bytes) (minus_length (drop (blank_length bytes) bytes))
-      (run_length Digit (drop (blank_length bytes + minus_length (drop (blank_length bytes) bytes)) bytes))
+    (run_length Digit (drop (blank_length bytes + minus_length (drop (blank_length bytes) bytes)) bytes))
 
 abbrev pub colour_length : ℕ → Option ℕ
 colour_length length = if length == 0 then None else Some (length + 1)
 
--- how many bytes a decoration has: a blank, a stereotype, a link, a colour or an order
+-- how many bytes a decoration has: a blank, a stereotype, a link, a colour or an order (a stereotype and a link go up to
+-- the last end that stands behind)
 unfoldable pub decoration_length : List ℕ → Option ℕ
 decoration_length [] = None
 decoration_length (b ∷ bs) =
     if is_blank b then Some 1 else (
-    if starts_with nat_eq (b ∷ bs) (codes "<<") then option_map (λ p. p + 4) (last_place (drop 2 (b ∷ bs))) else (
-    if starts_with nat_eq (b ∷ bs) (codes "[[") then option_map (λ p. p + 4) (place_of (codes "]]") (drop 2 (b ∷ bs))) else (
+    if starts_with nat_eq (b ∷ bs) (codes "<<") then option_map (λ p. p + 4) (last_place (codes ">>") (drop 2 (b ∷ bs))) else (
+    if starts_with nat_eq (b ∷ bs) (codes "[[") then option_map (λ p. p + 4) (last_place (codes "]]") (drop 2 (b ∷ bs))) else (
     if b == 35 then colour_length (run_length Solid bs) else (
     if begins (codes "order") (b ∷ bs) then option_map (λ l. l + 5) (order_length (drop 5 (b ∷ bs))) else None))))
 

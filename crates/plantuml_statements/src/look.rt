@@ -8,12 +8,10 @@ ghost use Rattle.plantuml_statements.specs.Looks.{header_block, block_of, is_pag
 ghost use Rattle.plantuml_statements.specs.Looks.{is_late_look};
 
 use line_statements::{
-    begins_with, behind_blanks, behind_keyword, behind_keyword_of, behind_word, blank_length, is_blank,
-    is_spelled, place_of, skip_word,
+    begins_with, behind_blanks, behind_keyword, behind_keyword_of, behind_word, blank_length,
+    is_blank, is_spelled, place_of, skip_word,
 };
-use plantuml_arrows::{
-    Class, begins_blank, behind_brace, behind_gap, behind_run, colon_tail,
-};
+use plantuml_arrows::{Class, begins_blank, behind_brace, behind_gap, behind_run, colon_tail};
 
 /// The words that are about how the diagram looks.
 const LOOK_WORDS: [&[u8]; 6] = [
@@ -183,9 +181,7 @@ fn is_named_set(rest: &[u8]) -> bool
     let named = behind_blanks(rest);
     let behind = behind_run(Class::Style, named);
     begins_blank(rest)
-        && (is_set(behind)
-            || is_set_for(behind)
-            || (blank_length(rest) > 1 && has_no_brace(named)))
+        && (is_set(behind) || is_set_for(behind) || (blank_length(rest) > 1 && has_no_brace(named)))
 }
 
 /// Whether a statement sets how something looks.
@@ -213,9 +209,7 @@ fn opens_braces(words: &[u8]) -> bool
     ensures { result ≡ opens_braces words.now }
 {
     match setting_rest(words) {
-        Some(rest) => {
-            rest == b"{".as_slice() || (begins_blank(rest) && ends_with_brace(rest))
-        }
+        Some(rest) => { rest == b"{".as_slice() || (begins_blank(rest) && ends_with_brace(rest)) }
         None => false,
     }
 }
@@ -288,8 +282,10 @@ fn is_page(words: &[u8]) -> bool
 fn is_footbox(words: &[u8]) -> bool
     ensures { result ≡ is_footbox words.now }
 {
-    let Some(rest) = behind_word(b"footbox", behind_blanks(skip_word(b"show", skip_word(b"hide", words))))
-    else {
+    let Some(rest) = behind_word(
+        b"footbox",
+        behind_blanks(skip_word(b"show", skip_word(b"hide", words))),
+    ) else {
         return false;
     };
     match behind_gap(rest) {

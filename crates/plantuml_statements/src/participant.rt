@@ -6,7 +6,7 @@ ghost use Rattle.plantuml_statements.specs.Participants.{opens, with_decoration,
 ghost use Rattle.plantuml_statements.specs.Participants.{behind_create, behind_kind, kind_in, participant_of};
 
 use line_statements::{
-    End, begins, begins_with, behind_keyword_of, behind_word, blank_length, is_blank, place_of,
+    End, begins, begins_with, behind_keyword_of, behind_word, blank_length, is_blank,
 };
 use plantuml_arrows::{Class, behind_gap, name_at, quoted_at, run_at, run_length};
 
@@ -29,17 +29,17 @@ pub(crate) struct Declared<'a> {
     pub opens: bool,
 }
 
-/// The place where the bytes that end a stereotype last stand.
+/// The place where these bytes last stand.
 #[tactic(auto, unfolding(crate::specs::Participants::last_place), using(crate::proofs::PlaceLoops::later))]
-fn last_place(bytes: &[u8]) -> Option<usize>
-    ensures value { result ≡ last_place bytes.now }
-    ensures within { IfSome result (λ place. place + 2 ≤ length bytes.now) }
+fn last_place(known: &[u8], bytes: &[u8]) -> Option<usize>
+    ensures value { result ≡ last_place known.now bytes.now }
+    ensures within { IfSome result (λ place. place + length known.now ≤ length bytes.now) }
 {
     let mut last = None;
     let mut passed = 0;
     let mut rest = bytes;
     'bytes: while let [_, others @ ..] = rest {
-        last = if begins_with(rest, b">>") {
+        last = if begins_with(rest, known) {
             Some(passed)
         } else {
             last
@@ -57,7 +57,11 @@ fn order_length(bytes: &[u8]) -> Option<usize>
     ensures within { IfSome result (λ l. l ≤ length bytes.now) }
 {
     let blanks = blank_length(bytes);
-    let sign = if begins_with(&bytes[blanks..], b"-") { 1 } else { 0 };
+    let sign = if begins_with(&bytes[blanks..], b"-") {
+        1
+    } else {
+        0
+    };
     let digits = run_length(Class::Digit, &bytes[blanks + sign..]);
     if blanks == 0 || digits == 0 {
         None
@@ -78,13 +82,13 @@ fn decoration_length(bytes: &[u8]) -> Option<usize>
         return Some(1);
     }
     if begins_with(bytes, b"<<") {
-        return match last_place(&bytes[2..]) {
+        return match last_place(b">>", &bytes[2..]) {
             Some(place) => Some(place + 4),
             None => None,
         };
     }
     if begins_with(bytes, b"[[") {
-        return match place_of(b"]]", &bytes[2..]) {
+        return match last_place(b"]]", &bytes[2..]) {
             Some(place) => Some(place + 4),
             None => None,
         };

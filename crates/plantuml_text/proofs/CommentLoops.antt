@@ -1,5 +1,5 @@
 -- Comments at the beginning of a line, one after the other.
-use Rattle.std.proofs.Common.{◌≡◌, ℕ, zero, suc, ◌<◌, length, Option, None, Some, refl, sym, ◌∙◌, arith}
+use Rattle.std.proofs.Common.{◌≡◌, ℕ, zero, suc, ◌<◌, length, None, Some, refl, sym, ◌∙◌, arith}
 use Rattle.line_statements.specs.Statements.{LineView}
 use Rattle.plantuml_text.specs.Comments.{behind_comment, behind_comments, behind_comments_from}
 

@@ -1,6 +1,6 @@
 -- Lines of the pre-processor (PlantUML's documentation, "Preprocessing"): of a condition the first branch is read, and of a
 -- definition nothing.
-use Rattle.std.specs.Prelude.{ℕ, ◌+◌, ◌%◌, ◌^◌, Bool, true, false, ◌&&◌, ◌||◌, ◌==◌, List, [], ◌∷◌, codes, Option, None, Some}
+use Rattle.std.specs.Prelude.{ℕ, ◌+◌, ◌%◌, ◌^◌, Bool, false, ◌&&◌, ◌||◌, ◌==◌, List, [], ◌∷◌, codes, Option, None, Some}
 use Rattle.std.specs.Prelude.{is_some, if◌then◌else◌}
 use Rattle.line_statements.specs.Words.{behind_blanks, behind_word, or_else}
 use Rattle.plantuml_arrows.specs.Names.{behind_gap}

@@ -72,7 +72,9 @@ fn without_last(line: Line<'_>) -> Line<'_>
     ensures { line_view result ≡ without_last (line_view line.entry) }
 {
     match last_place(line.words) {
-        Some(place) if place + 3 < line.words.len() && ends_comment(line.words) => line.front(place),
+        Some(place) if place + 3 < line.words.len() && ends_comment(line.words) => line.front(
+            place,
+        ),
         _ => line,
     }
 }

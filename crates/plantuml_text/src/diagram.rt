@@ -3,6 +3,7 @@ ghost use Rattle.std.specs.Prelude.{◌≡◌, [], Some, None, IfOk, if◌then�
 ghost use Rattle.line_statements.specs.Lines.{lines_of};
 ghost use Rattle.line_statements.specs.Readings.{read_view};
 ghost use Rattle.plantuml_text.specs.Diagrams.{read_from, diagram_of};
+ghost use Rattle.plantuml_text.specs.Joints.{joined_text};
 ghost use Rattle.plantuml_text.specs.Standings.{nothing_open, is_open};
 ghost use Rattle.line_statements.specs.declared.statement.Fault.TheVariants.{Unfinished};
 
@@ -18,18 +19,24 @@ const NOTHING_OPEN: Standing = Standing {
     block: None,
 };
 
-/// What the lines of a text say, the first of which stands in this region, up to the first fault.
-fn statements_of(alloc: Global, begins: Region, text: &[u8]) -> Result<ReadText<'_>, AllocError>
-    ensures { IfOk result (λ read. read_view read ≡ read_from begins nothing_open (lines_of text.now)) }
+/// What the joined lines of a text say, the first of which stands in this region, up to the first fault.
+fn statements_of<'a>(
+    alloc: Global,
+    begins: Region,
+    text: &[u8],
+    joined: &'a [u8],
+) -> Result<ReadText<'a>, AllocError>
+    ensures { IfOk result (λ read. read_view read ≡ read_from begins nothing_open text.now (lines_of joined.now)) }
 {
     let mut statements = Vec::new(alloc);
     let mut standing = NOTHING_OPEN;
     let mut region = begins;
     let mut number = 1;
-    let mut rest = text;
+    let mut source = text;
+    let mut rest = joined;
     'lines: while let [_, ..] = rest {
         let line = first_line(number, rest);
-        match add_line_in(region, standing, line, &mut statements) {
+        match add_line_in(region, standing, source, line, &mut statements) {
             Ok(next) => standing = next,
             Err(ReadError::Memory) => return Err(AllocError),
             Err(ReadError::Fault(fault)) => {
@@ -41,6 +48,7 @@ fn statements_of(alloc: Global, begins: Region, text: &[u8]) -> Result<ReadText<
         }
         region = region_behind(region, line.words);
         number += 1;
+        source = behind_line(source);
         rest = behind_line(rest);
     }
     Ok(ReadText {
@@ -71,14 +79,15 @@ fn only_fault<'a>(alloc: Global, fault: Fault) -> ReadText<'a>
 }
 
 /// What a text says, without its byte order mark: its statements from the top, up to its first fault. A diagram that begins
-/// and doesn't end is a fault before all others.
+/// and doesn't end is a fault before all others. The words are those of the joined text.
 #[tactic(auto, unfolding(crate::specs::Diagrams::diagram_of))]
-pub fn read(alloc: Global, text: &[u8]) -> Result<ReadText<'_>, AllocError>
+pub fn read<'a>(alloc: Global, text: &[u8], joined: &'a [u8]) -> Result<ReadText<'a>, AllocError>
+    requires { joined.now ≡ joined_text text.now }
     ensures { IfOk result (λ read. read_view read ≡ diagram_of text.now) }
 {
-    match region_in(text) {
-        Region::Above => statements_of(alloc, Region::Inside, text),
+    match region_in(joined) {
+        Region::Above => statements_of(alloc, Region::Inside, text, joined),
         Region::Inside => Ok(only_fault(alloc, Fault::Unfinished)),
-        Region::Below => statements_of(alloc, Region::Above, text),
+        Region::Below => statements_of(alloc, Region::Above, text, joined),
     }
 }

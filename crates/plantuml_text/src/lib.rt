@@ -8,7 +8,9 @@ mod comments;
 mod diagram;
 mod directives;
 mod ends;
+mod joints;
 mod region;
 mod standing;
 
 pub use diagram::read;
+pub use joints::joined_text;

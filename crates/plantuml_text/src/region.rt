@@ -57,6 +57,7 @@ pub(crate) fn region_behind(region: Region, words: &[u8]) -> Region
 #[tactic(auto, unfolding(line_statements::specs::Lines::stripped_line))]
 pub(crate) fn first_line(number: u64, text: &[u8]) -> Line<'_>
     ensures line { line_view result ≡ first_line number text.now }
+    ensures number { result.number ≡ number }
     ensures room { result.column + length result.words.now ≤ 1 + length text.now }
 {
     let line = Line {

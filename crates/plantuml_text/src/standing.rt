@@ -6,8 +6,9 @@ ghost use Rattle.plantuml_text.specs.Standings.{Steps, blocked, next_skip, chose
 use crate::comments::{ends_comment, uncommented};
 use crate::directives::{Skip, behind_skip, skip_of};
 use crate::ends::behind_block;
+use crate::joints::place_in;
 use crate::region::{Region, is_end, is_start};
-use line_statements::{Fault, Line, ReadError, Said, Statement, begins_with};
+use line_statements::{Fault, Line, Place, ReadError, Said, Statement, begins_with};
 use plantuml_statements::{Block, add_meaning, add_one, reading_of};
 
 /// Where a reader of a diagram's lines stands.
@@ -25,11 +26,12 @@ pub(crate) struct Standing {
 #[tactic(auto, unfolding(crate::specs::Standings::blocked))]
 fn add_blocked<'a>(
     standing: Standing,
+    place: Place,
     line: Line<'a>,
     statements: &mut Vec<Statement<'a>>,
 ) -> Result<Standing, ReadError>
     ensures { Steps result (map statement_view statements.old.items) (map statement_view statements.new.items)
-        (blocked standing (line_view line.entry)) }
+        (blocked standing place (line_view line.entry)) }
 {
     if let Some(block) = standing.block {
         return Ok(Standing {
@@ -39,9 +41,9 @@ fn add_blocked<'a>(
         });
     }
     let Some(reading) = reading_of(line.words) else {
-        return Err(ReadError::Fault(Fault::NotRead(line.place())));
+        return Err(ReadError::Fault(Fault::NotRead(place)));
     };
-    add_meaning(line.place(), reading.meaning, statements)?;
+    add_meaning(place, reading.meaning, statements)?;
     Ok(Standing {
         has_comment: false,
         skip: None,
@@ -53,18 +55,19 @@ fn add_blocked<'a>(
 #[tactic(auto, unfolding(crate::specs::Standings::chosen))]
 fn add_chosen<'a>(
     standing: Standing,
+    place: Place,
     line: Line<'a>,
     statements: &mut Vec<Statement<'a>>,
 ) -> Result<Standing, ReadError>
     ensures { Steps result (map statement_view statements.old.items) (map statement_view statements.new.items)
-        (chosen standing (line_view line.entry)) }
+        (chosen standing place (line_view line.entry)) }
 {
     let is_directive = begins_with(line.words, b"!");
     if !is_directive && standing.skip.is_none() {
-        return add_blocked(standing, line, statements);
+        return add_blocked(standing, place, line, statements);
     }
     if is_directive {
-        add_one(line.place(), Said::Preprocessor, statements)?;
+        add_one(place, Said::Preprocessor, statements)?;
     }
     Ok(Standing {
         has_comment: false,
@@ -87,11 +90,12 @@ fn next_skip(skip: Option<Skip>, words: &[u8]) -> Option<Skip>
 #[tactic(auto, unfolding(crate::specs::Standings::bared))]
 fn add_bared<'a>(
     standing: Standing,
+    place: Place,
     line: Line<'a>,
     statements: &mut Vec<Statement<'a>>,
 ) -> Result<Standing, ReadError>
     ensures { Steps result (map statement_view statements.old.items) (map statement_view statements.new.items)
-        (bared standing (line_view line.entry)) }
+        (bared standing place (line_view line.entry)) }
 {
     if begins_with(line.words, b"/'") {
         return Ok(Standing {
@@ -103,19 +107,21 @@ fn add_bared<'a>(
     if line.words.is_empty() || begins_with(line.words, b"'") {
         return Ok(standing);
     }
-    add_chosen(standing, line, statements)
+    add_chosen(standing, place, line, statements)
 }
 
 /// Adds what a line of the diagram says.
 #[tactic(auto, unfolding(crate::specs::Standings::stepped))]
 fn add_line<'a>(
     standing: Standing,
+    source: &[u8],
     line: Line<'a>,
     statements: &mut Vec<Statement<'a>>,
 ) -> Result<Standing, ReadError>
-    requires { line.column + length line.words.now < 2 ^ 64 }
+    requires columns { line.column + length line.words.now < 2 ^ 64 }
+    requires numbers { line.number + length source.now < 2 ^ 64 }
     ensures { Steps result (map statement_view statements.old.items) (map statement_view statements.new.items)
-        (stepped standing (line_view line.entry)) }
+        (stepped standing source.now (line_view line.entry)) }
 {
     if standing.has_comment {
         return Ok(Standing {
@@ -124,7 +130,13 @@ fn add_line<'a>(
             block: standing.block,
         });
     }
-    add_bared(standing, uncommented(line), statements)
+    let bare = uncommented(line);
+    add_bared(
+        standing,
+        place_in(source, line.number, bare.column),
+        bare,
+        statements,
+    )
 }
 
 /// Adds what a line of the text says.
@@ -132,17 +144,20 @@ fn add_line<'a>(
 pub(crate) fn add_line_in<'a>(
     region: Region,
     standing: Standing,
+    source: &[u8],
     line: Line<'a>,
     statements: &mut Vec<Statement<'a>>,
 ) -> Result<Standing, ReadError>
-    requires { line.column + length line.words.now < 2 ^ 64 }
+    requires columns { line.column + length line.words.now < 2 ^ 64 }
+    requires numbers { line.number + length source.now < 2 ^ 64 }
     ensures { Steps result (map statement_view statements.old.items) (map statement_view statements.new.items)
-        (region_stepped region standing (line_view line.entry)) }
+        (region_stepped region standing source.now (line_view line.entry)) }
 {
     match region {
-        Region::Inside if !is_end(line.words) => add_line(standing, line, statements),
+        Region::Inside if !is_end(line.words) => add_line(standing, source, line, statements),
         Region::Below if is_start(line.words) => {
-            add_one(line.place(), Said::OtherDiagram, statements)?;
+            let place = place_in(source, line.number, line.column);
+            add_one(place, Said::OtherDiagram, statements)?;
             Ok(standing)
         }
         _ => Ok(standing),

@@ -10,8 +10,8 @@ pieces-init c = record { same = first_piece (map line_view c.args.pieces.now.ite
 pub pieces-preserved : goal.pieces-preserved
 pieces-preserved c = record {
   same =
-    next_piece _ _ _ _ _ _ (line_view c.args.line) c.piece_length-length.result c.pieces.invariant.same c.piece_length-length.ensures.value
-    (c.in_ok-add_piece.ensures ∙ ap (λ p. map line_view c.pieces.pieces.items ++ listed p) c.front.ensures)
-    c.after-behind.ensures.line (sym c.if-not-begins_with.ensures.value) c.after-left.ensures.line (omega arith);
+      next_piece _ _ _ _ _ _ (line_view c.args.line) c.piece_length-length.result c.pieces.invariant.same c.piece_length-length.ensures.value
+      (c.in_ok-add_piece.ensures ∙ ap (λ p. map line_view c.pieces.pieces.items ++ listed p) c.front.ensures)
+      c.after-behind.ensures.line (sym c.if-not-begins_with.ensures.value) c.after-left.ensures.line (omega arith);
   room = omega arith;
 }
