@@ -106,10 +106,9 @@ fn mermaid_in(alloc: Global, text: &[u8]) -> Result<Diagram, ImportError>
 fn plantuml_in(alloc: Global, text: &[u8]) -> Result<Diagram, ImportError>
     ensures { Gives diagram_view result (lines_in PlantUml text.now (plantuml_of text.now)) }
 {
-    match plantuml_text::read(alloc, text) {
-        Ok(read) => lines_in(alloc, Breaks::PlantUml, text, &read),
-        Err(_) => Err(ImportError::Memory),
-    }
+    let joined = plantuml_text::joined_text(alloc, text)?;
+    let read = plantuml_text::read(alloc, text, &joined)?;
+    lines_in(alloc, Breaks::PlantUml, text, &read)
 }
 
 /// The diagram that a text says.
