@@ -1,10 +1,12 @@
 //! Command lines of `mscview` that are understood, and those that aren't.
 use std::alloc::Global;
 use std::process::Abort;
-use view_line::{CommandLineError, Draw, Export, Import, Pair, Question, Request, requested};
+use view_line::{
+    CommandLineError, Compare, Draw, Export, Import, Pair, Question, Races, Request, requested,
+};
 
 /// Words that aren't a command line.
-static MISSED: [&[&str]; 29] = [
+static MISSED: [&[&str]; 33] = [
     &["mscview"],
     &["mscview", "help"],
     &["mscview", "--help"],
@@ -36,6 +38,10 @@ static MISSED: [&[&str]; 29] = [
     &["mscview", "import", "f", "--skip"],
     &["mscview", "import", "f", "--join", "a=b"],
     &["mscview", "import", "--strict"],
+    &["mscview", "compare", "f"],
+    &["mscview", "compare", "f", "g", "h"],
+    &["mscview", "races", "f", "g"],
+    &["mscview", "races", "f", "--only"],
 ];
 
 #[test]
@@ -130,12 +136,55 @@ fn words_of_an_import(rt: HostRuntime) {
     assert_eq!(&rt; plain.skipped.len(), 0);
     assert_eq!(&rt; plain.file, "a file");
     let words = [
-        "mscview", "import", "--skip", "2..3", "--strict", "--from", "plantuml", "a file", "--skip",
-        "7..7",
+        "mscview", "import", "--skip", "2..3", "--strict", "--from", "plantuml", "a file",
+        "--skip", "7..7",
     ];
     let full = import(&rt, rt.alloc(), &words);
     assert_eq!(&rt; full.from, Some("plantuml"));
     assert!(&rt; full.strict);
     assert_eq!(&rt; full.skipped.as_slice(), ["2..3", "7..7"].as_slice());
     assert_eq!(&rt; full.file, "a file");
+}
+
+#[test]
+fn words_of_two_files(rt: HostRuntime) {
+    let words = ["mscview", "compare", "--json", "a file", "another"];
+    assert!(rt;
+        matches!(
+            requested(rt.alloc(), &words),
+            Ok(Request::Compare(Compare {
+                json: true,
+                first: "a file",
+                second: "another",
+            }))
+        )
+    );
+}
+
+#[test]
+fn words_of_races(rt: HostRuntime) {
+    let words = ["mscview", "races", "--json", "--only", "a,b", "a file"];
+    assert!(rt;
+        matches!(
+            requested(rt.alloc(), &words),
+            Ok(Request::Races(Races {
+                only: Some("a,b"),
+                receives: false,
+                json: true,
+                file: Some("a file"),
+            }))
+        )
+    );
+    let words = ["mscview", "races", "--receives"];
+    assert!(rt;
+        matches!(
+            requested(rt.alloc(), &words),
+            Ok(Request::Races(Races {
+                only: None,
+                receives: true,
+                json: false,
+                file: None,
+            }))
+        )
+    );
 }

@@ -29,6 +29,7 @@ mod preparing;
 mod target;
 
 pub use answering::refused;
+pub use columns::columns_in;
 pub use drawing::{Wanted, draw};
 pub use error::FormatError;
 pub use events::{Events, events_in};

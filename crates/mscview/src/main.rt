@@ -2,17 +2,20 @@
 #![tactic(auto)]
 
 use command_line::CommandLineError;
+use comparisons::compare;
 use diagram_imports::{Options, Skip};
 use files::{ProgramError, number_in, refused};
 use formats::{Events, Target, Wanted, draw, events_in, export, target_in, tool_in};
 use import_answers::import;
 use msc_text::{Out, StreamOut};
+use race_answers::races;
 use std::alloc::Global;
+use std::io::Read;
 use std::process::ExitCode;
 use std::rt::{Env, Files};
 use std::{env, fs, io};
 use tool_text::Tool;
-use view_line::{Draw, Export, Import, Pair, Question, Request, requested};
+use view_line::{Compare, Draw, Export, Import, Pair, Question, Races, Request, requested};
 use views::{Asked, why, witness};
 
 /// What the system refused is F6 where memory ran out, and else the other refusal.
@@ -50,6 +53,26 @@ fn words_of<R: Env + AllocGlobal>(rt: &R) -> Result<Vec<String>, ProgramError> {
 
 fn bytes_of<R: Files + AllocGlobal>(rt: &R, file: &str) -> Result<Vec<u8>, ProgramError> {
     fs::read(rt, file).map_err(|error| cause(&error, ProgramError::File))
+}
+
+/// The bytes of standard input, to its end.
+fn bytes_of_input<R: Input + AllocGlobal>(rt: &R) -> Result<Vec<u8>, ProgramError> {
+    let mut bytes = Vec::new(rt.alloc());
+    match rt.reader().read_to_end(&mut bytes) {
+        Ok(_) => Ok(bytes),
+        Err(error) => Err(cause(&error, ProgramError::File)),
+    }
+}
+
+/// The bytes of a file, or of standard input where no file is named, or where it is `-`.
+fn bytes_in<R: Files + Input + AllocGlobal>(
+    rt: &R,
+    file: Option<&str>,
+) -> Result<Vec<u8>, ProgramError> {
+    match file {
+        None | Some("-") => bytes_of_input(rt),
+        Some(file) => bytes_of(rt, file),
+    }
 }
 
 /// What is to be drawn. G1: the word for the events says none.
@@ -158,8 +181,46 @@ fn view_import<R: Files + AllocGlobal, W: Out, V: Out>(
     Ok(import(rt.alloc(), tool, bytes.as_slice(), options, out, err))
 }
 
+/// Compares two files.
+fn view_comparison<R: Files + AllocGlobal, W: Out, V: Out>(
+    rt: &R,
+    wanted: &Compare<'_>,
+    out: &mut W,
+    err: &mut V,
+) -> Result<u8, ProgramError> {
+    let form = if wanted.json {
+        comparisons::Form::Json
+    } else {
+        comparisons::Form::Plain
+    };
+    let first = bytes_of(rt, wanted.first)?;
+    let second = bytes_of(rt, wanted.second)?;
+    let (first, second) = (first.as_slice(), second.as_slice());
+    Ok(compare(rt.alloc(), first, second, form, out, err))
+}
+
+/// Shows the races of a file by name.
+fn view_races<R: Files + Input + AllocGlobal, W: Out, V: Out>(
+    rt: &R,
+    asked: &Races<'_>,
+    out: &mut W,
+    err: &mut V,
+) -> Result<u8, ProgramError> {
+    let bytes = bytes_in(rt, asked.file)?;
+    let wanted = race_answers::Wanted {
+        only: asked.only.map(|names| names.as_bytes()),
+        receives: asked.receives,
+        form: if asked.json {
+            told_races::Form::Json
+        } else {
+            told_races::Form::Plain
+        },
+    };
+    Ok(races(rt.alloc(), bytes.as_slice(), &wanted, out, err))
+}
+
 /// Does what the words ask for, and answers the exit status.
-fn view<R: Files + AllocGlobal, W: Out, V: Out>(
+fn view<R: Files + Input + AllocGlobal, W: Out, V: Out>(
     rt: &R,
     words: &[String],
     out: &mut W,
@@ -170,11 +231,13 @@ fn view<R: Files + AllocGlobal, W: Out, V: Out>(
         Request::Draw(picture) => view_picture(rt, &picture, out, err),
         Request::Export(exported) => view_export(rt, &exported, out, err),
         Request::Import(imported) => view_import(rt, &imported, out, err),
+        Request::Compare(wanted) => view_comparison(rt, &wanted, out, err),
+        Request::Races(asked) => view_races(rt, &asked, out, err),
     }
 }
 
 /// The same with the words of the command line.
-fn view_words<R: Env + Files + AllocGlobal, W: Out, V: Out>(
+fn view_words<R: Env + Files + Input + AllocGlobal, W: Out, V: Out>(
     rt: &R,
     out: &mut W,
     err: &mut V,

@@ -6,4 +6,4 @@
 mod request;
 
 pub use command_line::CommandLineError;
-pub use request::{Draw, Export, Import, Pair, Question, Request, requested};
+pub use request::{Compare, Draw, Export, Import, Pair, Question, Races, Request, requested};

@@ -55,6 +55,28 @@ pub struct Import<'a> {
     pub file: &'a str,
 }
 
+/// Two recordings to be compared.
+#[derive(Clone, Copy, Debug, PartialEq, Eq)]
+pub struct Compare<'a> {
+    /// Whether `--json` is given.
+    pub json: bool,
+    pub first: &'a str,
+    pub second: &'a str,
+}
+
+/// Which races are to be shown, and how. The names are words still.
+#[derive(Clone, Copy, Debug, PartialEq, Eq)]
+pub struct Races<'a> {
+    /// The names behind `--only`, joined by commas.
+    pub only: Option<&'a str>,
+    /// Whether `--receives` is given.
+    pub receives: bool,
+    /// Whether `--json` is given.
+    pub json: bool,
+    /// Without it, and where it is `-`, standard input is read.
+    pub file: Option<&'a str>,
+}
+
 /// What a command line asks for.
 #[derive(Debug, Drop)]
 pub enum Request<'a> {
@@ -66,6 +88,10 @@ pub enum Request<'a> {
     Export(Export<'a>),
     /// `import [--from TOOL] [--strict] [--skip A..B].. FILE`.
     Import(Import<'a>),
+    /// `compare [--json] A B`.
+    Compare(Compare<'a>),
+    /// `races [--only NAME,NAME..] [--receives] [--json] [FILE]`.
+    Races(Races<'a>),
 }
 
 /// A word that a command needs.
@@ -98,6 +124,16 @@ fn flag<'a>(alloc: Global, name: &'static str) -> Arg<'a> {
     Arg::new(alloc, name).long(name).action(ArgAction::SetTrue)
 }
 
+/// The command that shows the races of a file by name.
+fn races_command<'a>(alloc: Global) -> Result<Command<'a>, AllocError> {
+    Command::new(alloc, "races")
+        .disable_help_flag(true)
+        .arg(option(alloc, "only"))?
+        .arg(flag(alloc, "receives"))?
+        .arg(flag(alloc, "json"))?
+        .arg(Arg::new(alloc, "FILE").action(ArgAction::Set))
+}
+
 /// The command that draws a file.
 fn draw_command<'a>(alloc: Global) -> Result<Command<'a>, AllocError> {
     Command::new(alloc, "draw")
@@ -126,6 +162,18 @@ fn import_command<'a>(alloc: Global) -> Result<Command<'a>, AllocError> {
         .arg(needed(alloc, "FILE"))
 }
 
+/// The command that compares two files.
+fn compare_command<'a>(alloc: Global) -> Result<Command<'a>, AllocError> {
+    let json = Arg::new(alloc, "json")
+        .long("json")
+        .action(ArgAction::SetTrue);
+    Command::new(alloc, "compare")
+        .disable_help_flag(true)
+        .arg(json)?
+        .arg(needed(alloc, "A"))?
+        .arg(needed(alloc, "B"))
+}
+
 /// The command line that the program understands. Help, the version, no command and an unknown one are all mistakes.
 fn command_line<'a>(alloc: Global) -> Result<Command<'a>, AllocError> {
     Command::new(alloc, "mscview")
@@ -136,7 +184,9 @@ fn command_line<'a>(alloc: Global) -> Result<Command<'a>, AllocError> {
         .subcommand(pair_command(alloc, "why")?)?
         .subcommand(draw_command(alloc)?)?
         .subcommand(export_command(alloc)?)?
-        .subcommand(import_command(alloc)?)
+        .subcommand(import_command(alloc)?)?
+        .subcommand(compare_command(alloc)?)?
+        .subcommand(races_command(alloc)?)
 }
 
 /// What a command asks.
@@ -196,11 +246,32 @@ fn import_of<'a>(alloc: Global, words: &ArgMatches<'a>) -> Result<Request<'a>, C
     }))
 }
 
+/// What the words of `compare` ask for.
+fn compare_of<'a>(words: &ArgMatches<'a>) -> Option<Request<'a>> {
+    Some(Request::Compare(Compare {
+        json: words.get_flag("json"),
+        first: words.get_str("A")?,
+        second: words.get_str("B")?,
+    }))
+}
+
+/// What the words of `races` ask for.
+fn races_of<'a>(words: &ArgMatches<'a>) -> Option<Request<'a>> {
+    Some(Request::Races(Races {
+        only: words.get_str("only"),
+        receives: words.get_flag("receives"),
+        json: words.get_flag("json"),
+        file: words.get_str("FILE"),
+    }))
+}
+
 /// What the words of another command ask for.
 fn other_of<'a>(command: &str, words: &ArgMatches<'a>) -> Option<Request<'a>> {
     match command {
         "draw" => draw_of(words),
         "export" => export_of(words),
+        "compare" => compare_of(words),
+        "races" => races_of(words),
         _ => pair_of(question_of(command)?, words),
     }
 }

@@ -1,0 +1,4 @@
+pub mod DifferenceLemmas
+pub mod MatchLemmas
+pub mod PairLemmas
+pub mod VerdictLemmas

@@ -1,0 +1,5 @@
+pub mod Comparing
+pub mod Ends
+pub mod Matches
+pub mod Pairs
+pub mod Verdicts

@@ -1,0 +1,38 @@
+use Rattle.std.proofs.Common.{ℕ, List, refl, subst}
+use Rattle.std.specs.List.{flat_map, list_any}
+use Rattle.msc_text.specs.Writing.{Puts, Breaks}
+use Rattle.files.specs.Files.{Named}
+use Rattle.comparisons.specs.Comparisons.{line_text, has_difference, found_in}
+use Rattle.comparisons.proofs.TellingLemmas.{told_so, text_so}
+use Rattle.comparisons.proofs.showing.compare_charts.Goals as goal
+
+pub returns-in-Ok-write_lines : goal.returns-in-Ok-write_lines
+returns-in-Ok-write_lines g c =
+    let both = c.args.both.now in
+    let a : Named = (both.names.now, both.chart.now) in
+    let b : Named = (both.other_names.now, both.other_chart.now) in
+    let forth = rw c.in-Some-Some.is-0 at c.in-Ok.ensures in
+    let back = rw c.in-Some-Some.is-1 at c.in-Ok-counterparts.ensures in
+    let lines = c.in-Ok-compared.lines.items in
+    let told = told_so both.form a b c.in-Some-Some.others.items c.in-Some-Some.back.items c.as_slice.result.now c.as_slice-2.result.now c.in_ok-here.here c.in_ok-there.there lines c.as_slice-in-Ok-write_lines.result.now c.found_on.result forth back c.as_slice.ensures.value c.as_slice-2.ensures.value c.in_ok-here.ensures.closure c.in_ok-there.ensures.closure c.in-Ok-compared.ensures c.as_slice-in-Ok-write_lines.ensures.value c.found_on.ensures in
+    let same = text_so both.form both.names.now both.other_names.now both.chart.now both.other_chart.now c.lines.result.now c.lines-2.result.now lines c.as_slice-3.result.now c.lines.ensures.value c.lines-2.ensures.value c.as_slice-3.ensures.value in (
+      c.in_ok-here.ensures.possible,
+      c.in_ok-there.ensures.possible,
+      (flat_map (line_text both.form a b) lines, told, subst (λ (t : List ℕ). Puts g.W.Out.sink c.args.out.now c.write_lines.new.out t) same c.in-Ok-write_lines.ensures),
+    )
+
+pub returns : goal.returns
+returns g c =
+    let both = c.args.both.now in
+    let a : Named = (both.names.now, both.chart.now) in
+    let b : Named = (both.other_names.now, both.other_chart.now) in
+    let forth = rw c.in-Some-Some.is-0 at c.in-Ok.ensures in
+    let back = rw c.in-Some-Some.is-1 at c.in-Ok-counterparts.ensures in
+    let lines = c.in-Ok-compared.lines.items in
+    let found = found_in (list_any has_difference lines) in
+    let told = told_so both.form a b c.in-Some-Some.others.items c.in-Some-Some.back.items c.as_slice.result.now c.as_slice-2.result.now c.in_ok-here.here c.in_ok-there.there lines lines found forth back c.as_slice.ensures.value c.as_slice-2.ensures.value c.in_ok-here.ensures.closure c.in_ok-there.ensures.closure c.in-Ok-compared.ensures refl refl in
+    let same = text_so both.form both.names.now both.other_names.now both.chart.now both.other_chart.now c.lines.result.now c.lines-2.result.now lines c.as_slice-3.result.now c.lines.ensures.value c.lines-2.ensures.value c.as_slice-3.ensures.value in (
+      c.in_ok-here.ensures.possible,
+      c.in_ok-there.ensures.possible,
+      (flat_map (line_text both.form a b) lines, found, told, subst (λ (t : List ℕ). Breaks g.W.Out.sink c.args.out.now c.write_lines.new.out t) same c.in-Err.ensures),
+    )

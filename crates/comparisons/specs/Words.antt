@@ -1,0 +1,58 @@
+-- The words of what is told of two recordings (this project's own; JSON is that of RFC 8259).
+use Rattle.std.specs.Prelude.{ℕ, List, [], Option, None, Some, codes}
+use Rattle.chart.specs.declared.event.Event.{Event}
+use Rattle.chart.specs.Events.{name_of, partner_of}
+use Rattle.msc_text.specs.ChartText.{name_at}
+use Rattle.comparing.specs.declared.verdict.Verdict.{Verdict}
+use Rattle.comparing.specs.declared.verdict.Verdict.TheVariants as verdicts
+use Rattle.comparisons.specs.declared.word.Word.{Word}
+use Rattle.comparisons.specs.declared.word.Word.TheVariants as words
+
+-- what stands between names and numbers
+unfoldable pub word_text : Word → List ℕ
+word_text words.Colon = codes ": "
+word_text words.Open = codes " ("
+word_text words.To = codes ", to "
+word_text words.From = codes ", from "
+word_text words.There = codes "; "
+word_text words.CloseThere = codes " in B)"
+word_text words.Close = codes ")\n"
+word_text words.Before = codes " comes before "
+word_text words.InSecond = codes " in B: "
+word_text words.InFirst = codes " in A, "
+word_text words.InSecondEnd = codes " in B\n"
+word_text words.OnlyFirst = codes ": only A has "
+word_text words.OnlySecond = codes ": only B has "
+word_text words.Race = codes "race"
+word_text words.Enforced = codes "enforced"
+word_text words.Unclaimed = codes "unclaimed"
+word_text words.Instance = codes "{\"instance\":\""
+word_text words.Earlier = codes "\",\"earlier\":"
+word_text words.EarlierThere = codes ",\"earlier_in_b\":"
+word_text words.EarlierMessage = codes ",\"earlier_message\":\""
+word_text words.Later = codes "\",\"later\":"
+word_text words.LaterThere = codes ",\"later_in_b\":"
+word_text words.LaterMessage = codes ",\"later_message\":\""
+word_text words.First = codes "\",\"a\":\""
+word_text words.Second = codes "\",\"b\":\""
+word_text words.EndObject = codes "\"}\n"
+word_text words.FirstAlone = codes "{\"only\":\"a\",\"instance\":\""
+word_text words.SecondAlone = codes "{\"only\":\"b\",\"instance\":\""
+word_text words.Event = codes "\",\"event\":"
+word_text words.Message = codes ",\"message\":\""
+
+-- the word for what two events are
+abbrev pub verdict_word : Verdict → Word
+verdict_word verdicts.Enforced = words.Enforced
+verdict_word verdicts.Race = words.Race
+verdict_word verdicts.Unclaimed = words.Unclaimed
+
+-- the name of an event's message, where there is an event
+abbrev pub message_at : Option Event → List ℕ
+message_at None = []
+message_at (Some m) = name_of m
+
+-- the name of the instance at its other end
+abbrev pub partner_at : List (List ℕ) → Option Event → List ℕ
+partner_at names None = []
+partner_at names (Some m) = name_at names (partner_of m)

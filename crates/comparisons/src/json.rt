@@ -1,0 +1,123 @@
+//! What is told of two recordings, as JSON.
+ghost use Rattle.std.specs.Prelude.{◌≡◌};
+ghost use Rattle.chart.specs.Events.{ith};
+ghost use Rattle.msc_text.specs.Writing.{Adds};
+ghost use Rattle.comparisons.specs.JsonText.{numbers_text, earlier_text, later_text, verdicts_object};
+ghost use Rattle.comparisons.specs.JsonText.{json_difference, json_only};
+
+use crate::word::{Word, add_message, add_name, add_word, verdict_word};
+use chart::{Event, InstanceNo, Names};
+use comparing::{Difference, event_at};
+use msc_text::{Out, TextBuffer, WriteError};
+
+/// An event's number in the first recording behind one word, and that in the second behind another.
+#[tactic(auto, using(msc_text::proofs::Writes::joining), unfolding(crate::specs::JsonText::numbers_text))]
+fn add_numbers<W: Out>(
+    text: &mut TextBuffer<'_, W>,
+    word: Word,
+    index: usize,
+    there_word: Word,
+    there: usize,
+) -> Result<(), WriteError>
+    ensures { Adds W.sink text.old text.new result (numbers_text word index there_word there) }
+{
+    add_word(text, word)?;
+    text.add_number(index as u64)?;
+    add_word(text, there_word)?;
+    text.add_number(there as u64)
+}
+
+/// The earlier event of a pair.
+#[tactic(auto, using(msc_text::proofs::Writes::joining), unfolding(crate::specs::JsonText::earlier_text))]
+fn add_earlier<W: Out>(
+    text: &mut TextBuffer<'_, W>,
+    events: &[Event],
+    difference: &Difference,
+) -> Result<(), WriteError>
+    ensures { Adds W.sink text.old text.new result (earlier_text events.now difference.now) }
+{
+    let pair = &difference.pair;
+    add_numbers(
+        text,
+        Word::Earlier,
+        pair.earlier,
+        Word::EarlierThere,
+        pair.earlier_there,
+    )?;
+    add_word(text, Word::EarlierMessage)?;
+    add_message(text, &event_at(events, pair.earlier))
+}
+
+/// The later event of a pair.
+#[tactic(auto, using(msc_text::proofs::Writes::joining), unfolding(crate::specs::JsonText::later_text))]
+fn add_later<W: Out>(
+    text: &mut TextBuffer<'_, W>,
+    events: &[Event],
+    difference: &Difference,
+) -> Result<(), WriteError>
+    ensures { Adds W.sink text.old text.new result (later_text events.now difference.now) }
+{
+    let pair = &difference.pair;
+    add_numbers(
+        text,
+        Word::Later,
+        pair.later,
+        Word::LaterThere,
+        pair.later_there,
+    )?;
+    add_word(text, Word::LaterMessage)?;
+    add_message(text, &event_at(events, pair.later))
+}
+
+/// What they are in either recording.
+#[tactic(auto, using(msc_text::proofs::Writes::joining), unfolding(crate::specs::JsonText::verdicts_object))]
+fn add_verdicts<W: Out>(
+    text: &mut TextBuffer<'_, W>,
+    difference: &Difference,
+) -> Result<(), WriteError>
+    ensures { Adds W.sink text.old text.new result (verdicts_object difference.now) }
+{
+    add_word(text, Word::First)?;
+    add_word(text, verdict_word(difference.here))?;
+    add_word(text, Word::Second)?;
+    add_word(text, verdict_word(difference.there))?;
+    add_word(text, Word::EndObject)
+}
+
+/// An object for two events that stand the other way round.
+#[tactic(auto, using(msc_text::proofs::Writes::joining), unfolding(crate::specs::JsonText::json_difference))]
+pub(crate) fn add_json_difference<W: Out>(
+    text: &mut TextBuffer<'_, W>,
+    names: &Names,
+    events: &[Event],
+    difference: &Difference,
+) -> Result<(), WriteError>
+    ensures { Adds W.sink text.old text.new result (json_difference names.now events.now difference.now) }
+{
+    add_word(text, Word::Instance)?;
+    add_name(text, names, difference.instance)?;
+    add_earlier(text, events, difference)?;
+    add_later(text, events, difference)?;
+    add_verdicts(text, difference)
+}
+
+/// An object for an event that one recording alone has.
+#[tactic(auto, using(msc_text::proofs::Writes::joining), unfolding(crate::specs::JsonText::json_only))]
+pub(crate) fn add_json_only<W: Out>(
+    text: &mut TextBuffer<'_, W>,
+    owner: Word,
+    names: &Names,
+    events: &[Event],
+    instance: InstanceNo,
+    index: usize,
+) -> Result<(), WriteError>
+    ensures { Adds W.sink text.old text.new result (json_only owner names.now events.now instance index) }
+{
+    add_word(text, owner)?;
+    add_name(text, names, instance)?;
+    add_word(text, Word::Event)?;
+    text.add_number(index as u64)?;
+    add_word(text, Word::Message)?;
+    add_message(text, &event_at(events, index))?;
+    add_word(text, Word::EndObject)
+}

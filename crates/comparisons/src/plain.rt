@@ -1,0 +1,131 @@
+//! What is told of two recordings, in words.
+ghost use Rattle.std.specs.Prelude.{◌≡◌};
+ghost use Rattle.chart.specs.Events.{ith};
+ghost use Rattle.msc_text.specs.Writing.{Adds};
+ghost use Rattle.comparisons.specs.PlainText.{side_text, place_text, both_text, events_text, verdicts_text};
+ghost use Rattle.comparisons.specs.PlainText.{plain_difference, plain_only};
+
+use crate::word::{Word, add_message, add_name, add_word, verdict_word};
+use chart::{Event, InstanceNo, Names};
+use comparing::{Difference, event_at};
+use msc_text::{Out, TextBuffer, WriteError};
+
+/// `, to NAME` or `, from NAME`.
+#[tactic(auto, using(msc_text::proofs::Writes::joining))]
+fn add_side<W: Out>(
+    text: &mut TextBuffer<'_, W>,
+    names: &Names,
+    event: &Option<Event>,
+) -> Result<(), WriteError>
+    ensures { Adds W.sink text.old text.new result (side_text names.now event.now) }
+{
+    match event {
+        Some(Event::Send { to, .. }) => {
+            add_word(text, Word::To)?;
+            add_name(text, names, *to)
+        }
+        Some(Event::Receive { from, .. }) => {
+            add_word(text, Word::From)?;
+            add_name(text, names, *from)
+        }
+        None => text.add(b""),
+    }
+}
+
+/// `MESSAGE (INDEX, from NAME`.
+#[tactic(auto, using(msc_text::proofs::Writes::joining), unfolding(crate::specs::PlainText::place_text))]
+fn add_place<W: Out>(
+    text: &mut TextBuffer<'_, W>,
+    names: &Names,
+    event: &Option<Event>,
+    index: usize,
+) -> Result<(), WriteError>
+    ensures { Adds W.sink text.old text.new result (place_text names.now event.now index) }
+{
+    add_message(text, event)?;
+    add_word(text, Word::Open)?;
+    text.add_number(index as u64)?;
+    add_side(text, names, event)
+}
+
+/// `MESSAGE (INDEX, from NAME; INDEX in B)`.
+#[tactic(auto, using(msc_text::proofs::Writes::joining), unfolding(crate::specs::PlainText::both_text))]
+fn add_both<W: Out>(
+    text: &mut TextBuffer<'_, W>,
+    names: &Names,
+    events: &[Event],
+    index: usize,
+    there: usize,
+) -> Result<(), WriteError>
+    ensures { Adds W.sink text.old text.new result (both_text names.now events.now index there) }
+{
+    add_place(text, names, &event_at(events, index), index)?;
+    add_word(text, Word::There)?;
+    text.add_number(there as u64)?;
+    add_word(text, Word::CloseThere)
+}
+
+/// The two events of a pair.
+#[tactic(auto, using(msc_text::proofs::Writes::joining), unfolding(crate::specs::PlainText::events_text))]
+fn add_events<W: Out>(
+    text: &mut TextBuffer<'_, W>,
+    names: &Names,
+    events: &[Event],
+    difference: &Difference,
+) -> Result<(), WriteError>
+    ensures { Adds W.sink text.old text.new result (events_text names.now events.now difference.now) }
+{
+    let pair = &difference.pair;
+    add_both(text, names, events, pair.later, pair.later_there)?;
+    add_word(text, Word::Before)?;
+    add_both(text, names, events, pair.earlier, pair.earlier_there)
+}
+
+/// What they are in either recording.
+#[tactic(auto, using(msc_text::proofs::Writes::joining), unfolding(crate::specs::PlainText::verdicts_text))]
+fn add_verdicts<W: Out>(
+    text: &mut TextBuffer<'_, W>,
+    difference: &Difference,
+) -> Result<(), WriteError>
+    ensures { Adds W.sink text.old text.new result (verdicts_text difference.now) }
+{
+    add_word(text, Word::InSecond)?;
+    add_word(text, verdict_word(difference.here))?;
+    add_word(text, Word::InFirst)?;
+    add_word(text, verdict_word(difference.there))?;
+    add_word(text, Word::InSecondEnd)
+}
+
+/// `NAME: EVENT comes before EVENT in B: VERDICT in A, VERDICT in B`.
+#[tactic(auto, using(msc_text::proofs::Writes::joining), unfolding(crate::specs::PlainText::plain_difference))]
+pub(crate) fn add_plain_difference<W: Out>(
+    text: &mut TextBuffer<'_, W>,
+    names: &Names,
+    events: &[Event],
+    difference: &Difference,
+) -> Result<(), WriteError>
+    ensures { Adds W.sink text.old text.new result (plain_difference names.now events.now difference.now) }
+{
+    add_name(text, names, difference.instance)?;
+    add_word(text, Word::Colon)?;
+    add_events(text, names, events, difference)?;
+    add_verdicts(text, difference)
+}
+
+/// `NAME: only A has MESSAGE (INDEX, from NAME)`.
+#[tactic(auto, using(msc_text::proofs::Writes::joining), unfolding(crate::specs::PlainText::plain_only))]
+pub(crate) fn add_plain_only<W: Out>(
+    text: &mut TextBuffer<'_, W>,
+    owner: Word,
+    names: &Names,
+    events: &[Event],
+    instance: InstanceNo,
+    index: usize,
+) -> Result<(), WriteError>
+    ensures { Adds W.sink text.old text.new result (plain_only owner names.now events.now instance index) }
+{
+    add_name(text, names, instance)?;
+    add_word(text, owner)?;
+    add_place(text, names, &event_at(events, index), index)?;
+    add_word(text, Word::Close)
+}

@@ -1,0 +1,16 @@
+//! What `mscview races` does with the bytes of a file, and what it says where it can't.
+//!
+//! What is promised of [`races`]: the bytes of the file, the names of instances and the form decide the output's bytes.
+//!
+//! - With status 0 or 1 exactly the text of the races was written: of the reports of the receives of the chart that the
+//!   file says, which is possible, those of the instances that are named, or all, and of the earlier events that are
+//!   shown. The status is 1 where there is one, and else 0.
+//! - With status 2 the refusal's line was written, or a beginning of it where standard error failed, and nothing went
+//!   to the output before it, unless a write failed (F24).
+#![tactic(auto)]
+
+mod showing;
+mod status;
+
+pub use showing::{Wanted, races};
+pub use status::Status;

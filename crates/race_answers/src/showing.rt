@@ -1,0 +1,102 @@
+//! The races of a file, by the names of their messages.
+ghost use Rattle.std.specs.Prelude.{◌≡◌, length};
+ghost use Rattle.chart.specs.Charts.{chart_lines, IsPossible};
+ghost use Rattle.files.specs.Answers.{Answers};
+ghost use Rattle.files.specs.Texts.{named_of};
+ghost use Rattle.formats.specs.Columns.{AreColumns};
+ghost use Rattle.race_answers.specs.Showing.{only_of, Shows, ShowsText};
+ghost use Rattle.race_answers.specs.Statuses.{shown_said};
+
+use crate::status::Status;
+use chart::{InstanceNo, Names};
+use closure::Closure;
+use files::{ProgramError, Source, Text, answered, closure_of};
+use formats::{FormatError, columns_in};
+use msc_text::Out;
+use std::alloc::Global;
+use told_races::{Form, Told, write_races};
+
+/// Which races of a file are shown, and in which form.
+#[derive(Clone, Copy, Debug)]
+pub struct Wanted<'a> {
+    /// The names of the instances whose receives are shown, joined by commas. Without it all are.
+    pub only: Option<&'a [u8]>,
+    /// Whether of the earlier events receives alone are shown.
+    pub receives: bool,
+    pub form: Form,
+}
+
+/// Writes the races of these instances of a possible chart. All memory is taken before the first byte is written.
+fn show_races<W: Out>(
+    names: &Names,
+    closure: &Closure<'_>,
+    instances: &[InstanceNo],
+    wanted: &Wanted<'_>,
+    out: &mut W,
+) -> Result<Status, FormatError>
+    requires instances { AreColumns names.now (only_of wanted.now) instances.now }
+    requires possible { IsPossible (length closure.now) (chart_lines closure.now) }
+    ensures { Shows W.sink out.old out.new result wanted.now (names.now, closure.now) }
+{
+    let Ok(reporter) = closure.reporter() else {
+        return Err(FormatError::Program(ProgramError::Memory));
+    };
+    let told = Told {
+        names,
+        lines: closure.lines(),
+        only: instances,
+        receives: wanted.receives,
+        form: wanted.form,
+    };
+    match write_races(&told, reporter, out) {
+        Ok(shown) => Ok(Status::of(shown)),
+        Err(_) => Err(FormatError::Program(ProgramError::Write)),
+    }
+}
+
+/// Writes the races that are wanted of the chart. F34: a name of `--only` is none of the chart's, or is there twice.
+/// Then F16, F17 or F18 refuses a chart that isn't possible.
+fn show_source<W: Out>(
+    alloc: Global,
+    source: &Source<'_>,
+    wanted: &Wanted<'_>,
+    out: &mut W,
+) -> Result<Status, FormatError>
+    ensures { Shows W.sink out.old out.new result wanted.now (named_of source.now) }
+{
+    let names = source.names();
+    let instances = columns_in(alloc, names, wanted.only)?;
+    let closure = closure_of(alloc, names, source.chart())?;
+    show_races(names, &closure, instances.as_slice(), wanted, out)
+}
+
+/// Writes the races that are wanted of what the file says.
+fn show_text<W: Out>(
+    alloc: Global,
+    bytes: &[u8],
+    wanted: &Wanted<'_>,
+    out: &mut W,
+) -> Result<Status, FormatError>
+    ensures { ShowsText W.sink out.old out.new wanted.now bytes.now result }
+{
+    let text = Text::read(alloc, bytes)?;
+    let source = Source::of(alloc, &text)?;
+    show_source(alloc, &source, wanted, out)
+}
+
+/// Writes the races of the chart that the bytes of a file say, or of what the schedule comes to that they say: by the
+/// names of their messages, a line for each range of earlier events, or a JSON object for each receive. Writes the line
+/// of a refusal to `err`. Answers the exit status: 1 where a race is shown, 0 where none is, 2 after a refusal. The
+/// text's faults are refused first, then F34, then F16, F17 or F18. Nothing is written to `out` before a refusal, but
+/// where writing to it failed (F24). A failed write to `err` changes nothing.
+pub fn races<W: Out, V: Out>(
+    alloc: Global,
+    bytes: &[u8],
+    wanted: &Wanted<'_>,
+    out: &mut W,
+    err: &mut V,
+) -> u8
+    ensures { Answers (ShowsText W.sink out.old out.new wanted.now bytes.now) shown_said V.sink err.old err.new result }
+{
+    answered(&show_text(alloc, bytes, wanted, out), err)
+}

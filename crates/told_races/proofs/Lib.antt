@@ -1,0 +1,2 @@
+pub mod FoundRaces
+pub mod Joined

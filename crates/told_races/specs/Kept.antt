@@ -1,0 +1,22 @@
+-- Which earlier events of a receive are shown, and as which ranges (this project's profile).
+use Rattle.std.specs.Prelude.{Bool, false, true, List, filter, Option, None, Some, if◌then◌else◌}
+use Rattle.chart.specs.declared.event.Event.{Event}
+use Rattle.chart.specs.declared.event.Event.TheVariants.{Send, Receive}
+use Rattle.chart.specs.declared.instance.EventNo.{EventNo}
+use Rattle.chart.specs.declared.ranges.EventRange.{EventRange}
+use Rattle.chart.specs.Events.{ith}
+use Rattle.chart.specs.Ranges.{ranges_of}
+
+-- there is a receive
+abbrev pub receives : Option Event → Bool
+receives None = false
+receives (Some (Send to name)) = false
+receives (Some (Receive from name region)) = true
+
+-- an earlier event of the line is shown: each, or receives alone
+abbrev pub is_kept : List Event → Bool → EventNo → Bool
+is_kept events only e = if only then receives (ith events e.index) else true
+
+-- the earlier events that are shown, as the fewest ranges
+abbrev pub kept_ranges : List Event → Bool → List EventNo → List EventRange
+kept_ranges events only earlier = ranges_of (filter (is_kept events only) earlier)

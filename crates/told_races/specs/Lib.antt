@@ -1,0 +1,5 @@
+pub mod JsonText
+pub mod Kept
+pub mod PlainText
+pub mod Telling
+pub mod Words

@@ -1,0 +1,137 @@
+//! The races of a chart, receive by receive.
+ghost use Rattle.std.specs.Prelude.{◌≡◌, ◌≤◌, ◌||◌, [], length, nat_eq, All, IfOk};
+ghost use Rattle.std.specs.List.{list_any};
+ghost use Rattle.chart.specs.Charts.{chart_lines};
+ghost use Rattle.chart.specs.Ranges.{IsRange, events_in};
+ghost use Rattle.closure.specs.Reported.{HaveReported};
+ghost use Rattle.msc_text.specs.Writing.{Adds};
+ghost use Rattle.told_races.specs.Kept.{kept_ranges};
+ghost use Rattle.told_races.specs.Telling.{ranges_text, has_ranges, manner_of, shown_of, report_text, HasAdded};
+ghost use Rattle.told_races.specs.Telling.{HasWritten};
+
+use crate::kept::KeptRanges;
+use crate::{json, plain};
+use chart::{Event, EventNo, EventRange, InstanceNo, Line, Names};
+use closure::Reporter;
+use msc_text::{Out, TextBuffer, WriteError};
+
+/// In which form races are told.
+#[derive(Clone, Copy, Debug, PartialEq, Eq)]
+pub enum Form {
+    /// A line for each range.
+    Plain,
+    /// A line with a JSON object for each receive.
+    Json,
+}
+
+/// Whose races are told, and how.
+#[derive(Clone, Copy)]
+pub struct Told<'a> {
+    pub names: &'a Names,
+    pub lines: &'a [Line],
+    /// The instances that are asked for.
+    pub only: &'a [InstanceNo],
+    /// Whether earlier events are shown that are receives alone.
+    pub receives: bool,
+    pub form: Form,
+}
+
+/// The events of an instance's line, none where the chart has no such instance.
+fn events_of(lines: &[Line], instance: InstanceNo) -> &[Event]
+    ensures { result.now ≡ chart_lines lines.now instance }
+{
+    match lines.get(instance.place()) {
+        Some(line) => line.events(),
+        None => &[],
+    }
+}
+
+fn is_among(instance: InstanceNo, only: &[InstanceNo]) -> bool
+    ensures { result ≡ list_any (nat_eq instance) only.now }
+{
+    only.iter().any(|asked| instance == *asked)
+}
+
+fn either(first: bool, second: bool) -> bool
+    ensures { result ≡ (first || second) }
+{
+    first || second
+}
+
+/// Adds the ranges of a receive's races, and answers whether there are some.
+fn add_ranges<W: Out>(
+    text: &mut TextBuffer<'_, W>,
+    told: &Told<'_>,
+    events: &[Event],
+    receive: EventNo,
+    ranges: KeptRanges<'_>,
+) -> Result<bool, WriteError>
+    ensures added { Adds W.sink text.old text.new result
+        (ranges_text told.now.form told.now.names.now events.now receive ranges.entry) }
+    ensures has { IfOk result (λ has. has ≡ has_ranges ranges.entry) }
+{
+    match told.form {
+        Form::Plain => plain::add_lines(text, told.names, events, &receive, ranges),
+        Form::Json => json::add_ranges(text, told.names, events, &receive, ranges),
+    }
+}
+
+/// Adds the text of a receive's races, of the events of these ranges, and answers whether one is shown.
+fn add_report<W: Out>(
+    text: &mut TextBuffer<'_, W>,
+    told: &Told<'_>,
+    receive: EventNo,
+    earlier: &[EventRange],
+) -> Result<bool, WriteError>
+    requires { All IsRange earlier.now }
+    ensures added { Adds W.sink text.old text.new result (report_text (manner_of told.now) told.now.names.now
+        told.now.lines.now (record { receive = receive; earlier = events_in earlier.now })) }
+    ensures has { IfOk result (λ has. has ≡ has_ranges (shown_of (manner_of told.now) told.now.lines.now
+        (record { receive = receive; earlier = events_in earlier.now }))) }
+{
+    let events = events_of(told.lines, receive.instance);
+    if is_among(receive.instance, told.only) {
+        let ranges = KeptRanges::of(events, told.receives, earlier);
+        add_ranges(text, told, events, receive, ranges)
+    } else {
+        let ranges = KeptRanges::of(events, told.receives, &[]);
+        add_ranges(text, told, events, receive, ranges)
+    }
+}
+
+/// Adds the text of each receive's races as they are found, and answers whether one is shown.
+fn add_found<W: Out>(
+    text: &mut TextBuffer<'_, W>,
+    told: &Told<'_>,
+    reporter: Reporter<'_>,
+) -> Result<bool, WriteError>
+    requires reporter { HaveReported reporter.lines reporter.line reporter.place [] }
+    requires lines { told.now.lines.now ≡ reporter.lines }
+    ensures { HasAdded W.sink text.old text.new (manner_of told.now) told.now.names.now told.now.lines.now result }
+{
+    let mut reporter = reporter;
+    let mut has_races = false;
+    while let Some(receive) = reporter.next() {
+        let has = add_report(text, told, receive, reporter.earlier())?;
+        has_races = either(has_races, has);
+    }
+    Ok(has_races)
+}
+
+/// Writes the races that a reporter finds in the chart with these lines, and answers whether one is shown. It takes no
+/// memory. F24: a put failed.
+#[tactic(auto, using(msc_text::proofs::Writes::joining, crate::proofs::FoundRaces::wrote_less, crate::proofs::FoundRaces::not_told))]
+pub fn write_races<W: Out>(
+    told: &Told<'_>,
+    reporter: Reporter<'_>,
+    out: &mut W,
+) -> Result<bool, WriteError>
+    requires reporter { HaveReported reporter.lines reporter.line reporter.place [] }
+    requires lines { told.now.lines.now ≡ reporter.lines }
+    ensures { HasWritten W.sink out.old out.new (manner_of told.now) told.now.names.now told.now.lines.now result }
+{
+    let mut text = TextBuffer::new(out);
+    let has_races = add_found(&mut text, told, reporter)?;
+    text.finish()?;
+    Ok(has_races)
+}
