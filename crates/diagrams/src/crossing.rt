@@ -87,7 +87,7 @@ fn add(
 
 /// The first line with which no chart is possible, if there is one: this one, or the first with which two messages
 /// cross, the later of whose two lines decides.
-pub(crate) fn first_fault(
+pub fn first_fault(
     alloc: Global,
     fault: Option<u64>,
     messages: &[Message],
