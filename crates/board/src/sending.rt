@@ -4,6 +4,7 @@ ghost use Rattle.chart.specs.Histories.{own, IsLegal};
 ghost use Rattle.chart.specs.declared.history.Occurrence.TheVariants as occurrence;
 ghost use Rattle.chart.specs.declared.line.TheConstants.{MAX_EVENTS};
 ghost use Rattle.clock.specs.declared.clock.TheConstants.{INLINE_ENTRIES};
+ghost use Rattle.clock.specs.Diffs.{AgreeBut};
 ghost use Rattle.line_recorder.specs.Recording.{IsRecorder};
 ghost use Rattle.chart.specs.declared.history.TheConstants.{MAX_CAPACITY};
 ghost use Rattle.board_table.specs.Layout.{IsBoard};
@@ -87,6 +88,8 @@ pub(crate) fn send_one(
     ensures left { OnOk result (recorder.new.room ≡ recorder.old.room - 1) }
     ensures kept { OnErr result (recorder.new.room ≡ recorder.old.room) }
     ensures room { 0 < recorder.old.room → lane.now.instances ≤ INLINE_ENTRIES
+        → IfErr result (λ error. error.1 ≢ SendError.Memory) }
+    ensures alone { 0 < recorder.old.room → AgreeBut lane.now.sender end.old.base recorder.old.knowledge
         → IfErr result (λ error. error.1 ≢ SendError.Memory) }
 {
     if !claim_slots(words, seat, lane, end, capacity, 1) {
