@@ -1,5 +1,6 @@
 pub mod Asking
 pub mod Boards
+pub mod CarryingOver
 pub mod Closing
 pub mod Found
 pub mod Gathering
