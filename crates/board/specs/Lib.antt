@@ -1,6 +1,7 @@
 pub mod Asking
 pub mod Boards
 pub mod CarryingOver
+pub mod CarryingSteps
 pub mod Closing
 pub mod Found
 pub mod Gathering

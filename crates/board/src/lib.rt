@@ -21,6 +21,8 @@
 
 mod answer;
 mod board;
+mod carrying;
+mod carrying_steps;
 mod close;
 mod closed_lanes;
 mod ends;
@@ -47,6 +49,7 @@ mod waking;
 pub use answer::{Arrival, Glance, Sent, Stop, Taken, TakenMany};
 pub use board::{Board, open_parked};
 pub use board_table::{BoardTable, Words};
+pub use carrying::{Carried, CarryCause, CarryError, carry_over};
 pub use error::{
     BoardError, CloseError, GatherCause, MeetError, Memory, PostsError, RegionError, SendError,
     TakeError,
