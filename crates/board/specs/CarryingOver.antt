@@ -49,8 +49,8 @@ pub record WereLeft (n k : ℕ) (left : List LeftView) (closed : List LaneEnds) 
   pub within : slots ≤ k
   pub history : List Occurrence
   pub legal : IsLegal n slots history
-  pub left : left ≡ map (left_on history) (waiting_lanes n history)
-  pub closed : closed ≡ closed_lanes n history
+  pub waited : left ≡ map (left_on history) (waiting_lanes n history)
+  pub shut : closed ≡ closed_lanes n history
 
 -- by these posts nothing was made yet, and none has an open coregion
 pub record IsUntouched (post : PostView) : Type 0 where

@@ -104,7 +104,7 @@ pub fn carry_over(
 ) -> Result<Carried, CarryError>
     requires board { AreOfOneBoard posts.old }
     requires may { MayAllCarry (map left_view left.items) (map closed_view closed.now) posts.old }
-    ensures { CarriesOver left.entry.items closed.now posts.old result posts.new }
+    ensures { CarriesOver left.items closed.now posts.old result posts.new }
 {
     if !are_all(posts) {
         return Err(CarryError {

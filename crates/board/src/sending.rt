@@ -44,6 +44,7 @@ pub(crate) fn claim_slots(
     ensures did { Did lane.now.instances lane.now.capacity lane.now.sender (held seat.old.me) (held seat.new.me)
         (held seat.new.me).seen [] }
     ensures end { IsOutgoing lane.now.instances (held seat.new.me).seen lane.now.sender lane.now.receiver end.new }
+    ensures base { end.new.base ≡ end.old.base }
     ensures looks { end.old.put + many ≤ lane.now.capacity + end.old.known_taken
         → (held seat.new.me).looks ≡ (held seat.old.me).looks }
     ensures yes { result ≡ true → HasSlots lane.now many seat.new.me }
