@@ -26,3 +26,4 @@ pub mod SentAtOnce
 pub mod SeveralSends
 pub mod WholeBoards
 pub mod Untaught
+pub mod CarryingOn
