@@ -1,14 +1,15 @@
 -- Posts that make the events of carrying over, one after another, and meet after each.
 use Rattle.std.proofs.Common.{◌≡◌, ◌≢◌, ℕ, zero, suc, ◌+◌, ◌-◌, ◌<◌, ◌≤◌, ◌==◌, ◌⊎◌, inl, inr, true, false, cond, List, [], ◌∷◌, ◌++◌, length, set, map, get_or, refl, sym, ap, ◌∙◌, subst, arith, length-append}
 use Rattle.std.proofs.lemmas.Bool.{cases_eq, eq-eqb, ne_eqb, false≢true}
-use Rattle.std.proofs.lemmas.List.{length-set, length-map}
+use Rattle.std.proofs.lemmas.List.{length-set, length-map, append-nil}
 use Rattle.std.proofs.lemmas.Option.{slice_get-get_or}
 use Rattle.std.specs.Prelude.{slice_get, None, Some}
 use Rattle.chart.specs.declared.history.Occurrence.{Occurrence}
 use Rattle.chart.specs.declared.history.Occurrence.TheVariants.{Send, Close}
 use Rattle.chart.specs.Messages.{Content}
+use Rattle.chart.specs.Events.{send_event}
 use Rattle.chart.specs.Histories.{by, own, received, waiting, is_closed, chart_of, line_gets, MayFollow, IsLegal, Begins}
-use Rattle.chart.proofs.Histories.{closed_own, begins_same, begins_onward}
+use Rattle.chart.proofs.Histories.{closed_own, received_own, begins_same}
 use Rattle.chart.proofs.Alone.{all_after}
 use Rattle.chart.proofs.Steps.{line_of_other}
 use Rattle.board_core.proofs.OwnEvents.{same_line}
@@ -16,7 +17,7 @@ use Rattle.board.specs.declared.error.SendError.{SendError}
 use Rattle.board.specs.declared.error.SendError.TheVariants.{NoSuchInstance, ToItself, InCoregion, Closed, TooMany, LineFull, Full, Memory}
 use Rattle.board.specs.declared.error.CloseError.{CloseError}
 use Rattle.board.specs.declared.error.CloseError.TheVariants as unclosed
-use Rattle.board.specs.Views.{PostView, Sound, Makes, Stays}
+use Rattle.board.specs.Views.{PostView, Sound, Makes, Stays, HasReceivedNothing}
 use Rattle.board.specs.Sending.{IsUnsent}
 use Rattle.board.specs.Closing.{IsUnclosed}
 use Rattle.board.specs.Meeting.{AreOfOneBoard, HasPost, HasSeenAll, HaveMet, IsJoint}
@@ -41,6 +42,12 @@ map_there : (f : PostView → PostView) (xs : List PostView) (j : ℕ) (y : Post
 map_there f [] j y at = absurd (none_there y at)
 map_there f (x ∷ xs) zero y at = (x, refl, some_one (f x) y at)
 map_there f (x ∷ xs) (suc j) y at = map_there f xs j y at
+
+-- what is read at a place is there
+pub indexed : (posts : List PostView) (i : ℕ) (r x : PostView) (s : ℕ) → slice_get posts i ≡ Some x → x.number ≡ s → (slice_get posts i ≡ Some (get_or posts i r)) × ((get_or posts i r).number ≡ s)
+indexed posts i r x s at number =
+    let there = slice_get-get_or posts i r (at_within posts i x at) in
+    (there, ap (λ (post : PostView). post.number) (one_ahead posts i (get_or posts i r) x there at) ∙ number)
 
 -- what the post at a place has come from
 pub record HasCome (n k : ℕ) (h : List Occurrence) (old : List PostView) (i : ℕ) (y : PostView) : Type 0 where
@@ -134,7 +141,7 @@ module _ (n k : ℕ) (h : List Occurrence) (e : Occurrence) (s : ℕ) (old posts
 
   -- Their one history is the one before and the event, and nothing else.
   module _ (met : HaveMet now new) where
-    g : List Occurrence
+    abbrev g : List Occurrence
     g = met.history
 
     w_joint : IsJoint g w
@@ -166,7 +173,7 @@ module _ (n k : ℕ) (h : List Occurrence) (e : Occurrence) (s : ℕ) (old posts
     goes_on unreceived room = record {
       are = on.are;
       unreceived = unreceived;
-      as_many = ap length met.seen ∙ length-map (λ (post : PostView). record post { seen = g }) now ∙ ap length put ∙ length-set posts i w ∙ on.as_many;
+      as_many = ap length met.seen ∙ length-map now (λ (post : PostView). record post { seen = g }) ∙ ap length put ∙ length-set posts i w ∙ on.as_many;
       each = λ j x z2 at_old at_new.
           let (z, there, is) = map_there (λ (post : PostView). record post { seen = g }) now j z2 (ap (λ xs. slice_get xs j) (sym met.seen) ∙ at_new) in
           subst (λ (z2 : PostView). HasCarried (e ∷ h) (length (chart_of (e ∷ h) z2.number)) x z2) is (elim (cases_eq j i) [
@@ -188,12 +195,52 @@ module _ (n k : ℕ) (h : List Occurrence) (e : Occurrence) (s : ℕ) (old posts
                 let x_is : c.from ≡ x = one_ahead old j c.from x c.at at_old in
                 let apart : by e ≡ z.number → ⊥ = λ same. omega (arith, ap length mine, ap length (ap (own g) (sym its ∙ same) ∙ its_own j z ne was ∙ ap (own h) (sym same ∙ its))) in
                 subst (λ (x : PostView). HasCarried (e ∷ h) (length (chart_of (e ∷ h) z.number)) x (record z { seen = g })) x_is (record {
-                  same = c.carried.same;
+                  same = record { board = c.carried.same.board; number = c.carried.same.number };
                   seen = all_seen;
                   made = c.carried.made ∙ sym (ap (λ b. cond b (e ∷ own h z.number) (own h z.number)) (ne_eqb (by e) z.number apart));
                   region = c.carried.region;
                   looks = c.carried.looks;
-                  room = c.carried.room ∙ ap (λ l. c.from.room - length l) (sym (line_of_other h e z.number (λ same. apart (sym same))));
+                  room = c.carried.room ∙ ap (λ l. c.from.room - length l) (sym (line_of_other h e z.number apart));
                 })
           ]);
     }
+
+-- a send puts one event on its sender's line
+grown : (h : List Occurrence) (s r : ℕ) (m : Content) → length (chart_of (Send s r m ∷ h) s) ≡ length (chart_of h s) + 1
+grown h s r m = ap length (ap (λ b. chart_of h s ++ cond b (send_event r m.name ∷ []) []) (eq-eqb s s refl)) ∙ length-append (chart_of h s) (send_event r m.name ∷ [])
+
+-- The sender of the next message isn't refused, and then they have gone on by it.
+module _ (n k : ℕ) (h : List Occurrence) (s r : ℕ) (m : Content) (old posts : List PostView) (go : MayGoOn n k h (Send s r m ∷ h) old posts) (i : ℕ) (y : PostView) (at : slice_get posts i ≡ Some y) (number : y.number ≡ s) where
+  y_come : HasCome n k h old i y
+  y_come = come n k h old posts go.on i y at
+
+  has_room : 0 < y.room
+  has_room =
+      let room = go.room i y_come.from y_come.at in
+      let its : y_come.from.number ≡ s = sym y_come.carried.same.number ∙ number in
+      omega (arith, room, ap (λ p. length (chart_of (Send s r m ∷ h) p)) its, ap (λ p. length (chart_of h p)) number, grown h s r m, y_come.carried.room)
+
+  nothing : HasReceivedNothing y
+  nothing q = ap (λ f. received f q y.number) y_come.carried.made ∙ received_own h q y.number ∙ go.on.unreceived q y.number
+
+  pub sends_on : (z : PostView) (error : SendError) → Sound y z → Stays y z → (0 < y.room → HasReceivedNothing y → error ≢ Memory) → IsUnsent y r 1 error z → ⊥
+  sends_on z error sound stays memory why =
+      not_refused n k h s r m y y z error number y_come.size y_come.capacity y_come.carried.seen (y_come.carried.made ∙ ap (own h) number) y_come.carried.region go.legal.0 sound stays (memory has_room nothing) why
+
+  pub sent_on : (now new : List PostView) (w : PostView) (before : List Occurrence) → Sound y w → Makes y before (Send s r m ∷ []) w → w.room ≡ y.room - 1 → now ≡ set posts i w → HaveMet now new → AreOn n k (Send s r m ∷ h) old new
+  sent_on now new w before sound makes room put met =
+      goes_on n k h (Send s r m) s old posts now new go.on i y w at number before sound makes refl put met go.on.unreceived
+      (λ x was. let line = ap (λ p. length (chart_of h p)) number in let more = grown h s r m in omega (arith, room, was, line, more))
+
+-- And so it is with the next close.
+module _ (n k : ℕ) (h : List Occurrence) (s r : ℕ) (old posts : List PostView) (go : MayGoOn n k h (Close s r ∷ h) old posts) (i : ℕ) (y : PostView) (at : slice_get posts i ≡ Some y) (number : y.number ≡ s) where
+  closing : HasCome n k h old i y
+  closing = come n k h old posts go.on i y at
+
+  pub closes_on : (error : CloseError) → IsUnclosed y r error → ⊥
+  closes_on error why = closes n k h s r y error number closing.size (closing.carried.made ∙ ap (own h) number) go.legal.0 why
+
+  pub closed_on : (now new : List PostView) (w : PostView) (before : List Occurrence) → Sound y w → Makes y before (Close s r ∷ []) w → w.room ≡ y.room → now ≡ set posts i w → HaveMet now new → AreOn n k (Close s r ∷ h) old new
+  closed_on now new w before sound makes room put met =
+      goes_on n k h (Close s r) s old posts now new go.on i y w at number before sound makes refl put met go.on.unreceived
+      (λ x was. room ∙ was ∙ ap (λ l. x.room - length l) (ap (chart_of h) number ∙ sym (append-nil (chart_of h s))))

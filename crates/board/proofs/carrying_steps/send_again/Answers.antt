@@ -1,11 +1,6 @@
-use Rattle.std.proofs.Common.{◌≡◌, ◌∙◌, ◌+◌, ◌-◌, ◌<◌, ◌∷◌, [], ℕ, length, get_or, refl, sym, ap, arith, length-append}
-use Rattle.std.specs.Prelude.{slice_get, Some}
-use Rattle.std.proofs.lemmas.Bool.{eq-eqb}
-use Rattle.chart.specs.declared.history.Occurrence.TheVariants.{Send}
-use Rattle.chart.specs.Histories.{chart_of}
-use Rattle.board.specs.Views.{PostView}
-use Rattle.board.proofs.Meetings.{at_within, one_post}
-use Rattle.board.proofs.CarryingOn.{come, has_post, not_refused, now_one, ahead, goes_on}
+use Rattle.std.proofs.Common.{◌∙◌, refl, sym}
+use Rattle.board.proofs.Meetings.{at_within}
+use Rattle.board.proofs.CarryingOn.{has_post, indexed, now_one, ahead, sends_on, sent_on}
 use Rattle.board.proofs.carrying_steps.send_again.Goals as goal
 
 pub unreachable-requires : goal.unreachable-requires
@@ -13,3 +8,37 @@ unreachable-requires c =
     let (n, k, h, old, go) = c.requires.may in
     let (i, y, at, its) = has_post n k h old c.args.posts.now go.on c.args.sender go.legal.0.0.0 go.legal.0.0.1 in
     c.in_default.ensures.none i y at (its ∙ sym c.number.ensures.value)
+
+pub bounds-posts-place : goal.bounds-posts-place
+bounds-posts-place c = let (x, at, number) = c.in-Some.ensures.some in at_within c.args.posts.now c.in-Some.place x at
+
+pub unreachable-requires-in_default-send : goal.unreachable-requires-in_default-send
+unreachable-requires-in_default-send c =
+    let (n, k, h, old, go) = c.requires.may in
+    let (x, at, number) = c.in-Some.ensures.some in
+    let (there, its_number) = indexed c.args.posts.now c.in-Some.place c.index-posts-place.result x c.args.sender at (number ∙ c.number.ensures.value) in
+    let (same, stays, why) = c.in_default-send.ensures.answer in
+    sends_on n k h c.args.sender c.args.receiver c.args.message old c.args.posts.now go c.in-Some.place _ there its_number c.send.new.self c.in_default-send.field-0.1 c.in_default-send.ensures.sound stays c.in_default-send.ensures.alone why
+
+pub meet_at-requires-clause-board : goal.meet_at-requires-clause-board
+meet_at-requires-clause-board c =
+    let (n, k, h, old, go) = c.requires.may in
+    let its = c.in-Ok.ensures.answer in
+    let (x, at, number) = c.in-Some.ensures.some in
+    let (there, its_number) = indexed c.args.posts.now c.in-Some.place c.index-posts-place.result x c.args.sender at (number ∙ c.number.ensures.value) in
+    now_one n k h _ c.args.sender old c.args.posts.now _ c.args.posts.now go.on c.in-Some.place _ c.send.new.self there its_number its.makes.0 c.in-Ok.ensures.sound its.makes.1 refl refl
+
+pub meet_at-requires-clause-ahead : goal.meet_at-requires-clause-ahead
+meet_at-requires-clause-ahead c =
+    let (n, k, h, old, go) = c.requires.may in
+    let its = c.in-Ok.ensures.answer in
+    let (x, at, number) = c.in-Some.ensures.some in
+    let (there, its_number) = indexed c.args.posts.now c.in-Some.place c.index-posts-place.result x c.args.sender at (number ∙ c.number.ensures.value) in
+    ahead n k h _ c.args.sender old c.args.posts.now _ c.args.posts.now go.on c.in-Some.place _ c.send.new.self there its_number its.makes.0 c.in-Ok.ensures.sound its.makes.1 refl refl
+
+pub returns : goal.returns
+returns c = λ n k h old go.
+    let its = c.in-Ok.ensures.answer in
+    let (x, at, number) = c.in-Some.ensures.some in
+    let (there, its_number) = indexed c.args.posts.now c.in-Some.place c.index-posts-place.result x c.args.sender at (number ∙ c.number.ensures.value) in
+    sent_on n k h c.args.sender c.args.receiver c.args.message old c.args.posts.now go c.in-Some.place _ there its_number _ c.meet_at.new.posts c.send.new.self its.makes.0 c.in-Ok.ensures.sound its.makes.1 its.room refl c.meet_at.ensures.met
