@@ -1,4 +1,6 @@
-use Rattle.std.proofs.Common.{◌∙◌, refl, sym}
+use Rattle.std.proofs.Common.{◌∙◌, ◌∷◌, [], ℕ, get_or, refl, sym, subst}
+use Rattle.chart.specs.declared.history.Occurrence.TheVariants.{Close}
+use Rattle.board.specs.Views.{Makes}
 use Rattle.board.proofs.Meetings.{at_within}
 use Rattle.board.proofs.CarryingOn.{has_post, indexed, now_one, ahead, closes_on, closed_on}
 use Rattle.board.proofs.carrying_steps.close_again.Goals as goal
@@ -25,7 +27,8 @@ meet_at-requires-clause-board c =
     let its = c.in-Ok.ensures.answer in
     let (x, at, number) = c.in-Some.ensures.some in
     let (there, its_number) = indexed c.args.posts.now c.in-Some.place c.index-posts-place.result x c.args.lane.sender at (number ∙ c.number.ensures.value) in
-    now_one n k h _ c.args.lane.sender old c.args.posts.now _ c.args.posts.now go.on c.in-Some.place _ c.close.new.self there its_number its.makes.0 c.in-Ok.ensures.sound its.makes.1 refl refl
+    let made = subst (λ (p : ℕ). Makes (get_or c.args.posts.now c.in-Some.place c.index-posts-place.result) its.makes.0 (Close p c.args.lane.receiver ∷ []) c.close.new.self) (c.in-Ok.ensures.sound.same.number ∙ its_number) its.makes.1 in
+    now_one n k h _ c.args.lane.sender old c.args.posts.now _ c.args.posts.now go.on c.in-Some.place _ c.close.new.self there its_number its.makes.0 c.in-Ok.ensures.sound made refl refl
 
 pub meet_at-requires-clause-ahead : goal.meet_at-requires-clause-ahead
 meet_at-requires-clause-ahead c =
@@ -33,11 +36,13 @@ meet_at-requires-clause-ahead c =
     let its = c.in-Ok.ensures.answer in
     let (x, at, number) = c.in-Some.ensures.some in
     let (there, its_number) = indexed c.args.posts.now c.in-Some.place c.index-posts-place.result x c.args.lane.sender at (number ∙ c.number.ensures.value) in
-    ahead n k h _ c.args.lane.sender old c.args.posts.now _ c.args.posts.now go.on c.in-Some.place _ c.close.new.self there its_number its.makes.0 c.in-Ok.ensures.sound its.makes.1 refl refl
+    let made = subst (λ (p : ℕ). Makes (get_or c.args.posts.now c.in-Some.place c.index-posts-place.result) its.makes.0 (Close p c.args.lane.receiver ∷ []) c.close.new.self) (c.in-Ok.ensures.sound.same.number ∙ its_number) its.makes.1 in
+    ahead n k h _ c.args.lane.sender old c.args.posts.now _ c.args.posts.now go.on c.in-Some.place _ c.close.new.self there its_number its.makes.0 c.in-Ok.ensures.sound made refl refl
 
 pub returns : goal.returns
 returns c = λ n k h old go.
     let its = c.in-Ok.ensures.answer in
     let (x, at, number) = c.in-Some.ensures.some in
     let (there, its_number) = indexed c.args.posts.now c.in-Some.place c.index-posts-place.result x c.args.lane.sender at (number ∙ c.number.ensures.value) in
-    closed_on n k h c.args.lane.sender c.args.lane.receiver old c.args.posts.now go c.in-Some.place _ there its_number _ c.meet_at.new.posts c.close.new.self its.makes.0 c.in-Ok.ensures.sound its.makes.1 its.room refl c.meet_at.ensures.met
+    let made = subst (λ (p : ℕ). Makes (get_or c.args.posts.now c.in-Some.place c.index-posts-place.result) its.makes.0 (Close p c.args.lane.receiver ∷ []) c.close.new.self) (c.in-Ok.ensures.sound.same.number ∙ its_number) its.makes.1 in
+    closed_on n k h c.args.lane.sender c.args.lane.receiver old c.args.posts.now go c.in-Some.place _ there its_number _ c.meet_at.new.posts c.close.new.self its.makes.0 c.in-Ok.ensures.sound made its.room refl c.meet_at.ensures.met

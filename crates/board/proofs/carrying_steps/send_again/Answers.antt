@@ -1,4 +1,6 @@
-use Rattle.std.proofs.Common.{◌∙◌, refl, sym}
+use Rattle.std.proofs.Common.{◌∙◌, ◌∷◌, [], ℕ, get_or, refl, sym, subst}
+use Rattle.chart.specs.declared.history.Occurrence.TheVariants.{Send}
+use Rattle.board.specs.Views.{Makes}
 use Rattle.board.proofs.Meetings.{at_within}
 use Rattle.board.proofs.CarryingOn.{has_post, indexed, now_one, ahead, sends_on, sent_on}
 use Rattle.board.proofs.carrying_steps.send_again.Goals as goal
@@ -26,7 +28,8 @@ meet_at-requires-clause-board c =
     let its = c.in-Ok.ensures.answer in
     let (x, at, number) = c.in-Some.ensures.some in
     let (there, its_number) = indexed c.args.posts.now c.in-Some.place c.index-posts-place.result x c.args.sender at (number ∙ c.number.ensures.value) in
-    now_one n k h _ c.args.sender old c.args.posts.now _ c.args.posts.now go.on c.in-Some.place _ c.send.new.self there its_number its.makes.0 c.in-Ok.ensures.sound its.makes.1 refl refl
+    let made = subst (λ (p : ℕ). Makes (get_or c.args.posts.now c.in-Some.place c.index-posts-place.result) its.makes.0 (Send p c.args.receiver c.args.message ∷ []) c.send.new.self) (c.in-Ok.ensures.sound.same.number ∙ its_number) its.makes.1 in
+    now_one n k h _ c.args.sender old c.args.posts.now _ c.args.posts.now go.on c.in-Some.place _ c.send.new.self there its_number its.makes.0 c.in-Ok.ensures.sound made refl refl
 
 pub meet_at-requires-clause-ahead : goal.meet_at-requires-clause-ahead
 meet_at-requires-clause-ahead c =
@@ -34,11 +37,13 @@ meet_at-requires-clause-ahead c =
     let its = c.in-Ok.ensures.answer in
     let (x, at, number) = c.in-Some.ensures.some in
     let (there, its_number) = indexed c.args.posts.now c.in-Some.place c.index-posts-place.result x c.args.sender at (number ∙ c.number.ensures.value) in
-    ahead n k h _ c.args.sender old c.args.posts.now _ c.args.posts.now go.on c.in-Some.place _ c.send.new.self there its_number its.makes.0 c.in-Ok.ensures.sound its.makes.1 refl refl
+    let made = subst (λ (p : ℕ). Makes (get_or c.args.posts.now c.in-Some.place c.index-posts-place.result) its.makes.0 (Send p c.args.receiver c.args.message ∷ []) c.send.new.self) (c.in-Ok.ensures.sound.same.number ∙ its_number) its.makes.1 in
+    ahead n k h _ c.args.sender old c.args.posts.now _ c.args.posts.now go.on c.in-Some.place _ c.send.new.self there its_number its.makes.0 c.in-Ok.ensures.sound made refl refl
 
 pub returns : goal.returns
 returns c = λ n k h old go.
     let its = c.in-Ok.ensures.answer in
     let (x, at, number) = c.in-Some.ensures.some in
     let (there, its_number) = indexed c.args.posts.now c.in-Some.place c.index-posts-place.result x c.args.sender at (number ∙ c.number.ensures.value) in
-    sent_on n k h c.args.sender c.args.receiver c.args.message old c.args.posts.now go c.in-Some.place _ there its_number _ c.meet_at.new.posts c.send.new.self its.makes.0 c.in-Ok.ensures.sound its.makes.1 its.room refl c.meet_at.ensures.met
+    let made = subst (λ (p : ℕ). Makes (get_or c.args.posts.now c.in-Some.place c.index-posts-place.result) its.makes.0 (Send p c.args.receiver c.args.message ∷ []) c.send.new.self) (c.in-Ok.ensures.sound.same.number ∙ its_number) its.makes.1 in
+    sent_on n k h c.args.sender c.args.receiver c.args.message old c.args.posts.now go c.in-Some.place _ there its_number _ c.meet_at.new.posts c.send.new.self its.makes.0 c.in-Ok.ensures.sound made its.room refl c.meet_at.ensures.met
