@@ -27,3 +27,4 @@ pub mod SeveralSends
 pub mod WholeBoards
 pub mod Untaught
 pub mod CarryingOn
+pub mod CarryingLoops
