@@ -14,7 +14,7 @@ ghost use Rattle.board.specs.Parts.{MayPut, HasSlots, HasNoSlots, IsUnmade};
 use crate::ends::Outgoing;
 use crate::error::SendError;
 use board_table::{
-    Lane, Seat, Words, claim_again, claim_anew, fill_recorded, give_back_vacant, publish,
+    Lane, Seat, Words, claim_again, claim_anew, fill_begun, give_back_vacant, publish,
 };
 use chart::Message;
 use line_recorder::Recorder;
@@ -61,7 +61,8 @@ pub(crate) fn claim_slots(
     false
 }
 
-/// Sends a message on an open lane, whose sender's line has room for it.
+/// Sends a message on an open lane, whose sender's line has room for it. It is on its way before it is recorded: all that
+/// can be refused comes first.
 #[inline(always)]
 pub(crate) fn send_one(
     words: &Words,
@@ -93,11 +94,13 @@ pub(crate) fn send_one(
         return Err((message, SendError::Full));
     }
     let put = end.put;
-    if let Err(message) = fill_recorded(words, seat, lane, put, recorder, &mut end.base, message) {
+    let name = message.name();
+    if let Err(message) = fill_begun(words, seat, lane, put, recorder, &mut end.base, message) {
         give_back_vacant(words, seat, lane);
         return Err((message, SendError::Memory));
     }
     end.put += 1;
     publish(words, seat, lane, end.put);
+    recorder.record_begun(lane.receiver(), name);
     Ok(())
 }

@@ -13,8 +13,8 @@ claim_slots-requires-clause-within_limit c = let less = put_less c.args.lane.now
 pub returns-then-not-claim_slots-clause-recorder : goal.returns-then-not-claim_slots-clause-recorder
 returns-then-not-claim_slots-clause-recorder c = recorder_saw c.args.lane.now.instances c.args.lane.now.capacity c.args.lane.now.sender (held c.args.seat.now.me) (held c.claim_slots.new.seat.me) c.requires.may_put.legal c.requires.may_put.own c.claim_slots.ensures.did c.args.recorder.now c.requires.may_put.recorded
 
-pub fill_recorded-requires-clause-knows : goal.fill_recorded-requires-clause-knows
-fill_recorded-requires-clause-knows c =
+pub fill_begun-requires-clause-knows : goal.fill_begun-requires-clause-knows
+fill_begun-requires-clause-knows c =
     known_many c.args.lane.now.instances c.args.lane.now.capacity (held c.args.seat.now.me).seen c.args.lane.now.sender c.args.recorder.now c.requires.may_put.legal c.requires.may_put.recorded
 
 pub returns-in-Err-clause-recorder : goal.returns-in-Err-clause-recorder
@@ -42,7 +42,7 @@ publish-requires-clause-unclosed c =
     let l = c.args.lane.now in
     let m = c.args.seat.now.me in
     let s = c.claim_slots.new.seat.me in
-    let f = c.fill_recorded.new.seat.me in
+    let f = c.fill_begun.new.seat.me in
     let r = c.args.recorder.now in
     let u = c.claim_slots.new.end in
     let put = c.in_default.ensures.packet in
@@ -55,7 +55,7 @@ publish-requires-clause-short c =
     let l = c.args.lane.now in
     let m = c.args.seat.now.me in
     let s = c.claim_slots.new.seat.me in
-    let f = c.fill_recorded.new.seat.me in
+    let f = c.fill_begun.new.seat.me in
     let r = c.args.recorder.now in
     let u = c.claim_slots.new.end in
     let put = c.in_default.ensures.packet in
@@ -68,7 +68,7 @@ publish-requires-clause-next c =
     let l = c.args.lane.now in
     let m = c.args.seat.now.me in
     let s = c.claim_slots.new.seat.me in
-    let f = c.fill_recorded.new.seat.me in
+    let f = c.fill_begun.new.seat.me in
     let r = c.args.recorder.now in
     let u = c.claim_slots.new.end in
     let put = c.in_default.ensures.packet in
@@ -81,7 +81,7 @@ returns-clause-recorder c =
     let l = c.args.lane.now in
     let m = c.args.seat.now.me in
     let s = c.claim_slots.new.seat.me in
-    let f = c.fill_recorded.new.seat.me in
+    let f = c.fill_begun.new.seat.me in
     let r = c.args.recorder.now in
     let u = c.claim_slots.new.end in
     let put = c.in_default.ensures.packet in
@@ -94,7 +94,7 @@ returns-clause-end c =
     let l = c.args.lane.now in
     let m = c.args.seat.now.me in
     let s = c.claim_slots.new.seat.me in
-    let f = c.fill_recorded.new.seat.me in
+    let f = c.fill_begun.new.seat.me in
     let r = c.args.recorder.now in
     let u = c.claim_slots.new.end in
     let put = c.in_default.ensures.packet in
@@ -107,7 +107,7 @@ returns-clause-ok c =
     let l = c.args.lane.now in
     let m = c.args.seat.now.me in
     let s = c.claim_slots.new.seat.me in
-    let f = c.fill_recorded.new.seat.me in
+    let f = c.fill_begun.new.seat.me in
     let r = c.args.recorder.now in
     let u = c.claim_slots.new.end in
     let put = c.in_default.ensures.packet in

@@ -10,7 +10,7 @@ use Rattle.board_table.specs.Carrying.{Carries}
 use Rattle.board_table.specs.Knowing.{Mine, held, packets_out, vacant_out}
 use Rattle.board_table.proofs.Handling.{fill_first, filled_is}
 use Rattle.board_table.proofs.OutSlots.{filling_slots, filling_packets, filling_vacant}
-use Rattle.board_table.proofs.sender.fill_recorded.Goals as goal
+use Rattle.board_table.proofs.sender.fill_begun.Goals as goal
 
 -- what a full slot contains
 contained : (slot : Option Packet) (P : Packet → Type 0) → IsSome slot → IfSome slot P → (x : Packet) × (slot ≡ Some x) × P x
@@ -18,10 +18,10 @@ contained (Some x) P full is = (x, refl, is)
 contained None P full is = absurd (false≢true full)
 
 -- the packet that was put
-put : (c : goal.After-turn) → (x : Packet) × (c.record_in.new.slot ≡ Some x) × Carries c.args.base.now x (record { message = c.args.message; clock = send_clock c.args.recorder.now })
+put : (c : goal.After-turn) → (x : Packet) × (c.begin_in.new.slot ≡ Some x) × Carries c.args.base.now x (record { message = c.args.message; clock = send_clock c.args.recorder.now })
 put c =
-    let r = c.in_ok-record_in.ensures in
-    contained c.record_in.new.slot (λ x. Carries c.args.base.now x (record { message = c.args.message; clock = send_clock c.args.recorder.now })) r.full r.put
+    let r = c.in_ok-begin_in.ensures in
+    contained c.begin_in.new.slot (λ x. Carries c.args.base.now x (record { message = c.args.message; clock = send_clock c.args.recorder.now })) r.full r.put
 
 -- what is out with the sender afterwards
 after : (c : goal.After-turn) → let me = c.args.seat.now.me in let l = c.args.lane.now in
@@ -30,7 +30,7 @@ after c =
     let me = c.args.seat.now.me in
     let l = c.args.lane.now in
     fill_first c.args.lane.now me c.turn.new.self.me c.args.count (put c).0 c.requires.filling c.requires.room c.requires.count
-    (c.turn.ensures.2 ∙ ap (λ i. (me.0, rest me.1 ++ (i, c.record_in.new.slot) ∷ [])) c.slot.ensures.value ∙ ap (λ (o : Option Packet). (me.0, rest me.1 ++ (slot_of l.instances l.capacity l.sender l.receiver c.args.count, o) ∷ [])) (put c).1)
+    (c.turn.ensures.2 ∙ ap (λ i. (me.0, rest me.1 ++ (i, c.begin_in.new.slot) ∷ [])) c.slot.ensures.value ∙ ap (λ (o : Option Packet). (me.0, rest me.1 ++ (slot_of l.instances l.capacity l.sender l.receiver c.args.count, o) ∷ [])) (put c).1)
 
 pub returns-clause-filling : goal.returns-clause-filling
 returns-clause-filling c = let a = after c in filled_is c.args.lane.now c.args.seat.now.me c.turn.new.self.me (put c).0 a.0 c.requires.filling a.1 a.2
