@@ -1,5 +1,6 @@
-use Rattle.std.proofs.Common.{◌+◌, [], ◌∷◌, length, refl, sym, ap, subst, arith}
-use Rattle.line_recorder.specs.Recorders.{RecorderView}
+use Rattle.std.proofs.Common.{◌≡◌, ℕ, List, ap₂, ◌∙◌, ◌+◌, [], ◌∷◌, length, refl, sym, ap, subst, arith}
+use Rattle.line_recorder.specs.Recorders.{RecorderView, after_begun, after_send}
+use Rattle.line_recorder.proofs.SendsLemmas.{begun_sent}
 use Rattle.line_recorder.specs.Recording.{IsRecorder}
 use Rattle.board_table.specs.Knowing.{Mine, held}
 use Rattle.board.proofs.OneSend.{known_many, recorder_saw, put_less, line_saw}
@@ -76,6 +77,12 @@ publish-requires-clause-next c =
     let fills : Fills l m s f r u (message ∷ []) (put.0 ∷ []) = fills_one l m s f r c.args.end.now u message put.0 c.requires.may_put c.claim_slots.ensures.did c.claim_slots.ensures.end (c.claim_slots.ensures.yes c.if-not-claim_slots.false) c.in_default.ensures.held put.1 put.2.message in
     next l m s f r u (message ∷ []) (put.0 ∷ []) fills (next_one l.instances l.sender l.receiver message put.0 u.base (held s).seen r (sender l m s f r u (message ∷ []) (put.0 ∷ []) fills) put.2)
 
+-- what the recorder is in the end
+recorded : (c : goal.After-record_begun) → c.record_begun.new.self ≡ after_send c.args.recorder.now c.args.lane.now.receiver c.args.message.name
+recorded c =
+    let named = rw (c.name-name.ensures, c.in_default.ensures.recorder) at c.record_begun.ensures in
+    named ∙ (begun_sent c.args.recorder.now c.receiver.result c.args.message.name ∙ ap (λ (q : ℕ). after_send c.args.recorder.now q c.args.message.name) c.receiver.ensures.value)
+
 pub returns-clause-recorder : goal.returns-clause-recorder
 returns-clause-recorder c =
     let l = c.args.lane.now in
@@ -87,7 +94,7 @@ returns-clause-recorder c =
     let put = c.in_default.ensures.packet in
     let message = c.args.message in
     let fills : Fills l m s f r u (message ∷ []) (put.0 ∷ []) = fills_one l m s f r c.args.end.now u message put.0 c.requires.may_put c.claim_slots.ensures.did c.claim_slots.ensures.end (c.claim_slots.ensures.yes c.if-not-claim_slots.false) c.in_default.ensures.held put.1 put.2.message in
-    subst (λ (o : RecorderView). IsRecorder l.instances (held c.publish.new.seat.me).seen l.sender o) (sym c.in_default.ensures.recorder) (recorder_sent l m s f r u (message ∷ []) (put.0 ∷ []) fills c.publish.new.seat.me c.publish.ensures.publishes)
+    subst (λ (o : RecorderView). IsRecorder l.instances (held c.publish.new.seat.me).seen l.sender o) (sym (recorded c)) (recorder_sent l m s f r u (message ∷ []) (put.0 ∷ []) fills c.publish.new.seat.me c.publish.ensures.publishes)
 
 pub returns-clause-end : goal.returns-clause-end
 returns-clause-end c =
