@@ -15,6 +15,7 @@ use Rattle.board.specs.declared.answer.Taken.TheVariants.{Got, Nothing, Ended}
 use Rattle.board.specs.declared.error.TakeError.{TakeError}
 use Rattle.board.specs.declared.error.TakeError.TheVariants.{NoSuchInstance, ToItself, LineFull, Memory}
 use Rattle.board.specs.Views.{BoardView, PostView, Sound, Stays}
+use Rattle.board.specs.Glancing.{Glances}
 use Rattle.board.specs.Taking.{IsGot, IsFoundEmpty, Waits, Takes}
 use Rattle.mailbox.specs.TakingAny.{others, Look, lanes_of, NoneWaits, IsFirst, IsOneOpen, IsDrained, IsEnd, AreFoundEmpty, IsFirstUntaken, TakesFirst, LooksAtAll}
 
@@ -211,6 +212,15 @@ module _ (old mid : PostView) (order : List ℕ) (a b : ℕ) (its_end : Bool) (l
   -- a number that isn't another's is passed over
   pub passed-over : (q : ℕ) → q ≡ suc a → q ≡ old.number → HasLooked old order (others old.number (a + 1) b) its_end mid
   passed-over q is own = subst (λ x. HasLooked old order x its_end mid) (next-own old.number a b less (omega (arith, is, own))) looked
+
+  -- a look where there is no lane
+  pub no-lane-next : (new : PostView) (q : ℕ) (error : TakeError) → q ≡ suc a → b ≤ old.board.size → Glances mid q (Err error) new → HasLooked old order (others old.number (a + 1) b) its_end new
+  no-lane-next new q NoSuchInstance is within none =
+      let size : mid.board.size ≡ old.board.size = ap (λ (board : BoardView). board.size) looked.sound.same.board in
+      absurd (omega (arith, none.1, is, less, within, size))
+  no-lane-next new q ToItself is within none = subst (λ now. HasLooked old order (others old.number (a + 1) b) its_end now) (sym none.0) (passed-over q is (none.1 ∙ looked.sound.same.number))
+  no-lane-next new q LineFull is within none = absurd none.1
+  no-lane-next new q Memory is within none = absurd none.1
 
   -- a receive from the next of them
   pub received-next : (new : PostView) (q : ℕ) (result : Result Taken TakeError) → Sound old old → q ≡ suc a → q ≢ old.number → b ≤ old.board.size → Sound mid new → Takes mid q result new

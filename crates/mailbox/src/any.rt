@@ -48,19 +48,17 @@ fn any_among(post: &mut Post, from: usize, to: usize) -> Result<Taken, TakeError
     ensures answer { TakesFirst post.old (others post.old.number from to) result post.new }
     ensures looks { LooksAtAll (length (others post.old.number from to)) post.old result post.new }
 {
-    let me = post.number();
     let size = post.board_size();
     prove!(to <= size);
     let mut is_end = true;
     for place in from..to {
         let other = InstanceNo::at_place(place);
-        if other == me {
-            continue;
-        }
-        match post.glance(other)? {
-            Glance::Nothing => is_end = false,
-            Glance::Ended => {}
-            Glance::Message => return post.receive(other),
+        match post.glance(other) {
+            Ok(Glance::Nothing) => is_end = false,
+            Ok(Glance::Ended) => {}
+            Ok(Glance::Message) => return post.receive(other),
+            // its own place, which has no lane
+            Err(_) => {}
         }
     }
     Ok(if is_end { Taken::Ended } else { Taken::Nothing })
