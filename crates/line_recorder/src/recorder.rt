@@ -2,7 +2,7 @@
 ghost use Rattle.std.specs.Prelude.{◌≡◌, ◌≢◌, ◌≤◌, ◌<◌, ◌+◌, ◌↔◌, length, All, Err, OnOk, OnErr, IfOk, IsOk};
 ghost use Rattle.chart.specs.Events.{MayHaveRegion};
 ghost use Rattle.clock.specs.Clocks.{with_entry};
-ghost use Rattle.clock.specs.Diffs.{IsDiff, apply_diff};
+ghost use Rattle.clock.specs.Diffs.{IsDiff, apply_diff, AgreeBut};
 ghost use Rattle.clock.specs.declared.clock.TheConstants.{INLINE_ENTRIES};
 ghost use Rattle.line_recorder.specs.Sends.{next_clocks, known_after};
 ghost use Rattle.line_recorder.specs.Recorders.{new_recorder, with_room, send_clock, after_send, after_sends};
@@ -177,7 +177,7 @@ impl Recorder {
     /// since the base. No clock is copied.
     ///
     /// A refusal, the first of F7 and F6 that applies, changes nothing but the difference. With room it takes no memory
-    /// up to [`INLINE_ENTRIES`] instances.
+    /// up to [`INLINE_ENTRIES`] instances, and none where nothing new is known of the others since the base.
     #[inline(always)]
     pub fn send_over(
         &mut self,
@@ -194,6 +194,8 @@ impl Recorder {
         ensures clock { OnOk result (apply_diff base.now diff.new ≡ send_clock self.old) }
         ensures within { OnOk result (All (λ change. change.instance ≤ length base.now) diff.new) }
         ensures room { 0 < self.old.room → length self.old.knowledge ≤ INLINE_ENTRIES
+            → result ≢ Err RecordError.Memory }
+        ensures alone { 0 < self.old.room → AgreeBut self.old.line.instance base.now self.old.knowledge
             → result ≢ Err RecordError.Memory }
         ensures full { (result ≡ Err RecordError.LineFull) ↔ (length self.old.line.events ≡ MAX_EVENTS) }
         ensures err { OnErr result (self.new ≡ self.old) }
