@@ -25,3 +25,4 @@ pub mod SendAnswers
 pub mod SentAtOnce
 pub mod SeveralSends
 pub mod WholeBoards
+pub mod Untaught

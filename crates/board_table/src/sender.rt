@@ -4,6 +4,7 @@ ghost use Rattle.std.specs.Prelude.{IfErr, IfSome, IsOk, IsSome, OnErr, OnOk};
 ghost use Rattle.chart.specs.Histories.{sent, is_closed, chart_of};
 ghost use Rattle.chart.specs.declared.line.TheConstants.{MAX_EVENTS};
 ghost use Rattle.clock.specs.declared.clock.TheConstants.{INLINE_ENTRIES};
+ghost use Rattle.clock.specs.Diffs.{AgreeBut};
 ghost use Rattle.line_recorder.specs.Recorders.{send_clock, begun_send};
 ghost use Rattle.board_table.specs.declared.packet.Packet.{Packet};
 ghost use Rattle.board_table.specs.Layout.{IsBoard};
@@ -128,6 +129,8 @@ fn begin_in(
     ensures recorder_err { OnErr result (recorder.new ≡ recorder.old) }
     ensures base_err { OnErr result (base.new ≡ base.old) }
     ensures room { 0 < recorder.old.room → length recorder.old.knowledge ≤ INLINE_ENTRIES → IsOk result }
+    ensures alone { 0 < recorder.old.room → AgreeBut recorder.old.line.instance base.old recorder.old.knowledge
+        → IsOk result }
 {
     let diff = Diff::none(recorder.alloc());
     *slot = Some(Packet { message, diff });
@@ -144,7 +147,7 @@ fn begin_in(
 /// one's afterwards.
 ///
 /// F6: where there is no memory, nothing has changed, and the message comes back. With room on the line it takes none up
-/// to [`INLINE_ENTRIES`] instances.
+/// to [`INLINE_ENTRIES`] instances, and none where nothing new is known of the others since the base.
 #[inline(always)]
 pub fn fill_begun(
     words: &Words,
@@ -177,6 +180,7 @@ pub fn fill_begun(
     ensures recorder_err { OnErr result (recorder.new ≡ recorder.old) }
     ensures base_err { OnErr result (base.new ≡ base.old) }
     ensures memory { 0 < recorder.old.room → lane.now.instances ≤ INLINE_ENTRIES → IsOk result }
+    ensures alone { 0 < recorder.old.room → AgreeBut lane.now.sender base.old recorder.old.knowledge → IsOk result }
 {
     let slot = seat.slot_mut(words, lane.slot(count));
     begin_in(slot, recorder, base, message)?;

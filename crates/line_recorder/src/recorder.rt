@@ -2,7 +2,7 @@
 ghost use Rattle.std.specs.Prelude.{◌≡◌, ◌≢◌, ◌≤◌, ◌<◌, ◌+◌, ◌↔◌, length, All, Err, OnOk, OnErr, IfOk, IsOk};
 ghost use Rattle.chart.specs.Events.{MayHaveRegion};
 ghost use Rattle.clock.specs.Clocks.{with_entry};
-ghost use Rattle.clock.specs.Diffs.{IsDiff, apply_diff};
+ghost use Rattle.clock.specs.Diffs.{IsDiff, apply_diff, AgreeBut};
 ghost use Rattle.clock.specs.declared.clock.TheConstants.{INLINE_ENTRIES};
 ghost use Rattle.line_recorder.specs.Sends.{next_clocks, known_after};
 ghost use Rattle.line_recorder.specs.Recorders.{new_recorder, with_room, send_clock, after_send, after_sends};
@@ -179,7 +179,7 @@ impl Recorder {
     /// clock is copied. So its message can be on its way before it is recorded.
     ///
     /// F6: it fails only where there is no memory, and then nothing has changed but the difference. With room it takes
-    /// none up to [`INLINE_ENTRIES`] instances.
+    /// none up to [`INLINE_ENTRIES`] instances, and none where nothing new is known of the others since the base.
     #[inline(always)]
     pub fn begin_send(&mut self, base: &Clock, diff: &mut Diff) -> Result<(), AllocError>
         requires entries { length base.now ≡ length self.old.knowledge }
@@ -189,6 +189,7 @@ impl Recorder {
         ensures clock { OnOk result (apply_diff base.now diff.new ≡ send_clock self.old) }
         ensures within { OnOk result (All (λ change. change.instance ≤ length base.now) diff.new) }
         ensures room { 0 < self.old.room → length self.old.knowledge ≤ INLINE_ENTRIES → IsOk result }
+        ensures alone { 0 < self.old.room → AgreeBut self.old.line.instance base.now self.old.knowledge → IsOk result }
         ensures err { OnErr result (self.new ≡ self.old) }
     {
         self.line.reserve(1)?;

@@ -1,4 +1,5 @@
 use Rattle.std.proofs.Common.{◌≡◌, ℕ, List, ap₂, ◌∙◌, ◌+◌, [], ◌∷◌, length, refl, sym, ap, subst, arith}
+use Rattle.std.proofs.lemmas.Bool.{false≢true}
 use Rattle.line_recorder.specs.Recorders.{RecorderView, after_begun, after_send}
 use Rattle.line_recorder.proofs.SendsLemmas.{begun_sent}
 use Rattle.line_recorder.specs.Recording.{IsRecorder}
@@ -121,3 +122,6 @@ returns-clause-ok c =
     let message = c.args.message in
     let fills : Fills l m s f r u (message ∷ []) (put.0 ∷ []) = fills_one l m s f r c.args.end.now u message put.0 c.requires.may_put c.claim_slots.ensures.did c.claim_slots.ensures.end (c.claim_slots.ensures.yes c.if-not-claim_slots.false) c.in_default.ensures.held put.1 put.2.message in
     did_send l m s f r u (message ∷ []) (put.0 ∷ []) fills c.publish.new.seat.me c.publish.ensures.publishes
+
+pub returns-in-Err-clause-alone : goal.returns-in-Err-clause-alone
+returns-in-Err-clause-alone c = λ room agree memory. false≢true (c.in-Err.ensures.alone room (rw c.claim_slots.ensures.base agree))

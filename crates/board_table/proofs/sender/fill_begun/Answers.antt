@@ -1,14 +1,14 @@
-use Rattle.std.proofs.Common.{◌≡◌, ℕ, suc, ◌∷◌, [], ◌++◌, refl, ap, ◌∙◌, length}
+use Rattle.std.proofs.Common.{◌≡◌, ℕ, suc, ◌∷◌, [], ◌++◌, refl, sym, ap, ◌∙◌, subst, length}
 use Rattle.std.proofs.lemmas.Bool.{false≢true}
-use Rattle.std.specs.Prelude.{Option, Some, None, IfSome, IsSome}
+use Rattle.std.specs.Prelude.{Option, Some, None, IfSome, IsSome, Result, Ok, Err, OnErr}
 use Rattle.atomic_table.specs.Table.{rest}
 use Rattle.line_recorder.specs.Recorders.{send_clock}
 use Rattle.board_table.specs.declared.packet.Packet.{Packet}
 use Rattle.chart.specs.Histories.{sent}
 use Rattle.board_table.specs.Layout.{slot_of}
 use Rattle.board_table.specs.Carrying.{Carries}
-use Rattle.board_table.specs.Knowing.{Mine, held, packets_out, vacant_out}
-use Rattle.board_table.proofs.Handling.{fill_first, filled_is}
+use Rattle.board_table.specs.Knowing.{Mine, held, packets_out, vacant_out, IsFilling}
+use Rattle.board_table.proofs.Handling.{first_vacant, fill_first, filled_is}
 use Rattle.board_table.proofs.OutSlots.{filling_slots, filling_packets, filling_vacant}
 use Rattle.board_table.proofs.sender.fill_begun.Goals as goal
 
@@ -42,3 +42,21 @@ returns-clause-packet c = let a = after c in let l = c.args.lane.now in let me =
 pub returns-clause-vacant : goal.returns-clause-vacant
 returns-clause-vacant c = let a = after c in let l = c.args.lane.now in let me = c.args.seat.now.me in
     ap suc (ap (λ (m : Mine). vacant_out m) a.2 ∙ filling_vacant l.instances l.capacity l.sender l.receiver (length (sent (held me).seen l.sender l.receiver)) a.0 (packets_out me ++ (put c).0 ∷ [])) ∙ a.1
+
+-- what holds, holds where the answer is a refusal
+refused : {X E : Type 0} (r : Result X E) (P : Type 0) → P → OnErr r P
+refused (Ok x) P its = tt
+refused (Err e) P its = its
+
+-- the slot is empty as before
+emptied : (c : goal.After-from_residual) → (c.args.seat.now.me.0, (c.slot.result, c.begin_in.new.slot) ∷ rest c.args.seat.now.me.1) ≡ c.args.seat.now.me
+emptied c =
+    let me = c.args.seat.now.me in
+    let slots : (c.slot.result, c.begin_in.new.slot) ∷ rest me.1 ≡ me.1 = ap (λ (o : Option Packet). (c.slot.result, o) ∷ rest me.1) c.in_err-begin_in.ensures.slot_err ∙ ap (λ i. (i, None) ∷ rest me.1) c.slot.ensures.value ∙ sym (first_vacant c.args.lane.now me c.args.count c.requires.filling c.requires.room c.requires.count) in
+    λ t. (me.0, slots t)
+
+pub returns-in_err-begin_in-clause-same : goal.returns-in_err-begin_in-clause-same
+returns-in_err-begin_in-clause-same c = refused c.from_residual.result _ (emptied c)
+
+pub returns-in_err-begin_in-clause-filling : goal.returns-in_err-begin_in-clause-filling
+returns-in_err-begin_in-clause-filling c = subst (λ (m : Mine). IsFilling c.args.lane.now m) (sym (emptied c)) c.requires.filling
