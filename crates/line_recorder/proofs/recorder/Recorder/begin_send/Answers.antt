@@ -15,5 +15,5 @@ returns-in_default-clause-err c =
 pub returns-in_default-clause-alone : goal.returns-in_default-clause-alone
 returns-in_default-clause-alone c = λ room agree.
     let own = c.instance-own.result in
-    let stamped : AgreeBut own c.args.base.now (with_entry c.self.inside.knowledge own (c.len.result + 1)) = agree_stamped c.args.base.now c.self.inside.knowledge own (c.len.result + 1) (rw c.instance-own.ensures (subst (λ (r : RecorderView). AgreeBut r.line.instance c.args.base.now r.knowledge) (sym c.self.view_is) agree)) in
+    let stamped : AgreeBut own c.args.base.now (with_entry c.self.inside.knowledge own (c.len.result + 1)) = agree_stamped c.args.base.now c.self.inside.knowledge own (c.len.result + 1) (rw (c.instance-own.ensures, c.reserve.ensures.line) (subst (λ (r : RecorderView). AgreeBut r.line.instance c.args.base.now r.knowledge) (sym c.self.view_is) agree)) in
     c.in_default.ensures.alone own (rw c.stamp.ensures.value stamped)
