@@ -180,7 +180,8 @@ pub fn fill_begun(
     ensures recorder_err { OnErr result (recorder.new ≡ recorder.old) }
     ensures base_err { OnErr result (base.new ≡ base.old) }
     ensures memory { 0 < recorder.old.room → lane.now.instances ≤ INLINE_ENTRIES → IsOk result }
-    ensures alone { 0 < recorder.old.room → AgreeBut lane.now.sender base.old recorder.old.knowledge → IsOk result }
+    ensures alone { 0 < recorder.old.room → AgreeBut recorder.old.line.instance base.old recorder.old.knowledge
+        → IsOk result }
 {
     let slot = seat.slot_mut(words, lane.slot(count));
     begin_in(slot, recorder, base, message)?;
