@@ -2,7 +2,8 @@
 
 What is wanted is made of the chart's text and of the `race` lines alone: the earlier events of each receive are joined to
 ranges, and named by the chart's lines. Compared are the lines, the JSON objects, as Python's `json` reads them, both with
-receives alone, and the instances one by one. Prints 'held' or 'FAILED' for each file.
+receives alone, and the instances one by one. With `--run-to-completion` the races are those that a plain closure under the
+rules of that order leaves. Prints 'held' or 'FAILED' for each file.
 """
 
 import json
@@ -11,6 +12,7 @@ import random
 import sys
 import tempfile
 
+from finish_order import Chart
 from witnesses import MSCVIEW, chart_and_races, drawn_schedule, lines_of, races_in, run
 
 DRAWN = 300
@@ -25,6 +27,16 @@ def ranges_of(numbers):
         else:
             ranges.append([number, number])
     return ranges
+
+
+def left_races(chart, races):
+    """The races whose earlier event isn't before the receive where instances finish."""
+    before = chart.completed()
+    return [
+        (name, earlier, receive)
+        for name, earlier, receive in races
+        if not before[chart.lines[name][int(receive) - 1]] >> chart.lines[name][int(earlier) - 1] & 1
+    ]
 
 
 def wanted_objects(lines, races, receives):
@@ -66,8 +78,9 @@ def wanted_lines(lines, objects):
 def fault_of(file, text):
     """What is wrong with what is told of a file's races, or nothing."""
     lines, races = lines_of(text.split("endmsc;\n")[0]), races_in(text)
-    for words in ([], ["--receives"]):
-        objects = wanted_objects(lines, races, bool(words))
+    left = left_races(Chart(text), races)
+    for words in ([], ["--receives"], ["--run-to-completion"], ["--receives", "--run-to-completion"]):
+        objects = wanted_objects(lines, left if "--run-to-completion" in words else races, "--receives" in words)
         status, told, said = run(MSCVIEW, "races", *words, file)
         if (status, told.splitlines(), said) != (int(bool(objects)), wanted_lines(lines, objects), ""):
             return f"the lines of races {' '.join(words)}"
@@ -85,7 +98,9 @@ def try_file(name, file):
     if text is None:
         return
     fault = fault_of(file, text)
-    print(f"FAILED {name}: {fault}" if fault else f"held {name}: {len(races_in(text))} races told")
+    races = races_in(text)
+    left = len(left_races(Chart(text), races))
+    print(f"FAILED {name}: {fault}" if fault else f"held {name}: {len(races)} races told, {left} left where instances finish")
 
 
 def main():

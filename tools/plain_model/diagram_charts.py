@@ -1,6 +1,7 @@
 """The chart that a diagram's messages come to."""
 
 from collections import Counter
+from collections.abc import Iterator
 
 from chart_texts import MOST_EVENTS, Chart, Event
 from diagram_messages import Message
@@ -29,12 +30,18 @@ def without_lost(messages: list[Message], instances: list[int]) -> tuple[list[Me
     return kept[::-1], lost[::-1]
 
 
+def all_overtaken(earlier: list[Message], message: Message, instances: list[int]) -> Iterator[Message]:
+    """Those of earlier messages that a message overtakes: they are of the same lane, and received further down."""
+    if not message.is_lost:
+        lane = lane_of(message, instances)
+        for m in earlier:
+            if lane_of(m, instances) == lane and not m.is_lost and m.ends > message.ends:
+                yield m
+
+
 def overtaken(earlier: list[Message], message: Message, instances: list[int]) -> Message | None:
-    """The first of earlier messages that a message overtakes: it is of the same lane, and received further down."""
-    if message.is_lost:
-        return None
-    lane = lane_of(message, instances)
-    return next((m for m in earlier if lane_of(m, instances) == lane and not m.is_lost and m.ends > message.ends), None)
+    """The first of earlier messages that a message overtakes."""
+    return next(all_overtaken(earlier, message, instances), None)
 
 
 def refuse_full_lines(messages: list[Message], instances: list[int]) -> None:
@@ -51,7 +58,11 @@ def refuse_full_lines(messages: list[Message], instances: list[int]) -> None:
 
 def refuse_impossible(messages: list[Message], receives_without_send: list[int], lines: list[int]) -> None:
     """F37, with the line of the first arrow or note with which no chart is possible. `lines` are those of the diagram."""
-    crossing = [message.place.number for i, message in enumerate(messages) if overtaken(messages[:i], message, lines)]
+    crossing = [
+        max(message.whole.number, other.whole.number)
+        for i, message in enumerate(messages)
+        for other in all_overtaken(messages[:i], message, lines)
+    ]
     if faulty := crossing + receives_without_send:
         raise Refused("F37", min(faulty))
 

@@ -15,7 +15,8 @@ EVENT = re.compile(
 class Message(NamedTuple):
     """
     From which line of the diagram to which, from 0, the label, the row in which it is sent, the one in which it is
-    received unless it is lost, and its place in the text.
+    received unless it is lost, its place in the text, and the one from which on all of it is there: that of its arrow,
+    or of the note that receives it.
     """
 
     sender: int
@@ -25,6 +26,7 @@ class Message(NamedTuple):
     ends: int
     is_lost: bool
     place: Line
+    whole: Line
 
 
 class Event(NamedTuple):
@@ -73,7 +75,7 @@ class Collector:
     def arrow(self, arrow: Arrow, row: int) -> None:
         sender, receiver = self.instances[arrow.sender], self.instances[arrow.receiver]
         ends = row + arrow.rows_down
-        self.messages.append(Message(sender, receiver, arrow.label, row, ends, arrow.is_lost, arrow.line))
+        self.messages.append(Message(sender, receiver, arrow.label, row, ends, arrow.is_lost, arrow.line, arrow.line))
 
     def note(self, note: Note, row: int) -> None:
         event = event_of(note, row, self.numbers, self.instances[note.participant])
@@ -81,7 +83,7 @@ class Collector:
             self.reading.told.leave_out("note", note.line)
         elif event.sends:
             self.waiting.setdefault((event.lane, event.label), []).append(len(self.messages))
-            self.messages.append(Message(*event.lane, event.label, row, row, True, event.place))
+            self.messages.append(Message(*event.lane, event.label, row, row, True, event.place, event.place))
         else:
             self.receive(event)
 
@@ -92,4 +94,5 @@ class Collector:
             self.impossible.append(event.place.number)
         else:
             place = waiting.pop(0)
-            self.messages[place] = self.messages[place]._replace(ends=event.row, is_lost=False)
+            sent = self.messages[place]
+            self.messages[place] = sent._replace(ends=event.row, is_lost=False, whole=event.place)

@@ -107,7 +107,7 @@ def read(tool: str | None, text: bytes) -> Reading:
 
 
 def draw(reading: Reading, joins: list[Join]) -> Drawn:
-    """The chart of a diagram, or F34, F22, F7, F37 or F8."""
+    """The chart of a diagram, or F34, F22, F37, F7 or F8."""
     participants = list(reading.participants.values())
     names_of_lines, labels = GivenNames(), GivenNames()
     names = [names_of_lines.new_name(participant.label) for participant in participants]
@@ -116,11 +116,11 @@ def draw(reading: Reading, joins: list[Join]) -> Drawn:
     instances = joined_instances(names, [participant.line for participant in participants], joins)
     parts = joined(collector.messages, instances.of_lines)
     messages, lost = without_lost(parts.messages, instances.of_lines)
-    refuse_full_lines(messages, instances.of_lines)
     refuse_impossible(collector.messages, collector.impossible, list(range(len(names))))
+    refuse_full_lines(messages, instances.of_lines)
     if len(instances.names) < 2:
         raise Refused("F8")
-    for kind, left_out in (("lost message", lost), ("message between joined lines", parts.within)):
+    for kind, left_out in (("message between joined lines", parts.within), ("lost message", lost)):
         for message in left_out:
             reading.told.leave_out(kind, message.place)
     named(labels, messages)
@@ -136,7 +136,7 @@ def draw(reading: Reading, joins: list[Join]) -> Drawn:
 def told(reading: Reading, drawn: Drawn) -> bytes:
     """What is told on standard error."""
     said = []
-    for kind, line in sorted(reading.told.first.items(), key=lambda first: first[::-1]):
+    for kind, line in sorted(reading.told.first.items(), key=lambda told: (told[1].number, told[1].column)):
         count = reading.told.counts[kind]
         if count == 1:
             said.append(f"1 {kind} is left out, in line {line.number}")

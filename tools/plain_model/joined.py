@@ -39,12 +39,11 @@ def joined_instances(names: list[bytes], first_lines: list[int], joins: list[Joi
     parts = [part for join in joins for part in join.parts]
     if any(part not in names for part in parts) or len(set(parts)) < len(parts):
         raise Refused("F34")
-    for i, join in enumerate(joins):
-        if join.name in names and join.name not in parts:
-            raise Refused("F22", first_lines[names.index(join.name)])
-        if other := next((other for other in joins[:i] if other.name == join.name), None):
-            raise Refused("F22", min(first_lines[names.index(part)] for part in other.parts))
     called = {part: join.name for join in joins for part in join.parts}
+    for join in joins:
+        others = (i for i, name in enumerate(names) if called.get(name, name) == join.name and name not in join.parts)
+        if (other := next(others, None)) is not None:
+            raise Refused("F22", first_lines[other])
     instances = [called.get(name, name) for name in names]
     found = list(dict.fromkeys(instances))
     return Instances(found, [found.index(name) for name in instances])

@@ -11,8 +11,8 @@ from diagram_readings import Unfinished
 
 DIRECTIVE = b"%%{"
 DIRECTIVE_END = b"}%%"
-DESCRIPTION = re.compile(rb"acc(?:Title|Descr)[ \t]*:", re.IGNORECASE)
-DESCRIPTION_BLOCK = re.compile(rb"accDescr[ \t]*\{", re.IGNORECASE)
+DESCRIPTION = re.compile(rb"acc(?:Title|Descr)[ \t\r]*:", re.IGNORECASE)
+DESCRIPTION_BLOCK = re.compile(rb"accDescr[ \t\r]*\{", re.IGNORECASE)
 # Up to a comment or the end of a statement. The `#` and the `;` of a character by its number or name are neither.
 PIECE = re.compile(rb"(?:#\w+;|[^#;])*")
 

@@ -20,36 +20,59 @@ DEFINITION = re.compile(rb"!(?:unquoted\s+)?(procedure|function|definelong)\b", 
 ONE_LINE_FUNCTION = re.compile(rb"!(?:unquoted\s+)?function\b.*\)\s*return\b", re.IGNORECASE)
 
 
+def goes_on(line: bytes) -> bool:
+    """Whether a line of the text goes on in the next one: it ends in a single `\\`."""
+    return line.removesuffix(b"\r").endswith(b"\\") and not line.removesuffix(b"\r").endswith(b"\\\\")
+
+
+def piece(line: bytes) -> bytes:
+    """What a line that goes on gives."""
+    return line.removesuffix(b"\r")[:-1]
+
+
+def joined(lines: list[bytes]) -> list[Line]:
+    """The lines with those that they go on in, before anything else is read of them."""
+    joined_lines = []
+    i = 0
+    while i < len(lines):
+        number, words = i + 1, b""
+        while i < len(lines) and goes_on(lines[i]):
+            words += piece(lines[i])
+            i += 1
+        if i < len(lines):
+            words += lines[i]
+            i += 1
+        joined_lines.append(Line(number, 1, words))
+    return joined_lines
+
+
+def in_source(lines: list[bytes], line: Line) -> Line:
+    """The line, with the place in the text where its first byte stands."""
+    number, column = line.number, line.column
+    while number <= len(lines) and goes_on(lines[number - 1]) and column > len(piece(lines[number - 1])):
+        column -= len(piece(lines[number - 1]))
+        number += 1
+    return Line(number, column, line.words)
+
+
 class Extent(NamedTuple):
-    """Where a diagram stands among the lines of a text, counted from 0, and the first line of another one."""
+    """Where a diagram stands among the lines of a text, counted from 0, and the first lines of other ones."""
 
     first: int
     behind: int
     others: list[int]
 
 
-def extent(lines: list[bytes]) -> Extent:
+def extent(lines: list[Line]) -> Extent:
     """The first diagram of a text. A text without `@startuml` is one as a whole, or up to its `@enduml`."""
-    starts = [i for i, line in enumerate(lines) if START.match(line)]
+    starts = [i for i, line in enumerate(lines) if START.match(line.words)]
     first = starts[0] + 1 if starts else 0
-    behind = next((i for i in range(first, len(lines)) if END.match(lines[i])), None)
+    behind = next((i for i in range(first, len(lines)) if END.match(lines[i].words)), None)
     if behind is None:
         if starts:
             raise Unfinished
         behind = len(lines)
     return Extent(first, behind, [i for i in starts[1:] if i > behind])
-
-
-def continued(lines: list[bytes], where: Extent) -> Iterator[Line]:
-    """The lines of the diagram. One that ends in a single `\\` goes on in the next."""
-    i = where.first
-    while i < where.behind:
-        number, words = i + 1, lines[i].removesuffix(b"\r")
-        while words.endswith(b"\\") and not words.endswith(b"\\\\") and i + 1 < where.behind:
-            i += 1
-            words = words[:-1] + lines[i].removesuffix(b"\r")
-        i += 1
-        yield stripped(Line(number, 1, words))
 
 
 def without_comment(line: Line) -> Line:
@@ -59,15 +82,15 @@ def without_comment(line: Line) -> Line:
     return stripped(line._replace(words=LAST_COMMENT.sub(b"", line.words)))
 
 
-def uncommented(lines: Iterator[Line]) -> Iterator[Line]:
+def uncommented(lines: Iterator[Line], source: list[bytes]) -> Iterator[Line]:
     """
     The lines without comments. A comment `/'` that isn't closed on the line that it begins goes on to the next line
     that ends in `'/`. Elsewhere an open `/'` is text.
     """
     for line in lines:
-        line = without_comment(line)
+        line = in_source(source, without_comment(stripped(line)))
         if line.words.startswith(b"/'"):
-            if not any(later.words.endswith(b"'/") for later in lines):
+            if not any(stripped(later).words.endswith(b"'/") for later in lines):
                 raise Unfinished
         elif line.words and not line.words.startswith(b"'"):
             yield line
@@ -104,8 +127,9 @@ def chosen(lines: Iterator[Line], told: Told) -> Iterator[Line]:
 
 def diagram_lines(text: bytes, told: Told) -> Iterator[Line]:
     """The lines of a text's first diagram that say something."""
-    lines = text.split(b"\n")
+    source = text.split(b"\n")
+    lines = joined(source)
     where = extent(lines)
-    yield from chosen(uncommented(continued(lines, where)), told)
+    yield from chosen(uncommented(iter(lines[where.first:where.behind]), source), told)
     for i in where.others:
-        told.leave_out("diagram", stripped(Line(i + 1, 1, lines[i])))
+        told.leave_out("diagram", in_source(source, stripped(lines[i])))

@@ -22,6 +22,8 @@ pub mod Rooms
 pub mod RoomsMade
 pub mod SendAllAnswers
 pub mod SendAnswers
+pub mod Scanning
 pub mod SentAtOnce
 pub mod SeveralSends
 pub mod WholeBoards
+pub mod Untaught

@@ -1,5 +1,5 @@
 -- A receiver that looks at its lane before it takes slots of it.
-use Rattle.std.proofs.Common.{◌≡◌, ◌≢◌, ◌<◌, ℕ, ◌/◌, ◌%◌, ◌≤◌, Bool, true, false, List, [], length, sym, ◌∙◌, subst, arith}
+use Rattle.std.proofs.Common.{◌≡◌, ◌≢◌, ◌<◌, ℕ, ◌*◌, ◌/◌, ◌%◌, ◌≤◌, Bool, true, false, List, [], length, sym, ◌∙◌, subst, arith}
 use Rattle.chart.specs.declared.history.Occurrence.{Occurrence}
 use Rattle.chart.specs.Histories.{own, sent, waiting, is_closed, IsLegal}
 use Rattle.chart.proofs.Histories.{none_begins}
@@ -43,6 +43,12 @@ module _ (l : LaneView) (m w : Mine) (o : Incoming) (legal : IsLegal l.instances
   -- the end that keeps what it found
   pub look_fresh : IsIncoming l.instances (held w).seen l.receiver l.sender (record o { known_put = word / 2 })
   look_fresh = let kept = look_end in record { taken = kept.taken; known = omega (arith, put_is); base = kept.base; long = kept.long }
+
+  -- the word isn't less than what was received says
+  pub look_twice : 2 * o.taken ≤ word
+  look_twice =
+      let now = waiting_many l.instances l.capacity (held w).seen l.sender l.receiver looks.sees.legal in
+      omega (arith, now, looks.found, look_end.taken)
 
   pub look_waits : o.taken < word / 2 → 0 < length (waiting (held w).seen l.sender l.receiver)
   look_waits more =

@@ -4,7 +4,7 @@ use Rattle.atomic_table.specs.Seated.{TableId}
 use Rattle.chart.specs.declared.history.Occurrence.{Occurrence}
 use Rattle.chart.specs.declared.instance.EventNo.{EventNo}
 use Rattle.chart.specs.declared.event.Event.{Event}
-use Rattle.chart.specs.Histories.{own, chart_of, AreTwo, IsLegal, Begins}
+use Rattle.chart.specs.Histories.{own, received, chart_of, AreTwo, IsLegal, Begins}
 
 -- which board it is, of how many instances, and how many slots each lane has
 pub record BoardView : Type 0 where
@@ -64,3 +64,7 @@ last_event post = record { instance = post.number; index = length (line_of post)
 -- the post and another instance of its board
 abbrev pub IsPartner : PostView → ℕ → Type 0
 IsPartner post q = AreTwo post.board.size post.number q
+
+-- the post has received no message
+abbrev pub HasReceivedNothing : PostView → Type 0
+HasReceivedNothing post = (q : ℕ) → received post.made q post.number ≡ 0

@@ -29,6 +29,17 @@ pub enum Glance {
     Ended,
 }
 
+/// What looks at the lanes from several instances find.
+#[derive(Clone, Copy, Debug, PartialEq, Eq)]
+pub enum Scan {
+    /// A message waits on the lane from this instance, the first such lane.
+    Message(InstanceNo),
+    /// None waits on any, and one of them is open.
+    Nothing,
+    /// None waits on any, and all of them are closed: none will come.
+    Ended,
+}
+
 /// What a receive finds.
 #[derive(Debug, Drop)]
 pub enum Taken {

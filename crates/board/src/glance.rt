@@ -1,13 +1,15 @@
 //! A post's looks at its lanes.
+ghost use Rattle.std.specs.Prelude.{◌≤◌, Ok};
 ghost use Rattle.board.specs.Views.{Sound};
 ghost use Rattle.board.specs.Parked.{IsAtBoard};
-ghost use Rattle.board.specs.Glancing.{Glances};
+ghost use Rattle.board.specs.Taking.{IsLaneFrom};
+ghost use Rattle.board.specs.Glancing.{Glances, GlancesAmong, others};
 
-use crate::answer::Glance;
+use crate::answer::{Glance, Scan};
 use crate::error::TakeError;
 use crate::parked::Parked;
 use crate::post::Post;
-use board_table::{Words, look};
+use board_table::{Lane, Words, look};
 use chart::InstanceNo;
 
 impl Parked {
@@ -19,21 +21,62 @@ impl Parked {
         ensures sound { Sound self.old self.new }
         ensures answer { Glances self.old from result self.new }
     {
+        // (what is known of a post is known where a field of it is used)
+        let _ = &self.seat;
         let lane = self.lane_from(from)?;
+        Ok(self.glance_at(words, &lane, from))
+    }
+
+    /// The same, at this lane from an instance.
+    #[inline(always)]
+    fn glance_at(&mut self, words: &Words, lane: &Lane, from: InstanceNo) -> Glance
+        requires board { IsAtBoard words.now.key words.now.table_id self.old }
+        requires lane { IsLaneFrom self.old from lane.now }
+        ensures sound { Sound self.old self.new }
+        ensures answer { Glances self.old from (Ok result) self.new }
+    {
         let end = &mut self.incoming[from.place()];
         if end.taken < end.known_put {
-            return Ok(Glance::Message);
+            return Glance::Message;
         }
-        let word = look(words, &mut self.seat, &lane);
+        let word = look(words, &mut self.seat, lane);
+        if word == 2 * end.taken {
+            return Glance::Nothing;
+        }
         end.known_put = word / 2;
         if end.taken < end.known_put {
-            return Ok(Glance::Message);
+            return Glance::Message;
         }
-        Ok(if word % 2 == 1 {
-            Glance::Ended
-        } else {
-            Glance::Nothing
-        })
+        Glance::Ended
+    }
+
+    /// Whether a message waits on one of the lanes from the others among the instances with a number above `from` and
+    /// up to `to`, which it receives none of. It glances at them in turn, until it finds one. It takes no memory.
+    #[inline(always)]
+    pub fn glance_among(&mut self, words: &Words, from: usize, to: usize) -> Scan
+        requires board { IsAtBoard words.now.key words.now.table_id self.old }
+        requires order { from ≤ to }
+        requires within { to ≤ self.old.board.size }
+        ensures sound { Sound self.old self.new }
+        ensures answer { GlancesAmong self.old (others self.old.number from to) result self.new }
+    {
+        let number = self.number;
+        let shape = self.shape;
+        prove!(to <= shape.instances);
+        let mut is_end = true;
+        for place in from..to {
+            let other = InstanceNo::at_place(place);
+            if other == number {
+                continue;
+            }
+            let lane = Lane::new(&shape, other, number);
+            match self.glance_at(words, &lane, other) {
+                Glance::Message => return Scan::Message(other),
+                Glance::Nothing => is_end = false,
+                Glance::Ended => {}
+            }
+        }
+        if is_end { Scan::Ended } else { Scan::Nothing }
     }
 }
 
@@ -46,5 +89,17 @@ impl<'a> Post<'a> {
         ensures answer { Glances self.old from result self.new }
     {
         self.parked.glance(self.words, from)
+    }
+
+    /// Whether a message waits on one of the lanes from the others among the instances with a number above `from` and
+    /// up to `to`, which it receives none of. It glances at them in turn, until it finds one. It takes no memory.
+    #[inline(always)]
+    pub fn glance_among(&mut self, from: usize, to: usize) -> Scan
+        requires order { from ≤ to }
+        requires within { to ≤ self.old.board.size }
+        ensures sound { Sound self.old self.new }
+        ensures answer { GlancesAmong self.old (others self.old.number from to) result self.new }
+    {
+        self.parked.glance_among(self.words, from, to)
     }
 }

@@ -44,7 +44,7 @@ mod sending;
 mod sending_several;
 mod waking;
 
-pub use answer::{Arrival, Glance, Sent, Stop, Taken, TakenMany};
+pub use answer::{Arrival, Glance, Scan, Sent, Stop, Taken, TakenMany};
 pub use board::{Board, open_parked};
 pub use board_table::{BoardTable, Words};
 pub use error::{
@@ -52,7 +52,7 @@ pub use error::{
     TakeError,
 };
 pub use gathering::{ClosedLane, GatherError, Gathered, Left, gather};
-pub use meeting::{are_all, meet, meet_all, meet_at};
+pub use meeting::{are_all, meet, meet_all, meet_at, place_of};
 pub use parked::Parked;
 pub use post::Post;
 pub use waking::{park_all, wake_all};

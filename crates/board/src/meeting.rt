@@ -98,7 +98,7 @@ pub fn meet_at(posts: &mut [Post], place: usize)
 }
 
 /// Where one of them with this number is: at its own place, if they come in order, and else the first that there is.
-pub(crate) fn place_of(posts: &[Post], number: usize) -> Option<usize>
+pub fn place_of(posts: &[Post], number: usize) -> Option<usize>
     requires { 1 ≤ number }
     ensures some { IfSome result (λ place. IsAt posts.now place number) }
     ensures none { IfNone result (HasNoPost posts.now number) }

@@ -2,7 +2,7 @@
 ghost use Rattle.std.specs.Prelude.{◌≢◌, ◌+◌, ◌<◌, ◌≤◌, IfSome, IfNone, IfErr};
 ghost use Rattle.chart.specs.declared.line.TheConstants.{MAX_EVENTS};
 ghost use Rattle.clock.specs.declared.clock.TheConstants.{INLINE_ENTRIES};
-ghost use Rattle.board.specs.Views.{Sound};
+ghost use Rattle.board.specs.Views.{Sound, HasReceivedNothing};
 ghost use Rattle.board.specs.Parked.{IsAtBoard};
 ghost use Rattle.board.specs.Sending.{Sends, MayPass, IsUnsent};
 
@@ -18,8 +18,8 @@ impl Parked {
     /// Sends a message. It is the first of F14, F13, F30, F12, F7, F11 and F6 that refuses it: then it comes back,
     /// and nothing has changed but that more may be seen.
     ///
-    /// F11 comes only after a look at what the receiver has received, and F6 not while there is room, on boards of up
-    /// to [`clock::INLINE_ENTRIES`] instances.
+    /// F11 comes only after a look at what the receiver has received. F6 doesn't come while there is room, on boards of
+    /// up to [`clock::INLINE_ENTRIES`] instances, and on any board not before its first receive.
     #[inline(always)]
     pub fn send(
         &mut self,
@@ -31,6 +31,8 @@ impl Parked {
         ensures sound { Sound self.old self.new }
         ensures answer { Sends self.old to message result self.new }
         ensures room { 0 < self.old.room → self.old.board.size ≤ INLINE_ENTRIES
+            → IfErr result (λ refused. refused.1 ≢ SendError.Memory) }
+        ensures alone { 0 < self.old.room → HasReceivedNothing self.old
             → IfErr result (λ refused. refused.1 ≢ SendError.Memory) }
     {
         if let Some(error) = self.sends_nothing(to, 1) {
@@ -91,13 +93,15 @@ impl<'a> Post<'a> {
     /// Sends a message. It is the first of F14, F13, F30, F12, F7, F11 and F6 that refuses it: then it comes back,
     /// and nothing has changed but that more may be seen.
     ///
-    /// F11 comes only after a look at what the receiver has received, and F6 not while there is room, on boards of up
-    /// to [`clock::INLINE_ENTRIES`] instances.
+    /// F11 comes only after a look at what the receiver has received. F6 doesn't come while there is room, on boards of
+    /// up to [`clock::INLINE_ENTRIES`] instances, and on any board not before its first receive.
     #[inline(always)]
     pub fn send(&mut self, to: InstanceNo, message: Message) -> Result<Sent, (Message, SendError)>
         ensures sound { Sound self.old self.new }
         ensures answer { Sends self.old to message result self.new }
         ensures room { 0 < self.old.room → self.old.board.size ≤ INLINE_ENTRIES
+            → IfErr result (λ refused. refused.1 ≢ SendError.Memory) }
+        ensures alone { 0 < self.old.room → HasReceivedNothing self.old
             → IfErr result (λ refused. refused.1 ≢ SendError.Memory) }
     {
         self.parked.send(self.words, to, message)

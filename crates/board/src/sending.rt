@@ -4,6 +4,7 @@ ghost use Rattle.chart.specs.Histories.{own, IsLegal};
 ghost use Rattle.chart.specs.declared.history.Occurrence.TheVariants as occurrence;
 ghost use Rattle.chart.specs.declared.line.TheConstants.{MAX_EVENTS};
 ghost use Rattle.clock.specs.declared.clock.TheConstants.{INLINE_ENTRIES};
+ghost use Rattle.clock.specs.Diffs.{AgreeBut};
 ghost use Rattle.line_recorder.specs.Recording.{IsRecorder};
 ghost use Rattle.chart.specs.declared.history.TheConstants.{MAX_CAPACITY};
 ghost use Rattle.board_table.specs.Layout.{IsBoard};
@@ -14,7 +15,7 @@ ghost use Rattle.board.specs.Parts.{MayPut, HasSlots, HasNoSlots, IsUnmade};
 use crate::ends::Outgoing;
 use crate::error::SendError;
 use board_table::{
-    Lane, Seat, Words, claim_again, claim_anew, fill_recorded, give_back_vacant, publish,
+    Lane, Seat, Words, claim_again, claim_anew, fill_begun, give_back_vacant, publish,
 };
 use chart::Message;
 use line_recorder::Recorder;
@@ -43,6 +44,7 @@ pub(crate) fn claim_slots(
     ensures did { Did lane.now.instances lane.now.capacity lane.now.sender (held seat.old.me) (held seat.new.me)
         (held seat.new.me).seen [] }
     ensures end { IsOutgoing lane.now.instances (held seat.new.me).seen lane.now.sender lane.now.receiver end.new }
+    ensures base { end.new.base ≡ end.old.base }
     ensures looks { end.old.put + many ≤ lane.now.capacity + end.old.known_taken
         → (held seat.new.me).looks ≡ (held seat.old.me).looks }
     ensures yes { result ≡ true → HasSlots lane.now many seat.new.me }
@@ -61,7 +63,8 @@ pub(crate) fn claim_slots(
     false
 }
 
-/// Sends a message on an open lane, whose sender's line has room for it.
+/// Sends a message on an open lane, whose sender's line has room for it. It is on its way before it is recorded: all that
+/// can be refused comes first.
 #[inline(always)]
 pub(crate) fn send_one(
     words: &Words,
@@ -88,16 +91,20 @@ pub(crate) fn send_one(
     ensures kept { OnErr result (recorder.new.room ≡ recorder.old.room) }
     ensures room { 0 < recorder.old.room → lane.now.instances ≤ INLINE_ENTRIES
         → IfErr result (λ error. error.1 ≢ SendError.Memory) }
+    ensures alone { 0 < recorder.old.room → AgreeBut lane.now.sender end.old.base recorder.old.knowledge
+        → IfErr result (λ error. error.1 ≢ SendError.Memory) }
 {
     if !claim_slots(words, seat, lane, end, capacity, 1) {
         return Err((message, SendError::Full));
     }
     let put = end.put;
-    if let Err(message) = fill_recorded(words, seat, lane, put, recorder, &mut end.base, message) {
+    let name = message.name();
+    if let Err(message) = fill_begun(words, seat, lane, put, recorder, &mut end.base, message) {
         give_back_vacant(words, seat, lane);
         return Err((message, SendError::Memory));
     }
     end.put += 1;
     publish(words, seat, lane, end.put);
+    recorder.record_begun(lane.receiver(), name);
     Ok(())
 }

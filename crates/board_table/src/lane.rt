@@ -84,7 +84,7 @@ impl Lane {
 
     /// Who receives on it.
     #[inline(always)]
-    pub(crate) fn receiver(&self) -> InstanceNo
+    pub fn receiver(&self) -> InstanceNo
         ensures value { result ≡ self.now.receiver }
         ensures two { AreTwo self.now.instances self.now.sender self.now.receiver }
     {

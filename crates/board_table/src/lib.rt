@@ -35,6 +35,6 @@ pub use meeting::{meet_note, note};
 pub use packet::Packet;
 pub use receiver::{find_again, find_anew, free, give_back_full, look, record_front, take};
 pub use rule::{BoardRule, Seat, Words};
-pub use sender::{claim_again, claim_anew, close, fill, fill_recorded, give_back_vacant, publish};
+pub use sender::{claim_again, claim_anew, close, fill, fill_begun, give_back_vacant, publish};
 pub use shape::Shape;
 pub use table::{BoardTable, deal, open};

@@ -4,7 +4,8 @@ ghost use Rattle.std.specs.Prelude.{IfErr, IfSome, IsOk, IsSome, OnErr, OnOk};
 ghost use Rattle.chart.specs.Histories.{sent, is_closed, chart_of};
 ghost use Rattle.chart.specs.declared.line.TheConstants.{MAX_EVENTS};
 ghost use Rattle.clock.specs.declared.clock.TheConstants.{INLINE_ENTRIES};
-ghost use Rattle.line_recorder.specs.Recorders.{send_clock, after_send};
+ghost use Rattle.clock.specs.Diffs.{AgreeBut};
+ghost use Rattle.line_recorder.specs.Recorders.{send_clock, begun_send};
 ghost use Rattle.board_table.specs.declared.packet.Packet.{Packet};
 ghost use Rattle.board_table.specs.Layout.{IsBoard};
 ghost use Rattle.board_table.specs.Carrying.{AreNext, Carries, sent_base};
@@ -13,7 +14,7 @@ ghost use Rattle.board_table.specs.Plays.{ClaimsAnew, ClaimsAgain, Publishes, Cl
 
 use crate::rule::{ClaimAgain, ClaimAnew, CloseLane, Publish, PutBackFilling, Site};
 use crate::{Lane, Packet, Seat, Words};
-use chart::{InstanceNo, Message};
+use chart::Message;
 use clock::{Clock, Diff};
 use line_recorder::Recorder;
 use std::marker::Brand;
@@ -104,39 +105,37 @@ fn taken_out(slot: &mut Option<Packet>) -> Message
     }
 }
 
-/// Puts a message into an empty slot, records its send to this instance, and makes its difference, in the slot, what
-/// changed in the sender's clock since the base. The base is the message's clock from then on.
+/// Puts a message into an empty slot, begins its send, and makes its difference, in the slot, what changed in the
+/// sender's clock since the base. The base is the message's clock from then on.
 ///
 /// F6: where there is no memory, nothing has changed, and the message comes back.
 #[inline(always)]
-fn record_in(
+fn begin_in(
     slot: &mut Option<Packet>,
     recorder: &mut Recorder,
     base: &mut Clock,
-    to: InstanceNo,
     message: Message,
 ) -> Result<(), Message>
     requires vacant { slot.old ≡ None }
-    requires among { to ≤ length recorder.old.knowledge }
-    requires not_itself { to ≢ recorder.old.line.instance }
     requires entries { length base.old ≡ length recorder.old.knowledge }
     requires short { length recorder.old.line.events < MAX_EVENTS }
     ensures full { OnOk result (IsSome slot.new) }
     ensures put { OnOk result (IfSome slot.new (λ packet. Carries base.old packet
         (record { message = message; clock = send_clock recorder.old }))) }
-    ensures recorder { OnOk result (recorder.new ≡ after_send recorder.old to message.name) }
+    ensures recorder { OnOk result (recorder.new ≡ begun_send recorder.old) }
     ensures base { OnOk result (base.new ≡ send_clock recorder.old) }
     ensures back { IfErr result (λ back. back ≡ message) }
     ensures slot_err { OnErr result (slot.new ≡ None) }
     ensures recorder_err { OnErr result (recorder.new ≡ recorder.old) }
     ensures base_err { OnErr result (base.new ≡ base.old) }
     ensures room { 0 < recorder.old.room → length recorder.old.knowledge ≤ INLINE_ENTRIES → IsOk result }
+    ensures alone { 0 < recorder.old.room → AgreeBut recorder.old.line.instance base.old recorder.old.knowledge
+        → IsOk result }
 {
-    let name = message.name();
     let diff = Diff::none(recorder.alloc());
     *slot = Some(Packet { message, diff });
     let Some(packet) = slot else { unreachable!() };
-    let Ok(()) = recorder.send_over(to, name, base, &mut packet.diff) else {
+    let Ok(()) = recorder.begin_send(base, &mut packet.diff) else {
         return Err(taken_out(slot));
     };
     base.apply(&packet.diff);
@@ -144,12 +143,13 @@ fn record_in(
 }
 
 /// Puts a message into the first empty slot, which is that of the message before which `count` were put on the lane, and
-/// records its send. The base is the clock of the message before it, and is this one's afterwards.
+/// begins its send, which isn't on the sender's line yet. The base is the clock of the message before it, and is this
+/// one's afterwards.
 ///
 /// F6: where there is no memory, nothing has changed, and the message comes back. With room on the line it takes none up
-/// to [`INLINE_ENTRIES`] instances.
+/// to [`INLINE_ENTRIES`] instances, and none where nothing new is known of the others since the base.
 #[inline(always)]
-pub fn fill_recorded(
+pub fn fill_begun(
     words: &Words,
     seat: &mut Seat,
     lane: &Lane,
@@ -164,7 +164,6 @@ pub fn fill_recorded(
     requires room { 0 < vacant_out seat.old.me }
     requires count { count ≡ length (sent (held seat.old.me).seen lane.now.sender lane.now.receiver)
         + length (packets_out seat.old.me) }
-    requires its { recorder.old.line.instance ≡ lane.now.sender }
     requires knows { length recorder.old.knowledge ≡ lane.now.instances }
     requires entries { length base.old ≡ lane.now.instances }
     requires short { length recorder.old.line.events < MAX_EVENTS }
@@ -174,17 +173,18 @@ pub fn fill_recorded(
     ensures packet { OnOk result ((x : Packet) × (packets_out seat.new.me ≡ packets_out seat.old.me ++ x ∷ [])
         × Carries base.old x (record { message = message; clock = send_clock recorder.old })) }
     ensures vacant { OnOk result (suc (vacant_out seat.new.me) ≡ vacant_out seat.old.me) }
-    ensures recorder { OnOk result (recorder.new ≡ after_send recorder.old lane.now.receiver message.name) }
+    ensures recorder { OnOk result (recorder.new ≡ begun_send recorder.old) }
     ensures base { OnOk result (base.new ≡ send_clock recorder.old) }
     ensures back { IfErr result (λ back. back ≡ message) }
     ensures same { OnErr result (seat.new.me ≡ seat.old.me) }
     ensures recorder_err { OnErr result (recorder.new ≡ recorder.old) }
     ensures base_err { OnErr result (base.new ≡ base.old) }
     ensures memory { 0 < recorder.old.room → lane.now.instances ≤ INLINE_ENTRIES → IsOk result }
+    ensures alone { 0 < recorder.old.room → AgreeBut recorder.old.line.instance base.old recorder.old.knowledge
+        → IsOk result }
 {
-    let to = lane.receiver();
     let slot = seat.slot_mut(words, lane.slot(count));
-    record_in(slot, recorder, base, to, message)?;
+    begin_in(slot, recorder, base, message)?;
     seat.turn();
     Ok(())
 }

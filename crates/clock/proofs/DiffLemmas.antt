@@ -1,11 +1,11 @@
 -- Lemmas on differences: the changes of the first instances, one more instance at a time.
 use Rattle.std.proofs.Common.{◌≡◌, ◌≢◌, ◌⊎◌, ℕ, suc, ◌+◌, ◌<◌, ◌≤◌, List, [], ◌∷◌, ◌++◌, map, length, get_or, set, take, drop, All, Contains, subst, refl, sym, ap, ◌∙◌, inl, inr, arith, append_assoc}
-use Rattle.std.proofs.lemmas.Bool.{cases_lt}
+use Rattle.std.proofs.lemmas.Bool.{cases_lt, cases_eq}
 use Rattle.std.proofs.lemmas.List.{take_more, drop_more, set_at, length-take-le, take_all, drop_all, append-nil, map_push, length_push, get_or_append_left, get_or_push}
 use Rattle.std.proofs.lemmas.List.Elements.{All-nil, All-push, All-map, Contains-push, Contains-append_left, Contains-push_cases}
 use Rattle.std.specs.List.Sorted.{IsStrictlyIncreasing}
 use Rattle.clock.specs.Clocks.{with_entry}
-use Rattle.clock.specs.Diffs.{apply_diff, IsChange, IsDiff}
+use Rattle.clock.specs.Diffs.{apply_diff, IsChange, IsDiff, AgreeBut}
 use Rattle.clock.specs.declared.diff.Change.{Change}
 
 -- the changes of the first n instances, applied and counted
@@ -126,3 +126,20 @@ pub restored : (base clock : List ℕ) (n : ℕ) (diff : List Change) → length
     → IsDiffUpTo base clock n diff → apply_diff base diff ≡ clock
 restored base clock n diff same all h =
     h.applied ∙ ap (λ rest. take n clock ++ rest) (drop_all n base (omega arith)) ∙ append-nil (take n clock) ∙ take_all n clock (omega arith)
+
+-- where no entry differs but that of one instance, each change is of it
+of_one : (p : ℕ) (base clock : List ℕ) (change : Change) → AgreeBut p base clock → IsChange base clock change → change.instance ≡ p
+of_one p base clock change agree is = elim (cases_eq change.instance p) [
+  | inl same ↦ same
+  | inr other ↦ absurd (is.differs (is.entry ∙ agree change.instance other))
+]
+
+-- and so there is one change at most
+pub one_change : (p n : ℕ) (base clock : List ℕ) (diff : List Change) → AgreeBut p base clock → IsDiffUpTo base clock n diff → length diff ≤ 1
+one_change p n base clock [] agree h = omega arith
+one_change p n base clock (a ∷ []) agree h = omega arith
+one_change p n base clock (a ∷ b ∷ rest) agree h =
+    let first : a.instance ≡ p = of_one p base clock a agree (h.sound a (0, omega arith, refl)) in
+    let second : b.instance ≡ p = of_one p base clock b agree (h.sound b (1, omega arith, refl)) in
+    let less : a.instance < b.instance = h.rising 0 (omega arith) in
+    absurd (omega arith)

@@ -2,7 +2,7 @@
 use Rattle.std.proofs.Common.{◌≡◌, ◌≢◌, ℕ, zero, suc, ◌+◌, ◌<◌, ◌≤◌, max, List, [], ◌∷◌, length, get_or, take, replicate, refl, sym, ap, ◌∙◌, arith}
 use Rattle.std.proofs.lemmas.List.{get_or-set_same, get_or-set_other, length-set, set-set, set-get_or, get_or-replicate, length-replicate, take_more}
 use Rattle.clock.specs.Clocks.{entry_of, with_entry, merged}
-use Rattle.clock.specs.Diffs.{apply_diff}
+use Rattle.clock.specs.Diffs.{apply_diff, AgreeBut}
 use Rattle.clock.specs.declared.diff.Change.{Change}
 use Rattle.clock.proofs.ClockLemmas.{get_or-merged}
 use Rattle.clock.proofs.DiffLemmas.{apply_diff-push}
@@ -17,6 +17,10 @@ pub entry_of-with_entry_other : (clock : List ℕ) (p q i : ℕ) → (q ≡ p �
 entry_of-with_entry_other clock p zero i other = refl
 entry_of-with_entry_other clock zero (suc k) i other = refl
 entry_of-with_entry_other clock (suc j) (suc k) i other = get_or-set_other clock j k i 0 (λ e. other (ap suc e))
+
+-- and so a stamp leaves the entries that agreed
+pub agree_stamped : (base clock : List ℕ) (p i : ℕ) → AgreeBut p base clock → AgreeBut p base (with_entry clock p i)
+agree_stamped base clock p i agree q other = entry_of-with_entry_other clock p q i other ∙ agree q other
 
 pub length-with_entry : (clock : List ℕ) (p i : ℕ) → length (with_entry clock p i) ≡ length clock
 length-with_entry clock zero i = refl

@@ -21,3 +21,7 @@ pub record IsChange (base clock : List ℕ) (change : Change) : Type 0 where
 pub record IsDiff (base clock : List ℕ) (diff : List Change) : Type 0 where
   pub rising : IsStrictlyIncreasing (map (λ change. change.instance) diff)
   pub exact : (change : Change) → Contains diff change ↔ IsChange base clock change
+
+-- the clocks differ in no entry but that of one instance
+abbrev pub AgreeBut : ℕ → List ℕ → List ℕ → Type 0
+AgreeBut p base clock = (q : ℕ) → q ≢ p → entry_of clock q ≡ entry_of base q

@@ -1,9 +1,9 @@
 //! The clock of an instance.
-ghost use Rattle.std.specs.Prelude.{◌≡◌, ◌≤◌, length, replicate, nat_eq, All, IsOk, IfOk, OnOk};
+ghost use Rattle.std.specs.Prelude.{◌≡◌, ◌≤◌, ℕ, length, replicate, nat_eq, All, IsOk, IfOk, OnOk};
 ghost use Rattle.std.specs.Cmp.{partial_equiv_from_equiv};
 ghost use Rattle.std.specs.Cmp.Lexicographic.{pointwise, nat_list_eq_equiv};
 ghost use Rattle.clock.specs.Clocks.{entry_of, with_entry, merged};
-ghost use Rattle.clock.specs.Diffs.{IsDiff, apply_diff};
+ghost use Rattle.clock.specs.Diffs.{IsDiff, apply_diff, AgreeBut};
 
 use crate::Diff;
 use crate::entries::{entry_after, find_changes, raise, set_changes};
@@ -150,7 +150,8 @@ impl Clock {
     /// Makes the difference that of the entries that differ from `base`'s, as [`Clock::diff_from`] answers it, in place.
     /// What it had is dropped, also where it is refused.
     ///
-    /// F6: it fails only where there is no memory, and up to [`INLINE_ENTRIES`] instances it takes none.
+    /// F6: it fails only where there is no memory. Up to [`INLINE_ENTRIES`] instances it takes none, and none where one
+    /// entry alone differs.
     #[inline(always)]
     pub fn diff_into(&self, base: &Clock, diff: &mut Diff) -> Result<(), AllocError>
         requires { length self.now ≡ length base.now }
@@ -159,6 +160,7 @@ impl Clock {
         ensures within { OnOk result (All (λ change. change.instance ≤ length self.now) diff.new) }
         ensures at_most { OnOk result (length diff.new ≤ length self.now) }
         ensures succeeds { length self.now ≤ INLINE_ENTRIES → IsOk result }
+        ensures alone { (p : ℕ) → AgreeBut p base.now self.now → IsOk result }
     {
         find_changes(
             self.entries.as_slice(),

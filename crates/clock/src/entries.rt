@@ -1,8 +1,8 @@
 //! What clocks do to their entries, as slices.
-ghost use Rattle.std.specs.Prelude.{◌≡◌, ◌≤◌, length, All, IsOk, OnOk};
+ghost use Rattle.std.specs.Prelude.{◌≡◌, ◌≤◌, ℕ, length, All, IsOk, OnOk};
 ghost use Rattle.smallvec.specs.SmallVec.{small_vec_len};
 ghost use Rattle.clock.specs.Clocks.{entry_of, merged};
-ghost use Rattle.clock.specs.Diffs.{IsDiff, apply_diff};
+ghost use Rattle.clock.specs.Diffs.{IsDiff, apply_diff, AgreeBut};
 
 use crate::{Change, INLINE_ENTRIES};
 use chart::{InstanceNo, MAX_INSTANCES};
@@ -34,6 +34,7 @@ pub(crate) fn find_changes(
     ensures within { OnOk result (All (λ change. change.instance ≤ length entries.now) changes.new.items) }
     ensures at_most { OnOk result (small_vec_len changes.new ≤ length entries.now) }
     ensures succeeds { length entries.now ≤ INLINE_ENTRIES → IsOk result }
+    ensures alone { (p : ℕ) → AgreeBut p base.now entries.now → IsOk result }
 {
     prove!(INLINE_ENTRIES <= changes.capacity());
     changes.clear();

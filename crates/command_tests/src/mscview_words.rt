@@ -1,10 +1,12 @@
 //! Command lines of `mscview` that are understood, and those that aren't.
+use std::alloc::Global;
+use std::process::Abort;
 use view_line::{
     CommandLineError, Compare, Draw, Export, Import, Pair, Question, Races, Request, requested,
 };
 
 /// Words that aren't a command line.
-static MISSED: [&[&str]; 26] = [
+static MISSED: [&[&str]; 30] = [
     &["mscview"],
     &["mscview", "help"],
     &["mscview", "--help"],
@@ -13,8 +15,6 @@ static MISSED: [&[&str]; 26] = [
     &["mscview", "why", "f", "a", "1"],
     &["mscview", "why", "f", "a", "1", "2", "3"],
     &["mscview", "why", "--help"],
-    &["mscview", "draw"],
-    &["mscview", "draw", "--numbers"],
     &["mscview", "draw", "f", "g"],
     &["mscview", "draw", "f", "--only"],
     &["mscview", "draw", "f", "--onl", "a"],
@@ -22,15 +22,23 @@ static MISSED: [&[&str]; 26] = [
     &["mscview", "draw", "--help"],
     &["mscview", "draw", "f", "--numbers", "--numbers"],
     &["mscview", "export", "f"],
-    &["mscview", "export", "--to", "mscgen"],
     &["mscview", "export", "f", "--to"],
     &["mscview", "export", "f", "--from", "mscgen"],
-    &["mscview", "import", "f"],
+    &["mscview", "import", "f", "g"],
     &["mscview", "import", "f", "--to", "mscgen"],
+    &["mscview", "import", "f", "--from"],
+    &[
+        "mscview", "import", "f", "--from", "mscgen", "--from", "mscgen",
+    ],
+    &["mscview", "import", "f", "--strict", "--strict"],
+    &["mscview", "import", "f", "--skip"],
+    &["mscview", "import", "f", "--join", "a=b"],
     &["mscview", "compare", "f"],
     &["mscview", "compare", "f", "g", "h"],
     &["mscview", "races", "f", "g"],
     &["mscview", "races", "f", "--only"],
+    &["mscview", "tidy", "f", "g"],
+    &["mscview", "tidy", "--json"],
 ];
 
 #[test]
@@ -59,7 +67,7 @@ fn words_of_a_race_line(rt: HostRuntime) {
 
 #[test]
 fn words_of_a_picture(rt: HostRuntime) {
-    let words = ["mscview", "draw", "a file"];
+    let words = ["mscview", "draw"];
     assert!(rt;
         matches!(
             requested(rt.alloc(), &words),
@@ -67,7 +75,7 @@ fn words_of_a_picture(rt: HostRuntime) {
                 only: None,
                 events: None,
                 numbers: false,
-                file: "a file",
+                file: None,
             }))
         )
     );
@@ -88,7 +96,7 @@ fn words_of_a_picture(rt: HostRuntime) {
                 only: Some("client,east"),
                 events: Some("2..7"),
                 numbers: true,
-                file: "a file",
+                file: Some("a file"),
             }))
         )
     );
@@ -102,20 +110,37 @@ fn words_of_other_tools(rt: HostRuntime) {
             requested(rt.alloc(), &words),
             Ok(Request::Export(Export {
                 to: "mscgen",
-                file: "a file",
+                file: Some("a file"),
             }))
         )
     );
-    let words = ["mscview", "import", "--from", "plantuml", "a file"];
-    assert!(rt;
-        matches!(
-            requested(rt.alloc(), &words),
-            Ok(Request::Import(Import {
-                from: "plantuml",
-                file: "a file",
-            }))
-        )
-    );
+}
+
+/// The words of a command line that asks for an import, or ends the test.
+fn import<'a>(rt: &impl Abort, alloc: Global, words: &'a [&'a str]) -> Import<'a> {
+    match requested(alloc, words) {
+        Ok(Request::Import(import)) => import,
+        _ => panic!(rt; "not read"),
+    }
+}
+
+#[test]
+fn words_of_an_import(rt: HostRuntime) {
+    let words = ["mscview", "import"];
+    let plain = import(&rt, rt.alloc(), &words);
+    assert_eq!(&rt; plain.from, None);
+    assert!(&rt; !plain.strict);
+    assert_eq!(&rt; plain.skipped.len(), 0);
+    assert_eq!(&rt; plain.file, None);
+    let words = [
+        "mscview", "import", "--skip", "2..3", "--strict", "--from", "plantuml", "a file",
+        "--skip", "7..7",
+    ];
+    let full = import(&rt, rt.alloc(), &words);
+    assert_eq!(&rt; full.from, Some("plantuml"));
+    assert!(&rt; full.strict);
+    assert_eq!(&rt; full.skipped.as_slice(), ["2..3", "7..7"].as_slice());
+    assert_eq!(&rt; full.file, Some("a file"));
 }
 
 #[test]
@@ -142,21 +167,31 @@ fn words_of_races(rt: HostRuntime) {
             Ok(Request::Races(Races {
                 only: Some("a,b"),
                 receives: false,
+                run_to_completion: false,
                 json: true,
                 file: Some("a file"),
             }))
         )
     );
-    let words = ["mscview", "races", "--receives"];
+    let words = ["mscview", "races", "--receives", "--run-to-completion"];
     assert!(rt;
         matches!(
             requested(rt.alloc(), &words),
             Ok(Request::Races(Races {
                 only: None,
                 receives: true,
+                run_to_completion: true,
                 json: false,
                 file: None,
             }))
         )
     );
+}
+
+#[test]
+fn words_of_what_is_typed(rt: HostRuntime) {
+    let words = ["mscview", "tidy", "-"];
+    assert!(rt; matches!(requested(rt.alloc(), &words), Ok(Request::Tidy(Some("-")))));
+    let words = ["mscview", "tidy"];
+    assert!(rt; matches!(requested(rt.alloc(), &words), Ok(Request::Tidy(None))));
 }

@@ -7,8 +7,8 @@ use Rattle.chart.specs.declared.instance.EventNo.{EventNo}
 use Rattle.layout.specs.declared.row.Row.{Row}
 use Rattle.layout.specs.declared.row.Row.TheVariants.{Message, Event}
 use Rattle.msc_text.specs.ChartText.{name_at}
-use Rattle.tool_text.specs.declared.saying.Tool.{Tool}
-use Rattle.tool_text.specs.declared.saying.Tool.TheVariants.{Mscgen, PlantUml, Mermaid}
+use Rattle.tool_text.specs.declared.Tool.{Tool}
+use Rattle.tool_text.specs.declared.Tool.TheVariants.{Mscgen, PlantUml, Mermaid}
 use Rattle.exports.specs.declared.word.Word.TheVariants as words
 use Rattle.exports.specs.Exports.{ExportView, note_of}
 use Rattle.exports.specs.Sayings.{saying_of}

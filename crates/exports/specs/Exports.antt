@@ -8,7 +8,7 @@ use Rattle.closure.specs.Faults.{place_of}
 use Rattle.layout.specs.declared.row.Row.{Row}
 use Rattle.layout.specs.Ends.{end_of as other_end}
 use Rattle.layout.specs.Layouts.{row_of}
-use Rattle.tool_text.specs.declared.saying.Tool.{Tool}
+use Rattle.tool_text.specs.declared.Tool.{Tool}
 
 -- what an export is written from
 pub record ExportView : Type 0 where

@@ -7,7 +7,7 @@ use Rattle.chart.specs.declared.instance.EventNo.{EventNo}
 use Rattle.closure.specs.Faults.{place_of}
 use Rattle.layout.specs.declared.row.Row.{Row}
 use Rattle.layout.specs.Layouts.{row_of}
-use Rattle.tool_text.specs.declared.saying.Tool.{Tool}
+use Rattle.tool_text.specs.declared.Tool.{Tool}
 use Rattle.exports.specs.Exports.{ExportView}
 
 -- the notes of rows, with that of one row more

@@ -9,8 +9,8 @@ use Rattle.layout.specs.declared.row.Row.{Row}
 use Rattle.layout.specs.declared.row.Row.TheVariants as rows
 use Rattle.exports.specs.declared.saying.Saying.{Saying}
 use Rattle.exports.specs.declared.saying.Saying.TheVariants.{Arrow, Lost, Late, Sends, Receives, Space}
-use Rattle.tool_text.specs.declared.saying.Tool.{Tool}
-use Rattle.tool_text.specs.declared.saying.Tool.TheVariants.{Mscgen, PlantUml, Mermaid}
+use Rattle.tool_text.specs.declared.Tool.{Tool}
+use Rattle.tool_text.specs.declared.Tool.TheVariants.{Mscgen, PlantUml, Mermaid}
 use Rattle.exports.specs.Exports.{ExportView, event_of, end_of, skip}
 
 -- the tool has arrows that end lower than they begin

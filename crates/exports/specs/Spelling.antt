@@ -7,8 +7,8 @@ use Rattle.msc_text.specs.ChartText.{name_at}
 use Rattle.text_parts.specs.RaceWords.{amount, ranges_text}
 use Rattle.exports.specs.declared.saying.Saying.{Saying}
 use Rattle.exports.specs.declared.saying.Saying.TheVariants.{Arrow, Lost, Late, Sends, Receives, Space}
-use Rattle.tool_text.specs.declared.saying.Tool.{Tool}
-use Rattle.tool_text.specs.declared.saying.Tool.TheVariants.{Mscgen, PlantUml, Mermaid}
+use Rattle.tool_text.specs.declared.Tool.{Tool}
+use Rattle.tool_text.specs.declared.Tool.TheVariants.{Mscgen, PlantUml, Mermaid}
 use Rattle.exports.specs.declared.word.Word.TheVariants as words
 use Rattle.exports.specs.Exports.{ExportView}
 use Rattle.exports.specs.Words.{spelled}

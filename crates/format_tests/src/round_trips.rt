@@ -1,6 +1,7 @@
 //! Charts of drawn schedules that go to a tool and come back.
 
-use formats::{Target, export, import};
+use diagram_imports::{Options, import_text};
+use formats::{Target, export};
 use interleaver::drawn;
 use msc_text::MemoryOut;
 use replayer::replay;
@@ -30,9 +31,14 @@ fn comes_back(rt: &impl Abort, alloc: Global, chart: &[u8], tool: Tool) {
         &mut told,
     );
     assert_eq!(rt; status, 0);
+    let options = Options {
+        skipped: &[],
+        joins: &[],
+        is_strict: false,
+    };
+    let imported = import_text(alloc, Some(tool), exported.as_bytes(), options).expect(rt, "a chart");
     let mut again = MemoryOut::new(alloc);
-    let status = import(alloc, exported.as_bytes(), tool, &mut again, &mut told);
-    assert_eq!(rt; status, 0);
+    msc_text::write(&imported.drawn.names, &imported.drawn.chart, &mut again).expect(rt, "a chart's text");
     assert_eq!(rt; again.as_bytes(), chart);
 }
 

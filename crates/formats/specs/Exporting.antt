@@ -6,8 +6,8 @@ use Rattle.chart.specs.declared.instance.EventNo.{EventNo}
 use Rattle.chart.specs.Charts.{LineView, chart_lines, IsPossible}
 use Rattle.chart.specs.Events.{greatest_region}
 use Rattle.chart.specs.Reports.{ReportView, AreReports}
-use Rattle.tool_text.specs.declared.saying.Tool.{Tool}
-use Rattle.tool_text.specs.declared.saying.Tool.TheVariants.{PlantUml}
+use Rattle.tool_text.specs.declared.Tool.{Tool}
+use Rattle.tool_text.specs.declared.Tool.TheVariants.{PlantUml}
 use Rattle.exports.specs.Clocks.{log_of}
 use Rattle.exports.specs.Exports.{ExportView}
 use Rattle.exports.specs.ExportText.{export_text}

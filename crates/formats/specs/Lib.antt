@@ -2,7 +2,6 @@ pub mod Answers
 pub mod Columns
 pub mod Drawing
 pub mod Exporting
-pub mod Importing
 pub mod Preparing
 pub mod Spans
 pub mod Targets

@@ -1,7 +1,7 @@
 -- Which tools a word of a command line names.
 use Rattle.std.specs.Prelude.{ℕ, List, Option, None, Some, option_map, bytes_eq, codes, if◌then◌else◌}
-use Rattle.tool_text.specs.declared.saying.Tool.{Tool}
-use Rattle.tool_text.specs.declared.saying.Tool.TheVariants.{Mscgen, PlantUml, Mermaid}
+use Rattle.tool_text.specs.declared.Tool.{Tool}
+use Rattle.tool_text.specs.declared.Tool.TheVariants.{Mscgen, PlantUml, Mermaid}
 use Rattle.formats.specs.declared.target.Target.{Target}
 use Rattle.formats.specs.declared.target.Target.TheVariants.{Diagram, ShiViz}
 

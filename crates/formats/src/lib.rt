@@ -1,5 +1,4 @@
-//! What the program `mscview` draws of a file, writes for other tools and reads of them, and what it says where it
-//! can't.
+//! What the program `mscview` draws of a file and writes for other tools, and what it says where it can't.
 //!
 //! What is promised of [`draw`]: the bytes of the file, its name, the names of columns and the numbers of two events
 //! decide the output's bytes, but for where the rows of a layout are.
@@ -14,8 +13,7 @@
 //!
 //! Of [`export`] the same is promised with the text of the tool in place of the picture; and with status 0 standard
 //! error tells what such a text can't say: a message that isn't level, where the tool has no arrow for it, and
-//! coregions. Of [`import`] it is promised with the text of the chart that a tool's text says; then standard error
-//! tells each label that became another name, and that notes are left out.
+//! coregions.
 #![tactic(auto)]
 
 mod answering;
@@ -24,7 +22,6 @@ mod drawing;
 mod error;
 mod events;
 mod exporting;
-mod importing;
 mod preparing;
 mod target;
 
@@ -34,5 +31,4 @@ pub use drawing::{Wanted, draw};
 pub use error::FormatError;
 pub use events::{Events, events_in};
 pub use exporting::export;
-pub use importing::import;
 pub use target::{Target, target_in, tool_in};

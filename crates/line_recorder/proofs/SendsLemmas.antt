@@ -1,10 +1,10 @@
 -- Several sends at once are those sends one after another.
-use Rattle.std.proofs.Common.{◌≡◌, ℕ, zero, suc, ◌+◌, ◌-◌, List, [], ◌∷◌, ◌++◌, length, map, refl, sym, ap, ap₂, ◌∙◌, arith, append_assoc, append-nil}
+use Rattle.std.proofs.Common.{◌≡◌, ℕ, zero, suc, ◌+◌, ◌-◌, max, List, [], ◌∷◌, ◌++◌, length, map, refl, sym, ap, ap₂, ◌∙◌, arith, append_assoc, append-nil}
 use Rattle.std.proofs.lemmas.List.{length-append}
 use Rattle.chart.specs.Charts.{LineView}
 use Rattle.chart.specs.Events.{send_event}
 use Rattle.clock.proofs.EntryLemmas.{with_entry-with_entry}
-use Rattle.line_recorder.specs.Recorders.{RecorderView, send_clock, after_send, after_sends, send_clocks}
+use Rattle.line_recorder.specs.Recorders.{RecorderView, send_clock, after_send, begun_send, after_begun, after_sends, send_clocks}
 use Rattle.line_recorder.specs.Sends.{clock_at, next_clocks, known_after}
 
 -- after a send the clocks of the later ones are what they were
@@ -45,3 +45,7 @@ after_sends_is r to (name ∷ names) =
 pub is_after_sends : (r : RecorderView) (to : ℕ) (names : List (List ℕ)) (line : LineView) (known : List ℕ) (room : ℕ) → line ≡ record { instance = r.line.instance; events = r.line.events ++ map (send_event to) names } → known ≡ known_after r (length names) → room ≡ r.room - length names
     → ◌≡◌ {A = RecorderView} (record { line = line; knowledge = known; reports = r.reports; room = room }) (after_sends r to names)
 is_after_sends r to names line known room is_line is_known is_room = rw (after_sends_is r to names, is_line, is_known, is_room) refl
+
+-- a send that was begun and then recorded is a send
+pub begun_sent : (r : RecorderView) (to : ℕ) (name : List ℕ) → after_begun (begun_send r) to name ≡ after_send r to name
+begun_sent r to name = let room : max r.room 1 - 1 ≡ r.room - 1 = omega arith in rw room refl

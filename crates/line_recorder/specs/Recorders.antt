@@ -42,6 +42,24 @@ after_send r to name = record {
   room = r.room - 1;
 }
 
+-- with all ready for a send, which is known from then on, but isn't on the line yet
+abbrev pub begun_send : RecorderView → RecorderView
+begun_send r = record {
+  line = r.line;
+  knowledge = send_clock r;
+  reports = r.reports;
+  room = max r.room 1;
+}
+
+-- after that send is on the line too
+abbrev pub after_begun : RecorderView → ℕ → List ℕ → RecorderView
+after_begun r to name = record {
+  line = with_event r.line (send_event to name);
+  knowledge = r.knowledge;
+  reports = r.reports;
+  room = r.room - 1;
+}
+
 -- after a receive of which there is this report, before anything is known of its message
 abbrev pub after_report : RecorderView → ℕ → List ℕ → ℕ → ReportView → RecorderView
 after_report r from name region report = record {

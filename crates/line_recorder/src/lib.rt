@@ -9,7 +9,7 @@
 //! - A receive's report is made by its message's clock alone; the report is kept, and the clock is merged
 //!   ([`Recorder::receive`]).
 //! - The same with clocks told as what changed in them since another one, of which no copy is made
-//!   ([`Recorder::send_over`], [`Recorder::receive_over`]).
+//!   ([`Recorder::begin_send`], [`Recorder::receive_over`]).
 //! - A full line (F7), and then a refused allocation (F6), leave all as it was.
 //! - After [`Recorder::reserve`] there is room for so many events, and each event takes one place of it. With room, a
 //!   send among up to eight instances isn't refused for want of memory.

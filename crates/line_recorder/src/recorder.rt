@@ -2,10 +2,11 @@
 ghost use Rattle.std.specs.Prelude.{◌≡◌, ◌≢◌, ◌≤◌, ◌<◌, ◌+◌, ◌↔◌, length, All, Err, OnOk, OnErr, IfOk, IsOk};
 ghost use Rattle.chart.specs.Events.{MayHaveRegion};
 ghost use Rattle.clock.specs.Clocks.{with_entry};
-ghost use Rattle.clock.specs.Diffs.{IsDiff, apply_diff};
+ghost use Rattle.clock.specs.Diffs.{IsDiff, apply_diff, AgreeBut};
 ghost use Rattle.clock.specs.declared.clock.TheConstants.{INLINE_ENTRIES};
 ghost use Rattle.line_recorder.specs.Sends.{next_clocks, known_after};
 ghost use Rattle.line_recorder.specs.Recorders.{new_recorder, with_room, send_clock, after_send, after_sends};
+ghost use Rattle.line_recorder.specs.Recorders.{begun_send, after_begun};
 ghost use Rattle.line_recorder.specs.Recorders.{send_clocks, after_report, after_receive, IsReportAbove, IsReportOf};
 
 use crate::error::RecordError;
@@ -173,48 +174,50 @@ impl Recorder {
         Ok(clock)
     }
 
-    /// Records a send to this instance, as [`Recorder::send`] does, and makes the difference what changed in its clock
-    /// since the base. No clock is copied.
+    /// Makes all ready for the next event to be a send, which [`Recorder::record_begun`] then records: room for it on the
+    /// line, its own number in what is known, and the difference, which is what changed in its clock since the base. No
+    /// clock is copied. So its message can be on its way before it is recorded.
     ///
-    /// A refusal, the first of F7 and F6 that applies, changes nothing but the difference. With room it takes no memory
-    /// up to [`INLINE_ENTRIES`] instances.
+    /// F6: it fails only where there is no memory, and then nothing has changed but the difference. With room it takes
+    /// none up to [`INLINE_ENTRIES`] instances, and none where nothing new is known of the others since the base.
     #[inline(always)]
-    pub fn send_over(
-        &mut self,
-        to: InstanceNo,
-        name: Name,
-        base: &Clock,
-        diff: &mut Diff,
-    ) -> Result<(), RecordError>
-        requires among { to ≤ length self.old.knowledge }
-        requires not_itself { to ≢ self.old.line.instance }
+    pub fn begin_send(&mut self, base: &Clock, diff: &mut Diff) -> Result<(), AllocError>
         requires entries { length base.now ≡ length self.old.knowledge }
-        ensures ok { OnOk result (self.new ≡ after_send self.old to name) }
+        requires short { length self.old.line.events < MAX_EVENTS }
+        ensures ok { OnOk result (self.new ≡ begun_send self.old) }
         ensures exact { OnOk result (IsDiff base.now (send_clock self.old) diff.new) }
         ensures clock { OnOk result (apply_diff base.now diff.new ≡ send_clock self.old) }
         ensures within { OnOk result (All (λ change. change.instance ≤ length base.now) diff.new) }
-        ensures room { 0 < self.old.room → length self.old.knowledge ≤ INLINE_ENTRIES
-            → result ≢ Err RecordError.Memory }
-        ensures full { (result ≡ Err RecordError.LineFull) ↔ (length self.old.line.events ≡ MAX_EVENTS) }
+        ensures room { 0 < self.old.room → length self.old.knowledge ≤ INLINE_ENTRIES → IsOk result }
+        ensures alone { 0 < self.old.room → AgreeBut self.old.line.instance base.now self.old.knowledge → IsOk result }
         ensures err { OnErr result (self.new ≡ self.old) }
     {
-        if self.line.len() >= MAX_EVENTS {
-            return Err(RecordError::LineFull);
-        }
+        self.line.reserve(1)?;
         let own = self.line.instance();
         let next = self.line.len() as u32 + 1;
         let before = self.knowledge.entry(own);
         self.knowledge.stamp(own, next);
         let Ok(()) = self.knowledge.diff_into(base, diff) else {
             set_back(&mut self.knowledge, own, before);
-            return Err(RecordError::Memory);
+            return Err(AllocError);
         };
-        let Ok(()) = self.line.push(Event::Send { to, name }) else {
-            set_back(&mut self.knowledge, own, before);
-            return Err(RecordError::Memory);
-        };
-        self.room = self.room.saturating_sub(1);
+        self.room = self.room.max(1);
         Ok(())
+    }
+
+    /// Records the send to this instance that [`Recorder::begin_send`] made all ready for. It isn't refused, and takes no
+    /// memory.
+    #[inline(always)]
+    pub fn record_begun(&mut self, to: InstanceNo, name: Name)
+        requires not_itself { to ≢ self.old.line.instance }
+        requires short { length self.old.line.events < MAX_EVENTS }
+        requires begun { 0 < self.old.room }
+        ensures { self.new ≡ after_begun self.old to name }
+    {
+        let Ok(()) = self.line.push(Event::Send { to, name }) else {
+            unreachable!()
+        };
+        self.room -= 1;
     }
 
     /// Records a send to this instance for each name, in their order, and answers their clocks, as if each were made by

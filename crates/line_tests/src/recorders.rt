@@ -3,7 +3,7 @@ ghost use Rattle.std.specs.Prelude.{◌≡◌, ◌≢◌, ◌≤◌, length, All
 
 use crate::clocks::{difference, holds, lists, zero};
 use crate::named::{every_growth_was_refused, instance, name};
-use chart::{InstanceNo, MAX_INSTANCES, Name, Report};
+use chart::{InstanceNo, MAX_EVENTS, MAX_INSTANCES, Name, Report};
 use clock::{Clock, Diff};
 use line_recorder::Recorder;
 use std::alloc::Global;
@@ -251,8 +251,9 @@ fn sends_over(rt: &impl Abort, a: &mut Recorder, base: &Clock, diff: &mut Diff)
 {
     let to = other(rt, a, B);
     assert!(rt; base.len() == a.knowledge().len());
-    a.send_over(to, name(rt, b"x"), base, diff)
-        .expect(rt, "a send");
+    assert!(rt; a.line().len() < MAX_EVENTS);
+    a.begin_send(base, diff).expect(rt, "a send");
+    a.record_begun(to, name(rt, b"x"));
 }
 
 /// The second instance receives it.

@@ -1,14 +1,13 @@
 -- Looks at one lane after another, of which none found a message so far.
-use Rattle.std.proofs.Common.{◌≡◌, ◌≢◌, ℕ, suc, ◌+◌, ◌-◌, ◌<◌, ◌≤◌, ◌&&◌, inl, inr, Bool, true, false, List, [], ◌∷◌, ◌++◌, length, drop, Ok, Err, refl, sym, ap, ap₂, ◌∙◌, subst, arith, append-nil, append_assoc, length-append}
+use Rattle.std.proofs.Common.{◌≡◌, ◌≢◌, ℕ, ◌+◌, ◌-◌, ◌<◌, ◌≤◌, ◌&&◌, inl, inr, Bool, true, false, List, [], ◌∷◌, ◌++◌, length, drop, Ok, Err, refl, sym, ap, ap₂, ◌∙◌, subst, arith, append-nil, append_assoc, length-append}
 use Rattle.std.specs.Prelude.{All, Result, IsErrAnd}
-use Rattle.std.proofs.lemmas.Bool.{and_right, eq-eqb, ne_eqb}
+use Rattle.std.proofs.lemmas.Bool.{and_right}
 use Rattle.std.proofs.lemmas.List.{map-append}
 use Rattle.std.proofs.lemmas.List.Elements.{All-nil, All-cons, All-append, All-weaker}
 use Rattle.chart.specs.declared.history.Occurrence.{Occurrence}
 use Rattle.chart.specs.declared.history.Occurrence.TheVariants.{Receive}
 use Rattle.chart.specs.Histories.{own, waiting, is_closed, Begins}
 use Rattle.chart.proofs.Histories.{begins_same, begins_onward, closed_begins, drained_begins, none_begins}
-use Rattle.chart.proofs.Scans.{range-next}
 use Rattle.board.specs.declared.answer.Arrival.{Arrival}
 use Rattle.board.specs.declared.answer.Taken.{Taken}
 use Rattle.board.specs.declared.answer.Taken.TheVariants.{Got, Nothing, Ended}
@@ -16,7 +15,9 @@ use Rattle.board.specs.declared.error.TakeError.{TakeError}
 use Rattle.board.specs.declared.error.TakeError.TheVariants.{NoSuchInstance, ToItself, LineFull, Memory}
 use Rattle.board.specs.Views.{BoardView, PostView, Sound, Stays}
 use Rattle.board.specs.Taking.{IsGot, IsFoundEmpty, Waits, Takes}
-use Rattle.mailbox.specs.TakingAny.{others, Look, lanes_of, NoneWaits, IsFirst, IsOneOpen, IsDrained, IsEnd, AreFoundEmpty, IsFirstUntaken, TakesFirst, LooksAtAll}
+use Rattle.board.specs.Glancing.{AreGlanced, IsFirstWaiting}
+use Rattle.board.proofs.Scanning.{and_true, and_assoc, sound-onward}
+use Rattle.mailbox.specs.TakingAny.{Look, lanes_of, NoneWaits, IsFirst, IsOneOpen, IsDrained, IsEnd, AreFoundEmpty, IsFirstUntaken, TakesFirst, LooksAtAll}
 
 -- what was seen may be less
 none-from : (p : ℕ) (less seen : List Occurrence) (looks : List Look) (after : List Occurrence) → Begins less seen → NoneWaits p seen looks after → NoneWaits p less looks after
@@ -40,10 +41,6 @@ open-left p (look ∷ looks) more (inr later) = inr (open-left p looks more late
 open-right : (p : ℕ) (looks more : List Look) → IsOneOpen p more → IsOneOpen p (looks ++ more)
 open-right p [] more opened = opened
 open-right p (look ∷ looks) more opened = inr (open-right p looks more opened)
-
-and_true : (b : Bool) → b && true ≡ b
-and_true true = refl
-and_true false = refl
 
 -- a drained lane stays drained
 drained-later : (mid new : PostView) → Sound mid new → (q : ℕ) → IsDrained mid q → IsDrained new q
@@ -72,16 +69,7 @@ looked-all old order its_end now looked =
     let all : w.0 ≡ order = sym (append-nil w.0) ∙ w.1 in
     subst (λ x. Stays old now × AreFoundEmpty old x its_end now × (old.looks + length x ≤ now.looks)) all (looked.stays, w.2, w.3)
 
--- what holds from one call to the next holds over both
-pub sound-onward : (old mid new : PostView) → Sound old mid → Sound mid new → Sound old new
-sound-onward old mid new earlier later = record {
-  same = record { board = later.same.board ∙ earlier.same.board; number = later.same.number ∙ earlier.same.number };
-  later = begins_onward old.seen mid.seen new.seen earlier.later later.later;
-  legal = later.legal;
-  own = later.own;
-  looks = omega (arith, earlier.looks, later.looks);
-}
-
+-- what a call leaves that makes no event holds over both
 stays-onward : (old mid new : PostView) → Stays old mid → Stays mid new → Stays old new
 stays-onward old mid new earlier later = record { made = later.made ∙ earlier.made; region = later.region ∙ earlier.region; room = later.room ∙ earlier.room }
 
@@ -200,28 +188,6 @@ takes-one old new q (Err ToItself) sound among other takes = absurd (other takes
 takes-one old new q (Err LineFull) sound among other takes = ((takes.0, (q, ([], [], refl, sound.later), takes.1)), tt)
 takes-one old new q (Err Memory) sound among other takes = ((takes.0, (q, ([], [], refl, sound.later), takes.1)), tt)
 
--- the lanes from the numbers above a and up to b but p: that after a comes first, unless it is p
-next-other : (p a b : ℕ) → a < b → a + 1 ≢ p → others p a b ≡ (a + 1) ∷ others p (a + 1) b
-next-other p a b less other = let ne = ne_eqb (a + 1) p other in rw (range-next a b less, ne)
-
-next-own : (p a b : ℕ) → a < b → a + 1 ≡ p → others p a b ≡ others p (a + 1) b
-next-own p a b less own = let same = eq-eqb (a + 1) p own in rw (range-next a b less, same)
-
-module _ (old mid : PostView) (order : List ℕ) (a b : ℕ) (its_end : Bool) (less : a < b) (looked : HasLooked old order (others old.number a b) its_end mid) where
-  -- a number that isn't another's is passed over
-  pub passed-over : (q : ℕ) → q ≡ suc a → q ≡ old.number → HasLooked old order (others old.number (a + 1) b) its_end mid
-  passed-over q is own = subst (λ x. HasLooked old order x its_end mid) (next-own old.number a b less (omega (arith, is, own))) looked
-
-  -- a receive from the next of them
-  pub received-next : (new : PostView) (q : ℕ) (result : Result Taken TakeError) → Sound old old → q ≡ suc a → q ≢ old.number → b ≤ old.board.size → Sound mid new → Takes mid q result new
-      → GoesOn old order (others old.number (a + 1) b) its_end result new
-  received-next new q result first is other within later takes =
-      let number : q ≡ a + 1 = omega (arith, is) in
-      let here = subst (λ x. HasLooked old order x its_end mid) (next-other old.number a b less (λ same. other (number ∙ same))) looked in
-      let size : mid.board.size ≡ old.board.size = ap (λ (board : BoardView). board.size) looked.sound.same.board in
-      let one = takes-one mid new (a + 1) result later (omega (arith, less, within, size)) (λ same. other (number ∙ same ∙ looked.sound.same.number)) (subst (λ x. Takes mid x result new) number takes) in
-      goes-on old mid new first order ((a + 1) ∷ []) (others old.number (a + 1) b) its_end here later result one.0 one.1
-
 -- a post that only saw more still has looked
 still-looked : (old mid now : PostView) (order rest : List ℕ) (its_end : Bool) → Sound old old → HasLooked old order rest its_end mid → Sound mid now → Stays mid now → HasLooked old order rest its_end now
 still-looked old mid now order rest its_end first looked later stays =
@@ -231,15 +197,44 @@ still-looked old mid now order rest its_end first looked later stays =
 waits-none : (q : ℕ) (now : PostView) → 0 < length (waiting now.seen q now.number) → waiting now.seen q now.number ≡ [] → ⊥
 waits-none q now some none = absurd (omega (arith, some, ap length none))
 
--- a look at the next of them found that a message waits, and then it was received, or refused
-pub message-next : (old mid now new : PostView) (order : List ℕ) (a b : ℕ) (its_end : Bool) → a < b → HasLooked old order (others old.number a b) its_end mid → (q : ℕ) (result : Result Taken TakeError) → Sound old old → q ≡ suc a → q ≢ old.number → b ≤ old.board.size → Sound mid now → Stays mid now → 0 < length (waiting now.seen q now.number) → Sound now new → Takes now q result new
+-- looks at the next lanes, one after another
+looked-along : (old mid new : PostView) (order some rest : List ℕ) (its_end more_end : Bool) → Sound old old → HasLooked old order (some ++ rest) its_end mid → AreGlanced mid some more_end new → HasLooked old order rest (its_end && more_end) new
+looked-along old mid new order [] rest its_end more_end first looked glanced =
+    subst (λ now. HasLooked old order rest (its_end && more_end) now) (sym glanced.0)
+    (subst (λ e. HasLooked old order rest e mid) (sym (ap (λ e. its_end && e) glanced.1 ∙ and_true its_end)) looked)
+looked-along old mid new order (q ∷ some) rest its_end more_end first looked glanced =
+    let sound = glanced.3 in
+    let here = looked-on old mid glanced.0 first order (q ∷ []) (some ++ rest) its_end looked sound glanced.1 glanced.4 (one-empty mid glanced.0 q glanced.1 sound glanced.5) (omega (arith, glanced.5.looked)) in
+    subst (λ e. HasLooked old order rest e new) (and_assoc its_end glanced.1 glanced.2 ∙ ap (λ e. its_end && e) (sym glanced.7))
+    (looked-along old glanced.0 new order some rest (its_end && glanced.1) glanced.2 first here glanced.6)
+
+-- at all lanes, from the first on
+pub looked-among : (old new : PostView) (order : List ℕ) (its_end : Bool) → Sound old old → AreGlanced old order its_end new → HasLooked old order [] its_end new
+looked-among old new order its_end first glanced =
+    looked-along old old new order order [] true its_end first (subst (λ rest. HasLooked old order rest true old) (sym (append-nil order)) (looked-none old order first)) glanced
+
+-- a message waits on one of the lanes, and then it was received, or refused
+pub message-among : (old now new : PostView) (order : List ℕ) (q : ℕ) (result : Result Taken TakeError) → Sound old old → IsFirstWaiting old order q now → Sound now new → Takes now q result new
     → TakesFirst old order result new × LooksAtAll (length order) old result new
-message-next old mid now new order a b its_end less looked q (Ok (Got arrival)) first is other within later stays some last takes =
-    (received-next old now order a b its_end less (still-looked old mid now order (others old.number a b) its_end first looked later stays) new q (Ok (Got arrival)) first is other within last takes, tt)
-message-next old mid now new order a b its_end less looked q (Ok Nothing) first is other within later stays some last takes = absurd (waits-none q now some takes.1.before)
-message-next old mid now new order a b its_end less looked q (Ok Ended) first is other within later stays some last takes = absurd (waits-none q now some takes.1.before)
-message-next old mid now new order a b its_end less looked q (Err error) first is other within later stays some last takes =
-    (received-next old now order a b its_end less (still-looked old mid now order (others old.number a b) its_end first looked later stays) new q (Err error) first is other within last takes, tt)
+message-among old now new order q result first found last takes = go result takes (goes-on old now new first order (q ∷ []) found.after found.its_end still last result one.0 one.1)
+  where
+    begun : HasLooked old order (found.before ++ (q ∷ found.after)) true old
+    begun = subst (λ rest. HasLooked old order rest true old) found.order_is (looked-none old order first)
+
+    still : HasLooked old order (q ∷ found.after) found.its_end now
+    still = still-looked old found.mid now order (q ∷ found.after) found.its_end first (looked-along old old found.mid order found.before (q ∷ found.after) true found.its_end first begun found.empty) found.later found.stays
+
+    one : TakesFirst now (q ∷ []) result new × LooksAtAll 1 now result new
+    one =
+        let two = found.waits.two in
+        let same = found.later.same in
+        takes-one now new q result last (subst (λ (board : BoardView). q ≤ board.size) (sym same.board) two.3) (λ its. two.4 (sym same.number ∙ sym its)) takes
+
+    go : (r : Result Taken TakeError) → Takes now q r new → GoesOn old order found.after found.its_end r new → TakesFirst old order r new × LooksAtAll (length order) old r new
+    go (Ok (Got arrival)) its goes = (goes, tt)
+    go (Ok Nothing) its goes = absurd (waits-none q now found.waits.waits its.1.before)
+    go (Ok Ended) its goes = absurd (waits-none q now found.waits.waits its.1.before)
+    go (Err error) its goes = (goes, tt)
 
 -- a refusal that is handed on
 pub refused : (old : PostView) (order : List ℕ) (new : PostView) (result : Result Taken TakeError) (error : TakeError) → IsErrAnd result (λ e. e ≡ error) → TakesFirst old order (Err error) new → TakesFirst old order result new

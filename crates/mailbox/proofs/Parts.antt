@@ -9,7 +9,8 @@ use Rattle.board.specs.declared.answer.Taken.{Taken}
 use Rattle.board.specs.declared.answer.Taken.TheVariants.{Got, Nothing, Ended}
 use Rattle.board.specs.declared.error.TakeError.{TakeError}
 use Rattle.board.specs.Views.{PostView, Sound}
-use Rattle.mailbox.specs.TakingAny.{others, TakesFirst, LooksAtAll, TakesAny}
+use Rattle.board.specs.Glancing.{others}
+use Rattle.mailbox.specs.TakingAny.{TakesFirst, LooksAtAll, TakesAny}
 use Rattle.mailbox.proofs.Looks.{HasLooked, GoesOn, looked-none, looked-all, goes-on}
 
 abbrev pub both_parts : PostView → ℕ → List ℕ

@@ -1,7 +1,6 @@
 -- What a receive from any instance answers (this project's profile).
-use Rattle.std.specs.Prelude.{◌≡◌, ℕ, ◌+◌, ◌-◌, ◌≤◌, ◌⊎◌, ◌==◌, not, Bool, true, false, List, [], ◌∷◌, ◌++◌, map, drop}
-use Rattle.std.specs.Prelude.{filter, All, Result, Ok, Err}
-use Rattle.std.specs.List.{range_with_len}
+use Rattle.std.specs.Prelude.{◌≡◌, ℕ, ◌+◌, ◌-◌, ◌≤◌, ◌⊎◌, Bool, true, false, List, [], ◌∷◌, ◌++◌, map, drop}
+use Rattle.std.specs.Prelude.{All, Result, Ok, Err}
 use Rattle.chart.specs.declared.history.Occurrence.{Occurrence}
 use Rattle.chart.specs.Histories.{waiting, is_closed, Begins}
 use Rattle.chart.specs.Scans.{scan}
@@ -11,10 +10,6 @@ use Rattle.board.specs.declared.error.TakeError.{TakeError}
 use Rattle.board.specs.declared.error.TakeError.TheVariants.{NoSuchInstance, ToItself, LineFull, Memory}
 use Rattle.board.specs.Views.{PostView, Stays}
 use Rattle.board.specs.Taking.{IsGot, IsUntaken}
-
--- the instances but p with a number past `from` and up to `to`
-abbrev pub others : ℕ → ℕ → ℕ → List ℕ
-others p from to = filter (λ q. not (q == p)) (range_with_len (from + 1) (to - from))
 
 -- a look at the lane from an instance, and the history in which it was
 pub record Look : Type 0 where

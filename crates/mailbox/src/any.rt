@@ -1,9 +1,10 @@
 //! Receives from whichever instance has a message.
 ghost use Rattle.std.specs.Prelude.{◌≤◌, length, unwrap_or};
 ghost use Rattle.board.specs.Views.{Sound};
-ghost use Rattle.mailbox.specs.TakingAny.{others, TakesFirst, LooksAtAll, TakesAny};
+ghost use Rattle.board.specs.Glancing.{others};
+ghost use Rattle.mailbox.specs.TakingAny.{TakesFirst, LooksAtAll, TakesAny};
 
-use board::{Glance, Post, TakeError, Taken};
+use board::{Post, Scan, TakeError, Taken};
 use chart::InstanceNo;
 
 /// Receives the first message that waits on the lanes to a post, which are looked at in cyclic order: after the lane
@@ -48,20 +49,11 @@ fn any_among(post: &mut Post, from: usize, to: usize) -> Result<Taken, TakeError
     ensures answer { TakesFirst post.old (others post.old.number from to) result post.new }
     ensures looks { LooksAtAll (length (others post.old.number from to)) post.old result post.new }
 {
-    let me = post.number();
     let size = post.board_size();
     prove!(to <= size);
-    let mut is_end = true;
-    for place in from..to {
-        let other = InstanceNo::at_place(place);
-        if other == me {
-            continue;
-        }
-        match post.glance(other)? {
-            Glance::Nothing => is_end = false,
-            Glance::Ended => {}
-            Glance::Message => return post.receive(other),
-        }
+    match post.glance_among(from, to) {
+        Scan::Message(other) => post.receive(other),
+        Scan::Nothing => Ok(Taken::Nothing),
+        Scan::Ended => Ok(Taken::Ended),
     }
-    Ok(if is_end { Taken::Ended } else { Taken::Nothing })
 }

@@ -1,16 +1,23 @@
 //! mscview: reads the command line and one file, and hands the file's bytes to the library.
 #![tactic(auto)]
 
+mod joins;
+
+use crate::joins::{join_words, joins_of};
 use command_line::CommandLineError;
 use comparisons::compare;
+use diagram_imports::{Options, Skip};
 use files::{ProgramError, number_in, refused};
-use formats::{Events, Target, Wanted, draw, events_in, export, import, target_in, tool_in};
+use formats::{Events, Target, Wanted, draw, events_in, export, target_in, tool_in};
+use import_answers::import;
 use msc_text::{Out, StreamOut};
 use race_answers::races;
+use std::alloc::Global;
 use std::io::Read;
 use std::process::ExitCode;
 use std::rt::{Env, Files};
 use std::{env, fs, io};
+use tidying::tidy;
 use tool_text::Tool;
 use view_line::{Compare, Draw, Export, Import, Pair, Question, Races, Request, requested};
 use views::{Asked, why, witness};
@@ -79,7 +86,7 @@ fn wanted_by<'a>(draw: &Draw<'a>) -> Result<Wanted<'a>, ProgramError> {
         Some(word) => events_in(word).ok_or(ProgramError::Usage)?,
     };
     Ok(Wanted {
-        file: draw.file.as_bytes(),
+        file: draw.file.unwrap_or("-").as_bytes(),
         only: draw.only.map(|names| names.as_bytes()),
         events,
         numbers: draw.numbers,
@@ -87,14 +94,14 @@ fn wanted_by<'a>(draw: &Draw<'a>) -> Result<Wanted<'a>, ProgramError> {
 }
 
 /// Explains a pair of events, or turns it round.
-fn view_pair<R: Files + AllocGlobal, W: Out, V: Out>(
+fn view_pair<R: Files + Input + AllocGlobal, W: Out, V: Out>(
     rt: &R,
     pair: &Pair<'_>,
     out: &mut W,
     err: &mut V,
 ) -> Result<u8, ProgramError> {
     let asked = asked_by(pair)?;
-    let bytes = bytes_of(rt, pair.file)?;
+    let bytes = bytes_in(rt, Some(pair.file))?;
     let status = match pair.question {
         Question::Witness => witness(rt.alloc(), bytes.as_slice(), &asked, out, err),
         Question::Why => why(rt.alloc(), bytes.as_slice(), &asked, out, err),
@@ -103,14 +110,14 @@ fn view_pair<R: Files + AllocGlobal, W: Out, V: Out>(
 }
 
 /// Draws a file.
-fn view_picture<R: Files + AllocGlobal, W: Out, V: Out>(
+fn view_picture<R: Files + Input + AllocGlobal, W: Out, V: Out>(
     rt: &R,
     picture: &Draw<'_>,
     out: &mut W,
     err: &mut V,
 ) -> Result<u8, ProgramError> {
     let wanted = wanted_by(picture)?;
-    let bytes = bytes_of(rt, picture.file)?;
+    let bytes = bytes_in(rt, picture.file)?;
     Ok(draw(rt.alloc(), bytes.as_slice(), &wanted, out, err))
 }
 
@@ -120,32 +127,68 @@ fn target_by(exported: &Export<'_>) -> Result<Target, ProgramError> {
 }
 
 /// Writes a file as another tool's text.
-fn view_export<R: Files + AllocGlobal, W: Out, V: Out>(
+fn view_export<R: Files + Input + AllocGlobal, W: Out, V: Out>(
     rt: &R,
     exported: &Export<'_>,
     out: &mut W,
     err: &mut V,
 ) -> Result<u8, ProgramError> {
     let target = target_by(exported)?;
-    let bytes = bytes_of(rt, exported.file)?;
+    let bytes = bytes_in(rt, exported.file)?;
     Ok(export(rt.alloc(), bytes.as_slice(), target, out, err))
 }
 
-/// Which tool is imported from. G1: the word names none.
-fn tool_by(imported: &Import<'_>) -> Result<Tool, ProgramError> {
-    tool_in(imported.from).ok_or(ProgramError::Usage)
+/// Which tool is imported from, if a word says so. G1: the word names none.
+fn tool_by(imported: &Import<'_>) -> Result<Option<Tool>, ProgramError> {
+    match imported.from {
+        None => Ok(None),
+        Some(word) => match tool_in(word) {
+            None => Err(ProgramError::Usage),
+            tool => Ok(tool),
+        },
+    }
+}
+
+/// The lines that a word says to skip. G1: it says none.
+fn skip_by(word: &str) -> Result<Skip, ProgramError> {
+    let lines = events_in(word).ok_or(ProgramError::Usage)?;
+    Ok(Skip {
+        first: u64::from(lines.first),
+        last: u64::from(lines.last),
+    })
+}
+
+/// The lines that are skipped. G1: a word says none.
+fn skips_by(alloc: Global, imported: &Import<'_>) -> Result<Vec<Skip>, ProgramError> {
+    let mut skips = Vec::new(alloc);
+    for word in &imported.skipped {
+        let skip = skip_by(*word)?;
+        skips.push(skip).map_err(|_| ProgramError::Memory)?;
+    }
+    Ok(skips)
 }
 
 /// Writes the chart of another tool's text.
-fn view_import<R: Files + AllocGlobal, W: Out, V: Out>(
+fn view_import<R: Files + Input + AllocGlobal, W: Out, V: Out>(
     rt: &R,
     imported: &Import<'_>,
     out: &mut W,
     err: &mut V,
 ) -> Result<u8, ProgramError> {
     let tool = tool_by(imported)?;
-    let bytes = bytes_of(rt, imported.file)?;
-    Ok(import(rt.alloc(), bytes.as_slice(), tool, out, err))
+    let skips = skips_by(rt.alloc(), imported)?;
+    let words = join_words(rt.alloc(), imported.joined.as_slice())?;
+    let joins = match joins_of(rt.alloc(), words.as_slice()) {
+        Ok(joins) => joins,
+        Err(_) => return Err(ProgramError::Memory),
+    };
+    let bytes = bytes_in(rt, imported.file)?;
+    let options = Options {
+        skipped: skips.as_slice(),
+        joins: joins.as_slice(),
+        is_strict: imported.strict,
+    };
+    Ok(import(rt.alloc(), tool, bytes.as_slice(), options, out, err))
 }
 
 /// Compares two files.
@@ -177,6 +220,7 @@ fn view_races<R: Files + Input + AllocGlobal, W: Out, V: Out>(
     let wanted = race_answers::Wanted {
         only: asked.only.map(|names| names.as_bytes()),
         receives: asked.receives,
+        run_to_completion: asked.run_to_completion,
         form: if asked.json {
             told_races::Form::Json
         } else {
@@ -184,6 +228,17 @@ fn view_races<R: Files + Input + AllocGlobal, W: Out, V: Out>(
         },
     };
     Ok(races(rt.alloc(), bytes.as_slice(), &wanted, out, err))
+}
+
+/// Writes what is typed in a file as an exact text.
+fn view_tidy<R: Files + Input + AllocGlobal, W: Out, V: Out>(
+    rt: &R,
+    file: Option<&str>,
+    out: &mut W,
+    err: &mut V,
+) -> Result<u8, ProgramError> {
+    let bytes = bytes_in(rt, file)?;
+    Ok(tidy(rt.alloc(), bytes.as_slice(), out, err))
 }
 
 /// Does what the words ask for, and answers the exit status.
@@ -200,6 +255,7 @@ fn view<R: Files + Input + AllocGlobal, W: Out, V: Out>(
         Request::Import(imported) => view_import(rt, &imported, out, err),
         Request::Compare(wanted) => view_comparison(rt, &wanted, out, err),
         Request::Races(asked) => view_races(rt, &asked, out, err),
+        Request::Tidy(file) => view_tidy(rt, file, out, err),
     }
 }
 

@@ -1,7 +1,7 @@
 -- Which races of a file are shown.
 use Rattle.std.specs.Prelude.{◌≡◌, ℕ, List, length, Option, option_map, Result, Ok, Err}
 use Rattle.chart.specs.Charts.{chart_lines, IsPossible}
-use Rattle.chart.specs.Reports.{ReportView, AreReports}
+use Rattle.chart.specs.Reports.{ReportView}
 use Rattle.files.specs.declared.error.ProgramError.TheVariants as errors
 use Rattle.files.specs.Texts.{OfFile, named_of}
 use Rattle.files.specs.Files.{Named, IsRefused}
@@ -13,7 +13,7 @@ use Rattle.msc_text.specs.Writing.{Puts, Breaks}
 use Rattle.race_answers.specs.declared.showing.Wanted.{Wanted}
 use Rattle.race_answers.specs.declared.status.Status.{Status}
 use Rattle.race_answers.specs.Statuses.{status_in}
-use Rattle.told_races.specs.Telling.{Manner, races_text, shows_races}
+use Rattle.told_races.specs.Telling.{Manner, AreTold, races_text, shows_races}
 
 -- the bytes that name the instances, if there are some
 abbrev pub only_of : Wanted → Option (List ℕ)
@@ -21,13 +21,18 @@ only_of wanted = option_map (λ bytes. bytes.now) wanted.only
 
 -- how they are told: of these instances
 abbrev pub manner_of : Wanted → List ℕ → Manner
-manner_of wanted instances = record { form = wanted.form; receives = wanted.receives; only = instances }
+manner_of wanted instances = record {
+  form = wanted.form;
+  receives = wanted.receives;
+  only = instances;
+  completed = wanted.run_to_completion;
+}
 
--- The reports of a possible chart, and the instances that are asked for: those that the bytes name, or all.
+-- The reports of a possible chart that are told, and the instances that are asked for: those that the bytes name, or all.
 pub record AreWanted (wanted : Wanted) (named : Named) (instances : List ℕ) (reports : List ReportView) : Type 0 where
   pub named_so : AreColumns named.0 (only_of wanted) instances
   pub possible : IsPossible (length named.1) (chart_lines named.1)
-  pub races : AreReports named.1 reports
+  pub races : AreTold wanted.run_to_completion named.1 reports
 
 -- what is written of them
 abbrev pub text_of : Wanted → Named → List ℕ → List ReportView → List ℕ

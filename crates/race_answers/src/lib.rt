@@ -4,7 +4,8 @@
 //!
 //! - With status 0 or 1 exactly the text of the races was written: of the reports of the receives of the chart that the
 //!   file says, which is possible, those of the instances that are named, or all, and of the earlier events that are
-//!   shown. The status is 1 where there is one, and else 0.
+//!   shown; where instances finish what a message makes them do before they receive again, of the races that are left
+//!   then. The status is 1 where one is shown, and else 0.
 //! - With status 2 the refusal's line was written, or a beginning of it where standard error failed, and nothing went
 //!   to the output before it, unless a write failed (F24).
 #![tactic(auto)]

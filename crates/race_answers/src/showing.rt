@@ -1,15 +1,17 @@
 //! The races of a file, by the names of their messages.
-ghost use Rattle.std.specs.Prelude.{◌≡◌, length};
+ghost use Rattle.std.specs.Prelude.{◌≡◌, length, IfSome};
 ghost use Rattle.chart.specs.Charts.{chart_lines, IsPossible};
 ghost use Rattle.files.specs.Answers.{Answers};
 ghost use Rattle.files.specs.Texts.{named_of};
 ghost use Rattle.formats.specs.Columns.{AreColumns};
 ghost use Rattle.race_answers.specs.Showing.{only_of, Shows, ShowsText};
 ghost use Rattle.race_answers.specs.Statuses.{shown_said};
+ghost use Rattle.told_races.specs.Telling.{is_there};
 
 use crate::status::Status;
 use chart::{InstanceNo, Names};
 use closure::Closure;
+use completion::Completion;
 use files::{ProgramError, Source, Text, answered, closure_of};
 use formats::{FormatError, columns_in};
 use msc_text::Out;
@@ -23,19 +25,26 @@ pub struct Wanted<'a> {
     pub only: Option<&'a [u8]>,
     /// Whether of the earlier events receives alone are shown.
     pub receives: bool,
+    /// Whether instances finish what a message makes them do before they receive again: then the races that are left
+    /// are shown.
+    pub run_to_completion: bool,
     pub form: Form,
 }
 
-/// Writes the races of these instances of a possible chart. All memory is taken before the first byte is written.
-fn show_races<W: Out>(
+/// Writes the races of these instances of a possible chart, where there is a completion those that are left. All memory
+/// is taken before the first byte is written.
+fn show_told<W: Out>(
     names: &Names,
     closure: &Closure<'_>,
     instances: &[InstanceNo],
     wanted: &Wanted<'_>,
+    completion: Option<&Completion<'_>>,
     out: &mut W,
 ) -> Result<Status, FormatError>
     requires instances { AreColumns names.now (only_of wanted.now) instances.now }
     requires possible { IsPossible (length closure.now) (chart_lines closure.now) }
+    requires lines { IfSome completion (λ completion. completion.now ≡ closure.now) }
+    requires asked { is_there completion ≡ wanted.now.run_to_completion }
     ensures { Shows W.sink out.old out.new result wanted.now (names.now, closure.now) }
 {
     let Ok(reporter) = closure.reporter() else {
@@ -46,12 +55,35 @@ fn show_races<W: Out>(
         lines: closure.lines(),
         only: instances,
         receives: wanted.receives,
+        completion,
         form: wanted.form,
     };
     match write_races(&told, reporter, out) {
         Ok(shown) => Ok(Status::of(shown)),
         Err(_) => Err(FormatError::Program(ProgramError::Write)),
     }
+}
+
+/// Writes the races of these instances of a possible chart that are wanted.
+fn show_races<W: Out>(
+    alloc: Global,
+    names: &Names,
+    closure: &Closure<'_>,
+    instances: &[InstanceNo],
+    wanted: &Wanted<'_>,
+    out: &mut W,
+) -> Result<Status, FormatError>
+    requires instances { AreColumns names.now (only_of wanted.now) instances.now }
+    requires possible { IsPossible (length closure.now) (chart_lines closure.now) }
+    ensures { Shows W.sink out.old out.new result wanted.now (names.now, closure.now) }
+{
+    if !wanted.run_to_completion {
+        return show_told(names, closure, instances, wanted, None, out);
+    }
+    let Ok(completion) = Completion::of(alloc, closure) else {
+        return Err(FormatError::Program(ProgramError::Memory));
+    };
+    show_told(names, closure, instances, wanted, Some(&completion), out)
 }
 
 /// Writes the races that are wanted of the chart. F34: a name of `--only` is none of the chart's, or is there twice.
@@ -67,7 +99,7 @@ fn show_source<W: Out>(
     let names = source.names();
     let instances = columns_in(alloc, names, wanted.only)?;
     let closure = closure_of(alloc, names, source.chart())?;
-    show_races(names, &closure, instances.as_slice(), wanted, out)
+    show_races(alloc, names, &closure, instances.as_slice(), wanted, out)
 }
 
 /// Writes the races that are wanted of what the file says.

@@ -1,2 +1,3 @@
 pub mod FoundRaces
 pub mod Joined
+pub mod LaterRaces

@@ -1,5 +1,5 @@
 -- Which earlier events of a receive are shown, and as which ranges (this project's profile).
-use Rattle.std.specs.Prelude.{Bool, false, true, List, filter, Option, None, Some, if◌then◌else◌}
+use Rattle.std.specs.Prelude.{ℕ, Bool, false, true, List, filter, nat_lt, Option, None, Some, if◌then◌else◌}
 use Rattle.chart.specs.declared.event.Event.{Event}
 use Rattle.chart.specs.declared.event.Event.TheVariants.{Send, Receive}
 use Rattle.chart.specs.declared.instance.EventNo.{EventNo}
@@ -20,3 +20,19 @@ is_kept events only e = if only then receives (ith events e.index) else true
 -- the earlier events that are shown, as the fewest ranges
 abbrev pub kept_ranges : List Event → Bool → List EventNo → List EventRange
 kept_ranges events only earlier = ranges_of (filter (is_kept events only) earlier)
+
+-- an event is later than so many first ones of its line
+abbrev pub is_later : ℕ → EventNo → Bool
+is_later passed e = nat_lt passed e.index
+
+-- those that are
+abbrev pub later_than : ℕ → List EventNo → List EventNo
+later_than passed events = filter (is_later passed) events
+
+-- an earlier event is shown where those up to a number aren't
+abbrev pub is_kept_after : List Event → Bool → ℕ → EventNo → Bool
+is_kept_after events only passed e = if is_later passed e then is_kept events only e else false
+
+-- those that are shown then, as the fewest ranges
+abbrev pub kept_after : List Event → Bool → ℕ → List EventNo → List EventRange
+kept_after events only passed earlier = ranges_of (filter (is_kept_after events only passed) earlier)

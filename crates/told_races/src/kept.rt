@@ -2,7 +2,7 @@
 ghost use Rattle.std.specs.Prelude.{◌≡◌, ◌∷◌, [], length, filter, drop, All, IfSome, MatchOption};
 ghost use Rattle.chart.specs.Events.{ith};
 ghost use Rattle.chart.specs.Ranges.{IsRange, events_in, is_followed_by, ranges_of, range_before};
-ghost use Rattle.told_races.specs.Kept.{is_kept, kept_ranges, receives};
+ghost use Rattle.told_races.specs.Kept.{is_kept_after, kept_after, kept_ranges, later_than, receives};
 
 use chart::{Event, EventNo, EventRange};
 use std::marker::Model;
@@ -24,11 +24,13 @@ fn receives(event: Option<Event>) -> bool
     matches!(event, Some(Event::Receive { .. }))
 }
 
-/// Whether an earlier event of the line is shown: each, or receives alone.
-fn is_kept(events: &[Event], only: bool, event: &EventNo) -> bool
-    ensures { result ≡ is_kept events.now only event.now }
+/// Whether an earlier event of the line is shown, where those up to a number aren't: each, or receives alone.
+fn is_kept(events: &[Event], only: bool, passed: u32, event: &EventNo) -> bool
+    ensures { result ≡ is_kept_after events.now only passed event.now }
 {
-    if only {
+    if event.index <= passed {
+        false
+    } else if only {
         receives(event_at(events, event.index as usize))
     } else {
         true
@@ -89,13 +91,19 @@ impl<'a> Coming<'a> {
 }
 
 /// Passes events up to the first that is shown, and passes that one too.
-fn next_kept(events: &[Event], only: bool, coming: &mut Coming<'_>) -> Option<EventNo>
-    ensures { MatchOption result (filter (is_kept events.now only) coming.old ≡ [])
-        (λ event. filter (is_kept events.now only) coming.old ≡ event ∷ filter (is_kept events.now only) coming.new) }
+fn next_kept(
+    events: &[Event],
+    only: bool,
+    passed: u32,
+    coming: &mut Coming<'_>,
+) -> Option<EventNo>
+    ensures { MatchOption result (filter (is_kept_after events.now only passed) coming.old ≡ [])
+        (λ event. filter (is_kept_after events.now only passed) coming.old
+        ≡ event ∷ filter (is_kept_after events.now only passed) coming.new) }
 {
     while let Some(event) = coming.first() {
         coming.pass();
-        if is_kept(events, only, &event) {
+        if is_kept(events, only, passed, &event) {
             return Some(event);
         }
     }
@@ -113,14 +121,20 @@ fn goes_on(range: &EventRange, event: EventNo) -> bool
 
 /// The range that this event begins, as long as it can be: the events that are shown are passed as far as they go on
 /// with it.
-fn joined(events: &[Event], only: bool, first: EventNo, coming: &mut Coming<'_>) -> EventRange
-    ensures ranges { range_before (record { first = first; count = 1 }) (kept_ranges events.now only coming.old)
-        ≡ result ∷ kept_ranges events.now only coming.new }
+fn joined(
+    events: &[Event],
+    only: bool,
+    passed: u32,
+    first: EventNo,
+    coming: &mut Coming<'_>,
+) -> EventRange
+    ensures ranges { range_before (record { first = first; count = 1 }) (kept_after events.now only passed coming.old)
+        ≡ result ∷ kept_after events.now only passed coming.new }
     ensures is { IsRange result }
 {
     let mut range = EventRange::of(first);
     while let Some(event) = coming.first() {
-        if is_kept(events, only, &event) {
+        if is_kept(events, only, passed, &event) {
             if !goes_on(&range, event) {
                 break;
             }
@@ -136,28 +150,37 @@ fn joined(events: &[Event], only: bool, first: EventNo, coming: &mut Coming<'_>)
 pub(crate) struct KeptRanges<'a> {
     events: &'a [Event],
     only: bool,
+    passed: u32,
     coming: Coming<'a>,
 }
 
 impl<'a> Model for KeptRanges<'a> {
     ghost use Rattle.std.specs.Prelude.{List};
     ghost use Rattle.chart.specs.declared.ranges.EventRange.{EventRange};
-    ghost use Rattle.told_races.specs.Kept.{kept_ranges};
+    ghost use Rattle.told_races.specs.Kept.{kept_after};
 
     ghost Value = { List EventRange };
 
-    ghost view = { λ k. kept_ranges k.events.now k.only k.coming };
+    ghost view = { λ k. kept_after k.events.now k.only k.passed k.coming };
 }
 
 impl<'a> KeptRanges<'a> {
-    /// Those of the events of these ranges, of the line with these events: all, or receives alone.
-    pub fn of(events: &'a [Event], only: bool, earlier: &'a [EventRange]) -> KeptRanges<'a>
+    /// Those of the events of these ranges that are later than so many first ones, of the line with these events: all,
+    /// or receives alone.
+    #[tactic(auto, using(crate::proofs::LaterRaces::kept_later))]
+    pub fn of(
+        events: &'a [Event],
+        only: bool,
+        passed: u32,
+        earlier: &'a [EventRange],
+    ) -> KeptRanges<'a>
         requires { All IsRange earlier.now }
-        ensures { result ≡ kept_ranges events.now only (events_in earlier.now) }
+        ensures { result ≡ kept_ranges events.now only (later_than passed (events_in earlier.now)) }
     {
         KeptRanges {
             events,
             only,
+            passed,
             coming: Coming::of(earlier),
         }
     }
@@ -167,7 +190,13 @@ impl<'a> KeptRanges<'a> {
         ensures ranges { MatchOption result (self.old ≡ []) (λ range. self.old ≡ range ∷ self.new) }
         ensures is { IfSome result IsRange }
     {
-        let first = next_kept(self.events, self.only, &mut self.coming)?;
-        Some(joined(self.events, self.only, first, &mut self.coming))
+        let first = next_kept(self.events, self.only, self.passed, &mut self.coming)?;
+        Some(joined(
+            self.events,
+            self.only,
+            self.passed,
+            first,
+            &mut self.coming,
+        ))
     }
 }

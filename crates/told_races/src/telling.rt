@@ -1,18 +1,20 @@
 //! The races of a chart, receive by receive.
-ghost use Rattle.std.specs.Prelude.{◌≡◌, ◌≤◌, ◌||◌, [], length, nat_eq, All, IfOk};
+ghost use Rattle.std.specs.Prelude.{◌≡◌, ◌≤◌, ◌||◌, [], length, nat_eq, All, IfOk, IfSome};
 ghost use Rattle.std.specs.List.{list_any};
-ghost use Rattle.chart.specs.Charts.{chart_lines};
+ghost use Rattle.chart.specs.Charts.{at, chart_lines, IsPossible};
 ghost use Rattle.chart.specs.Ranges.{IsRange, events_in};
+ghost use Rattle.chart.specs.Reports.{ReportView, IsReportIn};
 ghost use Rattle.closure.specs.Reported.{HaveReported};
 ghost use Rattle.msc_text.specs.Writing.{Adds};
-ghost use Rattle.told_races.specs.Kept.{kept_ranges};
+ghost use Rattle.told_races.specs.Kept.{kept_ranges, later_than};
 ghost use Rattle.told_races.specs.Telling.{ranges_text, has_ranges, manner_of, shown_of, report_text, HasAdded};
-ghost use Rattle.told_races.specs.Telling.{HasWritten};
+ghost use Rattle.told_races.specs.Telling.{HasWritten, IsPassed, IsToldOf};
 
 use crate::kept::KeptRanges;
 use crate::{json, plain};
 use chart::{Event, EventNo, EventRange, InstanceNo, Line, Names};
 use closure::Reporter;
+use completion::Completion;
 use msc_text::{Out, TextBuffer, WriteError};
 
 /// In which form races are told.
@@ -33,6 +35,9 @@ pub struct Told<'a> {
     pub only: &'a [InstanceNo],
     /// Whether earlier events are shown that are receives alone.
     pub receives: bool,
+    /// The chart's, where its instances finish what a message makes them do before they receive again: then the races
+    /// that are left are told.
+    pub completion: Option<&'a Completion<'a>>,
     pub form: Form,
 }
 
@@ -76,27 +81,65 @@ fn add_ranges<W: Out>(
     }
 }
 
-/// Adds the text of a receive's races, of the events of these ranges, and answers whether one is shown.
+/// How many first events of a receive's line aren't told as its races: those that finishing puts before it.
+fn passed_by(told: &Told<'_>, receive: &EventNo, earlier: &[EventRange]) -> u32
+    requires report { IsReportIn (chart_lines told.now.lines.now)
+        (record { receive = receive.now; earlier = events_in earlier.now }) }
+    requires ranges { All IsRange earlier.now }
+    requires completion { IfSome told.now.completion (λ completion. completion.now ≡ told.now.lines.now) }
+    ensures { IsPassed (manner_of told.now).completed (chart_lines told.now.lines.now)
+        (at receive.now.instance receive.now.index) result }
+{
+    match told.completion {
+        Some(completion) => completion.finished_before(receive, earlier),
+        None => 0,
+    }
+}
+
+/// Adds the text of a receive's races, of the events of these ranges that are later than so many first ones, and answers
+/// whether one is shown.
+fn add_later<W: Out>(
+    text: &mut TextBuffer<'_, W>,
+    told: &Told<'_>,
+    receive: EventNo,
+    passed: u32,
+    earlier: &[EventRange],
+) -> Result<bool, WriteError>
+    requires { All IsRange earlier.now }
+    ensures added { Adds W.sink text.old text.new result (report_text (manner_of told.now) told.now.names.now
+        told.now.lines.now (record { receive = receive; earlier = later_than passed (events_in earlier.now) })) }
+    ensures has { IfOk result (λ has. has ≡ has_ranges (shown_of (manner_of told.now) told.now.lines.now
+        (record { receive = receive; earlier = later_than passed (events_in earlier.now) }))) }
+{
+    let events = events_of(told.lines, receive.instance);
+    if is_among(receive.instance, told.only) {
+        let ranges = KeptRanges::of(events, told.receives, passed, earlier);
+        add_ranges(text, told, events, receive, ranges)
+    } else {
+        let ranges = KeptRanges::of(events, told.receives, passed, &[]);
+        add_ranges(text, told, events, receive, ranges)
+    }
+}
+
+/// Adds the text of what is told of a receive's report, and answers whether a race is shown.
 fn add_report<W: Out>(
     text: &mut TextBuffer<'_, W>,
     told: &Told<'_>,
     receive: EventNo,
     earlier: &[EventRange],
 ) -> Result<bool, WriteError>
-    requires { All IsRange earlier.now }
-    ensures added { Adds W.sink text.old text.new result (report_text (manner_of told.now) told.now.names.now
-        told.now.lines.now (record { receive = receive; earlier = events_in earlier.now })) }
-    ensures has { IfOk result (λ has. has ≡ has_ranges (shown_of (manner_of told.now) told.now.lines.now
-        (record { receive = receive; earlier = events_in earlier.now }))) }
+    requires report { IsReportIn (chart_lines told.now.lines.now)
+        (record { receive = receive; earlier = events_in earlier.now }) }
+    requires ranges { All IsRange earlier.now }
+    requires completion { IfSome told.now.completion (λ completion. completion.now ≡ told.now.lines.now) }
+    ensures { (shown : ReportView) × IsToldOf (manner_of told.now).completed (chart_lines told.now.lines.now)
+        (record { receive = receive; earlier = events_in earlier.now }) shown
+        × Adds W.sink text.old text.new result
+        (report_text (manner_of told.now) told.now.names.now told.now.lines.now shown)
+        × IfOk result (λ has. has ≡ has_ranges (shown_of (manner_of told.now) told.now.lines.now shown)) }
 {
-    let events = events_of(told.lines, receive.instance);
-    if is_among(receive.instance, told.only) {
-        let ranges = KeptRanges::of(events, told.receives, earlier);
-        add_ranges(text, told, events, receive, ranges)
-    } else {
-        let ranges = KeptRanges::of(events, told.receives, &[]);
-        add_ranges(text, told, events, receive, ranges)
-    }
+    let passed = passed_by(told, &receive, earlier);
+    add_later(text, told, receive, passed, earlier)
 }
 
 /// Adds the text of each receive's races as they are found, and answers whether one is shown.
@@ -107,6 +150,8 @@ fn add_found<W: Out>(
 ) -> Result<bool, WriteError>
     requires reporter { HaveReported reporter.lines reporter.line reporter.place [] }
     requires lines { told.now.lines.now ≡ reporter.lines }
+    requires possible { IsPossible (length told.now.lines.now) (chart_lines told.now.lines.now) }
+    requires completion { IfSome told.now.completion (λ completion. completion.now ≡ told.now.lines.now) }
     ensures { HasAdded W.sink text.old text.new (manner_of told.now) told.now.names.now told.now.lines.now result }
 {
     let mut reporter = reporter;
@@ -128,6 +173,8 @@ pub fn write_races<W: Out>(
 ) -> Result<bool, WriteError>
     requires reporter { HaveReported reporter.lines reporter.line reporter.place [] }
     requires lines { told.now.lines.now ≡ reporter.lines }
+    requires possible { IsPossible (length told.now.lines.now) (chart_lines told.now.lines.now) }
+    requires completion { IfSome told.now.completion (λ completion. completion.now ≡ told.now.lines.now) }
     ensures { HasWritten W.sink out.old out.new (manner_of told.now) told.now.names.now told.now.lines.now result }
 {
     let mut text = TextBuffer::new(out);

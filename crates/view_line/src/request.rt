@@ -32,7 +32,8 @@ pub struct Draw<'a> {
     pub events: Option<&'a str>,
     /// Whether `--numbers` is given.
     pub numbers: bool,
-    pub file: &'a str,
+    /// Without it, and where it is `-`, standard input is read.
+    pub file: Option<&'a str>,
 }
 
 /// What is to be written for another tool.
@@ -40,15 +41,23 @@ pub struct Draw<'a> {
 pub struct Export<'a> {
     /// The word behind `--to`.
     pub to: &'a str,
-    pub file: &'a str,
+    /// Without it, and where it is `-`, standard input is read.
+    pub file: Option<&'a str>,
 }
 
-/// What is to be read of another tool.
-#[derive(Clone, Copy, Debug, PartialEq, Eq)]
+/// What is to be read of another tool. The lines and the names are words still.
+#[derive(Debug, Drop)]
 pub struct Import<'a> {
     /// The word behind `--from`.
-    pub from: &'a str,
-    pub file: &'a str,
+    pub from: Option<&'a str>,
+    /// Whether `--strict` is given.
+    pub strict: bool,
+    /// The lines behind each `--skip`, joined by two dots, in the order of the command line.
+    pub skipped: Vec<&'a str>,
+    /// The words behind each `--join`, in the order of the command line.
+    pub joined: Vec<&'a str>,
+    /// Without it, and where it is `-`, standard input is read.
+    pub file: Option<&'a str>,
 }
 
 /// Two recordings to be compared.
@@ -67,6 +76,8 @@ pub struct Races<'a> {
     pub only: Option<&'a str>,
     /// Whether `--receives` is given.
     pub receives: bool,
+    /// Whether `--run-to-completion` is given.
+    pub run_to_completion: bool,
     /// Whether `--json` is given.
     pub json: bool,
     /// Without it, and where it is `-`, standard input is read.
@@ -74,25 +85,32 @@ pub struct Races<'a> {
 }
 
 /// What a command line asks for.
-#[derive(Clone, Copy, Debug, PartialEq, Eq)]
+#[derive(Debug, Drop)]
 pub enum Request<'a> {
     /// `why` and `witness`, which ask about two events.
     Pair(Pair<'a>),
-    /// `draw [--only NAME,NAME..] [--events A..B] [--numbers] FILE`.
+    /// `draw [--only NAME,NAME..] [--events A..B] [--numbers] [FILE]`.
     Draw(Draw<'a>),
-    /// `export --to TOOL FILE`.
+    /// `export --to TOOL [FILE]`.
     Export(Export<'a>),
-    /// `import --from TOOL FILE`.
+    /// `import [--from TOOL] [--strict] [--skip A..B].. [--join NAME=NAME,NAME..].. [FILE]`.
     Import(Import<'a>),
     /// `compare [--json] A B`.
     Compare(Compare<'a>),
-    /// `races [--only NAME,NAME..] [--receives] [--json] [FILE]`.
+    /// `races [--only NAME,NAME..] [--receives] [--run-to-completion] [--json] [FILE]`.
     Races(Races<'a>),
+    /// `tidy [FILE]`: without the file, and where it is `-`, standard input is read.
+    Tidy(Option<&'a str>),
 }
 
 /// A word that a command needs.
 fn needed<'a>(alloc: Global, name: &'static str) -> Arg<'a> {
     Arg::new(alloc, name).required(true).action(ArgAction::Set)
+}
+
+/// The file that a command may do without.
+fn file<'a>(alloc: Global) -> Arg<'a> {
+    Arg::new(alloc, "FILE").action(ArgAction::Set)
 }
 
 /// A command with a file and the words of a `race` line.
@@ -110,7 +128,12 @@ fn option<'a>(alloc: Global, name: &'static str) -> Arg<'a> {
     Arg::new(alloc, name).long(name).action(ArgAction::Set)
 }
 
-/// A word that is there or not.
+/// An option that has a word, and may be given several times.
+fn repeated<'a>(alloc: Global, name: &'static str) -> Arg<'a> {
+    Arg::new(alloc, name).long(name).action(ArgAction::Append)
+}
+
+/// An option without a word.
 fn flag<'a>(alloc: Global, name: &'static str) -> Arg<'a> {
     Arg::new(alloc, name).long(name).action(ArgAction::SetTrue)
 }
@@ -121,33 +144,38 @@ fn races_command<'a>(alloc: Global) -> Result<Command<'a>, AllocError> {
         .disable_help_flag(true)
         .arg(option(alloc, "only"))?
         .arg(flag(alloc, "receives"))?
+        .arg(flag(alloc, "run-to-completion"))?
         .arg(flag(alloc, "json"))?
-        .arg(Arg::new(alloc, "FILE").action(ArgAction::Set))
+        .arg(file(alloc))
 }
 
 /// The command that draws a file.
 fn draw_command<'a>(alloc: Global) -> Result<Command<'a>, AllocError> {
-    let numbers = Arg::new(alloc, "numbers")
-        .long("numbers")
-        .action(ArgAction::SetTrue);
     Command::new(alloc, "draw")
         .disable_help_flag(true)
         .arg(option(alloc, "only"))?
         .arg(option(alloc, "events"))?
-        .arg(numbers)?
-        .arg(needed(alloc, "FILE"))
+        .arg(flag(alloc, "numbers"))?
+        .arg(file(alloc))
 }
 
-/// A command that writes a file for another tool, or reads one of it. The tool's name is behind this option.
-fn translation<'a>(
-    alloc: Global,
-    name: &'static str,
-    side: &'static str,
-) -> Result<Command<'a>, AllocError> {
-    Command::new(alloc, name)
+/// The command that writes a file for another tool.
+fn export_command<'a>(alloc: Global) -> Result<Command<'a>, AllocError> {
+    Command::new(alloc, "export")
         .disable_help_flag(true)
-        .arg(option(alloc, side).required(true))?
-        .arg(needed(alloc, "FILE"))
+        .arg(option(alloc, "to").required(true))?
+        .arg(file(alloc))
+}
+
+/// The command that reads a file of another tool.
+fn import_command<'a>(alloc: Global) -> Result<Command<'a>, AllocError> {
+    Command::new(alloc, "import")
+        .disable_help_flag(true)
+        .arg(option(alloc, "from"))?
+        .arg(flag(alloc, "strict"))?
+        .arg(repeated(alloc, "skip"))?
+        .arg(repeated(alloc, "join"))?
+        .arg(file(alloc))
 }
 
 /// The command that compares two files.
@@ -162,6 +190,13 @@ fn compare_command<'a>(alloc: Global) -> Result<Command<'a>, AllocError> {
         .arg(needed(alloc, "B"))
 }
 
+/// The command that writes what is typed as an exact text.
+fn tidy_command<'a>(alloc: Global) -> Result<Command<'a>, AllocError> {
+    Command::new(alloc, "tidy")
+        .disable_help_flag(true)
+        .arg(file(alloc))
+}
+
 /// The command line that the program understands. Help, the version, no command and an unknown one are all mistakes.
 fn command_line<'a>(alloc: Global) -> Result<Command<'a>, AllocError> {
     Command::new(alloc, "mscview")
@@ -171,10 +206,11 @@ fn command_line<'a>(alloc: Global) -> Result<Command<'a>, AllocError> {
         .subcommand(pair_command(alloc, "witness")?)?
         .subcommand(pair_command(alloc, "why")?)?
         .subcommand(draw_command(alloc)?)?
-        .subcommand(translation(alloc, "export", "to")?)?
-        .subcommand(translation(alloc, "import", "from")?)?
+        .subcommand(export_command(alloc)?)?
+        .subcommand(import_command(alloc)?)?
         .subcommand(compare_command(alloc)?)?
-        .subcommand(races_command(alloc)?)
+        .subcommand(races_command(alloc)?)?
+        .subcommand(tidy_command(alloc)?)
 }
 
 /// What a command asks.
@@ -203,7 +239,7 @@ fn draw_of<'a>(words: &ArgMatches<'a>) -> Option<Request<'a>> {
         only: words.get_str("only"),
         events: words.get_str("events"),
         numbers: words.get_flag("numbers"),
-        file: words.get_str("FILE")?,
+        file: words.get_str("FILE"),
     }))
 }
 
@@ -211,15 +247,27 @@ fn draw_of<'a>(words: &ArgMatches<'a>) -> Option<Request<'a>> {
 fn export_of<'a>(words: &ArgMatches<'a>) -> Option<Request<'a>> {
     Some(Request::Export(Export {
         to: words.get_str("to")?,
-        file: words.get_str("FILE")?,
+        file: words.get_str("FILE"),
     }))
 }
 
+/// The words behind each use of an option.
+fn words_of<'a>(
+    alloc: Global,
+    words: &ArgMatches<'a>,
+    option: &str,
+) -> Result<Vec<&'a str>, AllocError> {
+    Vec::from_slice(alloc, words.get_strs(option).unwrap_or(&[]))
+}
+
 /// What the words of `import` ask for.
-fn import_of<'a>(words: &ArgMatches<'a>) -> Option<Request<'a>> {
-    Some(Request::Import(Import {
-        from: words.get_str("from")?,
-        file: words.get_str("FILE")?,
+fn import_of<'a>(alloc: Global, words: &ArgMatches<'a>) -> Result<Request<'a>, AllocError> {
+    Ok(Request::Import(Import {
+        from: words.get_str("from"),
+        strict: words.get_flag("strict"),
+        skipped: words_of(alloc, words, "skip")?,
+        joined: words_of(alloc, words, "join")?,
+        file: words.get_str("FILE"),
     }))
 }
 
@@ -237,20 +285,33 @@ fn races_of<'a>(words: &ArgMatches<'a>) -> Option<Request<'a>> {
     Some(Request::Races(Races {
         only: words.get_str("only"),
         receives: words.get_flag("receives"),
+        run_to_completion: words.get_flag("run-to-completion"),
         json: words.get_flag("json"),
         file: words.get_str("FILE"),
     }))
 }
 
-/// What a command's words ask for.
-fn request_of<'a>(command: &str, words: &ArgMatches<'a>) -> Option<Request<'a>> {
+/// What the words of another command ask for.
+fn other_of<'a>(command: &str, words: &ArgMatches<'a>) -> Option<Request<'a>> {
     match command {
         "draw" => draw_of(words),
         "export" => export_of(words),
-        "import" => import_of(words),
         "compare" => compare_of(words),
         "races" => races_of(words),
+        "tidy" => Some(Request::Tidy(words.get_str("FILE"))),
         _ => pair_of(question_of(command)?, words),
+    }
+}
+
+/// What a command's words ask for.
+fn request_of<'a>(
+    alloc: Global,
+    command: &str,
+    words: &ArgMatches<'a>,
+) -> Result<Request<'a>, CommandLineError> {
+    match command {
+        "import" => Ok(import_of(alloc, words)?),
+        _ => other_of(command, words).ok_or(CommandLineError::Usage),
     }
 }
 
@@ -263,5 +324,5 @@ pub fn requested<'a, S: AsStr>(
 ) -> Result<Request<'a>, CommandLineError> {
     let matches = command_line(alloc)?.try_get_matches_from(words)?;
     let (command, words) = matches.subcommand().ok_or(CommandLineError::Usage)?;
-    request_of(command, words).ok_or(CommandLineError::Usage)
+    request_of(alloc, command, words)
 }

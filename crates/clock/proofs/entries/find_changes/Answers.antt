@@ -1,5 +1,6 @@
 use Rattle.std.proofs.Common.{◌≡◌, length, refl, arith}
-use Rattle.clock.proofs.DiffLemmas.{up_to_same, up_to_change, up_to_all, restored}
+use Rattle.std.proofs.lemmas.Bool.{false≢true}
+use Rattle.clock.proofs.DiffLemmas.{up_to_same, up_to_change, up_to_all, restored, one_change}
 use Rattle.clock.proofs.entries.find_changes.Goals as goal
 use Rattle.clock.proofs.entries.find_changes.Goals.{then-entry-base+in_ok-push, else-entry-base}
 
@@ -26,4 +27,10 @@ returns c =
       within = rw (← all) listed.below;
       at_most = omega (arith, listed.count);
       succeeds = λ few. refl;
+      alone = λ p agree. refl;
     }
+
+pub returns-in_err-push-clause-alone : goal.returns-in_err-push-clause-alone
+returns-in_err-push-clause-alone c = λ p agree.
+    let one = one_change p _ _ _ _ agree c.loop-place.invariant.listed in
+    absurd (false≢true (c.in_err-push.ensures.succeeds (omega (arith, one, c.loop-place.invariant.inline))))

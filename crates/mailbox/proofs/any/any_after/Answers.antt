@@ -1,6 +1,6 @@
 use Rattle.std.proofs.Common.{true, false, Ok, Err}
 use Rattle.board.specs.declared.answer.Taken.TheVariants.{Got, Nothing, Ended}
-use Rattle.mailbox.proofs.Looks.{sound-onward}
+use Rattle.board.proofs.Scanning.{sound-onward}
 use Rattle.mailbox.proofs.Parts.{MayScan, is-any, first-part, second-part, handed-on, refused-any}
 use Rattle.mailbox.proofs.any.any_after.Goals as goal
 

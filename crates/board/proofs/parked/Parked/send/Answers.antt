@@ -1,4 +1,8 @@
 use Rattle.std.proofs.Common.{◌<◌, ◌∙◌, ℕ, [], ◌∷◌, length, sym, ap, arith}
+use Rattle.chart.specs.Histories.{received}
+use Rattle.chart.proofs.Histories.{received_own}
+use Rattle.board_table.specs.Knowing.{held}
+use Rattle.board.proofs.Untaught.{Untaught, nothing_new}
 use Rattle.board.proofs.PostLemmas.{post_saw, post_sends}
 use Rattle.board.proofs.SendAnswers.{outgoing_at, may_put, unsent, did_sound, did_makes, did_stays}
 use Rattle.board.proofs.parked.Parked.send.Goals as goal
@@ -53,4 +57,21 @@ returns-clause-answer c =
       | in-Err w ↦
           let unmade = rw c.new-lane.ensures at w.in-Err.ensures.err in
           rw (w.result-is, ← c.self.view_is, c.send_one.ensures.table) (unmade.0, did_stays c.self.inside.seat.table_id c.self.inside.seat.me c.send_one.new.seat.me _ _ _ c.self.inside.region c.self.inside.recorder.room c.send_one.new.recorder.room unmade.1.did w.in-Err.ensures.kept, unsent _ _ c.send_one.new.seat.me _ _ _ _ _ _ _ c.self.invariant c.args.to 1 may c.send_one.new.recorder.room c.new-lane.result c.new-lane.ensures _ unmade.1.did (omega arith) w.in-Err.ensures.err.1.cause)
+    ]
+
+pub returns-clause-alone : goal.returns-clause-alone
+returns-clause-alone c = λ room nothing.
+    let may = rw (← c.self.view_is) at c.in_default.ensures.none in
+    let post = c.self.invariant in
+    let n = c.self.inside.shape.instances in
+    let h = (held c.self.inside.seat.me).seen in
+    let p = c.self.inside.number in
+    let none = rw (← c.self.view_is) at nothing in
+    let untaught : Untaught h p = λ q. sym (received_own h q p) ∙ ap (λ x. received x q p) post.made ∙ none q in
+    let end = outgoing_at _ _ _ _ _ _ _ _ post c.args.to c.place.result c.index_mut-end.result.now c.place.ensures.value (λ e. may.allowed.two.4 (sym e)) may.allowed.two.3 c.index_mut-end.ensures.value in
+    let agree = nothing_new n h p c.args.to c.index_mut-end.result.now c.self.inside.recorder untaught end post.knows.own.recorder in
+    let some = rw (← c.self.view_is) at room in
+    elim c.match-send_one.branch [
+      | in-Ok w ↦ rw w.result-is tt
+      | in-Err w ↦ rw w.result-is (w.in-Err.ensures.alone some (rw c.new-lane.ensures agree))
     ]

@@ -1,0 +1,6 @@
+use Rattle.board.specs.Glancing.{others}
+use Rattle.board.proofs.Scanning.{HasGlanced}
+use Rattle.board.proofs.parked.Parked.glance_among.Given as goal
+
+abbrev pub invariant-loop-place : goal.invariant-loop-place
+invariant-loop-place l = HasGlanced l.fn.self (others l.fn.self.number l.fn.from l.fn.to) (others l.fn.self.number l.place l.to) l.is_end l.self

@@ -1,0 +1,5 @@
+pub mod Handling
+pub mod Laws
+pub mod Orders
+pub mod Runs
+pub mod Tables

@@ -1,0 +1,17 @@
+//! Charts from sequence diagrams that were drawn for other tools.
+//!
+//! What is promised, unless an allocation is refused ([`import_text`]): the chart, what is left out and what is told of
+//! names are a function of the text's bytes and of the options (`specs/Importing`), and any other text gets its first
+//! refusal. Lines that are skipped are blanks before anything is read. Where nothing may be left out, the first thing
+//! that would be is refused.
+#![tactic(auto)]
+
+mod error;
+mod importing;
+mod places;
+mod reading;
+mod skipping;
+
+pub use error::ImportError;
+pub use importing::{Options, import_text};
+pub use skipping::Skip;

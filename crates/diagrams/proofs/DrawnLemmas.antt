@@ -1,0 +1,88 @@
+-- The names that are told, one after the other; and a diagram's chart, of its parts.
+use Rattle.std.proofs.Common.{◌≡◌, ℕ, ◌+◌, ◌<◌, ◌≤◌, inl, inr, List, [], ◌∷◌, None, Some, Result, Ok, false, length, map, drop, get_or, refl, sym, ap, ◌∙◌}
+use Rattle.std.specs.Prelude.{slice_get}
+use Rattle.std.proofs.lemmas.List.{drop_all}
+use Rattle.std.proofs.lemmas.Option.{slice_get_within, get_or_from_slice_get, slice_get_cases}
+use Rattle.chart.specs.Charts.{LineView}
+use Rattle.label_names.specs.Labels.{none}
+use Rattle.diagrams.specs.Collecting.{CollectedView, collected}
+use Rattle.diagrams.specs.Diagrams.{ParticipantView, ItemView, DiagramView, participant_view}
+use Rattle.diagrams.specs.Drawing.{DrawnView, with_renamed, renamed_from, staying, drawn_of, drawn_by, has_no_chart, drawn, Fails, ◌>>=◌}
+use Rattle.diagrams.specs.Naming.{names_from, named_from, labels_from}
+use Rattle.message_charts.specs.Lines.{lines_from}
+use Rattle.message_charts.specs.Turns.{all_ends}
+use Rattle.diagrams.specs.declared.diagram.Participant.{Participant}
+use Rattle.diagrams.specs.declared.drawn.DrawError.{DrawError}
+use Rattle.diagrams.specs.declared.drawn.DrawError.TheVariants.{Memory, Instances, LineFull, NotPossible}
+use Rattle.diagrams.specs.declared.left_out.LeftOut.{LeftOut}
+use Rattle.diagrams.specs.declared.message.Message.{Message}
+use Rattle.message_charts.proofs.LinesLemmas.{length-lines}
+use Rattle.message_charts.proofs.ListLemmas.{from_here}
+
+-- one name more
+pub renamed_more : {A : Type 0} (f : A → List ℕ) (told more : List (List ℕ × List ℕ)) (n : ℕ) (xs : List A) (x : A) (names : List (List ℕ)) (name : List ℕ)
+    → n < length xs → x ≡ get_or xs n x → slice_get names n ≡ Some name → more ≡ with_renamed told (f x) name
+    → renamed_from more (map f (drop (n + 1) xs)) (drop (n + 1) names) ≡ renamed_from told (map f (drop n xs)) (drop n names)
+unfolding renamed_from
+renamed_more f told more n xs x names name within is at_n e =
+    rw (from_here xs n x within is, from_here names n name (slice_get_within names n name at_n) (sym (get_or_from_slice_get names n name name at_n)), e) refl
+
+-- no name is left
+nothing_named : (told : List (List ℕ × List ℕ)) (labels : List (List ℕ)) → renamed_from told labels [] ≡ told
+unfolding renamed_from
+nothing_named told [] = refl
+nothing_named told (label ∷ labels) = refl
+
+pub renamed_stop : {A : Type 0} (f : A → List ℕ) (told : List (List ℕ × List ℕ)) (n : ℕ) (xs : List A) (names : List (List ℕ)) → slice_get names n ≡ None
+    → renamed_from told (map f (drop n xs)) (drop n names) ≡ told
+renamed_stop f told n xs names none = elim (slice_get_cases names n).1 [
+  | inl found ↦ absurd (cc (sym none ∙ found.2))
+  | inr past ↦ rw (drop_all n names past.0) (nothing_named told (map f (drop n xs)))
+]
+
+-- all labels
+pub renamed_end : {A : Type 0} (f : A → List ℕ) (told : List (List ℕ × List ℕ)) (n : ℕ) (xs : List A) (names : List (List ℕ)) → length xs ≤ n
+    → renamed_from told (map f (drop n xs)) (drop n names) ≡ told
+unfolding renamed_from
+renamed_end f told n xs names past = rw (drop_all n xs past) refl
+
+-- a step that failed decides
+fails_first : {A B : Type 0} (error : DrawError) (r : Result A DrawError) (f : A → Result B DrawError) → Fails error r → Fails error (r >>= f)
+fails_first Memory r f h = tt
+fails_first Instances r f h = ap (λ s. s >>= f) h
+fails_first (LineFull line) r f h = ap (λ s. s >>= f) h
+fails_first (NotPossible line) r f h = ap (λ s. s >>= f) h
+
+-- the participants' labels
+labels_seen : (participants : List Participant) → map (λ (p : ParticipantView). p.label) (map participant_view participants) ≡ map (λ (p : Participant). p.label.items) participants
+labels_seen [] = refl
+labels_seen (p ∷ participants) = ap (λ labels. p.label.items ∷ labels) (labels_seen participants)
+
+-- a chart and what is told, of their parts
+pub drawn_parts : (participants : List Participant) (items : List ItemView) (names : List (List ℕ)) (messages : List Message) (left_out : List LeftOut)
+    (lines : List LineView) (told : List (List ℕ × List ℕ))
+    → lines ≡ lines_from (all_ends (named_from none items messages)) 1 (length names)
+    → told ≡ renamed_from (renamed_from [] (map (λ (p : Participant). p.label.items) participants) names) (labels_from none items messages).labels (labels_from none items messages).names
+    → record { names = names; lines = lines; left_out = left_out; renamed = told } ≡ drawn_of (map participant_view participants) items names (messages, left_out)
+unfolding drawn_of
+drawn_parts participants items names messages left_out lines told e f = rw (e, f, labels_seen participants) refl
+
+-- each line has a name
+pub as_many_names : (v : DrawnView) (participants : List ParticipantView) (items : List ItemView) (names : List (List ℕ)) (stay : List Message × List LeftOut)
+    → v ≡ drawn_of participants items names stay → length v.names ≡ length v.lines
+unfolding drawn_of
+as_many_names v participants items names stay is =
+    ap (λ (w : DrawnView). length w.names) is ∙ sym (length-lines (all_ends (named_from none items stay.0)) 1 (length names)) ∙ sym (ap (λ (w : DrawnView). length w.lines) is)
+
+-- a diagram's chart, step by step
+pub draw_steps : (d : DiagramView) (names : List (List ℕ)) (c : CollectedView) (stay : List Message × List LeftOut)
+    → has_no_chart (length d.participants) ≡ false → names ≡ names_from [] d.participants → c ≡ collected names d.items d.left_out
+    → staying c.fault c.messages c.left_out ≡ Ok stay → drawn d ≡ Ok (drawn_of d.participants d.items names stay)
+unfolding drawn drawn_by
+draw_steps d names c stay several e f g = rw (several, sym e, sym f, g) refl
+
+pub draw_refused : (error : DrawError) (d : DiagramView) (names : List (List ℕ)) (c : CollectedView)
+    → has_no_chart (length d.participants) ≡ false → names ≡ names_from [] d.participants → c ≡ collected names d.items d.left_out
+    → Fails error (staying c.fault c.messages c.left_out) → Fails error (drawn d)
+unfolding drawn drawn_by
+draw_refused error d names c several e f g = rw (several, sym e, sym f) (fails_first error (staying c.fault c.messages c.left_out) _ g)

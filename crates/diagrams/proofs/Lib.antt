@@ -1,0 +1,11 @@
+pub mod ChartLemmas
+pub mod CrossingLemmas
+pub mod DrawnLemmas
+pub mod FullLemmas
+pub mod ItemLemmas
+pub mod LaneTables
+pub mod LosingLemmas
+pub mod NamingLemmas
+pub mod PlacedLemmas
+pub mod PlacingLemmas
+pub mod StayingLemmas

@@ -1,0 +1,46 @@
+-- Names of participants and of messages, one after the other.
+use Rattle.std.proofs.Common.{◌≡◌, ℕ, ◌+◌, ◌<◌, ◌≤◌, List, [], ◌∷◌, ◌++◌, length, map, drop, get_or, refl, append_assoc}
+use Rattle.std.proofs.lemmas.List.{drop_all, append-nil}
+use Rattle.label_names.specs.Giving.{called}
+use Rattle.label_names.specs.Labels.{Labelling, with_label, name_of}
+use Rattle.label_names.specs.Spelling.{spelled}
+use Rattle.diagrams.specs.Diagrams.{ItemView, participant_view}
+use Rattle.diagrams.specs.Naming.{names_from, label_at, named_as, labels_from, named_from}
+use Rattle.diagrams.specs.declared.diagram.Participant.{Participant}
+use Rattle.diagrams.specs.declared.message.Message.{Message}
+use Rattle.message_charts.specs.declared.message.Named.{Named}
+use Rattle.message_charts.proofs.ListLemmas.{from_here}
+
+-- one participant more
+pub name_more : (names more : List (List ℕ)) (n : ℕ) (participants : List Participant) (p : Participant) → n < length participants → p ≡ get_or participants n p
+    → more ≡ names ++ called names (spelled p.label.items) ∷ []
+    → names_from more (map participant_view (drop (n + 1) participants)) ≡ names_from names (map participant_view (drop n participants))
+unfolding names_from
+name_more names more n participants p within is e = rw (from_here participants n p within is, e) refl
+
+pub names_end : (names : List (List ℕ)) (n : ℕ) (participants : List Participant) → length participants ≤ n → names_from names (map participant_view (drop n participants)) ≡ names
+unfolding names_from
+names_end names n participants past = rw (drop_all n participants past) refl
+
+-- one message more
+pub labels_more : (labels more : Labelling) (items : List ItemView) (n : ℕ) (messages : List Message) (m : Message) → n < length messages → m ≡ get_or messages n m
+    → more ≡ with_label labels (label_at items m.item)
+    → labels_from more items (drop (n + 1) messages) ≡ labels_from labels items (drop n messages)
+unfolding labels_from
+labels_more labels more items n messages m within is e = rw (from_here messages n m within is, e) refl
+
+pub labels_end : (labels : Labelling) (items : List ItemView) (n : ℕ) (messages : List Message) → length messages ≤ n → labels_from labels items (drop n messages) ≡ labels
+unfolding labels_from
+labels_end labels items n messages past = rw (drop_all n messages past) refl
+
+pub named_more : (labels more : Labelling) (items : List ItemView) (n : ℕ) (messages : List Message) (m : Message) (done next : List Named) (named : Named) → n < length messages → m ≡ get_or messages n m
+    → more ≡ with_label labels (label_at items m.item)
+    → named ≡ named_as m (name_of (with_label labels (label_at items m.item)) (label_at items m.item))
+    → next ≡ done ++ named ∷ []
+    → next ++ named_from more items (drop (n + 1) messages) ≡ done ++ named_from labels items (drop n messages)
+unfolding named_from
+named_more labels more items n messages m done next named within is e f g = rw (from_here messages n m within is, e, g, f) (append_assoc done (_ ∷ []) _)
+
+pub named_end : (labels : Labelling) (items : List ItemView) (n : ℕ) (messages : List Message) (done : List Named) → length messages ≤ n → done ++ named_from labels items (drop n messages) ≡ done
+unfolding named_from
+named_end labels items n messages done past = rw (drop_all n messages past) (append-nil done)

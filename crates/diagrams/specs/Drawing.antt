@@ -1,0 +1,108 @@
+-- The chart that a diagram comes to, and what is told of it.
+use Rattle.std.specs.Prelude.{◌≡◌, ℕ, Bool, ◌||◌, nat_lt, List, [], ◌∷◌, ◌++◌, length, map, Option, None, Some, Result, Ok, Err, if◌then◌else◌}
+use Rattle.chart.specs.Charts.{LineView}
+use Rattle.chart.specs.declared.instance.TheConstants.{MAX_INSTANCES}
+use Rattle.label_names.specs.Labels.{Labelling, none, is_told}
+use Rattle.diagrams.specs.Collecting.{CollectedView, collected}
+use Rattle.diagrams.specs.Crossing.{fault_from}
+use Rattle.diagrams.specs.Diagrams.{ParticipantView, ItemView, DiagramView}
+use Rattle.diagrams.specs.Full.{full_from}
+use Rattle.diagrams.specs.Losing.{kept, with_lost}
+use Rattle.diagrams.specs.Naming.{names_from, labels_from, named_from}
+use Rattle.message_charts.specs.Lines.{lines_from}
+use Rattle.message_charts.specs.Turns.{all_ends}
+use Rattle.diagrams.specs.declared.drawn.DrawError.{DrawError}
+use Rattle.diagrams.specs.declared.drawn.DrawError.TheVariants.{Memory, Instances, LineFull, NotPossible}
+use Rattle.diagrams.specs.declared.drawn.Drawn.{Drawn}
+use Rattle.diagrams.specs.declared.renaming.Renamed.{Renamed}
+use Rattle.diagrams.specs.declared.left_out.LeftOut.{LeftOut}
+use Rattle.diagrams.specs.declared.message.Message.{Message}
+
+infixl 10 ◌>>=◌
+-- what comes next, unless the diagram was refused
+abbrev pub ◌>>=◌ : {A B E : Type 0} → Result A E → (A → Result B E) → Result B E
+(Ok x) >>= f = f x
+(Err e) >>= f = Err e
+
+-- an error is the refusal, unless memory ran out
+abbrev pub Fails : {Y : Type 0} → DrawError → Result Y DrawError → Type 0
+Fails Memory read = Unit {0}
+Fails Instances read = read ≡ Err Instances
+Fails (LineFull line) read = read ≡ Err (LineFull line)
+Fails (NotPossible line) read = read ≡ Err (NotPossible line)
+
+-- what was returned, seen by view, is what the diagram comes to, unless memory ran out
+abbrev pub Gives : {X Y : Type 0} → (X → Y) → Result X DrawError → Result Y DrawError → Type 0
+Gives view (Ok x) read = read ≡ Ok (view x)
+Gives view (Err e) read = Fails e read
+
+-- a label, and the name that stands for it
+abbrev pub renamed_view : Renamed → List ℕ × List ℕ
+renamed_view r = (r.label.items, r.name)
+
+-- it is told, unless the name is the label with one _ for each blank
+abbrev pub with_renamed : List (List ℕ × List ℕ) → List ℕ → List ℕ → List (List ℕ × List ℕ)
+with_renamed told label name = if is_told label name then told ++ (label, name) ∷ [] else told
+
+-- the labels and their names, in this order
+unfoldable pub renamed_from : List (List ℕ × List ℕ) → List (List ℕ) → List (List ℕ) → List (List ℕ × List ℕ)
+renamed_from told [] names = told
+renamed_from told (label ∷ labels) [] = told
+renamed_from told (label ∷ labels) (name ∷ names) = renamed_from (with_renamed told label name) labels names
+
+-- the participants' names are told first, and then the messages'
+abbrev pub renamed : List ParticipantView → List (List ℕ) → Labelling → List (List ℕ × List ℕ)
+renamed participants names labels =
+    renamed_from (renamed_from [] (map (λ p. p.label) participants) names) labels.labels labels.names
+
+-- no message makes the chart impossible
+abbrev pub possible : {A : Type 0} → Option ℕ → A → Result A DrawError
+possible None x = Ok x
+possible (Some line) x = Err (NotPossible line)
+
+-- no line has too many events
+abbrev pub within : {A : Type 0} → Option ℕ → A → Result A DrawError
+within None x = Ok x
+within (Some line) x = Err (LineFull line)
+
+-- the messages that stay, of those that were collected, and what is left out
+unfoldable pub staying : Option ℕ → List Message → List LeftOut → Result (List Message × List LeftOut) DrawError
+staying fault messages left_out = do
+  all ← possible (fault_from fault [] messages) messages
+  within (full_from [] (kept messages)) (kept messages, with_lost left_out messages)
+
+-- names and lines of a chart, what is left out, and what is told of names
+pub record DrawnView : Type 0 where
+  pub names : List (List ℕ)
+  pub lines : List LineView
+  pub left_out : List LeftOut
+  pub renamed : List (List ℕ × List ℕ)
+
+abbrev pub drawn_view : Drawn → DrawnView
+drawn_view d = record { names = d.names; lines = d.chart; left_out = d.left_out.items; renamed = map renamed_view d.renamed.items }
+
+-- of these messages
+unfoldable pub drawn_of : List ParticipantView → List ItemView → List (List ℕ) → List Message × List LeftOut → DrawnView
+drawn_of participants items names stay = record {
+  names = names;
+  lines = lines_from (all_ends (named_from none items stay.0)) 1 (length names);
+  left_out = stay.1;
+  renamed = renamed participants names (labels_from none items stay.0);
+}
+
+-- where the participants have these names, and the items come to this
+unfoldable pub drawn_by : DiagramView → List (List ℕ) → CollectedView → Result DrawnView DrawError
+drawn_by d names c = do
+  stay ← staying c.fault c.messages c.left_out
+  Ok (drawn_of d.participants d.items names stay)
+
+abbrev pub drawn_named : DiagramView → List (List ℕ) → Result DrawnView DrawError
+drawn_named d names = drawn_by d names (collected names d.items d.left_out)
+
+-- no chart has so few participants, or so many
+abbrev pub has_no_chart : ℕ → Bool
+has_no_chart n = nat_lt n 2 || nat_lt MAX_INSTANCES n
+
+-- the chart of a diagram, or its refusal
+unfoldable pub drawn : DiagramView → Result DrawnView DrawError
+drawn d = if has_no_chart (length d.participants) then Err Instances else drawn_named d (names_from [] d.participants)

@@ -1,0 +1,16 @@
+pub use Rattle.chart.specs.Names
+pub mod Collecting
+pub mod Crossing
+pub mod Diagrams
+pub mod Drawing
+pub mod Ends
+pub mod Full
+pub mod Lanes
+pub mod Later
+pub mod LeftOuts
+pub mod Loads
+pub mod Losing
+pub mod Naming
+pub mod NoteEvents
+pub mod Places
+pub mod Placing

@@ -1,0 +1,134 @@
+//! What is left out of a diagram, since it has no meaning in a chart.
+ghost use Rattle.std.specs.Prelude.{◌≡◌, ◌<◌, length, position, IfOk, IfSome, OnErr};
+ghost use Rattle.diagrams.specs.LeftOuts.{number_of, is_kind, and_one, with_one};
+
+use crate::place::Place;
+use std::alloc::AllocError;
+
+/// What is left out. The kinds stand in the order of their words.
+#[derive(Clone, Copy, Debug, PartialEq, Eq)]
+pub enum Kind {
+    /// An arrow with a head at both ends.
+    ArrowBothWays,
+    /// An arrow that comes from outside or goes there.
+    ArrowAtTheEdge,
+    /// A box round arcs, participants or statements.
+    Box,
+    /// A branch of a group that isn't taken.
+    Branch,
+    /// Time that passes.
+    Delay,
+    /// A diagram behind the first one.
+    Diagram,
+    /// A line or a word across all participants.
+    Divider,
+    /// The frame of a group whose branch is taken.
+    Frame,
+    /// An arrow that isn't drawn.
+    HiddenArrow,
+    /// A line that shows no direction.
+    Line,
+    /// A message that isn't received, though a later one of its lane is.
+    LostMessage,
+    /// A message between lines that are joined.
+    MessageWithin,
+    /// A message of a participant to itself.
+    MessageToItself,
+    /// A note that says no event.
+    Note,
+    /// A participant that was named before.
+    Participant,
+    /// A line for the pre-processor.
+    Preprocessor,
+    /// A reference to another diagram.
+    Reference,
+    /// A `return` that answers nothing.
+    Return,
+}
+
+/// How often a kind of things is left out, and where the first of them stands.
+#[derive(Clone, Copy, Debug, PartialEq, Eq)]
+pub struct LeftOut {
+    pub kind: Kind,
+    pub count: u64,
+    pub first: Place,
+}
+
+impl Kind {
+    /// Its number, in the order of the kinds' words.
+    fn number(self) -> u8
+        ensures { result ≡ number_of self }
+    {
+        match self {
+            Kind::ArrowBothWays => 0,
+            Kind::ArrowAtTheEdge => 1,
+            Kind::Box => 2,
+            Kind::Branch => 3,
+            Kind::Delay => 4,
+            Kind::Diagram => 5,
+            Kind::Divider => 6,
+            Kind::Frame => 7,
+            Kind::HiddenArrow => 8,
+            Kind::Line => 9,
+            Kind::LostMessage => 10,
+            Kind::MessageWithin => 11,
+            Kind::MessageToItself => 12,
+            Kind::Note => 13,
+            Kind::Participant => 14,
+            Kind::Preprocessor => 15,
+            Kind::Reference => 16,
+            Kind::Return => 17,
+        }
+    }
+}
+
+/// The place among these of the kind.
+fn place_of(left_out: &[LeftOut], kind: Kind) -> Option<usize>
+    ensures value { result ≡ position (is_kind kind) left_out.now }
+    ensures within { IfSome result (λ place. place < length left_out.now) }
+{
+    left_out
+        .iter()
+        .position(|l| kind.number() == l.kind.number())
+}
+
+/// One more of its kind. Where the count would not fit, the answer is F6.
+fn and_one(left_out: LeftOut, place: Place) -> Result<LeftOut, AllocError>
+    ensures { IfOk result (λ more. more ≡ and_one left_out place) }
+{
+    let Some(count) = left_out.count.checked_add(1) else {
+        return Err(AllocError);
+    };
+    let first = if place.is_before(&left_out.first) {
+        place
+    } else {
+        left_out.first
+    };
+    Ok(LeftOut {
+        kind: left_out.kind,
+        count,
+        first,
+    })
+}
+
+/// One more thing is left out. It fails only where there is no memory, and then nothing has changed.
+#[tactic(auto, unfolding(crate::specs::LeftOuts::with_one))]
+pub fn leave_out(left_out: &mut Vec<LeftOut>, kind: Kind, place: Place) -> Result<(), AllocError>
+    ensures ok { IfOk result (λ _. left_out.new.items ≡ with_one left_out.old.items kind place) }
+    ensures err { OnErr result (left_out.new.items ≡ left_out.old.items) }
+{
+    match place_of(left_out.as_slice(), kind) {
+        Some(at) => {
+            let more = and_one(left_out[at], place)?;
+            left_out[at] = more;
+        }
+        None => {
+            left_out.push(LeftOut {
+                kind,
+                count: 1,
+                first: place,
+            })?;
+        }
+    }
+    Ok(())
+}

@@ -1,0 +1,30 @@
+//! Sequence diagrams that were drawn for other tools, and the charts that they come to.
+#![tactic(auto)]
+
+mod collecting;
+mod crossing;
+mod diagram;
+mod drawn;
+mod full;
+mod lanes;
+mod left_out;
+mod losing;
+mod message;
+mod naming;
+mod note_event;
+mod place;
+mod placing;
+mod renaming;
+
+pub use collecting::{Collected, collect};
+pub use crossing::{crosses, first_fault, overtakes};
+pub use diagram::{Arrow, Diagram, Item, Note, Participant};
+pub use drawn::{DrawError, Drawn, draw, has_no_chart};
+pub use full::first_full;
+pub use lanes::Lanes;
+pub use left_out::{Kind, LeftOut, leave_out};
+pub use losing::without_lost;
+pub use message::Message;
+pub use naming::{name_messages, names_of};
+pub use place::Place;
+pub use renaming::{Renamed, told_names};

@@ -1,0 +1,21 @@
+//! Where something stands in a text.
+ghost use Rattle.std.specs.Prelude.{◌≡◌};
+ghost use Rattle.diagrams.specs.Places.{is_before};
+
+/// Where something stands in a text.
+#[derive(Clone, Copy, Debug, PartialEq, Eq)]
+pub struct Place {
+    /// From 1.
+    pub line: u64,
+    /// In bytes, from 1.
+    pub column: u64,
+}
+
+impl Place {
+    /// Whether it is further up than the other, or further to the left in one line.
+    pub fn is_before(&self, other: &Place) -> bool
+        ensures { result ≡ is_before self.now other.now }
+    {
+        self.line < other.line || (self.line == other.line && self.column < other.column)
+    }
+}

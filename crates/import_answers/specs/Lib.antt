@@ -1,0 +1,4 @@
+pub mod Importing
+pub mod KindWords
+pub mod Order
+pub mod Telling

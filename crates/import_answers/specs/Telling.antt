@@ -1,0 +1,49 @@
+-- What is told of a chart beside its text: what is left out of the diagram, and names that aren't their labels.
+use Rattle.std.specs.Prelude.{ℕ, ◌==◌, List, [], ◌∷◌, ◌++◌, codes, decimal, if◌then◌else◌}
+use Rattle.std.specs.List.{flat_map}
+use Rattle.diagrams.specs.declared.renaming.Renamed.{Renamed}
+use Rattle.diagrams.specs.declared.left_out.LeftOut.{LeftOut}
+use Rattle.joined_diagrams.specs.declared.moves.Overtaking.{Overtaking}
+use Rattle.mscgen_text.specs.Faults.{printable}
+use Rattle.import_answers.specs.KindWords.{kind_word, kind_words}
+
+-- that one such thing is left out, with its line
+unfoldable pub one_line : List ℕ → ℕ → List ℕ
+one_line word line = codes "1 " ++ (word ++ (codes " is left out, in line " ++ (decimal line ++ codes "\n")))
+
+-- that so many are, with the line of the first
+unfoldable pub several_line : ℕ → List ℕ → ℕ → List ℕ
+several_line count words line =
+    decimal count ++ (codes " " ++ (words ++ (codes " are left out, the first in line " ++ (decimal line ++ codes "\n"))))
+
+-- what is left out of a kind
+abbrev pub left_out_line : LeftOut → List ℕ
+left_out_line l =
+    if l.count == 1 then one_line (kind_word l.kind) l.first.line
+    else several_line l.count (kind_words l.kind) l.first.line
+
+-- a message that is left out, and the line of the one that it overtakes
+unfoldable pub overtaking_line : Overtaking → List ℕ
+overtaking_line o =
+    codes "the message in line " ++ (decimal o.place.line ++ (codes " overtakes the one in line " ++ (decimal o.overtaken ++ codes ", and is left out\n")))
+
+-- a byte of a label: a line feed as `\n`, and `?` for what doesn't print
+abbrev pub shown_byte : ℕ → List ℕ
+shown_byte b = if b == 10 then 92 ∷ 110 ∷ [] else printable b ∷ []
+
+unfoldable pub start : List ℕ
+start = codes "name "
+
+unfoldable pub is : List ℕ
+is = codes " is \""
+
+unfoldable pub end : List ℕ
+end = codes "\"\n"
+
+-- a name, with the label that it isn't
+unfoldable pub renamed_line : Renamed → List ℕ
+renamed_line r = start ++ (r.name ++ (is ++ (flat_map shown_byte r.label.items ++ end)))
+
+-- what is left out, the messages that overtake, and then the names
+unfoldable pub told_text : List LeftOut → List Overtaking → List Renamed → List ℕ
+told_text left_out overtaking renamed = flat_map left_out_line left_out ++ (flat_map overtaking_line overtaking ++ flat_map renamed_line renamed)

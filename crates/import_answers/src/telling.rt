@@ -1,0 +1,204 @@
+//! What is told of a chart beside its text.
+ghost use Rattle.std.specs.Prelude.{◌≡◌};
+ghost use Rattle.std.specs.List.{flat_map};
+ghost use Rattle.msc_text.specs.Writing.{Wrote, Adds};
+ghost use Rattle.import_answers.specs.Telling.{one_line, several_line, left_out_line, overtaking_line, shown_byte, start, is, end};
+ghost use Rattle.import_answers.specs.Telling.{renamed_line, told_text};
+
+use crate::kind_words::{kind_word, kind_words};
+use diagrams::{LeftOut, Renamed};
+use joined_diagrams::Overtaking;
+use msc_text::{Out, TextBuffer, WriteError};
+use mscgen_text::printable;
+use text_parts::{Piece, add_pieces};
+
+/// Adds that one such thing is left out, with its line.
+#[tactic(auto, unfolding(crate::specs::Telling::one_line))]
+fn add_one<V: Out>(text: &mut TextBuffer<'_, V>, word: &[u8], line: u64) -> Result<(), WriteError>
+    ensures { Adds V.sink text.old text.new result (one_line word.now line) }
+{
+    add_pieces(
+        text,
+        &[
+            Piece::Bytes(b"1 "),
+            Piece::Bytes(word),
+            Piece::Bytes(b" is left out, in line "),
+            Piece::Number(line),
+            Piece::Bytes(b"\n"),
+        ],
+    )
+}
+
+/// Adds that so many are, with the line of the first.
+#[tactic(auto, unfolding(crate::specs::Telling::several_line))]
+fn add_several<V: Out>(
+    text: &mut TextBuffer<'_, V>,
+    count: u64,
+    words: &[u8],
+    line: u64,
+) -> Result<(), WriteError>
+    ensures { Adds V.sink text.old text.new result (several_line count words.now line) }
+{
+    add_pieces(
+        text,
+        &[
+            Piece::Number(count),
+            Piece::Bytes(b" "),
+            Piece::Bytes(words),
+            Piece::Bytes(b" are left out, the first in line "),
+            Piece::Number(line),
+            Piece::Bytes(b"\n"),
+        ],
+    )
+}
+
+/// Adds what is left out of a kind.
+fn add_left_out<V: Out>(text: &mut TextBuffer<'_, V>, left_out: &LeftOut) -> Result<(), WriteError>
+    ensures { Adds V.sink text.old text.new result (left_out_line left_out.now) }
+{
+    let line = left_out.first.line;
+    if left_out.count == 1 {
+        add_one(text, kind_word(left_out.kind), line)
+    } else {
+        add_several(text, left_out.count, kind_words(left_out.kind), line)
+    }
+}
+
+fn add_all_left_out<V: Out>(
+    text: &mut TextBuffer<'_, V>,
+    left_out: &[LeftOut],
+) -> Result<(), WriteError>
+    ensures { Adds V.sink text.old text.new result (flat_map left_out_line left_out.now) }
+{
+    for kind in left_out {
+        add_left_out(text, kind)?;
+    }
+    Ok(())
+}
+
+/// Adds a message that overtakes another one.
+#[tactic(auto, unfolding(crate::specs::Telling::overtaking_line))]
+fn add_overtaking<V: Out>(
+    text: &mut TextBuffer<'_, V>,
+    message: &Overtaking,
+) -> Result<(), WriteError>
+    ensures { Adds V.sink text.old text.new result (overtaking_line message.now) }
+{
+    add_pieces(
+        text,
+        &[
+            Piece::Bytes(b"the message in line "),
+            Piece::Number(message.place.line),
+            Piece::Bytes(b" overtakes the one in line "),
+            Piece::Number(message.overtaken),
+            Piece::Bytes(b", and is left out\n"),
+        ],
+    )
+}
+
+fn add_all_overtaking<V: Out>(
+    text: &mut TextBuffer<'_, V>,
+    overtaking: &[Overtaking],
+) -> Result<(), WriteError>
+    ensures { Adds V.sink text.old text.new result (flat_map overtaking_line overtaking.now) }
+{
+    for message in overtaking {
+        add_overtaking(text, message)?;
+    }
+    Ok(())
+}
+
+/// Adds a byte of a label.
+fn add_shown_byte<V: Out>(text: &mut TextBuffer<'_, V>, byte: u8) -> Result<(), WriteError>
+    ensures { Adds V.sink text.old text.new result (shown_byte byte) }
+{
+    if byte == b'\n' {
+        text.add(b"\\n")
+    } else {
+        text.add(&[printable(byte)])
+    }
+}
+
+/// Adds a label.
+fn add_shown<V: Out>(text: &mut TextBuffer<'_, V>, label: &[u8]) -> Result<(), WriteError>
+    ensures { Adds V.sink text.old text.new result (flat_map shown_byte label.now) }
+{
+    for byte in label {
+        add_shown_byte(text, *byte)?;
+    }
+    Ok(())
+}
+
+#[tactic(auto, unfolding(crate::specs::Telling::start))]
+fn add_start<V: Out>(text: &mut TextBuffer<'_, V>) -> Result<(), WriteError>
+    ensures { Adds V.sink text.old text.new result start }
+{
+    text.add(b"name ")
+}
+
+#[tactic(auto, unfolding(crate::specs::Telling::is))]
+fn add_is<V: Out>(text: &mut TextBuffer<'_, V>) -> Result<(), WriteError>
+    ensures { Adds V.sink text.old text.new result is }
+{
+    text.add(b" is \"")
+}
+
+#[tactic(auto, unfolding(crate::specs::Telling::end))]
+fn add_end<V: Out>(text: &mut TextBuffer<'_, V>) -> Result<(), WriteError>
+    ensures { Adds V.sink text.old text.new result end }
+{
+    text.add(b"\"\n")
+}
+
+/// Adds a name, with the label that it isn't.
+#[tactic(auto, using(msc_text::proofs::Writes::joining), unfolding(crate::specs::Telling::renamed_line))]
+fn add_renamed<V: Out>(text: &mut TextBuffer<'_, V>, renamed: &Renamed) -> Result<(), WriteError>
+    ensures { Adds V.sink text.old text.new result (renamed_line renamed.now) }
+{
+    add_start(text)?;
+    text.add(renamed.name.as_bytes())?;
+    add_is(text)?;
+    add_shown(text, renamed.label.as_slice())?;
+    add_end(text)
+}
+
+fn add_all_renamed<V: Out>(
+    text: &mut TextBuffer<'_, V>,
+    renamed: &[Renamed],
+) -> Result<(), WriteError>
+    ensures { Adds V.sink text.old text.new result (flat_map renamed_line renamed.now) }
+{
+    for name in renamed {
+        add_renamed(text, name)?;
+    }
+    Ok(())
+}
+
+#[tactic(auto, using(msc_text::proofs::Writes::joining), unfolding(crate::specs::Telling::told_text))]
+fn add_told<V: Out>(
+    text: &mut TextBuffer<'_, V>,
+    left_out: &[LeftOut],
+    overtaking: &[Overtaking],
+    renamed: &[Renamed],
+) -> Result<(), WriteError>
+    ensures { Adds V.sink text.old text.new result (told_text left_out.now overtaking.now renamed.now) }
+{
+    add_all_left_out(text, left_out)?;
+    add_all_overtaking(text, overtaking)?;
+    add_all_renamed(text, renamed)
+}
+
+/// Writes what is told of a chart.
+#[tactic(auto, using(msc_text::proofs::Writes::joining))]
+pub(crate) fn write_told<V: Out>(
+    left_out: &[LeftOut],
+    overtaking: &[Overtaking],
+    renamed: &[Renamed],
+    err: &mut V,
+) -> Result<(), WriteError>
+    ensures { Wrote V.sink err.old err.new result (told_text left_out.now overtaking.now renamed.now) }
+{
+    let mut text = TextBuffer::new(err);
+    add_told(&mut text, left_out, overtaking, renamed)?;
+    text.finish()
+}

@@ -1,0 +1,31 @@
+use Rattle.std.proofs.Common.{◌≡◌, Ok, length, map, false, ap, sym, ◌∙◌}
+use Rattle.std.proofs.lemmas.List.{length-map}
+use Rattle.diagrams.specs.Diagrams.{diagram_view, participant_view}
+use Rattle.diagrams.specs.Drawing.{has_no_chart}
+use Rattle.joined_diagrams.specs.Drawing.{joined_drawn_view}
+use Rattle.joined_diagrams.specs.Joined.{joined_view}
+use Rattle.joined_diagrams.specs.Joins.{join_view}
+use Rattle.joined_diagrams.proofs.DrawingLemmas.{as_many_names, draw_steps}
+use Rattle.joined_diagrams.proofs.PossibleLemmas.{joined_possible}
+use Rattle.joined_diagrams.proofs.drawing.draw_with.Goals as goal
+
+pub returns-clause-drawn : goal.returns-clause-drawn
+returns-clause-drawn c =
+    let d = diagram_view c.args.diagram in
+    let count : c.len.result ≡ length d.participants =
+    c.len.ensures ∙ sym c.deref.ensures.len ∙ ap length c.deref.ensures.value ∙ sym (length-map c.args.diagram.participants.items participant_view) in
+    let several : has_no_chart (length d.participants) ≡ false = ap has_no_chart (sym count) ∙ sym c.has_no_chart.ensures ∙ c.if-has_no_chart.false in
+    let names = rw c.deref.ensures.value at c.in_ok-lines.ensures in
+    let collected = rw c.deref-2.ensures.value at c.in_ok-collect.ensures in
+    let parts = c.into_parts-messages.ensures in
+    let joined = rw (c.deref-3.ensures.value, c.deref-4.ensures.value, parts.messages, parts.left_out) at c.in_ok-joined.ensures in
+    let checked = rw (c.deref-5.ensures.value, parts.messages, parts.fault) at c.in_ok-check.ensures in
+    let drawn = rw (c.deref-6.ensures.value, c.deref-7.ensures.value) at c.in_ok-drawn.ensures in
+    draw_steps d (map join_view c.args.joins.now) c.in_ok-lines.lines c.in_ok-collect.field-0 (joined_view c.in_ok-joined.joined) several names collected joined checked
+    ∙ ap Ok (sym drawn)
+
+pub returns-clause-possible : goal.returns-clause-possible
+returns-clause-possible c = joined_possible (diagram_view c.args.diagram) (map join_view c.args.joins.now) (joined_drawn_view c.in_ok-drawn.drawn) (returns-clause-drawn c)
+
+pub returns-clause-named : goal.returns-clause-named
+returns-clause-named c = as_many_names (joined_drawn_view c.in_ok-drawn.drawn) _ _ _ _ c.in_ok-drawn.ensures

@@ -1,0 +1,14 @@
+use Rattle.std.proofs.Common.{map}
+use Rattle.diagrams.specs.Diagrams.{item_view}
+use Rattle.diagrams.specs.Drawing.{renamed_view}
+use Rattle.joined_diagrams.specs.Joined.{joined_view}
+use Rattle.joined_diagrams.proofs.DrawingLemmas.{drawn_parts}
+use Rattle.joined_diagrams.proofs.drawing.joined_drawn_of.Goals as goal
+
+pub returns : goal.returns
+returns c =
+    let named = c.in_ok-named.ensures in
+    let rows = rw c.deref.ensures.value at c.in_ok-rows.ensures in
+    let lines = rw (c.deref-3.ensures.value, named.named, c.new-labels.ensures, c.deref-2.ensures.value, rows, c.len.ensures.value) at c.in_ok-chart.ensures.lines in
+    let told = rw (named.labels, c.new-labels.ensures, c.deref-2.ensures.value, rows) at c.in_ok-renamed.ensures in
+    drawn_parts c.args.participants.now (map item_view c.args.items.now) c.args.lines.now (joined_view c.args.joined) c.in_ok-chart.chart (map renamed_view c.in_ok-renamed.renamed.items) lines told

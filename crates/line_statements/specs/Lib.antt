@@ -1,0 +1,4 @@
+pub mod Lines
+pub mod Readings
+pub mod Statements
+pub mod Words

@@ -1,0 +1,21 @@
+//! What a diagram of lines says, statement by statement, and the words of its lines: shared by the readers of PlantUML
+//! and of Mermaid.
+//!
+//! What is promised: each function of bytes answers what its definition says (`specs/Words`), for any bytes.
+#![tactic(auto)]
+
+mod line;
+mod reading;
+mod statement;
+mod words;
+
+pub use line::{Line, behind_line, line_length};
+pub use reading::ReadText;
+pub use statement::{
+    Arrow, ArrowForm, End, Fault, Group, NoteAt, Place, ReadError, Said, Statement,
+};
+pub use words::{
+    begins, begins_with, behind_blanks, behind_keyword, behind_keyword_of, behind_word,
+    blank_length, end_stripped, ends_word, first_place, is_blank, is_spelled, place_of, skip_word,
+    stripped,
+};

@@ -1,0 +1,12 @@
+pub mod BegunLemmas
+pub mod ChainLemmas
+pub mod FateLemmas
+pub mod GivenLanes
+pub mod HostLemmas
+pub mod ItemLanes
+pub mod LaneLists
+pub mod LawLemmas
+pub mod LogLanes
+pub mod MatchingLemmas
+pub mod OrderLemmas
+pub mod TakenLanes

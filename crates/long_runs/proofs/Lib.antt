@@ -1,0 +1,7 @@
+pub mod CarriedLanes
+pub mod CarriedOver
+pub mod CarryingLoops
+pub mod CarryingOn
+pub mod LaneCounts
+pub mod PostedSends
+pub mod Preparing

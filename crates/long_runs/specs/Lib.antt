@@ -1,0 +1,4 @@
+pub mod CarriedHistories
+pub mod CarryingOver
+pub mod CarryingSteps
+pub mod Laws

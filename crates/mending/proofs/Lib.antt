@@ -1,0 +1,9 @@
+pub mod EndLemmas
+pub mod GrowLemmas
+pub mod HeardLemmas
+pub mod Lines
+pub mod Mended
+pub mod Moving
+pub mod Paths
+pub mod Possible
+pub mod TellLemmas

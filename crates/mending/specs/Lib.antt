@@ -1,0 +1,5 @@
+pub mod Crossings
+pub mod Growing
+pub mod Laws
+pub mod Mends
+pub mod Messages

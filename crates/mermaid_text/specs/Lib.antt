@@ -1,0 +1,9 @@
+pub mod Arrows
+pub mod Diagrams
+pub mod Names
+pub mod Notes
+pub mod Participants
+pub mod Pieces
+pub mod Sayings
+pub mod Signs
+pub mod Texts

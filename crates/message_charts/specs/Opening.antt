@@ -1,0 +1,15 @@
+-- Lines that end in a coregion with which the next end goes on: for the crate's own functions.
+use Rattle.std.specs.Prelude.{◌≡◌, ◌<◌, Bool, true, false, List, [], ◌∷◌, Option}
+use Rattle.chart.specs.declared.event.Event.{Event}
+use Rattle.chart.specs.Events.{greatest_region, last_region}
+use Rattle.message_charts.specs.Regions.{goes_on}
+use Rattle.message_charts.specs.declared.end.End.{End}
+
+-- the last end goes on with the first of these
+abbrev pub first_goes_on : Option End → List End → Bool
+first_goes_on last [] = false
+first_goes_on last (e ∷ ends) = goes_on last e
+
+-- where it does, the line ends in its greatest coregion
+pub record IsOpen (last : Option End) (line : List Event) (ends : List End) : Type 0 where
+  pub held : first_goes_on last ends ≡ true → (0 < greatest_region line) × (greatest_region line ≡ last_region line)

@@ -1,0 +1,2 @@
+pub mod ArcLemmas
+pub mod Loops

@@ -1,0 +1,4 @@
+pub mod Arcs
+pub mod Entities
+pub mod Reading
+pub mod Texts

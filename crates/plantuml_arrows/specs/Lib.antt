@@ -1,0 +1,6 @@
+pub mod Arrows
+pub mod Bodies
+pub mod Names
+pub mod Runs
+pub mod Tails
+pub mod Tips

@@ -1,0 +1,50 @@
+-- Runs of bytes of one kind.
+use Rattle.std.specs.Prelude.{ℕ, Bool, not, ◌&&◌, ◌||◌, ◌==◌, nat_le, List, [], ◌∷◌, length, take, drop, position}
+use Rattle.std.specs.Prelude.{Option, None, Some, unwrap_or, if◌then◌else◌}
+use Rattle.line_statements.specs.Words.{is_blank}
+use Rattle.plantuml_arrows.specs.declared.runs.Class.{Class}
+use Rattle.plantuml_arrows.specs.declared.runs.Class.TheVariants as classes
+
+infixl 10 ◌>>=◌
+-- what is found next, if everything before it is
+abbrev pub ◌>>=◌ : {A B : Type 0} → Option A → (A → Option B) → Option B
+None >>= f = None
+(Some x) >>= f = f x
+
+abbrev pub is_digit : ℕ → Bool
+is_digit b = nat_le 48 b && nat_le b 57
+
+abbrev pub is_word_byte : ℕ → Bool
+is_word_byte b = is_digit b || nat_le 65 b && nat_le b 90 || nat_le 97 b && nat_le b 122 || b == 95
+
+-- the byte is of this kind
+abbrev pub is_in : Class → ℕ → Bool
+is_in classes.Name b = is_word_byte b || b == 46 || b == 64 || nat_le 128 b
+is_in classes.Word b = is_word_byte b
+is_in classes.Style b = is_word_byte b || b == 46
+is_in classes.Digit b = is_digit b
+is_in classes.Dash b = b == 45
+is_in classes.Sign b = b == 43 || b == 42 || b == 33 || b == 45
+is_in classes.Solid b = not (is_blank b)
+is_in classes.Colour b = not (is_blank b) && not (b == 58)
+is_in classes.Quoted b = not (b == 34)
+is_in classes.Bracketed b = not (b == 93)
+
+-- with how many bytes of this kind the bytes begin
+unfoldable pub run_length : Class → List ℕ → ℕ
+run_length class bytes = unwrap_or (position (λ b. not (is_in class b)) bytes) (length bytes)
+
+-- those bytes, and what stands behind them: there is one at least
+unfoldable pub run_at : Class → List ℕ → Option (List ℕ × List ℕ)
+run_at class bytes =
+    if run_length class bytes == 0 then None
+    else Some (take (run_length class bytes) bytes, drop (run_length class bytes) bytes)
+
+-- what stands behind them
+unfoldable pub behind_run : Class → List ℕ → List ℕ
+behind_run class bytes = drop (run_length class bytes) bytes
+
+-- what stands behind this byte
+abbrev pub behind_byte : ℕ → List ℕ → Option (List ℕ)
+behind_byte known [] = None
+behind_byte known (b ∷ bs) = if b == known then Some bs else None

@@ -1,0 +1,16 @@
+//! Statements of PlantUML's sequence diagrams.
+//!
+//! What is promised ([`reading_of`]): what a statement means is a function of its words: the first of PlantUML's forms that
+//! it has, and the block that it begins. [`add_meaning`] adds what it says, and memory is refused at a growth alone.
+#![tactic(auto)]
+
+mod life;
+mod look;
+mod note;
+mod participant;
+mod said;
+mod telling;
+
+pub use look::{Block, ends_with_brace};
+pub use said::{Meaning, Reading, reading_of};
+pub use telling::{add_meaning, add_one};

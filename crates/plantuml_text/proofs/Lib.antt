@@ -1,0 +1,4 @@
+pub mod CommentLoops
+pub mod JointLoops
+pub mod PlaceLoops
+pub mod TextLoops

@@ -1,0 +1,17 @@
+pub mod Lists
+pub mod PlainBytes
+pub mod Said
+pub mod TokenLemmas
+pub mod MscLemmas
+pub mod DiagramLemmas
+pub mod DrawnLemmas
+pub mod LineLemmas
+pub mod ChartFacts
+pub mod RowSayings
+pub mod WholeText
+pub mod Exported
+pub mod RoundTrip
+pub mod Imported
+pub mod Example
+pub mod Untold
+pub mod AtOnce

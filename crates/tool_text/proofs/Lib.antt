@@ -1,4 +1,0 @@
-pub mod AttributeLoops
-pub mod ItemLoops
-pub mod NoteLoops
-pub mod WordLists
