@@ -1,5 +1,5 @@
 //! A post's looks at its lanes.
-ghost use Rattle.std.specs.Prelude.{◌≤◌, Ok};
+ghost use Rattle.std.specs.Prelude.{◌≤◌, suc, Ok};
 ghost use Rattle.board.specs.Views.{Sound};
 ghost use Rattle.board.specs.Parked.{IsAtBoard};
 ghost use Rattle.board.specs.Taking.{IsLaneFrom};
@@ -24,27 +24,28 @@ impl Parked {
         // (what is known of a post is known where a field of it is used)
         let _ = &self.seat;
         let lane = self.lane_from(from)?;
-        Ok(self.glance_at(words, &lane, from))
+        Ok(self.glance_at(words, &lane, from.place()))
     }
 
-    /// The same, at this lane from an instance.
+    /// The same, at this lane from the instance at this place.
     #[inline(always)]
-    fn glance_at(&mut self, words: &Words, lane: &Lane, from: InstanceNo) -> Glance
+    fn glance_at(&mut self, words: &Words, lane: &Lane, place: usize) -> Glance
         requires board { IsAtBoard words.now.key words.now.table_id self.old }
-        requires lane { IsLaneFrom self.old from lane.now }
+        requires lane { IsLaneFrom self.old (suc place) lane.now }
         ensures sound { Sound self.old self.new }
-        ensures answer { Glances self.old from (Ok result) self.new }
+        ensures answer { Glances self.old (suc place) (Ok result) self.new }
     {
-        let end = &mut self.incoming[from.place()];
-        if end.taken < end.known_put {
+        let end = &mut self.incoming[place];
+        let taken = end.taken;
+        if taken < end.known_put {
             return Glance::Message;
         }
         let word = look(words, &mut self.seat, lane);
-        if word == 2 * end.taken {
+        if word == 2 * taken {
             return Glance::Nothing;
         }
         end.known_put = word / 2;
-        if end.taken < end.known_put {
+        if taken < end.known_put {
             return Glance::Message;
         }
         Glance::Ended
@@ -66,14 +67,13 @@ impl Parked {
         let mut is_end = true;
         for place in from..to {
             let other = InstanceNo::at_place(place);
-            if other == number {
-                continue;
-            }
-            let lane = Lane::new(&shape, other, number);
-            match self.glance_at(words, &lane, other) {
-                Glance::Message => return Scan::Message(other),
-                Glance::Nothing => is_end = false,
-                Glance::Ended => {}
+            if other != number {
+                let lane = Lane::new(&shape, other, number);
+                match self.glance_at(words, &lane, place) {
+                    Glance::Message => return Scan::Message(other),
+                    Glance::Nothing => is_end = false,
+                    Glance::Ended => {}
+                }
             }
         }
         if is_end { Scan::Ended } else { Scan::Nothing }

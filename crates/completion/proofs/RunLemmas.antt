@@ -88,19 +88,22 @@ completed_kept c g causes finishes (finishing {s = s} {r = r} q d earlier receiv
     let later = begins_onward (w.next ∷ w.past) h g w.begins begins in
     let sooner = begins_onward w.past (w.next ∷ w.past) g (w.next ∷ [], refl) later in
     let have : (i : ℕ) → IsHandled (c s.instance) i s.index → HasCome c w.past (at s.instance i) = λ i its.
-        let from = its.received in
-        let less : i < r.index = let l = its.less in let m = earlier.less in omega arith in
-        had_come_on c q r receive h w s.instance from.0 i earlier.line (from.1, from.2, from.3) less (completed_kept c g causes finishes (all i its) (w.next ∷ w.past) later w.now) in
+    let from = its.received in
+    let less : i < r.index = let l = its.less in let m = earlier.less in omega arith in
+    had_come_on c q r receive h w s.instance from.0 i earlier.line (from.1, from.2, from.3) less (completed_kept c g causes finishes (all i its) (w.next ∷ w.past) later w.now) in
     finishes s r q d earlier receive handled w.past sooner have w.not_yet h begins come
 
 -- a legal history is a run of its own chart's events in which instances finish
 pub own_run : (n k : ℕ) (h : List Occurrence) → IsLegal n k h → IsRunOf n (chart_of h) h × Finishes (chart_of h) h
 own_run n k h legal = (
-  (k, record {
-    legal = legal;
-    events = record { messages = λ q p. names_sent h q p; receives = λ q p. omega (arith, received_count n k h legal q p) };
-    causes = keeps_causes n k h legal;
-  }),
+  (
+    k,
+    record {
+      legal = legal;
+      events = record { messages = λ q p. names_sent h q p; receives = λ q p. omega (arith, received_count n k h legal q p) };
+      causes = keeps_causes n k h legal;
+    },
+  ),
   λ s r q d earlier receive handled f _ have not_yet g begins come.
       let here = come_there n k h legal g begins r come in
       there_come n k h legal g begins s (earlier.begun, rw earlier.line (let l = earlier.less in omega (arith, here.1))),

@@ -118,11 +118,7 @@ fn pass(line: &GrowingLine, place: usize, passed: &mut Passed) -> LastSends
 }
 
 /// The last sends of each event of a line, whose partners are so many first instances.
-pub fn last_sends_of(
-    alloc: Global,
-    line: &GrowingLine,
-    instances: usize,
-) -> Result<Row, AllocError>
+pub fn last_sends_of(alloc: Global, line: &GrowingLine, instances: usize) -> Result<Row, AllocError>
     requires { All (λ m. partner_of m ≤ instances) line.now.line.events }
     ensures { IfOk result (IsRowOf line.now.line.events) }
 {

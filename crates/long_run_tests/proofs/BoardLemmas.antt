@@ -71,10 +71,10 @@ made_new n k r b made same = subst (λ x. MakesBoard n k x) same made
 pub may_carry : (n k : ℕ) (b : BoardState) (posts slice : List PostView) (left : List LeftView) (closed shut : List ClosedLane) → IsNewBoard n k b → AreNewPosts b.board posts → slice ≡ posts → shut ≡ closed → WereLeft n k left (map closed_view closed)
     → (x : BoardView) × AreNewPosts x slice × WereLeft x.size x.capacity left (map closed_view shut)
 may_carry n k b posts slice left closed shut new fresh same same_closed were = (
-    b.board,
-    subst (λ (ps : List PostView). AreNewPosts b.board ps) (sym same) fresh,
-    subst₂ (λ x y. WereLeft x y left (map closed_view shut)) (sym new.size) (sym new.capacity) (subst (λ (cs : List ClosedLane). WereLeft n k left (map closed_view cs)) (sym same_closed) were),
-  )
+  b.board,
+  subst (λ (ps : List PostView). AreNewPosts b.board ps) (sym same) fresh,
+  subst₂ (λ x y. WereLeft x y left (map closed_view shut)) (sym new.size) (sym new.capacity) (subst (λ (cs : List ClosedLane). WereLeft n k left (map closed_view cs)) (sym same_closed) were),
+)
 
 pub sized : (n k : ℕ) (b : BoardState) (left : List LeftView) (closed : List LaneEnds) → IsNewBoard n k b → WereLeft b.board.size b.board.capacity left closed → WereLeft n k left closed
 sized n k b left closed new were = subst₂ (λ x y. WereLeft x y left closed) new.size new.capacity were

@@ -4,6 +4,7 @@
 //! They are in a crate of their own, since a crate with tests is proved twice.
 #![tactic(auto)]
 
+#[cfg(test)]
 mod boards;
 #[cfg(test)]
 mod lanes;

@@ -41,7 +41,13 @@ fn act(
     let with = InstanceNo::at_place(other);
     match kind {
         0 => closes(rt, post, with, &mut accounts[own * INSTANCES + other]),
-        1..=200 => sends(rt, alloc, post, with, &mut accounts[own * INSTANCES + other]),
+        1..=200 => sends(
+            rt,
+            alloc,
+            post,
+            with,
+            &mut accounts[own * INSTANCES + other],
+        ),
         _ => receives(rt, post, with, &mut accounts[other * INSTANCES + own]),
     }
 }
@@ -60,7 +66,15 @@ fn act_all(
         let own = drawn % INSTANCES;
         let other = (own + 1 + drawn / INSTANCES % (INSTANCES - 1)) % INSTANCES;
         assert!(rt; own < posts.len());
-        act(rt, alloc, &mut posts[own], own, other, accounts, drawn / 12 % 400);
+        act(
+            rt,
+            alloc,
+            &mut posts[own],
+            own,
+            other,
+            accounts,
+            drawn / 12 % 400,
+        );
     }
 }
 

@@ -91,12 +91,7 @@ impl<'a> Coming<'a> {
 }
 
 /// Passes events up to the first that is shown, and passes that one too.
-fn next_kept(
-    events: &[Event],
-    only: bool,
-    passed: u32,
-    coming: &mut Coming<'_>,
-) -> Option<EventNo>
+fn next_kept(events: &[Event], only: bool, passed: u32, coming: &mut Coming<'_>) -> Option<EventNo>
     ensures { MatchOption result (filter (is_kept_after events.now only passed) coming.old ≡ [])
         (λ event. filter (is_kept_after events.now only passed) coming.old
         ≡ event ∷ filter (is_kept_after events.now only passed) coming.new) }
@@ -191,12 +186,6 @@ impl<'a> KeptRanges<'a> {
         ensures is { IfSome result IsRange }
     {
         let first = next_kept(self.events, self.only, self.passed, &mut self.coming)?;
-        Some(joined(
-            self.events,
-            self.only,
-            self.passed,
-            first,
-            &mut self.coming,
-        ))
+        Some(joined(self.events, self.only, self.passed, first, &mut self.coming))
     }
 }

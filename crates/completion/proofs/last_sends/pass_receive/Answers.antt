@@ -25,7 +25,7 @@ returns-then-not-has_one_sender-clause-passed c =
     let less : suc place < end = omega (arith, c.if-end-index.false) in
     let h = c.if-not-has_one_sender.true in
     mixed_passed events c.requires.line.regions place c.args.passed.now.all end c.args.passed.now.by_sender run less (c.args.from, from.0, from.1, from.2)
-        (λ one. let is = c.has_one_sender.ensures.1 (subst (λ x. HasOneSender events x) (sym (add-one place)) one) in false≢true (sym h ∙ is)) c.requires.passed
+    (λ one. let is = c.has_one_sender.ensures.1 (subst (λ x. HasOneSender events x) (sym (add-one place)) one) in false≢true (sym h ∙ is)) c.requires.passed
 
 pub returns-clause-passed : goal.returns-clause-passed
 returns-clause-passed c =

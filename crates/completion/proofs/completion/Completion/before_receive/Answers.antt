@@ -52,4 +52,4 @@ returns c =
     let same : suc (r.index - 1) ≡ r.index = omega (arith, inside) in
     let from : IsFrom (chart (suc line)) m.0 (suc (r.index - 1)) = subst (λ x. IsFrom (chart x) m.0 (suc (r.index - 1))) c.place-line.ensures.value (subst (λ x. IsFrom (chart r.instance) m.0 x) (sym same) m.1) in
     finished_query chart (is_sound (length c.args.self.now) chart c.at-same_sender.ensures.possible.possible) r.instance (suc line) r.index m.0 m.1 c.place-line.ensures.value report is c.first_index-first.result first
-        c.last_within-within.result c.at-same_sender.result.same_sender c.max.result c.last_within-within.ensures (c.at-same_sender.ensures.value.same_sender m.0 from) c.max.ensures
+    c.last_within-within.result c.at-same_sender.result.same_sender c.max.result c.last_within-within.ensures (c.at-same_sender.ensures.value.same_sender m.0 from) c.max.ensures
