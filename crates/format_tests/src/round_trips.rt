@@ -36,9 +36,14 @@ fn comes_back(rt: &impl Abort, alloc: Global, chart: &[u8], tool: Tool) {
         joins: &[],
         is_strict: false,
     };
-    let imported = import_text(alloc, Some(tool), exported.as_bytes(), options).expect(rt, "a chart");
+    let imported = import_text(alloc, Some(tool), exported.as_bytes(), options).expect(
+        rt, "a chart",
+    );
     let mut again = MemoryOut::new(alloc);
-    msc_text::write(&imported.drawn.names, &imported.drawn.chart, &mut again).expect(rt, "a chart's text");
+    msc_text::write(&imported.drawn.names, &imported.drawn.chart, &mut again).expect(
+        rt,
+        "a chart's text",
+    );
     assert_eq!(rt; again.as_bytes(), chart);
 }
 

@@ -16,9 +16,7 @@ use line_statements::{
     Group, NoteAt, Said, begins_with, behind_blanks, behind_keyword, behind_word, ends_word,
     is_spelled, stripped,
 };
-use plantuml_arrows::{
-    Class, Found, arrow_of, begins_blank, behind_colour, name_at, row_at,
-};
+use plantuml_arrows::{Class, Found, arrow_of, begins_blank, behind_colour, name_at, row_at};
 
 /// What a statement means.
 #[derive(Clone, Copy, Debug)]

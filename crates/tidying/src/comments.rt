@@ -30,7 +30,11 @@ fn add_one<V: Out>(text: &mut TextBuffer<'_, V>, line: u64) -> Result<(), WriteE
 
 /// Adds that so many are.
 #[tactic(auto, unfolding(crate::specs::Tidying::several_text))]
-fn add_several<V: Out>(text: &mut TextBuffer<'_, V>, count: u64, line: u64) -> Result<(), WriteError>
+fn add_several<V: Out>(
+    text: &mut TextBuffer<'_, V>,
+    count: u64,
+    line: u64,
+) -> Result<(), WriteError>
     ensures { Adds V.sink text.old text.new result (several_text count line) }
 {
     add_pieces(

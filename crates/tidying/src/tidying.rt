@@ -40,11 +40,7 @@ fn write_text<W: Out>(text: &[u8], out: &mut W) -> Result<(), WriteError>
 }
 
 /// Writes the exact text, if it says something. All memory is taken before the first byte is written.
-fn write_exact<W: Out>(
-    alloc: Global,
-    typed: &[u8],
-    out: &mut W,
-) -> Result<Comments, ProgramError>
+fn write_exact<W: Out>(alloc: Global, typed: &[u8], out: &mut W) -> Result<Comments, ProgramError>
     ensures { Tidies W.sink out.old out.new typed.now result }
 {
     let Ok(exact) = exact_text(alloc, typed) else {
