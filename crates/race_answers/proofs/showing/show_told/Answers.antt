@@ -7,11 +7,11 @@ use Rattle.race_answers.specs.Showing.{manner_of}
 use Rattle.race_answers.specs.Statuses.{status_in}
 use Rattle.race_answers.proofs.showing.show_told.Goals as goal
 
-pub returns-in-Ok : goal.returns-in-Ok
-returns-in-Ok g c =
+pub returns-in-Ok-write_races : goal.returns-in-Ok-write_races
+returns-in-Ok-write_races g c =
     let manner = manner_of c.args.wanted.now c.args.instances.now in
     let closure = c.args.closure.now in
-    let w = c.in-Ok.ensures in
+    let w = c.in-Ok-write_races.ensures in
     let reports : List ReportView = w.0 in
     let told = subst (λ (ls : List LineView). AreTold (is_there c.args.completion) ls reports) c.lines.ensures w.1 in (
       c.args.instances.now,
