@@ -32,7 +32,7 @@ static MISSED: [&[&str]; 30] = [
     ],
     &["mscview", "import", "f", "--strict", "--strict"],
     &["mscview", "import", "f", "--skip"],
-    &["mscview", "import", "f", "--join", "a=b"],
+    &["mscview", "import", "f", "--join"],
     &["mscview", "compare", "f"],
     &["mscview", "compare", "f", "g", "h"],
     &["mscview", "races", "f", "g"],
