@@ -1,0 +1,27 @@
+-- What is written of a chart that no run has: nothing.
+use Rattle.std.proofs.Common.{◌≡◌, ◌⊎◌, inl, inr, Err, refl}
+use Rattle.files.specs.declared.error.ProgramError.{ProgramError}
+use Rattle.files.specs.declared.error.ProgramError.TheVariants.{Usage, File, Memory, Text, ReceiveWithoutSend, NameMismatch, Cyclic, Write}
+use Rattle.files.specs.Files.{Named, IsRefused}
+use Rattle.msc_text.specs.Outs.{Sink}
+use Rattle.mend_answers.specs.declared.error.MendRefusal.TheVariants.{Program}
+use Rattle.mend_answers.specs.declared.showing.Wanted.{Wanted}
+use Rattle.mend_answers.specs.Showing.{Shows}
+
+module _ {S : Type 0} (sink : S → Sink) (old : S) (named : Named) (wanted : Wanted) where
+  pub not_shown : (error : ProgramError) → (error ≡ Memory) ⊎ IsRefused error named → Shows sink old old (Err (Program error)) wanted named
+  not_shown Memory why = refl
+  not_shown Usage (inl is) = cc
+  not_shown Usage (inr refused) = absurd refused
+  not_shown File (inl is) = cc
+  not_shown File (inr refused) = absurd refused
+  not_shown (Text fault) (inl is) = cc
+  not_shown (Text fault) (inr refused) = absurd refused
+  not_shown (ReceiveWithoutSend p index) (inl is) = cc
+  not_shown (ReceiveWithoutSend p index) (inr refused) = (refused, refl)
+  not_shown (NameMismatch p index) (inl is) = cc
+  not_shown (NameMismatch p index) (inr refused) = (refused, refl)
+  not_shown Cyclic (inl is) = cc
+  not_shown Cyclic (inr refused) = (refused, refl)
+  not_shown Write (inl is) = cc
+  not_shown Write (inr refused) = absurd refused

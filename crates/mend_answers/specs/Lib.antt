@@ -1,0 +1,4 @@
+pub mod Answers
+pub mod Naming
+pub mod Pairs
+pub mod Showing

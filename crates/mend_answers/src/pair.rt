@@ -1,0 +1,111 @@
+//! The two events that are asked about.
+ghost use Rattle.std.specs.Prelude.{◌≡◌, ◌≤◌, ◌<◌, length};
+ghost use Rattle.chart.specs.declared.line.TheConstants.{MAX_EVENTS};
+ghost use Rattle.chart.specs.Charts.{chart_lines};
+ghost use Rattle.mend_answers.specs.Pairs.{instance_said, has_event, is_receive, pair_on, pair_of};
+
+use crate::error::MendRefusal;
+use chart::{Event, EventNo, InstanceNo, Line, Names};
+use msc_text::name_in;
+
+/// The words of a `race` line: an instance's name, and the numbers of two events of its line.
+#[derive(Clone, Copy, Debug)]
+pub struct Asked<'a> {
+    pub instance: &'a [u8],
+    pub earlier: u64,
+    pub receive: u64,
+}
+
+/// A receive, and an earlier event of its line.
+#[derive(Clone, Copy)]
+pub struct Pair {
+    pub earlier: EventNo,
+    pub receive: EventNo,
+}
+
+/// The instance that has these bytes as its name.
+fn instance_said(names: &Names, name: &[u8]) -> Option<InstanceNo>
+    ensures { result ≡ instance_said names.now name.now }
+{
+    match name_in(name) {
+        Ok(name) => names.instance(name),
+        Err(_) => None,
+    }
+}
+
+/// The events of an instance's line, none where the chart has no such instance.
+pub(crate) fn events_of(lines: &[Line], instance: InstanceNo) -> &[Event]
+    ensures events { result.now ≡ chart_lines lines.now instance }
+    ensures short { length result.now ≤ MAX_EVENTS }
+{
+    match lines.get(instance.place()) {
+        Some(line) => line.events(),
+        None => &[],
+    }
+}
+
+fn has_event(events: &[Event], index: u64) -> bool
+    ensures { result ≡ has_event events.now index }
+{
+    1 <= index && index <= events.len() as u64
+}
+
+fn is_receive(event: &Event) -> bool
+    ensures { result ≡ is_receive event.now }
+{
+    match event {
+        Event::Send { .. } => false,
+        Event::Receive { .. } => true,
+    }
+}
+
+/// The events of a line with these numbers. F31: there is no such event. F32: the second is a send, or the first isn't
+/// an earlier one.
+fn pair_on(
+    instance: InstanceNo,
+    events: &[Event],
+    earlier: u64,
+    receive: u64,
+) -> Result<Pair, MendRefusal>
+    requires { length events.now ≤ MAX_EVENTS }
+    ensures { result ≡ pair_on instance events.now earlier receive }
+{
+    if !has_event(events, earlier) {
+        return Err(MendRefusal::NoSuchEvent);
+    }
+    if !has_event(events, receive) {
+        return Err(MendRefusal::NoSuchEvent);
+    }
+    if earlier >= receive {
+        return Err(MendRefusal::NotAPair);
+    }
+    if !is_receive(&events[receive as usize - 1]) {
+        return Err(MendRefusal::NotAPair);
+    }
+    Ok(Pair {
+        earlier: EventNo {
+            instance,
+            index: earlier as u32,
+        },
+        receive: EventNo {
+            instance,
+            index: receive as u32,
+        },
+    })
+}
+
+/// The two events that are asked about. F31: the chart has no such event. F32: the second is a send, or the first isn't
+/// an earlier one.
+pub(crate) fn pair_in(names: &Names, lines: &[Line], asked: &Asked<'_>) -> Result<Pair, MendRefusal>
+    ensures { result ≡ pair_of names.now lines.now asked.now }
+{
+    match instance_said(names, asked.instance) {
+        None => Err(MendRefusal::NoSuchEvent),
+        Some(instance) => pair_on(
+            instance,
+            events_of(lines, instance),
+            asked.earlier,
+            asked.receive,
+        ),
+    }
+}
