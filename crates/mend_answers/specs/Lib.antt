@@ -1,4 +1,0 @@
-pub mod Answers
-pub mod Naming
-pub mod Pairs
-pub mod Showing
