@@ -197,24 +197,27 @@ def names_of(words: list[str]) -> dict[str, str]:
     return names
 
 
+def counted(places: list[str], one: str, several: str) -> list[str]:
+    """One line for things of a kind, with the place of the first."""
+    if not places:
+        return []
+    return [f"1 {one}, {places[0]}"] if len(places) == 1 else [f"{len(places)} {several}, the first is {places[0]}"]
+
+
 def told(made: LogChart) -> list[str]:
     """What was done to come to the chart."""
-    lines = []
-    arrivals = sum(entry.kind == "arrive" for entry in made.log.entries)
-    own = sum(entry.kind == "send" and entry.host == entry.peer for entry in made.log.entries)
-    for count, what in (
-        (made.log.unmatched, "lines don't match"),
-        (arrivals, "arrivals are left alone"),
-        (own, "messages of an instance to itself are left out"),
-    ):
-        if count:
-            lines.append(f"{count} {what}")
+    own = [entry.place for entry in made.log.entries if entry.kind != "arrive" and entry.host == entry.peer]
+    lines = counted(made.log.unmatched, "line doesn't match", "lines don't match")
+    lines += counted(own, "event of a message to oneself is left out", "events of messages to oneself are left out")
     lines += [f"{message.send.place} is lost" for message in made.lost]
-    for message, other in made.overtaking:
+    overtaking = sorted(made.overtaking, key=lambda pair: pair[0].send.number)
+    for message, other in overtaking:
         lines.append(f"{message.send.place} overtakes {other.send.place}: this lane isn't first in, first out")
-    lines += [f"{entry.place} is freed of its send, for a circle" for entry in made.freed]
-    for p, line in enumerate(made.lines):
-        for i in range(len(line)):
-            if made.is_invented((p, i)):
-                lines.append(f"{made.names[made.hosts[p]]} {i + 1} is invented: its log begins in the middle")
+    if made.overtaking:
+        lines.append("races may be shown that a message which is left out enforced")
+    lines += [f"{entry.place} takes no send of the log, for it would close a circle" for entry in made.freed]
+    invented = [(p, i) for p, line in enumerate(made.lines) for i in range(len(line)) if made.is_invented((p, i))]
+    lines += [f"{made.names[made.hosts[p]]} {i + 1} is invented: the log begins in the middle" for p, i in invented]
+    if invented:
+        lines.append("a race whose earlier event is invented, or whose receive comes behind an invented event, isn't claimed")
     return lines

@@ -8,7 +8,7 @@ from collections import defaultdict
 from dataclasses import dataclass, field
 from typing import NamedTuple
 
-LINE = re.compile(r"\s*(\S+)\s+(\S+)\s+(?:(?:to|from)\s+)?(\S+)\s+(\S+)(?:\s+(\S+)(.*))?")
+LINE = re.compile(r"\s*(\S+)\s+(\S+)\s+(?:(?i:to|from)\s+)?(\S+)\s+(\S+)(?:\s+(?!takes=)(\S+))?(.*)")
 SENDS = ("send", "sent", "tx", "out", "->", ">")
 RECEIVES = ("recv", "receive", "received", "rx", "in", "<-", "<")
 TAKES = re.compile(r"(?:^|\s)takes=([^\s:]+):(\S+)")
@@ -69,16 +69,19 @@ class Message:
 
 @dataclass
 class Log:
-    """The lines that match, in order, and how many didn't."""
+    """The lines that match, in order, the places of those that didn't, and hosts that come first."""
 
     entries: list[Entry] = field(default_factory=list)
-    unmatched: int = 0
+    unmatched: list[str] = field(default_factory=list)
+    hosts: list[str] = field(default_factory=list)
 
     def add(self, text: str, place: str) -> None:
+        if not text.strip():
+            return
         said = LINE.match(text)
         kind = said and kind_of(said[2])
         if not said or not kind:
-            self.unmatched += 1
+            self.unmatched.append(place)
             return
         host, _, peer, name, identity, rest = said.groups()
         takes = tuple(Pattern(*two) for two in TAKES.findall(rest or ""))
@@ -86,7 +89,7 @@ class Log:
 
     def lines(self) -> dict[str, list[Entry]]:
         """The sends and receives of each host, in order."""
-        found: dict[str, list[Entry]] = {}
+        found: dict[str, list[Entry]] = {host: [] for host in self.hosts}
         for entry in self.entries:
             found.setdefault(entry.host, [])
             found.setdefault(entry.peer, [])

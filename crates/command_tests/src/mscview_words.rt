@@ -6,7 +6,7 @@ use view_line::{
 };
 
 /// Words that aren't a command line.
-static MISSED: [&[&str]; 30] = [
+static MISSED: [&[&str]; 33] = [
     &["mscview"],
     &["mscview", "help"],
     &["mscview", "--help"],
@@ -37,6 +37,9 @@ static MISSED: [&[&str]; 30] = [
     &["mscview", "compare", "f", "g", "h"],
     &["mscview", "races", "f", "g"],
     &["mscview", "races", "f", "--only"],
+    &["mscview", "races", "f", "--strict"],
+    &["mscview", "races", "f", "--skip", "1..2"],
+    &["mscview", "races", "f", "--join", "a=b,c"],
     &["mscview", "tidy", "f", "g"],
     &["mscview", "tidy", "--json"],
 ];
@@ -128,18 +131,21 @@ fn import<'a>(rt: &impl Abort, alloc: Global, words: &'a [&'a str]) -> Import<'a
 fn words_of_an_import(rt: HostRuntime) {
     let words = ["mscview", "import"];
     let plain = import(&rt, rt.alloc(), &words);
-    assert_eq!(&rt; plain.from, None);
-    assert!(&rt; !plain.strict);
-    assert_eq!(&rt; plain.skipped.len(), 0);
+    assert_eq!(&rt; plain.reading.from, None);
+    assert!(&rt; !plain.reading.strict);
+    assert_eq!(&rt; plain.reading.skipped.len(), 0);
     assert_eq!(&rt; plain.file, None);
     let words = [
         "mscview", "import", "--skip", "2..3", "--strict", "--from", "plantuml", "a file",
         "--skip", "7..7",
     ];
     let full = import(&rt, rt.alloc(), &words);
-    assert_eq!(&rt; full.from, Some("plantuml"));
-    assert!(&rt; full.strict);
-    assert_eq!(&rt; full.skipped.as_slice(), ["2..3", "7..7"].as_slice());
+    assert_eq!(&rt; full.reading.from, Some("plantuml"));
+    assert!(&rt; full.reading.strict);
+    assert_eq!(&rt;
+        full.reading.skipped.as_slice(),
+        ["2..3", "7..7"].as_slice()
+    );
     assert_eq!(&rt; full.file, Some("a file"));
 }
 
@@ -158,34 +164,35 @@ fn words_of_two_files(rt: HostRuntime) {
     );
 }
 
+/// The words of a command line that asks for races, or ends the test.
+fn races<'a>(rt: &impl Abort, alloc: Global, words: &'a [&'a str]) -> Races<'a> {
+    match requested(alloc, words) {
+        Ok(Request::Races(races)) => races,
+        _ => panic!(rt; "not read"),
+    }
+}
+
 #[test]
 fn words_of_races(rt: HostRuntime) {
     let words = ["mscview", "races", "--json", "--only", "a,b", "a file"];
-    assert!(rt;
-        matches!(
-            requested(rt.alloc(), &words),
-            Ok(Request::Races(Races {
-                only: Some("a,b"),
-                receives: false,
-                run_to_completion: false,
-                json: true,
-                file: Some("a file"),
-            }))
-        )
-    );
-    let words = ["mscview", "races", "--receives", "--run-to-completion"];
-    assert!(rt;
-        matches!(
-            requested(rt.alloc(), &words),
-            Ok(Request::Races(Races {
-                only: None,
-                receives: true,
-                run_to_completion: true,
-                json: false,
-                file: None,
-            }))
-        )
-    );
+    let named = races(&rt, rt.alloc(), &words);
+    assert_eq!(&rt; named.only, Some("a,b"));
+    assert!(&rt; named.json && !named.receives && !named.run_to_completion);
+    assert!(&rt; named.reading.is_none());
+    assert_eq!(&rt; named.file, Some("a file"));
+    let words = [
+        "mscview",
+        "races",
+        "--receives",
+        "--run-to-completion",
+        "--from",
+        "mermaid",
+        "--strict",
+    ];
+    let drawn = races(&rt, rt.alloc(), &words);
+    assert!(&rt; drawn.receives && drawn.run_to_completion && !drawn.json);
+    assert!(&rt; matches!(&drawn.reading, Some(reading) if reading.strict));
+    assert_eq!(&rt; drawn.file, None);
 }
 
 #[test]

@@ -1,4 +1,5 @@
 pub mod Importing
 pub mod KindWords
 pub mod Order
+pub mod Refusals
 pub mod Telling

@@ -1,37 +1,83 @@
 //! What `mscview import` does with the bytes of a file.
-ghost use Rattle.std.specs.Prelude.{◌≡◌, IfOk, IfErr};
+ghost use Rattle.std.specs.Prelude.{◌≡◌, length, IfOk};
 ghost use Rattle.msc_text.specs.Writing.{Wrote, Adds};
+ghost use Rattle.files.specs.Answers.{Answers};
 ghost use Rattle.files.specs.Refusals.{Tried};
 ghost use Rattle.diagram_imports.specs.Importing.{options_view};
-ghost use Rattle.import_answers.specs.Importing.{not_read_text, chart_refusal_text, refusal_text, Imports, AnswersImport};
-ghost use Rattle.import_answers.specs.Telling.{told_text};
+ghost use Rattle.import_answers.specs.Importing.{ReadsDrawing, Imports};
+ghost use Rattle.import_answers.specs.Refusals.{not_read_text, chart_refusal_text, drawing_refusal_text};
+ghost use Rattle.import_answers.specs.Importing.{told_said, untranslated_said, imported_said};
 
 use crate::order::in_order;
 use crate::telling::write_told;
+use chart::{Chart, Names};
 use diagram_imports::{ImportError, Options, import_text};
-use diagrams::{LeftOut, Place, Renamed};
-use files::refused_by;
-use joined_diagrams::{JoinError, Overtaking};
+use diagrams::{Drawn, LeftOut, Place, Renamed};
+use files::{Answer, answered, refused_by};
+use joined_diagrams::{JoinError, JoinedDrawn, Overtaking};
 use msc_text::{Out, TextBuffer, WriteError};
 use std::alloc::Global;
 use text_parts::{Piece, add_pieces};
 use tool_text::Tool;
 
-/// What is told of a chart that was written.
-#[derive(Drop)]
-struct Told {
+/// What is told of a chart beside its text: what is left out of its diagram, in the order of the first places, the
+/// messages that overtake another one, and each name that isn't its label's words.
+#[derive(Debug, Drop)]
+pub struct Told {
     left_out: Vec<LeftOut>,
     overtaking: Vec<Overtaking>,
     renamed: Vec<Renamed>,
 }
 
+/// The chart that a tool's text says.
+#[derive(Debug, Drop)]
+pub struct Drawing {
+    /// A name for each line of the chart.
+    pub names: Names,
+    pub chart: Chart,
+    pub told: Told,
+}
+
 /// Why no chart was written.
-#[derive(Drop)]
-enum Untranslated {
+#[derive(Debug, Drop)]
+pub enum Untranslated {
     /// The diagram isn't read or has no chart, or memory ran out.
     Diagram(ImportError),
     /// F24: a write failed.
     Write,
+}
+
+/// The chart that a tool's text says, of the tool that is named or that the text tells. It is possible. Refusals are
+/// those of [`import_text`].
+pub fn drawing_in(
+    alloc: Global,
+    tool: Option<Tool>,
+    text: &[u8],
+    options: Options<'_>,
+) -> Result<Drawing, ImportError>
+    ensures reads { ReadsDrawing result tool text.now (options_view options.entry) }
+    ensures named { IfOk result (λ d. length d.names ≡ length d.chart) }
+{
+    let JoinedDrawn { drawn, overtaking } = import_text(alloc, tool, text, options)?;
+    let Drawn {
+        names,
+        chart,
+        left_out,
+        renamed,
+    } = drawn;
+    let left_out = match in_order(alloc, &left_out) {
+        Ok(left_out) => left_out,
+        Err(_) => return Err(ImportError::Memory),
+    };
+    Ok(Drawing {
+        names,
+        chart,
+        told: Told {
+            left_out,
+            overtaking,
+            renamed,
+        },
+    })
 }
 
 /// Reads the diagram and writes its chart. All memory is taken before the first byte is written.
@@ -44,26 +90,18 @@ fn translate<W: Out>(
 ) -> Result<Told, Untranslated>
     ensures { Imports W.sink out.old out.new result tool text.now (options_view options.entry) }
 {
-    let drawn = match import_text(alloc, tool, text, options) {
-        Ok(drawn) => drawn,
+    let drawing = match drawing_in(alloc, tool, text, options) {
+        Ok(drawing) => drawing,
         Err(error) => return Err(Untranslated::Diagram(error)),
     };
-    let left_out = match in_order(alloc, &drawn.drawn.left_out) {
-        Ok(left_out) => left_out,
-        Err(_) => return Err(Untranslated::Diagram(ImportError::Memory)),
-    };
-    match msc_text::write(&drawn.drawn.names, &drawn.drawn.chart, out) {
-        Ok(()) => Ok(Told {
-            left_out,
-            overtaking: drawn.overtaking,
-            renamed: drawn.drawn.renamed,
-        }),
+    match msc_text::write(&drawing.names, &drawing.chart, out) {
+        Ok(()) => Ok(drawing.told),
         Err(_) => Err(Untranslated::Write),
     }
 }
 
 /// Adds the line of F35.
-#[tactic(auto, unfolding(crate::specs::Importing::not_read_text))]
+#[tactic(auto, unfolding(crate::specs::Refusals::not_read_text))]
 fn add_not_read<V: Out>(
     text: &mut TextBuffer<'_, V>,
     place: Place,
@@ -118,46 +156,58 @@ fn refused_chart<V: Out>(error: JoinError, err: &mut V) -> u8
     }
 }
 
-/// Prints the line of a refusal, and answers the exit status, which is 2 whether or not the line could be written.
-fn refused_diagram<V: Out>(error: &Untranslated, err: &mut V) -> u8
+/// Prints the line of a refusal of a tool's text, and answers the exit status, which is 2 whether or not the line could
+/// be written.
+pub fn refused_drawing<V: Out>(error: &ImportError, err: &mut V) -> u8
     ensures status { result ≡ 2 }
-    ensures line { Tried V.sink err.old err.new (refusal_text error.now) }
+    ensures line { Tried V.sink err.old err.new (drawing_refusal_text error.now) }
 {
     match error {
-        Untranslated::Write => refused_by(b"F24 Write", None, err),
-        Untranslated::Diagram(ImportError::Memory) => refused_by(b"F6 Memory", None, err),
-        Untranslated::Diagram(ImportError::Usage) => refused_by(b"G1 Usage", None, err),
-        Untranslated::Diagram(ImportError::Unfinished) => refused_by(b"F21 Unfinished", None, err),
-        Untranslated::Diagram(ImportError::UnknownInstance(line)) => {
+        ImportError::Memory => refused_by(b"F6 Memory", None, err),
+        ImportError::Usage => refused_by(b"G1 Usage", None, err),
+        ImportError::Unfinished => refused_by(b"F21 Unfinished", None, err),
+        ImportError::UnknownInstance(line) => {
             refused_by(b"F23 UnknownInstance", Some(*line), err)
         }
-        Untranslated::Diagram(ImportError::NotRead(place, words)) => {
-            refused_words(*place, words.as_slice(), err)
-        }
-        Untranslated::Diagram(ImportError::NoChart(error)) => refused_chart(*error, err),
+        ImportError::NotRead(place, words) => refused_words(*place, words.as_slice(), err),
+        ImportError::NoChart(error) => refused_chart(*error, err),
     }
 }
 
-/// The exit status of what was imported, or of what is refused now.
-fn answered<V: Out>(done: Result<Told, Untranslated>, err: &mut V) -> u8
-    ensures ok { IfOk done (λ told. (result ≡ 0) × Tried V.sink err.old err.new
-        (told_text told.left_out.items told.overtaking.items told.renamed.items)) }
-    ensures err { IfErr done (λ error. (result ≡ 2) × Tried V.sink err.old err.new (refusal_text error)) }
-{
-    match done {
-        Ok(told) => {
-            let _ = write_told(&told.left_out, &told.overtaking, &told.renamed, err);
-            0
-        }
-        Err(error) => refused_diagram(&error, err),
+/// What is left out, and each name that isn't its label's words, with status 0.
+impl Answer for Told {
+    ghost said = { told_said };
+
+    fn status(&self) -> u8 {
+        0
+    }
+
+    fn tell<V: Out>(&self, err: &mut V) {
+        let _ = write_told(&self.left_out, &self.overtaking, &self.renamed, err);
+    }
+}
+
+/// A refusal's line, with status 2.
+impl Answer for Untranslated {
+    ghost said = { untranslated_said };
+
+    fn status(&self) -> u8 {
+        2
+    }
+
+    fn tell<V: Out>(&self, err: &mut V) {
+        let _ = match self {
+            Untranslated::Write => refused_by(b"F24 Write", None, err),
+            Untranslated::Diagram(error) => refused_drawing(error, err),
+        };
     }
 }
 
 /// Writes the text of the chart that a tool's text says, of the tool that is named or that the text tells. What is left
 /// out is told on `err`, a line for each kind and for each message that overtakes another one, and then each name that
-/// isn't its label's words. Writes the line of a
-/// refusal to `err`. Answers the exit status: 0 where it was written, 2 after a refusal. Nothing is written to `out`
-/// before a refusal, but where writing to it failed (F24). A failed write to `err` changes nothing.
+/// isn't its label's words. Writes the line of a refusal to `err`. Answers the exit status: 0 where it was written, 2
+/// after a refusal. Nothing is written to `out` before a refusal, but where writing to it failed (F24). A failed write
+/// to `err` changes nothing.
 pub fn import<W: Out, V: Out>(
     alloc: Global,
     tool: Option<Tool>,
@@ -166,8 +216,8 @@ pub fn import<W: Out, V: Out>(
     out: &mut W,
     err: &mut V,
 ) -> u8
-    ensures { AnswersImport W.sink V.sink out.old out.new err.old err.new result tool text.now
-        (options_view options.entry) }
+    ensures { Answers (λ done. Imports W.sink out.old out.new done tool text.now (options_view options.entry))
+        imported_said V.sink err.old err.new result }
 {
-    answered(translate(alloc, tool, text, options, out), err)
+    answered(&translate(alloc, tool, text, options, out), err)
 }

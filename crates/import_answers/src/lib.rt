@@ -11,4 +11,6 @@ mod kind_words;
 mod order;
 mod telling;
 
-pub use importing::import;
+pub use importing::{Drawing, Told, Untranslated, drawing_in, import, refused_drawing};
+pub use order::in_order;
+pub use telling::{add_all_renamed, add_left_out, add_overtaking};

@@ -24,9 +24,9 @@ fn put_in(alloc: Global, kind: &LeftOut, ordered: &[LeftOut]) -> Result<Vec<Left
     Ok(more)
 }
 
-/// All kinds in the order of their first places.
+/// All kinds in the order of their first places. F6: a growth was refused.
 #[tactic(auto, unfolding(crate::specs::Order::in_order))]
-pub(crate) fn in_order(alloc: Global, left_out: &[LeftOut]) -> Result<Vec<LeftOut>, AllocError>
+pub fn in_order(alloc: Global, left_out: &[LeftOut]) -> Result<Vec<LeftOut>, AllocError>
     ensures { IfOk result (λ ordered. ordered.items ≡ in_order left_out.now) }
 {
     let mut ordered = Vec::new(alloc);

@@ -52,8 +52,11 @@ fn add_several<V: Out>(
     )
 }
 
-/// Adds what is left out of a kind.
-fn add_left_out<V: Out>(text: &mut TextBuffer<'_, V>, left_out: &LeftOut) -> Result<(), WriteError>
+/// Adds what is left out of a kind. F24: a put failed.
+pub fn add_left_out<V: Out>(
+    text: &mut TextBuffer<'_, V>,
+    left_out: &LeftOut,
+) -> Result<(), WriteError>
     ensures { Adds V.sink text.old text.new result (left_out_line left_out.now) }
 {
     let line = left_out.first.line;
@@ -76,9 +79,9 @@ fn add_all_left_out<V: Out>(
     Ok(())
 }
 
-/// Adds a message that overtakes another one.
+/// Adds a message that overtakes another one. F24: a put failed.
 #[tactic(auto, unfolding(crate::specs::Telling::overtaking_line))]
-fn add_overtaking<V: Out>(
+pub fn add_overtaking<V: Out>(
     text: &mut TextBuffer<'_, V>,
     message: &Overtaking,
 ) -> Result<(), WriteError>
@@ -162,7 +165,8 @@ fn add_renamed<V: Out>(text: &mut TextBuffer<'_, V>, renamed: &Renamed) -> Resul
     add_end(text)
 }
 
-fn add_all_renamed<V: Out>(
+/// Adds names that aren't their labels' words, a line for each.
+pub fn add_all_renamed<V: Out>(
     text: &mut TextBuffer<'_, V>,
     renamed: &[Renamed],
 ) -> Result<(), WriteError>

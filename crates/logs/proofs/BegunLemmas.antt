@@ -1,17 +1,14 @@
 -- Invented sends, one by one; and tables that hold them.
-use Rattle.std.proofs.Common.{◌≡◌, ℕ, zero, suc, ◌+◌, ◌-◌, ◌<◌, ◌≤◌, ◌==◌, ◌&&◌, Bool, true, false, cond, List, [], ◌∷◌, ◌++◌, Option, None, Some, length, take, drop, get_or, map, refl, sym, ap, ap₂, ◌∙◌, subst, arith, append_assoc, add-one}
-use Rattle.std.specs.Prelude.{fold, All}
-use Rattle.std.specs.List.{flat_map}
+use Rattle.std.proofs.Common.{◌≡◌, ℕ, zero, suc, ◌+◌, ◌-◌, ◌<◌, ◌≤◌, ◌==◌, Bool, true, false, cond, List, [], ◌∷◌, ◌++◌, Option, None, Some, length, take, drop, get_or, map, refl, sym, ap, ap₂, ◌∙◌, subst, arith, append_assoc}
+use Rattle.std.specs.Prelude.{fold}
 use Rattle.std.proofs.lemmas.List.{drop_all, append-nil}
-use Rattle.std.proofs.lemmas.List.Elements.{All-get_or}
 use Rattle.std.proofs.lemmas.List.Sums.{fold_more}
-use Rattle.logs.specs.Begun.{lasts_after, is_begun, begun_of, begun_from, begun, behind, heads_to}
-use Rattle.logs.specs.BegunTables.{IsRising, IsBelowAll, AreGiven, AreNumberedBelow}
+use Rattle.logs.specs.Begun.{lasts_after, is_begun, begun_of, begun_from, behind, heads_to}
+use Rattle.logs.specs.BegunTables.{IsRising, IsBelowAll, AreGiven}
 use Rattle.logs.specs.Chains.{IsBelow, IsChain, with_first}
 use Rattle.logs.specs.Cursors.{left_from}
 use Rattle.logs.specs.Fates.{is_sent_at}
-use Rattle.logs.specs.FateTables.{IsWithin}
-use Rattle.logs.specs.Items.{invented, heads_from, items_of}
+use Rattle.logs.specs.Items.{invented, heads_from}
 use Rattle.logs.specs.LaneTables.{LaneSends}
 use Rattle.logs.specs.declared.begun.Begun.{Begun}
 use Rattle.logs.specs.declared.item.Item.{Item}

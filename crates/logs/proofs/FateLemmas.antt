@@ -1,16 +1,13 @@
 -- What is known of the messages that are received from a line on, with one line more.
-use Rattle.std.proofs.Common.{◌≡◌, ◌≢◌, ℕ, zero, suc, ◌+◌, ◌<◌, ◌≤◌, ◌==◌, ◌&&◌, max, min, Bool, true, false, cond, List, [], ◌∷◌, ◌++◌, Option, None, Some, length, set, drop, get_or, map, filter, refl, sym, ap, ap₂, ◌∙◌, subst, arith, eqb-true, append_assoc}
-use Rattle.std.specs.Prelude.{nat_lt, unwrap_or}
-use Rattle.std.proofs.lemmas.Bool.{and_parts, eqb-false, eq-eqb, ne_eqb}
-use Rattle.std.proofs.lemmas.List.{length-set, length-map, get_or-set_same, get_or-set_other, get_or-replicate, drop_all, append-nil, length-replicate}
+use Rattle.std.proofs.Common.{◌≡◌, ◌≢◌, ℕ, ◌+◌, ◌<◌, ◌≤◌, ◌==◌, ◌&&◌, Bool, true, false, cond, List, [], ◌∷◌, ◌++◌, Option, None, Some, length, set, drop, get_or, map, filter, refl, sym, ap, ap₂, ◌∙◌, subst, arith, eqb-true, append_assoc}
+use Rattle.std.proofs.lemmas.Bool.{and_parts, eqb-false}
+use Rattle.std.proofs.lemmas.List.{length-set, get_or-set_same, get_or-set_other, get_or-replicate, drop_all, append-nil, length-replicate}
 use Rattle.std.proofs.lemmas.List.Elements.{All-get_or}
 use Rattle.std.proofs.Common.{replicate}
 use Rattle.logs.specs.LaneTables.{LaneSends, AreLanes, changed}
-use Rattle.logs.specs.Entries.{is_send}
-use Rattle.logs.specs.Fates.{sender_of, receiver_of, is_on, earlier, first_sent, later_one, last_sent, overtaking, is_sent_at, message_fate, fate_of, fates, stays, staying}
+use Rattle.logs.specs.Fates.{sender_of, receiver_of, is_on, earlier, first_sent, later_one, last_sent, overtaking, message_fate}
 use Rattle.logs.specs.FateTables.{AreFirst, AreLast, AreFates, IsWithin, AreWithin}
 use Rattle.logs.specs.declared.fate.Fate.{Fate}
-use Rattle.logs.specs.declared.fate.Fate.TheVariants.{Stays, Lost, Overtakes}
 use Rattle.logs.specs.declared.matching.LogLine.{LogLine}
 use Rattle.logs.proofs.MatchingLemmas.{from_here}
 

@@ -1,5 +1,5 @@
 -- The invented sends of one lane.
-use Rattle.std.proofs.Common.{◌≡◌, ℕ, ◌==◌, ◌&&◌, not, Bool, true, false, cond, List, [], ◌∷◌, ◌++◌, Option, None, Some, refl, sym, ap, ap₂, ◌∙◌, subst, eqb-true, eq-eqb}
+use Rattle.std.proofs.Common.{◌≡◌, ℕ, ◌==◌, ◌&&◌, not, Bool, true, false, cond, List, [], ◌∷◌, ◌++◌, Option, None, Some, refl, sym, ap, ap₂, ◌∙◌, eqb-true, eq-eqb}
 use Rattle.std.specs.Prelude.{is_none}
 use Rattle.std.proofs.lemmas.Bool.{and_parts, false≢true}
 use Rattle.logs.specs.Begun.{newer, lasts_after, is_begun, begun_of, begun_from, behind, heads, heads_to}
@@ -8,7 +8,8 @@ use Rattle.logs.specs.Fates.{sender_of, receiver_of, is_on, is_sent_at}
 use Rattle.logs.specs.LaneTables.{LaneSends}
 use Rattle.logs.specs.declared.begun.Begun.{Begun}
 use Rattle.logs.specs.declared.matching.LogLine.{LogLine}
-use Rattle.logs.proofs.LaneLists.{Taking, with_begun, last_after, begun_lane, is_behind, behind_lane}
+use Rattle.logs.proofs.LaneLists.{Taking}
+use Rattle.logs.proofs.BegunLanes.{with_begun, last_after, begun_lane, behind_lane}
 use Rattle.logs.proofs.LogLanes.{LineFits, Fits, taking_of, takes_on}
 
 -- those of the lane from q to p

@@ -1,19 +1,20 @@
 -- The messages of one lane on the lines of its two hosts.
-use Rattle.std.proofs.Common.{◌≡◌, ◌≢◌, ℕ, zero, suc, ◌+◌, ◌<◌, ◌≤◌, ◌==◌, ◌&&◌, not, Bool, true, false, cond, List, [], ◌∷◌, ◌++◌, Option, None, Some, map, refl, sym, ap, ap₂, ◌∙◌, subst, arith, append_assoc, eqb-true, eq-eqb}
+use Rattle.std.proofs.Common.{◌≡◌, ◌≢◌, ℕ, zero, suc, ◌+◌, ◌<◌, ◌≤◌, ◌==◌, ◌&&◌, not, Bool, true, false, cond, List, [], ◌∷◌, ◌++◌, Some, map, refl, sym, ap, ap₂, ◌∙◌, arith, eqb-true, eq-eqb}
 use Rattle.std.specs.List.{flat_map}
-use Rattle.std.proofs.lemmas.Bool.{ne_eqb, and_parts}
+use Rattle.std.proofs.lemmas.Bool.{ne_eqb}
 use Rattle.std.proofs.lemmas.List.{append-nil}
 use Rattle.logs.specs.Begun.{behind, heads, heads_to}
 use Rattle.logs.specs.Entries.{is_send}
-use Rattle.logs.specs.Fates.{sender_of, receiver_of, is_on}
-use Rattle.logs.specs.Items.{received_message, message_of, item_of, invented, invented_behind, items_by, heads_from, items_of}
+use Rattle.logs.specs.Fates.{is_on}
+use Rattle.logs.specs.Items.{received_message, invented, items_by, heads_from, items_of}
 use Rattle.logs.specs.Laws.{sent_to, received_from}
 use Rattle.logs.specs.declared.begun.Begun.{Begun}
 use Rattle.logs.specs.declared.item.Item.{Item}
 use Rattle.logs.specs.declared.item.MessageNo.{MessageNo}
 use Rattle.logs.specs.declared.item.MessageNo.TheVariants.{Sent, Begun as BegunMessage}
 use Rattle.logs.specs.declared.matching.LogLine.{LogLine}
-use Rattle.logs.proofs.LaneLists.{Taking, behind_lane, sent_messages, received_messages}
+use Rattle.logs.proofs.LaneLists.{Taking}
+use Rattle.logs.proofs.BegunLanes.{behind_lane, sent_messages, received_messages}
 use Rattle.logs.proofs.LogLanes.{LineFits, Fits, sends_on, takes_on}
 use Rattle.logs.proofs.GivenLanes.{given_on, GivenFits, behind_on}
 

@@ -1,17 +1,17 @@
 -- Lanes are first in, first out.
-use Rattle.std.proofs.Common.{◌≡◌, ℕ, ◌≤◌, List, [], ◌++◌, None, Some, filter, map, refl, sym, ap, ap₂, ◌∙◌, subst}
-use Rattle.logs.specs.Begun.{begun, heads, heads_to}
+use Rattle.std.proofs.Common.{◌≡◌, ℕ, ◌≤◌, List, ◌++◌, None, map, sym, ap, ap₂, ◌∙◌, subst}
+use Rattle.logs.specs.Begun.{begun}
 use Rattle.logs.specs.BegunTables.{IsRising}
 use Rattle.logs.specs.Fates.{fate_of, stays}
 use Rattle.logs.specs.HostLines.{kept}
 use Rattle.logs.specs.Laws.{AreOfLanes, sent_to, received_from, line_of}
 use Rattle.logs.specs.Matching.{sends_from, matched}
-use Rattle.logs.specs.declared.begun.Begun.{Begun}
 use Rattle.logs.specs.declared.entry.Entry.{Entry}
 use Rattle.logs.specs.declared.item.MessageNo.{MessageNo}
 use Rattle.logs.specs.declared.item.MessageNo.TheVariants.{Sent, Begun as BegunMessage}
-use Rattle.logs.specs.declared.matching.LogLine.{LogLine}
-use Rattle.logs.proofs.LaneLists.{Taking, sends_of, behind_lane, begun_lane, sent_messages, received_messages, staying_receives, staying_sends, waiting_sends, sends_stay, in_order}
+use Rattle.logs.proofs.LaneLists.{Taking, sends_of, staying_receives}
+use Rattle.logs.proofs.StayingSends.{waiting_sends, sends_stay}
+use Rattle.logs.proofs.BegunLanes.{behind_lane, begun_lane, sent_messages, received_messages, in_order}
 use Rattle.logs.proofs.LogLanes.{Fits, sends_on, takes_on, sends_left, takes_left}
 use Rattle.logs.proofs.GivenLanes.{given_on, given_lane, given_fits, heads_on}
 use Rattle.logs.proofs.ItemLanes.{line_sent, line_received}

@@ -1,12 +1,16 @@
+pub mod BegunLanes
 pub mod BegunLemmas
 pub mod ChainLemmas
 pub mod FateLemmas
 pub mod GivenLanes
 pub mod HostLemmas
 pub mod ItemLanes
+pub mod LaneFates
 pub mod LaneLists
 pub mod LawLemmas
 pub mod LogLanes
 pub mod MatchingLemmas
 pub mod OrderLemmas
+pub mod RisingLists
+pub mod StayingSends
 pub mod TakenLanes

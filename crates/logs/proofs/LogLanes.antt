@@ -1,16 +1,12 @@
 -- The lanes of a log's lines, as lists.
-use Rattle.std.proofs.Common.{◌≡◌, ◌≢◌, ℕ, zero, suc, ◌+◌, ◌<◌, ◌≤◌, ◌⊎◌, inl, inr, ◌==◌, ◌&&◌, not, Bool, true, false, cond, List, [], ◌∷◌, ◌++◌, Option, None, Some, length, filter, map, refl, sym, ap, ap₂, ◌∙◌, subst, arith, append_assoc, eqb-true, eq-eqb}
-use Rattle.std.specs.Prelude.{is_none, unwrap_or}
+use Rattle.std.proofs.Common.{◌≡◌, ℕ, ◌==◌, ◌&&◌, not, Bool, true, false, cond, List, [], ◌∷◌, Option, None, Some, filter, refl, sym, ap, ap₂, ◌∙◌, eqb-true, eq-eqb}
+use Rattle.std.specs.Prelude.{unwrap_or}
 use Rattle.std.proofs.lemmas.Bool.{and_parts, false≢true}
-use Rattle.logs.specs.Begun.{newer, lasts_after, is_begun, begun_of, begun_from, behind, heads, heads_to}
 use Rattle.logs.specs.Entries.{is_send}
 use Rattle.logs.specs.Fates.{sender_of, receiver_of, is_on, earlier, first_sent, later_one, last_sent, overtaking, is_sent_at, message_fate, unreceived, receive_fate, fate_of, stays}
-use Rattle.logs.specs.LaneTables.{LaneSends}
-use Rattle.logs.specs.declared.begun.Begun.{Begun}
-use Rattle.logs.specs.declared.fate.Fate.{Fate}
 use Rattle.logs.specs.declared.fate.Fate.TheVariants.{Stays}
 use Rattle.logs.specs.declared.matching.LogLine.{LogLine}
-use Rattle.logs.proofs.LaneLists.{Taking, sends_of, lane_first, lane_last, lane_fate, taken_fate, sent_fate, with_begun, last_after, begun_lane, behind_lane}
+use Rattle.logs.proofs.LaneLists.{Taking, lane_first, lane_last, lane_fate, taken_fate, sent_fate}
 
 -- the numbers of the lane's sends
 abbrev pub sends_on : ℕ → ℕ → List LogLine → List ℕ

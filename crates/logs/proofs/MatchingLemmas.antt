@@ -1,12 +1,12 @@
 -- The sends of streams, from the last line to the first; and the lines with the sends that they take, one by one.
-use Rattle.std.proofs.Common.{◌≡◌, ℕ, ◌+◌, ◌<◌, ◌≤◌, ◌==◌, ◌&&◌, Bool, true, false, cond, List, [], ◌∷◌, ◌++◌, Option, None, Some, length, take, drop, get_or, refl, sym, ap, ◌∙◌, subst, arith, append_assoc}
-use Rattle.std.specs.Prelude.{fold, All}
+use Rattle.std.proofs.Common.{◌≡◌, ℕ, ◌+◌, ◌<◌, ◌≤◌, ◌==◌, ◌&&◌, Bool, true, false, cond, List, [], ◌∷◌, ◌++◌, Option, length, take, drop, get_or, refl, sym, ap, ◌∙◌, subst, arith, append_assoc}
+use Rattle.std.specs.Prelude.{fold}
 use Rattle.std.proofs.lemmas.List.{drop_more, drop_all, append-nil}
 use Rattle.std.proofs.lemmas.List.Elements.{All-get_or}
 use Rattle.std.proofs.lemmas.List.Sums.{fold_more}
 use Rattle.logs.specs.Chains.{IsBelow, with_first, without_first}
 use Rattle.logs.specs.Entries.{is_send, takes, HaveStreams}
-use Rattle.logs.specs.Matching.{sends_from, send_for, left_after, matched_from, matched}
+use Rattle.logs.specs.Matching.{sends_from, send_for, left_after, matched_from}
 use Rattle.logs.specs.declared.entry.Entry.{Entry}
 use Rattle.logs.specs.declared.matching.LogLine.{LogLine}
 

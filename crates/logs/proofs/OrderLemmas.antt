@@ -1,17 +1,16 @@
 -- The lines of a log with the sends that they take: their numbers rise, and these and the sends' are those of lines.
-use Rattle.std.proofs.Common.{◌≡◌, ℕ, zero, suc, ◌+◌, ◌<◌, ◌≤◌, ◌==◌, ◌&&◌, Bool, true, false, cond, List, [], ◌∷◌, ◌++◌, Option, None, Some, length, drop, filter, refl, sym, ap, ◌∙◌, subst, arith}
+use Rattle.std.proofs.Common.{◌≡◌, ℕ, suc, ◌+◌, ◌<◌, ◌≤◌, ◌==◌, ◌&&◌, Bool, true, false, cond, List, [], ◌∷◌, ◌++◌, Option, None, Some, length, drop, filter, refl, sym, ap, subst, arith}
 use Rattle.std.specs.Prelude.{All}
 use Rattle.std.proofs.lemmas.List.Elements.{All-nil, All-cons}
 use Rattle.logs.specs.Begun.{newer, lasts_after, is_begun, begun_of, begun_from, begun}
 use Rattle.logs.specs.BegunTables.{IsBelowAll, AreGiven, AreNumberedBelow}
 use Rattle.logs.specs.Chains.{first_of}
 use Rattle.logs.specs.Entries.{is_send, takes}
-use Rattle.logs.specs.Fates.{is_on, fate_of, stays, staying}
+use Rattle.logs.specs.Fates.{is_on, fate_of, stays}
 use Rattle.logs.specs.FateTables.{IsWithin, AreWithin, AreNumbered}
 use Rattle.logs.specs.HostLines.{kept}
 use Rattle.logs.specs.LaneTables.{LaneSends}
 use Rattle.logs.specs.Matching.{sends_from, send_for, left_after, matched_from, matched}
-use Rattle.logs.specs.declared.begun.Begun.{Begun}
 use Rattle.logs.specs.declared.entry.Entry.{Entry}
 use Rattle.logs.specs.declared.matching.LogLine.{LogLine}
 

@@ -1,6 +1,5 @@
 -- Which sends the receives of a lane take: each another one, of the lane.
-use Rattle.std.proofs.Common.{◌≡◌, ◌≢◌, ℕ, zero, suc, ◌+◌, ◌<◌, ◌≤◌, ◌⊎◌, inl, inr, ◌==◌, ◌&&◌, not, Bool, true, false, cond, List, [], ◌∷◌, ◌++◌, Option, None, Some, drop, filter, refl, sym, ap, ap₂, ◌∙◌, subst, arith, eqb-true, eq-eqb, add-one}
-use Rattle.std.specs.Prelude.{All}
+use Rattle.std.proofs.Common.{◌≡◌, ℕ, zero, suc, ◌+◌, inl, inr, ◌==◌, ◌&&◌, not, Bool, true, false, cond, List, [], ◌∷◌, Option, None, Some, drop, filter, refl, sym, ap, ap₂, ◌∙◌, subst, arith, eqb-true, eq-eqb, add-one}
 use Rattle.std.proofs.lemmas.Bool.{and_parts, false≢true}
 use Rattle.std.proofs.lemmas.List.Elements.{All-head, All-tail}
 use Rattle.logs.specs.BegunTables.{IsRising}
@@ -13,8 +12,8 @@ use Rattle.logs.specs.declared.entry.Entry.{Entry}
 use Rattle.logs.specs.declared.entry.Kind.{Kind}
 use Rattle.logs.specs.declared.entry.Kind.TheVariants.{Send, Receive, Freed}
 use Rattle.logs.specs.declared.matching.LogLine.{LogLine}
-use Rattle.logs.proofs.LaneLists.{Taking, with_send, sends_of, Has, IsApart, AreApart}
-use Rattle.logs.proofs.LogLanes.{LineFits, Fits, sends_on, takes_on}
+use Rattle.logs.proofs.LaneLists.{sends_of, Has, AreApart}
+use Rattle.logs.proofs.LogLanes.{Fits, sends_on, takes_on}
 use Rattle.logs.proofs.MatchingLemmas.{sends_above}
 use Rattle.logs.proofs.OrderLemmas.{IsAbove, Rises}
 

@@ -1,6 +1,6 @@
 -- Logs that begin in the middle: a receive without a send gives its peer one, directly behind the send of the last
 -- message before it on its lane, or at the head of the peer's line where there is none.
-use Rattle.std.specs.Prelude.{ℕ, ◌==◌, ◌&&◌, Bool, true, false, not, List, [], ◌∷◌, ◌++◌, filter, Option, None, Some, is_none, if◌then◌else◌}
+use Rattle.std.specs.Prelude.{ℕ, ◌==◌, ◌&&◌, Bool, not, List, [], ◌∷◌, ◌++◌, filter, Option, None, Some, is_none, if◌then◌else◌}
 use Rattle.logs.specs.Entries.{is_send}
 use Rattle.logs.specs.LaneTables.{LaneSends}
 use Rattle.logs.specs.Fates.{is_on, is_sent_at}

@@ -1,5 +1,5 @@
 -- What tables say of invented sends: for the crate's own functions.
-use Rattle.std.specs.Prelude.{ℕ, ◌<◌, List, [], ◌∷◌, length, All}
+use Rattle.std.specs.Prelude.{ℕ, ◌<◌, List, [], ◌∷◌, All}
 use Rattle.logs.specs.Chains.{IsBelow, AreChains}
 use Rattle.logs.specs.FateTables.{IsWithin}
 use Rattle.logs.specs.declared.begun.Begun.{Begun}

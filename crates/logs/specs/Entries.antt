@@ -1,5 +1,5 @@
 -- What the lines of a log say (after the convention of ShiViz: each event of a host is a line, in their order).
-use Rattle.std.specs.Prelude.{ℕ, ◌<◌, Bool, true, false, List, length, All}
+use Rattle.std.specs.Prelude.{◌<◌, Bool, true, false, List, length, All}
 use Rattle.logs.specs.declared.entry.Entry.{Entry}
 use Rattle.logs.specs.declared.entry.Kind.{Kind}
 use Rattle.logs.specs.declared.entry.Kind.TheVariants.{Send, Receive, Freed}

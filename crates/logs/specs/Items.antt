@@ -1,5 +1,5 @@
 -- The events of each host: those of its lines that stay, in their order, and the sends that are invented.
-use Rattle.std.specs.Prelude.{ℕ, zero, suc, ◌==◌, Bool, true, false, List, [], ◌∷◌, ◌++◌, map, Option, None, Some, if◌then◌else◌}
+use Rattle.std.specs.Prelude.{ℕ, zero, suc, ◌==◌, true, List, [], ◌∷◌, ◌++◌, map, Option, None, Some, if◌then◌else◌}
 use Rattle.std.specs.List.{flat_map}
 use Rattle.logs.specs.Begun.{behind, heads, heads_to}
 use Rattle.logs.specs.Entries.{is_send}

@@ -82,6 +82,18 @@ fn lines_of(
     Ok(made)
 }
 
+/// The lines of a log that stay, each receive with the send that it takes.
+///
+/// F6: it fails only where there is no memory.
+pub fn kept_lines(alloc: Global, log: &[Entry]) -> Result<Vec<LogLine>, AllocError>
+    requires { HaveStreams log.now }
+    ensures { IfOk result (λ lines. lines.items ≡ kept log.now) }
+{
+    let matched = matched(alloc, log)?;
+    let sifted = sift(alloc, &matched)?;
+    Ok(sifted.staying)
+}
+
 /// The lines of the hosts of a log, of so many.
 ///
 /// Each receive takes the first send of its stream that none before it took. Lost messages and those that overtake are

@@ -22,7 +22,7 @@ mod losing;
 mod matching;
 
 pub use begun::Begun;
-pub use drawing::{HostLine, HostLines, host_lines};
+pub use drawing::{HostLine, HostLines, host_lines, kept_lines};
 pub use entry::{Entry, Kind, Place};
 pub use fate::Fate;
 pub use item::{Item, MessageNo};

@@ -1,18 +1,19 @@
 -- What is answered of a pair of events: how it is enforced, what hides it, the chart in which it is enforced, or why no
 -- message between the two instances makes it so (this project's profile).
-use Rattle.std.specs.Prelude.{◌≡◌, ◌≢◌, ℕ, ◌≤◌, ◌⊎◌, ◌↔◌, true, List, length, Some}
+use Rattle.std.specs.Prelude.{◌≡◌, ◌≢◌, ℕ, ◌≤◌, ◌⊎◌, ◌↔◌, true, List, length, map, Some}
 use Rattle.chart.specs.declared.event.Event.{Event}
 use Rattle.chart.specs.declared.line.TheConstants.{MAX_EVENTS}
 use Rattle.chart.specs.Events.{is_receive_from, is_in, tally}
 use Rattle.chart.specs.Charts.{Chart, Place, chart_event, BelongsTo, IsPossible, LineView, chart_lines}
 use Rattle.chart.specs.Order.{Before, region_of_event}
 use Rattle.chart.specs.Places.{IsSendAfter}
+use Rattle.chart.specs.Reports.{AreReports}
 use Rattle.closure.specs.Faults.{place_of}
 use Rattle.causes.specs.Chains.{IsShortestChain}
 use Rattle.mending.specs.Messages.{NewMessage, IsWith, new_send, new_receive, moved, IsRace, EndsBehind, CanTell}
 use Rattle.mending.specs.Messages.{telling, NoMessage}
 use Rattle.mending.specs.Crossings.{IsFirstAfter, IsBeforeNone}
-use Rattle.mending.specs.Growing.{message_of}
+use Rattle.mending.specs.Growing.{message_of, line_with}
 use Rattle.mending.specs.declared.error.MendError.{MendError}
 use Rattle.mending.specs.declared.error.MendError.TheVariants.{LineFull, Memory}
 use Rattle.mending.specs.declared.mending.Mending.{Mending}
@@ -74,7 +75,17 @@ Mends n c e r name Hidden = (Before c e r → ⊥)
     × ((m : Event) × (chart_event c e ≡ Some m) × (is_in (region_of_event (chart_event c r)) m ≡ true))
 Mends n c e r name (Crossed x) = Crosses n c e r (place_of x)
 Mends n c e r name (OnItsWay x) = Waits n c e r (place_of x)
-Mends n c e r name (Mended m chart) = Tells n c e r name m chart
+Mends n c e r name (Mended m chart reports) = Tells n c e r name m chart
+
+-- the chart that is answered has the lines of the old one, with the message's send and its receive, and nothing else; its
+-- reports are answered too
+abbrev pub IsMadeOf : List LineView → Mending → Type 0
+IsMadeOf lines (Enforced links) = Unit {0}
+IsMadeOf lines Hidden = Unit {0}
+IsMadeOf lines (Crossed x) = Unit {0}
+IsMadeOf lines (OnItsWay x) = Unit {0}
+IsMadeOf lines (Mended m chart reports) = (chart ≡ map (line_with (message_of m)) lines)
+    × AreReports chart reports.items
 
 -- there would be a message, but this line, the sender's or else the receiver's, has no room for it
 pub record IsFull (c : Chart) (e r : Place) (p : ℕ) : Type 0 where

@@ -46,7 +46,7 @@ fn add_all(line: &mut Line, events: &[Event]) -> Result<(), MendError>
 }
 
 /// A copy of the line.
-fn copied(alloc: Global, line: &Line) -> Result<Line, MendError>
+fn copied_line(alloc: Global, line: &Line) -> Result<Line, MendError>
     ensures ok { IfOk result (λ copy. copy ≡ line.now) }
     ensures err { IfErr result (λ e. e ≡ MendError.Memory) }
 {
@@ -101,7 +101,7 @@ fn line_with(alloc: Global, line: &Line, message: &Message) -> Result<Line, Mend
         };
         return inserted(alloc, line, message.received, receive);
     }
-    copied(alloc, line)
+    copied_line(alloc, line)
 }
 
 /// The lines with the message.
@@ -139,6 +139,39 @@ pub(crate) fn chart_with(
     match lines_with(alloc, lines, message) {
         Ok(lines) => match Chart::new(lines) {
             Ok(chart) => Ok(chart),
+            Err(_) => unreachable!(),
+        },
+        Err(error) => Err(error),
+    }
+}
+
+fn copied_lines(alloc: Global, lines: &[Line]) -> Result<Vec<Line>, MendError>
+    ensures ok { IfOk result (λ copies. copies.items ≡ lines.now) }
+    ensures err { IfErr result (λ e. e ≡ MendError.Memory) }
+{
+    let mut copies = Vec::new(alloc);
+    for line in lines {
+        match copied_line(alloc, line) {
+            Ok(copy) => match copies.push(copy) {
+                Ok(()) => {}
+                Err(_) => return Err(MendError::Memory),
+            },
+            Err(error) => return Err(error),
+        }
+    }
+    Ok(copies)
+}
+
+/// A copy of the chart.
+///
+/// F6: it fails only where there is no memory.
+pub fn copied(alloc: Global, chart: &Chart) -> Result<Chart, MendError>
+    ensures ok { IfOk result (λ copy. copy ≡ chart.now) }
+    ensures err { IfErr result (λ e. e ≡ MendError.Memory) }
+{
+    match copied_lines(alloc, chart.lines()) {
+        Ok(lines) => match Chart::new(lines) {
+            Ok(copy) => Ok(copy),
             Err(_) => unreachable!(),
         },
         Err(error) => Err(error),

@@ -14,5 +14,6 @@ mod mending;
 mod message;
 
 pub use error::MendError;
-pub use mending::{Mending, mend};
+pub use growing::copied;
+pub use mending::{Mending, mend, mend_race};
 pub use message::Message;

@@ -5,11 +5,12 @@ ghost use Rattle.chart.specs.declared.line.TheConstants.{MAX_EVENTS};
 ghost use Rattle.chart.specs.Charts.{Place, chart_lines, chart_event, IsReceiveFrom, IsPossible};
 ghost use Rattle.chart.specs.Events.{is_in};
 ghost use Rattle.chart.specs.Order.{IsEarlier, Before, IsCyclic, region_of_event};
+ghost use Rattle.chart.specs.Reports.{AreReports};
 ghost use Rattle.closure.specs.Closures.{IsPossibleChart};
 ghost use Rattle.closure.specs.Faults.{place_of, IsFaulty};
 ghost use Rattle.mending.specs.Messages.{IsRace, CanTell, telling};
-ghost use Rattle.mending.specs.Growing.{message_of};
-ghost use Rattle.mending.specs.Mends.{IsAsked, Tells, Mends, Fails};
+ghost use Rattle.mending.specs.Growing.{message_of, line_with};
+ghost use Rattle.mending.specs.Mends.{IsAsked, Tells, Mends, IsMadeOf, Fails};
 
 use crate::asking::first_after;
 use crate::error::MendError;
@@ -17,7 +18,7 @@ use crate::events::{end_behind, events_of, receives_among, send_after, sends_amo
 use crate::growing::chart_with;
 use crate::message::Message;
 use causes::{Link, shortest_chain};
-use chart::{Chart, EventNo, MAX_EVENTS, Name};
+use chart::{Chart, EventNo, MAX_EVENTS, Name, Report};
 use closure::{ChartError, Closure};
 use std::alloc::Global;
 
@@ -32,8 +33,8 @@ pub enum Mending {
     Crossed(EventNo),
     /// This message of the line to the receive's sender isn't received there yet when that sends, the first such one.
     OnItsWay(EventNo),
-    /// With this message more it is enforced, in this chart.
-    Mended(Message, Chart),
+    /// With this message more it is enforced, in this chart, which has these reports.
+    Mended(Message, Chart, Vec<Report>),
 }
 
 /// Whether the earlier event is in the receive's coregion.
@@ -48,15 +49,19 @@ fn are_in_one_region(closure: &Closure<'_>, earlier: &EventNo, receive: &EventNo
     events[earlier.index as usize - 1].is_in(region)
 }
 
-/// Looks whether the chart, of which that is known already, is possible.
-fn check(alloc: Global, chart: &Chart) -> Result<(), MendError>
+/// The reports of a chart without a fault or a cycle, which is possible.
+fn reports_of(alloc: Global, chart: &Chart) -> Result<Vec<Report>, MendError>
     requires faultless { (x : Place) → IsFaulty (chart_lines chart.now) x → ⊥ }
     requires acyclic { IsCyclic (chart_lines chart.now) → ⊥ }
-    ensures ok { OnOk result (IsPossible (length chart.now) (chart_lines chart.now)) }
+    ensures possible { OnOk result (IsPossible (length chart.now) (chart_lines chart.now)) }
+    ensures reports { IfOk result (λ reports. AreReports chart.now reports.items) }
     ensures err { IfErr result (λ e. e ≡ MendError.Memory) }
 {
     match Closure::of(alloc, chart) {
-        Ok(_) => Ok(()),
+        Ok(closure) => match closure.races() {
+            Ok(reports) => Ok(reports),
+            Err(_) => Err(MendError::Memory),
+        },
         Err(ChartError::Memory) => Err(MendError::Memory),
         Err(ChartError::ReceiveWithoutSend(_)) => unreachable!(),
         Err(ChartError::NameMismatch(_)) => unreachable!(),
@@ -64,20 +69,22 @@ fn check(alloc: Global, chart: &Chart) -> Result<(), MendError>
     }
 }
 
-/// The chart with the message that tells of the earlier event.
+/// The chart with the message that tells of the earlier event, and its reports.
 fn told(
     alloc: Global,
     closure: &Closure<'_>,
     earlier: &EventNo,
     receive: &EventNo,
     message: &Message,
-) -> Result<Chart, MendError>
+) -> Result<(Chart, Vec<Report>), MendError>
     requires possible { IsPossibleChart closure.now }
     requires asked { (s : Place) × (k : ℕ) × IsAsked (chart_lines closure.now) (place_of earlier.now)
         (place_of receive.now) s k × CanTell (chart_lines closure.now) earlier.now.instance k s
         × (message_of message.now ≡ telling earlier.now.instance k s message.now.name) }
-    ensures ok { IfOk result (λ chart. Tells (length closure.now) (chart_lines closure.now) (place_of earlier.now)
-        (place_of receive.now) message.now.name message.now chart) }
+    ensures ok { IfOk result (λ told. Tells (length closure.now) (chart_lines closure.now) (place_of earlier.now)
+        (place_of receive.now) message.now.name message.now told.0) }
+    ensures made { IfOk result (λ told. told.0 ≡ map (line_with (message_of message.now)) closure.now) }
+    ensures reports { IfOk result (λ told. AreReports told.0 told.1.items) }
     ensures err { IfErr result (Fails (chart_lines closure.now) (place_of earlier.now) (place_of receive.now)) }
 {
     let lines = closure.lines();
@@ -91,14 +98,16 @@ fn told(
         Ok(chart) => chart,
         Err(error) => return Err(error),
     };
-    match check(alloc, &chart) {
-        Ok(()) => Ok(chart),
+    match reports_of(alloc, &chart) {
+        Ok(reports) => Ok((chart, reports)),
         Err(error) => Err(error),
     }
 }
 
-/// What becomes of a race.
-fn mend_race(
+/// What becomes of a race: the chart with one message more, in which it is enforced, or why there is none.
+///
+/// F7: there would be one, but a line has no room for it. F6: there is no memory.
+pub fn mend_race(
     alloc: Global,
     closure: &Closure<'_>,
     earlier: &EventNo,
@@ -110,6 +119,7 @@ fn mend_race(
     requires receive { (q : ℕ) × IsReceiveFrom (chart_lines closure.now) q (place_of receive.now) }
     ensures ok { IfOk result (Mends (length closure.now) (chart_lines closure.now) (place_of earlier.now)
         (place_of receive.now) name.now) }
+    ensures made { IfOk result (IsMadeOf closure.now) }
     ensures err { IfErr result (Fails (chart_lines closure.now) (place_of earlier.now) (place_of receive.now)) }
 {
     let Some(send) = closure.send_of(receive) else {
@@ -146,7 +156,7 @@ fn mend_race(
         name: *name,
     };
     match told(alloc, closure, earlier, receive, &message) {
-        Ok(chart) => Ok(Mending::Mended(message, chart)),
+        Ok((chart, reports)) => Ok(Mending::Mended(message, chart, reports)),
         Err(error) => Err(error),
     }
 }
@@ -166,6 +176,7 @@ pub fn mend(
     requires receive { (q : ℕ) × IsReceiveFrom (chart_lines closure.now) q (place_of receive.now) }
     ensures ok { IfOk result (Mends (length closure.now) (chart_lines closure.now) (place_of earlier.now)
         (place_of receive.now) name.now) }
+    ensures made { IfOk result (IsMadeOf closure.now) }
     ensures err { IfErr result (Fails (chart_lines closure.now) (place_of earlier.now) (place_of receive.now)) }
 {
     let instances = closure.len();

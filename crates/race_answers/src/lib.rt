@@ -13,5 +13,5 @@
 mod showing;
 mod status;
 
-pub use showing::{Wanted, races};
+pub use showing::{Wanted, races, show_chart};
 pub use status::Status;

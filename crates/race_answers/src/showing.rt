@@ -2,14 +2,13 @@
 ghost use Rattle.std.specs.Prelude.{◌≡◌, length, IfSome};
 ghost use Rattle.chart.specs.Charts.{chart_lines, IsPossible};
 ghost use Rattle.files.specs.Answers.{Answers};
-ghost use Rattle.files.specs.Texts.{named_of};
 ghost use Rattle.formats.specs.Columns.{AreColumns};
 ghost use Rattle.race_answers.specs.Showing.{only_of, Shows, ShowsText};
 ghost use Rattle.race_answers.specs.Statuses.{shown_said};
 ghost use Rattle.told_races.specs.Telling.{is_there};
 
 use crate::status::Status;
-use chart::{InstanceNo, Names};
+use chart::{Chart, InstanceNo, Names};
 use closure::Closure;
 use completion::Completion;
 use files::{ProgramError, Source, Text, answered, closure_of};
@@ -86,19 +85,21 @@ fn show_races<W: Out>(
     show_told(names, closure, instances, wanted, Some(&completion), out)
 }
 
-/// Writes the races that are wanted of the chart. F34: a name of `--only` is none of the chart's, or is there twice.
-/// Then F16, F17 or F18 refuses a chart that isn't possible.
-fn show_source<W: Out>(
+/// Writes the races that are wanted of a chart, which has a line for each name: by the names of their messages. F34: a
+/// name of `only` is none of the chart's, or is there twice. Then F16, F17 or F18 refuses a chart that isn't possible.
+/// Nothing is written before a refusal, but where writing failed (F24). F6 may come at any point before.
+pub fn show_chart<W: Out>(
     alloc: Global,
-    source: &Source<'_>,
+    names: &Names,
+    chart: &Chart,
     wanted: &Wanted<'_>,
     out: &mut W,
 ) -> Result<Status, FormatError>
-    ensures { Shows W.sink out.old out.new result wanted.now (named_of source.now) }
+    requires { length names.now ≡ length chart.now }
+    ensures { Shows W.sink out.old out.new result wanted.now (names.now, chart.now) }
 {
-    let names = source.names();
     let instances = columns_in(alloc, names, wanted.only)?;
-    let closure = closure_of(alloc, names, source.chart())?;
+    let closure = closure_of(alloc, names, chart)?;
     show_races(alloc, names, &closure, instances.as_slice(), wanted, out)
 }
 
@@ -113,7 +114,7 @@ fn show_text<W: Out>(
 {
     let text = Text::read(alloc, bytes)?;
     let source = Source::of(alloc, &text)?;
-    show_source(alloc, &source, wanted, out)
+    show_chart(alloc, source.names(), source.chart(), wanted, out)
 }
 
 /// Writes the races of the chart that the bytes of a file say, or of what the schedule comes to that they say: by the

@@ -12,4 +12,6 @@ mod plain;
 mod telling;
 mod words;
 
+pub use plain::add_line;
 pub use telling::{Form, Told, write_races};
+pub use words::{add_event_at, add_name};

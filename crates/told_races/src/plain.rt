@@ -85,9 +85,10 @@ fn add_range<W: Out>(
     }
 }
 
-/// `INSTANCE: RECEIVE may come before RANGE`.
+/// Adds a line for a range of a receive's races, `INSTANCE: RECEIVE may come before RANGE`, of the line with these events.
+/// F24: a put failed.
 #[tactic(auto, using(msc_text::proofs::Writes::joining), unfolding(crate::specs::PlainText::line_text))]
-fn add_line<W: Out>(
+pub fn add_line<W: Out>(
     text: &mut TextBuffer<'_, W>,
     names: &Names,
     events: &[Event],

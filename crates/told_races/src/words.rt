@@ -72,8 +72,8 @@ pub(crate) fn add_word<W: Out>(text: &mut TextBuffer<'_, W>, word: Word) -> Resu
     text.add(word_of(&word))
 }
 
-/// Adds the name of an instance, or nothing where it has none.
-pub(crate) fn add_name<W: Out>(
+/// Adds the name of an instance, or nothing where it has none. F24: a put failed.
+pub fn add_name<W: Out>(
     text: &mut TextBuffer<'_, W>,
     names: &Names,
     instance: InstanceNo,
@@ -132,8 +132,8 @@ fn add_event<W: Out>(
     }
 }
 
-/// The same where there is an event.
-pub(crate) fn add_event_at<W: Out>(
+/// Adds `MESSAGE (INDEX, from NAME)` or `MESSAGE (INDEX, to NAME)`, or nothing where there is no event. F24: a put failed.
+pub fn add_event_at<W: Out>(
     text: &mut TextBuffer<'_, W>,
     names: &Names,
     index: u32,

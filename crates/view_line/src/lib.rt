@@ -3,7 +3,10 @@
 //! It is a crate of its own because it stands on `clap` alone: it is proved beside the crates that do the work.
 #![tactic(auto)]
 
+mod commands;
+mod reading;
 mod request;
 
 pub use command_line::CommandLineError;
-pub use request::{Compare, Draw, Export, Import, Pair, Question, Races, Request, requested};
+pub use reading::requested;
+pub use request::{Compare, Draw, Export, Import, Mend, Pair, Question, Races, Reading, Request};

@@ -34,6 +34,7 @@ mod witnessing;
 pub use answering::refused;
 pub use error::ViewError;
 pub use explained::one_explanation_law;
-pub use pair::Asked;
+pub use pair::{Asked, Pair, events_of, pair_in};
+pub use saying::write_chain;
 pub use view::why;
 pub use witnessing::witness;

@@ -17,7 +17,7 @@ pub struct Asked<'a> {
 }
 
 /// A receive, and an earlier event of its line.
-#[derive(Clone, Copy)]
+#[derive(Clone, Copy, Debug, PartialEq, Eq)]
 pub struct Pair {
     pub earlier: EventNo,
     pub receive: EventNo,
@@ -34,7 +34,7 @@ fn instance_said(names: &Names, name: &[u8]) -> Option<InstanceNo>
 }
 
 /// The events of an instance's line, none where the chart has no such instance.
-pub(crate) fn events_of(lines: &[Line], instance: InstanceNo) -> &[Event]
+pub fn events_of(lines: &[Line], instance: InstanceNo) -> &[Event]
     ensures events { result.now ≡ chart_lines lines.now instance }
     ensures short { length result.now ≤ MAX_EVENTS }
 {
@@ -96,7 +96,7 @@ fn pair_on(
 
 /// The two events that are asked about. F31: the chart has no such event. F32: the second is a send, or the first isn't
 /// an earlier one.
-pub(crate) fn pair_in(names: &Names, lines: &[Line], asked: &Asked<'_>) -> Result<Pair, ViewError>
+pub fn pair_in(names: &Names, lines: &[Line], asked: &Asked<'_>) -> Result<Pair, ViewError>
     ensures { result ≡ pair_of names.now lines.now asked.now }
 {
     match instance_said(names, asked.instance) {

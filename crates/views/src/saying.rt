@@ -274,3 +274,27 @@ pub(crate) fn write_sayings<W: Out>(
     add_sayings(&mut text, names, events, sayings)?;
     text.finish()
 }
+
+fn add_steps<W: Out>(
+    text: &mut TextBuffer<'_, W>,
+    names: &Names,
+    links: &[Link],
+) -> Result<(), WriteError>
+    ensures { Adds W.sink text.old text.new result (flat_map (step_text names.now) links.now) }
+{
+    for link in links {
+        add_step(text, names, link)?;
+    }
+    Ok(())
+}
+
+/// Writes a chain of direct steps, a line for each. It takes no memory. Where a put fails (F24), a beginning of the text
+/// was written, and no other put is tried.
+#[tactic(auto, using(msc_text::proofs::Writes::joining))]
+pub fn write_chain<W: Out>(names: &Names, links: &[Link], out: &mut W) -> Result<(), WriteError>
+    ensures { Wrote W.sink out.old out.new result (flat_map (step_text names.now) links.now) }
+{
+    let mut text = TextBuffer::new(out);
+    add_steps(&mut text, names, links)?;
+    text.finish()
+}

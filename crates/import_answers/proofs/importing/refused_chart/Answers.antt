@@ -1,6 +1,6 @@
 use Rattle.std.proofs.Common.{sym, subst}
 use Rattle.files.specs.Refusals.{Tried}
-use Rattle.import_answers.specs.Importing.{chart_refusal_text}
+use Rattle.import_answers.specs.Refusals.{chart_refusal_text}
 use Rattle.import_answers.proofs.importing.refused_chart.Goals as goal
 
 pub returns-in-Taken-clause-line : goal.returns-in-Taken-clause-line

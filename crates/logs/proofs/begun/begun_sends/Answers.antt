@@ -1,5 +1,4 @@
-use Rattle.std.proofs.Common.{◌≡◌, ◌++◌, ◌∷◌, [], ap, sym, ◌∙◌}
-use Rattle.logs.specs.Begun.{lasts_after}
+use Rattle.std.proofs.Common.{◌++◌, ◌∷◌, [], ap, sym, ◌∙◌}
 use Rattle.logs.specs.LaneTables.{LaneSends}
 use Rattle.logs.proofs.FateLemmas.{lanes_same}
 use Rattle.logs.proofs.BegunLemmas.{lasts_at, lasts_more, begun_more, begun_same, begun_end}

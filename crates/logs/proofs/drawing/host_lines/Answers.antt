@@ -4,7 +4,6 @@ use Rattle.logs.specs.BegunTables.{AreGiven, AreNumberedBelow}
 use Rattle.logs.specs.Fates.{staying}
 use Rattle.logs.specs.FateTables.{AreWithin, AreNumbered}
 use Rattle.logs.specs.HostLines.{kept}
-use Rattle.logs.specs.Matching.{matched}
 use Rattle.logs.proofs.OrderLemmas.{are_within, are_numbered, are_given, kept_numbered}
 use Rattle.logs.proofs.drawing.host_lines.Goals as goal
 

@@ -1,7 +1,6 @@
-use Rattle.std.proofs.Common.{◌≡◌, ◌+◌, ◌-◌, ◌<◌, Some, length, drop, sym, ap, ◌∙◌, subst, arith}
+use Rattle.std.proofs.Common.{◌≡◌, ◌+◌, ◌-◌, ◌<◌, length, drop, sym, ◌∙◌, subst, arith}
 use Rattle.logs.specs.Begun.{behind}
 use Rattle.logs.specs.Chains.{AreChains}
-use Rattle.logs.specs.FateTables.{IsWithin}
 use Rattle.logs.proofs.ChainLemmas.{chains_same}
 use Rattle.logs.proofs.FateLemmas.{is_within}
 use Rattle.logs.proofs.BegunLemmas.{no_behind, given_here, below_here, behind_put, behind_kept, behind_rises}

@@ -1,4 +1,4 @@
-use Rattle.std.proofs.Common.{◌≡◌, ◌++◌, ap, ◌∙◌}
+use Rattle.std.proofs.Common.{◌++◌, ap, ◌∙◌}
 use Rattle.std.specs.List.{flat_map}
 use Rattle.logs.specs.Items.{items_by, heads_from, items_of}
 use Rattle.logs.proofs.host_line.items_of.Goals as goal

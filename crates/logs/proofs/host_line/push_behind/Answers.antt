@@ -1,4 +1,4 @@
-use Rattle.std.proofs.Common.{◌≡◌, ◌<◌, ◌++◌, ◌∷◌, [], ℕ, List, None, get_or, map, ap, sym, ◌∙◌, subst}
+use Rattle.std.proofs.Common.{◌≡◌, ◌<◌, ◌++◌, ◌∷◌, [], map, ap, sym, ◌∙◌, subst}
 use Rattle.logs.specs.Chains.{IsChain}
 use Rattle.logs.specs.Cursors.{left_from}
 use Rattle.logs.specs.Items.{invented}

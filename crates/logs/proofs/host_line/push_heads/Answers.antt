@@ -1,4 +1,4 @@
-use Rattle.std.proofs.Common.{◌≡◌, ◌++◌, suc, map, ap, sym, ◌∙◌, subst}
+use Rattle.std.proofs.Common.{◌≡◌, ◌++◌, suc, map, ap, sym, ◌∙◌}
 use Rattle.logs.specs.Begun.{heads_to}
 use Rattle.logs.specs.Items.{invented}
 use Rattle.logs.proofs.BegunLemmas.{heads_more, heads_end}

@@ -1,4 +1,4 @@
-use Rattle.std.proofs.Common.{◌≡◌, ◌++◌, ◌∷◌, [], ◌==◌, true, false, ap, sym, ◌∙◌, subst, rules}
+use Rattle.std.proofs.Common.{◌≡◌, ◌++◌, ◌∷◌, [], ◌==◌, true, false, ap, sym, ◌∙◌}
 use Rattle.logs.proofs.BegunLemmas.{head_more, head_same, head_end}
 use Rattle.logs.proofs.host_line.push_heads_to.Goals as goal
 use Rattle.logs.proofs.host_line.push_heads_to.Goals.{then-eq+in_ok-push, else-eq}

@@ -1,9 +1,7 @@
-use Rattle.std.proofs.Common.{◌≡◌, ◌∷◌, ◌++◌, [], sym, ap, ◌∙◌}
-use Rattle.std.specs.Prelude.{slice_index}
+use Rattle.std.proofs.Common.{◌≡◌, sym, ap, ◌∙◌}
 use Rattle.logs.proofs.ChainLemmas.{chains_same}
 use Rattle.logs.proofs.MatchingLemmas.{left_at, left_more, matched_more, matched_end}
 use Rattle.logs.specs.Matching.{send_for}
-use Rattle.logs.specs.declared.matching.LogLine.{LogLine}
 use Rattle.logs.proofs.matching.matched.Goals as goal
 
 pub loop-number-preserved : goal.loop-number-preserved

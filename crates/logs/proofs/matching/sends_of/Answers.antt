@@ -1,4 +1,4 @@
-use Rattle.std.proofs.Common.{◌≡◌, ◌+◌, ◌-◌, sym, ap, ◌∙◌, arith}
+use Rattle.std.proofs.Common.{◌≡◌, ◌+◌, ◌-◌, sym, ◌∙◌, arith}
 use Rattle.logs.proofs.ChainLemmas.{chains_same}
 use Rattle.logs.proofs.MatchingLemmas.{no_sends, sends_above, sends_put, sends_kept}
 use Rattle.logs.proofs.matching.sends_of.Goals as goal

@@ -38,8 +38,8 @@ chart_with-requires-clause-have c =
     subst (λ (m : NewMessage). AllCanHave m c.lines-lines.result.now) (sym asked.4)
     (subst (AllCanHave (telling e.instance asked.1 asked.0 c.args.message.now.name)) (sym c.lines-lines.ensures) all)
 
-pub check-requires-clause-faultless : goal.check-requires-clause-faultless
-check-requires-clause-faultless c =
+pub reports_of-requires-clause-faultless : goal.reports_of-requires-clause-faultless
+reports_of-requires-clause-faultless c =
     let asked = c.requires.asked in
     let lines = c.args.closure.now in
     let e = place_of c.args.earlier.now in
@@ -54,8 +54,8 @@ check-requires-clause-faultless c =
     let added = with_chart lines c.requires.possible e r asked.0 asked.1 asked.2 name mine theirs (message_of c.args.message.now) c.lines-lines.result.now c.in-Ok.chart asked.4 c.lines-lines.ensures c.in-Ok.ensures.ok in
     faultless_told lines c.requires.possible e r asked.0 asked.1 asked.2 name asked.3 (chart_lines c.in-Ok.chart) added
 
-pub check-requires-clause-acyclic : goal.check-requires-clause-acyclic
-check-requires-clause-acyclic c =
+pub reports_of-requires-clause-acyclic : goal.reports_of-requires-clause-acyclic
+reports_of-requires-clause-acyclic c =
     let asked = c.requires.asked in
     let lines = c.args.closure.now in
     let e = place_of c.args.earlier.now in
@@ -70,8 +70,8 @@ check-requires-clause-acyclic c =
     let added = with_chart lines c.requires.possible e r asked.0 asked.1 asked.2 name mine theirs (message_of c.args.message.now) c.lines-lines.result.now c.in-Ok.chart asked.4 c.lines-lines.ensures c.in-Ok.ensures.ok in
     acyclic_told lines c.requires.possible e r asked.0 asked.1 asked.2 name asked.3 (chart_lines c.in-Ok.chart) added
 
-pub returns-in-Ok-check-clause-ok : goal.returns-in-Ok-check-clause-ok
-returns-in-Ok-check-clause-ok c =
+pub returns-in-Ok-reports_of-clause-ok : goal.returns-in-Ok-reports_of-clause-ok
+returns-in-Ok-reports_of-clause-ok c =
     let asked = c.requires.asked in
     let lines = c.args.closure.now in
     let e = place_of c.args.earlier.now in
@@ -85,7 +85,7 @@ returns-in-Ok-check-clause-ok c =
     let theirs : length (chart_lines lines asked.0.instance) ≢ MAX_EVENTS = λ full. c.if-events_of-eq-MAX_EVENTS-2.false (ap (λ l. length l) other ∙ full) in
     let added = with_chart lines c.requires.possible e r asked.0 asked.1 asked.2 name mine theirs (message_of c.args.message.now) c.lines-lines.result.now c.in-Ok.chart asked.4 c.lines-lines.ensures c.in-Ok.ensures.ok in
     let whole : length c.in-Ok.chart ≡ length lines = ap (λ l. length l) c.in-Ok.ensures.ok ∙ length-map c.lines-lines.result.now (line_with (message_of c.args.message.now)) ∙ ap (λ l. length l) c.lines-lines.ensures in
-    let new = subst (λ n. IsPossible n (chart_lines c.in-Ok.chart)) whole c.in-Ok-check.ensures.ok in
+    let new = subst (λ n. IsPossible n (chart_lines c.in-Ok.chart)) whole c.in-Ok-reports_of.ensures.possible in
     let mended = mended_told lines c.requires.possible e r asked.0 asked.1 asked.2 name asked.3 (chart_lines c.in-Ok.chart) added new in
     record {
       send = asked.0;

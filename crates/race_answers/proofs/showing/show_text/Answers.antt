@@ -1,4 +1,6 @@
+use Rattle.std.proofs.Common.{ℕ, List, subst₂}
 use Rattle.std.proofs.lemmas.Result.{err_from_is_err_and}
+use Rattle.chart.specs.Charts.{LineView}
 use Rattle.files.proofs.TextLemmas.{not_read, not_replayed, was_done}
 use Rattle.files.specs.Texts.{named_of}
 use Rattle.formats.specs.declared.error.FormatError.TheVariants.{Program}
@@ -17,4 +19,5 @@ returns-in_err-source g c =
 
 pub returns : goal.returns
 returns g c =
-    was_done Program (λ source done. Shows g.W.Out.sink c.args.out.now c.show_source.new.out done c.args.wanted.now (named_of source)) c.args.out.now c.args.bytes.now c.show_source.new.out c.in_ok-text.text c.in_ok-source.source c.show_source.result c.in_ok-text.ensures c.in_ok-source.ensures.source c.show_source.ensures
+    let shows = subst₂ (λ (ns : List (List ℕ)) (ls : List LineView). Shows g.W.Out.sink c.args.out.now c.show_chart.new.out c.show_chart.result c.args.wanted.now (ns, ls)) c.names.ensures c.chart.ensures.value c.show_chart.ensures in
+    was_done Program (λ source done. Shows g.W.Out.sink c.args.out.now c.show_chart.new.out done c.args.wanted.now (named_of source)) c.args.out.now c.args.bytes.now c.show_chart.new.out c.in_ok-text.text c.in_ok-source.source c.show_chart.result c.in_ok-text.ensures c.in_ok-source.ensures.source shows

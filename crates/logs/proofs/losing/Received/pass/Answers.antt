@@ -1,4 +1,4 @@
-use Rattle.std.proofs.Common.{◌≡◌, Some, None, sym, ap, ap₂, ◌∙◌}
+use Rattle.std.proofs.Common.{◌≡◌, Some, ap, ap₂, ◌∙◌}
 use Rattle.logs.specs.Fates.{sender_of, receiver_of, earlier, later_one, first_sent, last_sent, overtaking}
 use Rattle.logs.specs.LaneTables.{changed}
 use Rattle.logs.proofs.FateLemmas.{is_within, lanes_same, first_same, last_same, fates_same, first_more, last_more, fates_more}

@@ -1,0 +1,2 @@
+pub mod ChartLemmas
+pub mod KindLemmas

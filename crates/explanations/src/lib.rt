@@ -1,0 +1,19 @@
+//! What `mscview explain` does with the bytes of a file.
+//!
+//! What is promised of [`explain`]: the file's bytes decide the output's bytes. It tells what kind of file it is, and its
+//! first fault, which is the one that the readers answer, at its line, with a caret at a place that is a definition of
+//! this line (`fault_places`), and what may stand there. The exit status is 0 where there is no fault, 1 where one is
+//! told, and 2 after a refusal: nothing went to the output before it, unless a write failed (F24).
+#![tactic(auto)]
+
+mod adding;
+mod explaining;
+mod finding;
+mod judging;
+mod kind;
+mod notes;
+mod saying;
+mod verdict;
+mod words;
+
+pub use explaining::explain;

@@ -1,0 +1,2 @@
+pub mod SpotLemmas
+pub mod StandingLemmas

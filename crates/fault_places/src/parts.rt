@@ -1,0 +1,92 @@
+//! Words that have a form: names with a semicolon, and numbers.
+ghost use Rattle.std.specs.Prelude.{◌≡◌, ◌<◌, length, position, is_some, IfSome};
+ghost use Rattle.std.specs.List.{list_all};
+ghost use Rattle.fault_places.specs.Spots.{name_in};
+ghost use Rattle.msc_reader.specs.Steps.{is_semicolon, is_other, name_part, is_plain};
+ghost use Rattle.schedule.specs.FirstLines.{is_digit, is_number};
+
+fn is_semicolon(byte: u8) -> bool
+    ensures { result ≡ is_semicolon byte }
+{
+    byte == b';'
+}
+
+/// The first semicolon's index, from 0.
+fn index_of_semicolon(word: &[u8]) -> Option<usize>
+    ensures value { result ≡ position is_semicolon word.now }
+    ensures within { IfSome result (λ index. index < length word.now) }
+{
+    word.iter().position(|byte| is_semicolon(*byte))
+}
+
+/// Whether the word is `NAME;`: the semicolon is its last byte and its only one, and not the first.
+#[tactic(auto, unfolding(msc_reader::specs::Steps::name_part))]
+pub(crate) fn has_name_part(word: &[u8]) -> bool
+    ensures { result ≡ is_some (name_part word.now) }
+{
+    match index_of_semicolon(word) {
+        None => false,
+        Some(index) => index != 0 && index + 1 == word.len(),
+    }
+}
+
+/// What stands before the semicolon of `NAME;`, or all of another word.
+#[tactic(auto, unfolding(msc_reader::specs::Steps::name_part, crate::specs::Spots::name_in))]
+pub(crate) fn name_in(word: &[u8]) -> &[u8]
+    ensures { result.now ≡ name_in word.now }
+{
+    match index_of_semicolon(word) {
+        None => word,
+        Some(index) => {
+            if index == 0 || index + 1 != word.len() {
+                return word;
+            }
+            &word[..index]
+        }
+    }
+}
+
+fn is_other(byte: u8) -> bool
+    ensures { result ≡ is_other byte }
+{
+    !is_semicolon(byte)
+}
+
+fn has_others_alone(word: &[u8]) -> bool
+    ensures { result ≡ list_all is_other word.now }
+{
+    word.iter().all(|byte| is_other(*byte))
+}
+
+/// Whether the word has a byte at least, and no semicolon.
+#[tactic(auto, unfolding(msc_reader::specs::Steps::is_plain))]
+pub(crate) fn is_plain(word: &[u8]) -> bool
+    ensures { result ≡ is_plain word.now }
+{
+    !word.is_empty() && has_others_alone(word)
+}
+
+fn is_digit(byte: u8) -> bool
+    ensures { result ≡ is_digit byte }
+{
+    b'0' <= byte && byte <= b'9'
+}
+
+fn are_digits(bytes: &[u8]) -> bool
+    ensures { result ≡ list_all is_digit bytes.now }
+{
+    bytes.iter().all(|byte| is_digit(*byte))
+}
+
+/// Whether the word is a number in decimal, with no zero before it.
+#[tactic(auto, unfolding(schedule::specs::FirstLines::is_number))]
+pub(crate) fn is_number(word: &[u8]) -> bool
+    ensures { result ≡ is_number word.now }
+{
+    match word {
+        [] => false,
+        [first, rest @ ..] => {
+            is_digit(*first) && are_digits(rest) && (rest.is_empty() || *first != b'0')
+        }
+    }
+}

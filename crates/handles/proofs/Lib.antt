@@ -1,0 +1,5 @@
+pub mod KeptLists
+pub mod Lists
+pub mod Names
+pub mod SlotValues
+pub mod Values

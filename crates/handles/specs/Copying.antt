@@ -1,0 +1,53 @@
+-- What is copied out of a handle (this project's profile): as much as there is room for.
+use Rattle.std.specs.Prelude.{◌≡◌, ℕ, ◌-◌, ◌^◌, min, List, ◌++◌, length, take, drop, map, Option, None, Some, Result, Ok, Err}
+use Rattle.chart.specs.declared.instance.EventNo.{EventNo}
+use Rattle.std.specs.Borrow.{Bor}
+use Rattle.board.specs.declared.answer.Arrival.{Arrival}
+use Rattle.handles.specs.declared.kept.Kept.{Kept}
+use Rattle.handles.specs.declared.kept.Kept.TheVariants.{Post, Board, Away}
+use Rattle.handles.specs.declared.refusal.Refusal.{Refusal}
+use Rattle.handles.specs.declared.refusal.Refusal.TheVariants as why
+
+-- the first of these, as many as find room, and behind them what was there
+abbrev pub put_over : List ℕ → List ℕ → List ℕ
+put_over items room = take (length room) items ++ drop (length items) room
+
+-- the last message of what a handle keeps
+abbrev pub arrival_of : Kept → Option Arrival
+arrival_of (Post seat) = seat.arrival
+arrival_of (Board it) = None
+arrival_of Away = None
+
+abbrev pub arrival_in : Option Kept → Option Arrival
+arrival_in None = None
+arrival_in (Some kept) = arrival_of kept
+
+abbrev pub name_in : Arrival → List ℕ
+name_in arrival = arrival.message.name
+
+abbrev pub body_in : Arrival → List ℕ
+body_in arrival = arrival.message.body
+
+-- the numbers of events
+abbrev pub indices : List EventNo → List ℕ
+indices events = map (λ (event : EventNo). event.index) events
+
+-- how many they are
+abbrev pub counted : List EventNo → ℕ
+counted events = min (length events) (2 ^ 64 - 1)
+
+-- something of the message is copied out, and how much there is of it is told; where there is no message it is a misuse
+abbrev pub CopiesOut : (Arrival → List ℕ) → Option Arrival → List ℕ → Result ℕ Refusal → List ℕ → Type 0
+CopiesOut what None room result out = (result ≡ Err why.Misuse) × (out ≡ room)
+CopiesOut what (Some arrival) room result out = (result ≡ Ok (length (what arrival))) × (out ≡ put_over (what arrival) room)
+
+-- this message is looked at, or there is none
+abbrev pub IsSeen : Option Arrival → Option (Bor Arrival) → Type 0
+IsSeen seat None = seat ≡ None
+IsSeen seat (Some seen) = seat ≡ Some seen.now
+
+-- the races of the message are copied out: the numbers of the earlier events
+abbrev pub CopiesRaces : Option Arrival → List ℕ → Result ℕ Refusal → List ℕ → Type 0
+CopiesRaces None room result out = (result ≡ Err why.Misuse) × (out ≡ room)
+CopiesRaces (Some arrival) room result out = (result ≡ Ok (counted arrival.report.earlier))
+    × (out ≡ put_over (indices arrival.report.earlier) room)

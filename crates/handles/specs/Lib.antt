@@ -1,0 +1,11 @@
+pub mod Cells
+pub mod Closing
+pub mod Copying
+pub mod Opening
+pub mod Receiving
+pub mod Refusals
+pub mod Regions
+pub mod Seats
+pub mod Sending
+pub mod Telling
+pub mod Words

@@ -1,0 +1,117 @@
+//! What is copied out of a handle.
+ghost use Rattle.std.specs.Prelude.{◌≡◌, length};
+ghost use Rattle.handles.specs.Copying.{put_over, arrival_of, arrival_in, name_in, body_in, CopiesOut, CopiesRaces, IsSeen, counted, indices};
+
+use crate::handle::Handle;
+use crate::kept::Kept;
+use crate::refusal::Refusal;
+use board::Arrival;
+use chart::EventRanges;
+use std::alloc::Global;
+
+/// Writes the first of these bytes, as many as find room, and tells how many they are.
+pub(crate) fn copy_out(bytes: &[u8], out: &mut [u8]) -> usize
+    ensures all { result ≡ length bytes.now }
+    ensures copied { out.new ≡ put_over bytes.now out.old }
+{
+    let many = bytes.len().min(out.len());
+    out[..many].copy_from_slice(&bytes[..many]);
+    bytes.len()
+}
+
+/// Writes the numbers of the first of these events, as many as find room, and tells how many events they are.
+fn copy_events(events: &EventRanges, out: &mut [u32]) -> usize
+    ensures all { result ≡ counted events.now }
+    ensures copied { out.new ≡ put_over (indices events.now) out.old }
+{
+    let mut place = 0;
+    for event in events.iter() {
+        if place == out.len() {
+            break;
+        }
+        out[place] = event.index;
+        place += 1;
+    }
+    events.len()
+}
+
+impl Kept {
+    /// The last message, where it is a post that got one.
+    fn arrival(&self) -> Option<&Arrival>
+        ensures { IsSeen (arrival_of self.now) result }
+    {
+        match self {
+            Kept::Post(seat) => seat.arrival(),
+            _ => None,
+        }
+    }
+
+    fn copy_name(&self, out: &mut [u8]) -> Result<usize, Refusal>
+        ensures { CopiesOut name_in (arrival_of self.now) out.old result out.new }
+    {
+        let Some(arrival) = self.arrival() else {
+            return Err(Refusal::Misuse);
+        };
+        let name = arrival.message.name();
+        Ok(copy_out(name.as_bytes(), out))
+    }
+
+    fn copy_body(&self, out: &mut [u8]) -> Result<usize, Refusal>
+        ensures { CopiesOut body_in (arrival_of self.now) out.old result out.new }
+    {
+        let Some(arrival) = self.arrival() else {
+            return Err(Refusal::Misuse);
+        };
+        Ok(copy_out(arrival.message.body(), out))
+    }
+
+    fn copy_races(&self, out: &mut [u32]) -> Result<usize, Refusal>
+        ensures { CopiesRaces (arrival_of self.now) out.old result out.new }
+    {
+        let Some(arrival) = self.arrival() else {
+            return Err(Refusal::Misuse);
+        };
+        Ok(copy_events(arrival.report.earlier(), out))
+    }
+}
+
+impl Handle {
+    /// Copies the name of the last message out: as many bytes as there is room for. It tells how many the name has.
+    pub fn copy_name(&mut self, alloc: Global, out: &mut [u8]) -> Result<usize, Refusal>
+        ensures same { self.new.slot.value ≡ self.old.slot.value }
+        ensures answer { CopiesOut name_in (arrival_in self.old.slot.value) out.old result out.new }
+    {
+        let Some(kept) = self.take(alloc) else {
+            return Err(Refusal::Misuse);
+        };
+        let result = kept.copy_name(out);
+        self.put(kept);
+        result
+    }
+
+    /// Copies the body of the last message out, likewise.
+    pub fn copy_body(&mut self, alloc: Global, out: &mut [u8]) -> Result<usize, Refusal>
+        ensures same { self.new.slot.value ≡ self.old.slot.value }
+        ensures answer { CopiesOut body_in (arrival_in self.old.slot.value) out.old result out.new }
+    {
+        let Some(kept) = self.take(alloc) else {
+            return Err(Refusal::Misuse);
+        };
+        let result = kept.copy_body(out);
+        self.put(kept);
+        result
+    }
+    /// Copies the races of the last message out: the numbers of the earlier events, as many as there is room for. It
+    /// tells how many there are.
+    pub fn copy_races(&mut self, alloc: Global, out: &mut [u32]) -> Result<usize, Refusal>
+        ensures same { self.new.slot.value ≡ self.old.slot.value }
+        ensures answer { CopiesRaces (arrival_in self.old.slot.value) out.old result out.new }
+    {
+        let Some(kept) = self.take(alloc) else {
+            return Err(Refusal::Misuse);
+        };
+        let result = kept.copy_races(out);
+        self.put(kept);
+        result
+    }
+}

@@ -1,0 +1,40 @@
+//! What a receive over a handle finds.
+
+/// What is told of a message that came, which stays in the handle.
+#[derive(Clone, Copy)]
+pub struct Arrived {
+    /// The number of its sender, from 1.
+    pub from: u32,
+    /// The number of its receive on the line, from 1.
+    pub event: u32,
+    /// How many bytes its name has.
+    pub name: usize,
+    /// How many bytes its body has.
+    pub body: usize,
+    /// How many races its receive has.
+    pub races: usize,
+}
+
+/// What a receive finds.
+#[derive(Clone, Copy)]
+pub enum Found {
+    /// A message, which stays in the handle until the next one comes.
+    Message(Arrived),
+    /// None waits, and a lane is open.
+    Nothing,
+    /// None waits, and the lanes are closed: none will come.
+    Ended,
+}
+
+/// What is told of an event of a post's line.
+#[derive(Clone, Copy)]
+pub struct Told {
+    /// Whether it is a receive.
+    pub receives: bool,
+    /// The number of the instance at the other end of the message, from 1.
+    pub partner: u32,
+    /// The coregion that it is in, from 1, or 0 outside of one.
+    pub region: u32,
+    /// How many bytes the message's name has.
+    pub name: usize,
+}

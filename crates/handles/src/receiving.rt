@@ -1,0 +1,126 @@
+//! Receives over a handle.
+ghost use Rattle.std.specs.Prelude.{◌≡◌, ◌≤◌};
+ghost use Rattle.handles.specs.Receiving.{arrived_of, SeatTakes, SeatTakesAny, KeptTakes, KeptTakesAny};
+ghost use Rattle.handles.specs.Receiving.{HandleTakes, HandleTakesAny};
+
+use crate::any::any_after;
+use crate::found::{Arrived, Found};
+use crate::handle::Handle;
+use crate::kept::Kept;
+use crate::refusal::Refusal;
+use crate::seat::Seat;
+use board::{Arrival, Taken};
+use chart::InstanceNo;
+use std::alloc::Global;
+
+/// What is told of a message.
+#[inline(always)]
+pub(crate) fn arrived_of(arrival: &Arrival) -> Arrived
+    ensures { result ≡ arrived_of arrival.now }
+{
+    Arrived {
+        from: arrival.from.number() as u32,
+        event: arrival.report.receive().index,
+        name: arrival.message.name().as_bytes().len(),
+        body: arrival.message.body().len(),
+        races: arrival.report.earlier().len(),
+    }
+}
+
+impl Seat {
+    /// Receives the first message that waits on the lane from an instance.
+    #[inline(always)]
+    fn receive(&mut self, from: u32) -> Result<Found, Refusal>
+        ensures { SeatTakes self.old from result self.new }
+    {
+        let Some(from) = InstanceNo::new(from as usize) else {
+            return Err(Refusal::NoInstance);
+        };
+        let words = &(*self.table).shared;
+        match self.parked.receive(words, from) {
+            Ok(Taken::Got(arrival)) => {
+                let arrived = arrived_of(&arrival);
+                self.last = Some(arrival.from);
+                self.arrival = Some(arrival);
+                Ok(Found::Message(arrived))
+            }
+            Ok(Taken::Nothing) => Ok(Found::Nothing),
+            Ok(Taken::Ended) => Ok(Found::Ended),
+            Err(error) => Err(Refusal::Taking(error)),
+        }
+    }
+
+    /// Receives the first message that waits on the lanes from the others, in cyclic order after the instance that it
+    /// got a message from last.
+    fn any(&mut self) -> Result<Found, Refusal>
+        ensures { SeatTakesAny self.old result self.new }
+    {
+        let last = match self.last {
+            Some(instance) => instance.number(),
+            None => 0,
+        };
+        let words = &(*self.table).shared;
+        match any_after(&mut self.parked, words, last) {
+            Ok(Taken::Got(arrival)) => {
+                let arrived = arrived_of(&arrival);
+                self.last = Some(arrival.from);
+                self.arrival = Some(arrival);
+                Ok(Found::Message(arrived))
+            }
+            Ok(Taken::Nothing) => Ok(Found::Nothing),
+            Ok(Taken::Ended) => Ok(Found::Ended),
+            Err(error) => Err(Refusal::Taking(error)),
+        }
+    }
+}
+
+impl Kept {
+    /// Receives over the post that it is.
+    #[inline(always)]
+    fn receive(&mut self, from: u32) -> Result<Found, Refusal>
+        ensures { KeptTakes self.old from result self.new }
+    {
+        match self {
+            Kept::Post(seat) => seat.receive(from),
+            _ => Err(Refusal::Misuse),
+        }
+    }
+
+    /// Receives from any instance over the post that it is.
+    fn any(&mut self) -> Result<Found, Refusal>
+        ensures { KeptTakesAny self.old result self.new }
+    {
+        match self {
+            Kept::Post(seat) => seat.any(),
+            _ => Err(Refusal::Misuse),
+        }
+    }
+}
+
+impl Handle {
+    /// Receives the first message that waits on the lane from an instance. It stays in the handle until the next one
+    /// comes, and nothing but a number that no instance has refuses it before the post does.
+    pub fn receive(&mut self, alloc: Global, from: u32) -> Result<Found, Refusal>
+        ensures { HandleTakes self.old.slot.value from result self.new.slot.value }
+    {
+        let Some(mut kept) = self.take(alloc) else {
+            return Err(Refusal::Misuse);
+        };
+        let result = kept.receive(from);
+        self.put(kept);
+        result
+    }
+
+    /// Receives the first message that it finds on the lanes from the other instances, which it looks at in cyclic
+    /// order, beginning after the instance that it got a message from last. The message stays in the handle.
+    pub fn any(&mut self, alloc: Global) -> Result<Found, Refusal>
+        ensures { HandleTakesAny self.old.slot.value result self.new.slot.value }
+    {
+        let Some(mut kept) = self.take(alloc) else {
+            return Err(Refusal::Misuse);
+        };
+        let result = kept.any();
+        self.put(kept);
+        result
+    }
+}

@@ -1,0 +1,3 @@
+pub mod ChartLines
+pub mod Drawing
+pub mod Told

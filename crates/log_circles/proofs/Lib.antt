@@ -1,0 +1,4 @@
+pub mod FirstLemmas
+pub mod SearchLemmas
+pub mod SettleLemmas
+pub mod SourceLemmas

@@ -1,0 +1,41 @@
+-- Logs whose lines come before themselves, as one that begins in the middle of a ping-pong: receives are freed, one after
+-- another, until none does (this project's profile).
+use Rattle.std.specs.Prelude.{◌≡◌, ℕ, zero, suc, ◌<◌, ◌≤◌, List, [], ◌∷◌, Some, Contains, All}
+use Rattle.logs.specs.HostLines.{kept}
+use Rattle.logs.specs.declared.entry.Entry.{Entry}
+use Rattle.logs.specs.declared.entry.Kind.TheVariants.{Freed}
+use Rattle.logs.specs.declared.matching.LogLine.{LogLine}
+use Rattle.log_circles.specs.Order.{Comes}
+
+-- the line of this number receives a message whose send is logged, and it comes before itself
+pub record IsOnCircle (lines : List LogLine) (k : ℕ) : Type 0 where
+  pub line : LogLine
+  pub among : Contains lines line
+  pub number : line.number ≡ k
+  pub send : ℕ
+  pub takes : line.send ≡ Some send
+  pub circle : Comes lines k k
+
+-- no such receive stands earlier in the files
+pub record IsFirst (lines : List LogLine) (k : ℕ) : Type 0 where
+  pub on : IsOnCircle lines k
+  pub first : (j : ℕ) → j < k → IsOnCircle lines j → ⊥
+
+-- there is none
+abbrev pub HasNone : List LogLine → Type 0
+HasNone lines = (k : ℕ) → IsOnCircle lines k → ⊥
+
+-- the log whose line of this number takes no send
+abbrev pub freed : ℕ → List Entry → List Entry
+freed k [] = []
+freed zero (e ∷ log) = record e { kind = Freed } ∷ log
+freed (suc k) (e ∷ log) = e ∷ freed k log
+
+-- each turn frees the first receive that is on a circle, and pairing begins anew; it ends where there is none
+pub data Settles : List Entry → List Entry → Type 0 where
+  done : {log : List Entry} → HasNone (kept log) → Settles log log
+  turn : {log out : List Entry} (k : ℕ) → IsFirst (kept log) k → Settles (freed k log) out → Settles log out
+
+-- its hosts are among so many
+abbrev pub AreAmong : ℕ → List Entry → Type 0
+AreAmong n log = All (λ e. (1 ≤ e.host) × (e.host ≤ n)) log

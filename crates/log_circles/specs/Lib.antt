@@ -1,0 +1,4 @@
+pub mod Freeing
+pub mod Order
+pub mod Searching
+pub mod Sources

@@ -1,0 +1,14 @@
+//! The entries of logs, of lines by names.
+//!
+//! What is promised ([`entries_of`]), unless an allocation is refused: each host is the instance of its name, in the order
+//! in which names come; two messages of a lane are of one stream exactly where they have one id or, where neither has one,
+//! one name.
+#![tactic(auto)]
+
+mod entering;
+mod hosts;
+mod said;
+mod stream;
+
+pub use entering::{Log, LogError, entries_of};
+pub use said::Said;

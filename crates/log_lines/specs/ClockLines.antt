@@ -1,0 +1,48 @@
+-- Lines `HOST {CLOCK} EVENT` of a log for ShiViz (Beschastnikh and others, the log format of ShiViz).
+use Rattle.std.specs.Prelude.{ℕ, ◌+◌, ◌==◌, ◌&&◌, Bool, List, [], ◌∷◌, Option, None, Some, length, take, drop, option_map, unwrap_or, is_some, codes, bytes_eq, if◌then◌else◌}
+use Rattle.line_statements.specs.Words.{first_place, place_of, stripped}
+use Rattle.log_lines.specs.Events.{ClockedView, LineView, AnEvent, Other}
+use Rattle.log_lines.specs.Options.{◌>>=◌}
+use Rattle.log_lines.specs.Words.{words_of}
+use Rattle.log_lines.specs.declared.event.Act.TheVariants.{Send, Receive}
+
+-- where a clock ends with which the bytes begin: it stands in braces
+abbrev pub clock_end : List ℕ → Option ℕ
+clock_end [] = None
+clock_end (b ∷ bytes) = if b == 123 then option_map (λ n. n + 1) (first_place 125 (b ∷ bytes)) else None
+
+-- the host, the clock and the event of a line
+unfoldable pub clock_line : List ℕ → Option ClockedView
+clock_line line = do
+  space ← first_place 32 line
+  end ← clock_end (drop (space + 1) line)
+  Some (record { host = take space line; clock = take end (drop (space + 1) line); event = stripped (drop end (drop (space + 1) line)) })
+
+-- the line is the expression of a parser, with which a log may begin
+abbrev pub is_parser : List ℕ → Bool
+is_parser line = is_some (place_of (codes "(?<") line)
+
+-- what stands before the first comma
+unfoldable pub before_comma : List ℕ → List ℕ
+before_comma text = take (unwrap_or (first_place 44 text) (length text)) text
+
+-- the words round a message's name say that it is sent
+abbrev pub says_out : List ℕ → List ℕ → Bool
+says_out direction preposition = bytes_eq direction (codes "out") && bytes_eq preposition (codes "to")
+
+-- they say that it is received
+abbrev pub says_in : List ℕ → List ℕ → Bool
+says_in direction preposition = bytes_eq direction (codes "in") && bytes_eq preposition (codes "from")
+
+-- what is said of a host in these words
+abbrev pub said_in_words : List ℕ → List (List ℕ) → LineView
+said_in_words host (direction ∷ name ∷ preposition ∷ peer ∷ []) =
+    if says_out direction preposition then AnEvent (record { host = host; act = Send; peer = peer; name = name; id = None })
+    else (if says_in direction preposition then AnEvent (record { host = host; act = Receive; peer = peer; name = name; id = None })
+    else Other)
+said_in_words host words = Other
+
+-- what an event with its vector time says in the words `out M to B` or `in M from A`; what stands behind a comma is left
+-- alone
+unfoldable pub words_said : ClockedView → LineView
+words_said c = said_in_words c.host (words_of (before_comma c.event))

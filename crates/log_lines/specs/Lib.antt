@@ -1,0 +1,11 @@
+pub mod ByWords
+pub mod ClockLines
+pub mod Events
+pub mod Options
+pub mod Places
+pub mod Plain
+pub mod PlainReading
+pub mod Reading
+pub mod ShiViz
+pub mod Windows
+pub mod Words

@@ -1,0 +1,113 @@
+//! Lines `HOST {CLOCK} EVENT` of a log for ShiViz.
+ghost use Rattle.std.specs.Prelude.{◌≡◌, ◌≤◌, length, map, option_map, IfOk, IfSome};
+ghost use Rattle.log_lines.specs.ClockLines.{clock_end, clock_line, is_parser, before_comma, says_out, says_in, said_in_words, words_said};
+ghost use Rattle.log_lines.specs.Events.{clocked_view, line_view};
+
+use crate::event::{Act, Clocked, Event, LineSays};
+use crate::words::words_of;
+use line_statements::{first_place, place_of, stripped};
+use std::alloc::{AllocError, Global};
+
+/// Where a clock ends with which the bytes begin.
+fn clock_end(bytes: &[u8]) -> Option<usize>
+    ensures value { result ≡ clock_end bytes.now }
+    ensures within { IfSome result (λ end. end ≤ length bytes.now) }
+{
+    match bytes {
+        [b'{', ..] => match first_place(b'}', bytes) {
+            Some(place) => Some(place + 1),
+            None => None,
+        },
+        _ => None,
+    }
+}
+
+/// The host, the clock and the event of a line, the last of which may be empty.
+#[tactic(auto, unfolding(crate::specs::ClockLines::clock_line))]
+pub(crate) fn clock_line(line: &[u8]) -> Option<Clocked<'_>>
+    ensures { option_map clocked_view result ≡ clock_line line.now }
+{
+    let space = first_place(b' ', line)?;
+    let behind = &line[space + 1..];
+    let end = clock_end(behind)?;
+    Some(Clocked {
+        host: &line[..space],
+        clock: &behind[..end],
+        event: stripped(&behind[end..]),
+    })
+}
+
+/// Whether the line is the expression of a parser, with which a log may begin.
+pub(crate) fn is_parser(line: &[u8]) -> bool
+    ensures { result ≡ is_parser line.now }
+{
+    place_of(b"(?<", line).is_some()
+}
+
+/// What stands before the first comma.
+#[tactic(auto, unfolding(crate::specs::ClockLines::before_comma))]
+fn before_comma(text: &[u8]) -> &[u8]
+    ensures { result.now ≡ before_comma text.now }
+{
+    match first_place(b',', text) {
+        Some(place) => &text[..place],
+        None => text,
+    }
+}
+
+/// Whether the words round a message's name say that it is sent.
+fn says_out(direction: &[u8], preposition: &[u8]) -> bool
+    ensures { result ≡ says_out direction.now preposition.now }
+{
+    direction == b"out".as_slice() && preposition == b"to".as_slice()
+}
+
+/// Whether they say that it is received.
+fn says_in(direction: &[u8], preposition: &[u8]) -> bool
+    ensures { result ≡ says_in direction.now preposition.now }
+{
+    direction == b"in".as_slice() && preposition == b"from".as_slice()
+}
+
+/// What is said of a host in these words.
+fn said_in_words<'a>(host: &'a [u8], words: &[&'a [u8]]) -> LineSays<'a>
+    ensures { line_view result ≡ said_in_words host.now (map (λ w. w.now) words.now) }
+{
+    match words {
+        [direction, name, preposition, peer] => {
+            if says_out(*direction, *preposition) {
+                LineSays::Event(Event {
+                    host,
+                    act: Act::Send,
+                    peer: *peer,
+                    name: *name,
+                    id: None,
+                })
+            } else if says_in(*direction, *preposition) {
+                LineSays::Event(Event {
+                    host,
+                    act: Act::Receive,
+                    peer: *peer,
+                    name: *name,
+                    id: None,
+                })
+            } else {
+                LineSays::Other
+            }
+        }
+        _ => LineSays::Other,
+    }
+}
+
+/// What an event with its vector time says in the words of our own exports: `out M to B` or `in M from A`. What stands
+/// behind a comma is left alone.
+#[tactic(auto, unfolding(crate::specs::ClockLines::words_said))]
+pub(crate) fn words_said<'a>(
+    alloc: Global,
+    clocked: Clocked<'a>,
+) -> Result<LineSays<'a>, AllocError>
+    ensures { IfOk result (λ says. line_view says ≡ words_said (clocked_view clocked.entry)) }
+{
+    let words = words_of(alloc, before_comma(clocked.event))?;
+    Ok(said_in_words(clocked.host, &words))
+}

@@ -1,0 +1,28 @@
+//! Logs of messages: what their lines say.
+//!
+//! What is promised, unless an allocation is refused: what is read of a log is a function of its bytes, of an
+//! application's ([`read_plain`]), and of one for ShiViz ([`read_shiviz`], [`by_words`]): its events in the order of the
+//! lines, each with its place, and how many lines aren't read.
+#![tactic(auto)]
+
+mod clock_line;
+mod event;
+mod plain;
+mod plain_reading;
+mod range;
+mod read;
+mod shiviz;
+mod step;
+mod windows;
+mod worded;
+mod words;
+
+pub use event::{Act, Clocked, ClockedAt, Event, LineSays, Place, Said};
+pub use plain::{Direction, direction_of};
+pub use plain_reading::read_plain;
+pub use range::{LineRange, is_within};
+pub use read::{Others, Read, one_more};
+pub use shiviz::read_shiviz;
+pub use step::Step;
+pub use windows::window;
+pub use worded::by_words;

@@ -1,0 +1,98 @@
+//! What is read of a log.
+ghost use Rattle.std.specs.Prelude.{◌≡◌, IfOk, OnOk};
+ghost use Rattle.log_lines.specs.Events.{event_view, line_view, received};
+ghost use Rattle.log_lines.specs.Places.{earlier};
+ghost use Rattle.log_lines.specs.Reading.{nothing_read, read_view, with_other, with_line};
+
+use crate::event::{Act, ClockedAt, Event, LineSays, Place, Said};
+use std::alloc::{AllocError, Global};
+
+/// Lines that aren't read.
+#[derive(Clone, Copy, Debug, PartialEq, Eq)]
+pub struct Others {
+    pub count: u64,
+    pub first: Place,
+}
+
+/// What is read of a log: its events, in the order of the lines, and which lines aren't read.
+#[derive(Debug, Drop)]
+pub struct Read<'a> {
+    pub said: Vec<Said<'a>>,
+    /// Those with their vector time.
+    pub clocked: Vec<ClockedAt<'a>>,
+    pub others: Option<Others>,
+}
+
+/// The earlier one of two places.
+fn earlier(first: Place, place: Place) -> Place
+    ensures { result ≡ earlier first place }
+{
+    if place.is_before(&first) {
+        place
+    } else {
+        first
+    }
+}
+
+/// One line more that isn't read. The first place counts. Where the count would not fit, it fails.
+pub fn one_more(others: Option<Others>, place: Place) -> Result<Others, AllocError>
+    ensures { IfOk result (λ more. more ≡ with_other place others) }
+{
+    match others {
+        None => Ok(Others {
+            count: 1,
+            first: place,
+        }),
+        Some(others) => match others.count.checked_add(1) {
+            Some(count) => Ok(Others {
+                count,
+                first: earlier(others.first, place),
+            }),
+            None => Err(AllocError),
+        },
+    }
+}
+
+/// The receive of the message that is sent so.
+fn received<'a>(event: Event<'a>) -> Event<'a>
+    ensures { event_view result ≡ received (event_view event.entry) }
+{
+    Event {
+        host: event.peer,
+        act: Act::Receive,
+        peer: event.host,
+        name: event.name,
+        id: event.id,
+    }
+}
+
+impl<'a> Read<'a> {
+    /// Nothing. It takes no memory.
+    pub fn new(alloc: Global) -> Read<'a>
+        ensures { read_view result ≡ nothing_read }
+    {
+        Read {
+            said: Vec::new(alloc),
+            clocked: Vec::new(alloc),
+            others: None,
+        }
+    }
+
+    /// Adds what the line at this place says.
+    pub fn add(&mut self, place: Place, line: LineSays<'a>) -> Result<(), AllocError>
+        ensures { OnOk result (read_view self.new ≡ with_line place (line_view line.entry) (read_view self.old)) }
+    {
+        match line {
+            LineSays::Event(event) => self.said.push(Said { event, place })?,
+            LineSays::Clocked(clocked) => self.clocked.push(ClockedAt { clocked, place })?,
+            LineSays::Message(event) => {
+                self.said.push(Said { event, place })?;
+                let event = received(event);
+                self.said.push(Said { event, place })?;
+            }
+            LineSays::Nothing => {}
+            LineSays::Other => self.others = Some(one_more(self.others, place)?),
+        }
+        Ok(())
+    }
+}

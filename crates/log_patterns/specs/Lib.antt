@@ -1,0 +1,5 @@
+pub mod Expressions
+pub mod Feeds
+pub mod Found
+pub mod Groups
+pub mod PatternReading

@@ -1,0 +1,6 @@
+pub mod FullLemmas
+pub mod PairLemmas
+pub mod PlaceLemmas
+pub mod RangeLemmas
+pub mod RefusedLemmas
+pub mod ShowLemmas

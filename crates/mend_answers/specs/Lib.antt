@@ -1,0 +1,8 @@
+pub mod Answers
+pub mod ChangeText
+pub mod Changes
+pub mod Laws
+pub mod Naming
+pub mod Showing
+pub mod Telling
+pub mod Words

@@ -1,0 +1,118 @@
+-- The numbers that C gets (this project's profile): 0 done, 1 nothing waits, 2 ended, and the number of a refusal,
+-- below 0.
+use Rattle.std.specs.Prelude.{◌≡◌, ℕ, cond, List, Option, Result, Ok, Err}
+use lib.IntN.{ℤ, pos, neg_ℤ}
+use Rattle.board.specs.declared.answer.Arrival.{Arrival}
+use Rattle.chart.specs.declared.instance.EventNo.{EventNo}
+use Rattle.handles.specs.declared.found.Arrived.{Arrived}
+use Rattle.handles.specs.declared.found.Found.{Found}
+use Rattle.handles.specs.declared.found.Found.TheVariants.{Message, Nothing, Ended}
+use Rattle.handles.specs.declared.kept.Kept.{Kept}
+use Rattle.handles.specs.declared.refusal.Refusal.{Refusal}
+use Rattle.handles.specs.Refusals.{number_of}
+use Rattle.handles.specs.Sending.{HandleSends}
+use Rattle.handles.specs.Receiving.{HandleTakes, HandleTakesAny}
+use Rattle.handles.specs.Closing.{HandleCloses}
+use Rattle.handles.specs.Copying as races
+use Rattle.handles.specs.Copying.{CopiesOut, arrival_in}
+use Rattle.handles.specs.Opening.{Opens}
+use Rattle.handles.specs.declared.found.Told.{Told}
+use Rattle.handles.specs.Regions.{HandleOpens, HandleShuts}
+use Rattle.handles.specs.Telling.{HandleTells}
+use Rattle.msc.specs.declared.answers.MscArrival.{MscArrival}
+use Rattle.msc.specs.declared.answers.MscEvent.{MscEvent}
+
+-- a refusal
+abbrev pub code_of : Refusal → ℤ
+code_of refusal = neg_ℤ (pos (number_of refusal))
+
+-- what is done or refused
+abbrev pub done_code : {A : Type 0} → Result A Refusal → ℤ
+done_code (Ok done) = pos 0
+done_code (Err refusal) = code_of refusal
+
+-- what a receive found, or why it is refused
+abbrev pub found_code : Result Found Refusal → ℤ
+found_code (Ok (Message arrived)) = pos 0
+found_code (Ok Nothing) = pos 1
+found_code (Ok Ended) = pos 2
+found_code (Err refusal) = code_of refusal
+
+-- what is told of a message, field by field
+abbrev pub arrival_from : Arrived → MscArrival
+arrival_from arrived = record {
+  from = arrived.from;
+  event = arrived.event;
+  name_length = arrived.name;
+  body_length = arrived.body;
+  races = arrived.races;
+}
+
+-- what is told after a receive: of the message that came, and else what was told before
+abbrev pub told_after : MscArrival → Result Found Refusal → MscArrival
+told_after before (Ok (Message arrived)) = arrival_from arrived
+told_after before (Ok Nothing) = before
+told_after before (Ok Ended) = before
+told_after before (Err refusal) = before
+
+-- the number of the event, and else what was there before
+abbrev pub event_after : ℕ → Result EventNo Refusal → ℕ
+event_after before (Ok event) = event.index
+event_after before (Err refusal) = before
+
+-- a number, and else what was there before
+abbrev pub number_after : ℕ → Result ℕ Refusal → ℕ
+number_after before (Ok number) = number
+number_after before (Err refusal) = before
+
+-- what a send, a receive, .. answers: some answer of the handle's call has this code, and tells this
+abbrev pub Sends : Option Kept → ℕ → List ℕ → List ℕ → ℤ → ℕ → ℕ → Option Kept → Type 0
+Sends old to name body code before event new = (answer : Result EventNo Refusal)
+    × HandleSends old to name body answer new × (code ≡ done_code answer) × (event ≡ event_after before answer)
+
+abbrev pub Takes : Option Kept → ℕ → ℤ → MscArrival → MscArrival → Option Kept → Type 0
+Takes old from code before told new = (answer : Result Found Refusal)
+    × HandleTakes old from answer new × (code ≡ found_code answer) × (told ≡ told_after before answer)
+
+abbrev pub TakesAny : Option Kept → ℤ → MscArrival → MscArrival → Option Kept → Type 0
+TakesAny old code before told new = (answer : Result Found Refusal)
+    × HandleTakesAny old answer new × (code ≡ found_code answer) × (told ≡ told_after before answer)
+
+abbrev pub Closes : Option Kept → ℕ → ℤ → Option Kept → Type 0
+Closes old to code new = (answer : Result (Unit {0}) Refusal) × HandleCloses old to answer new × (code ≡ done_code answer)
+
+abbrev pub OpensAll : ℕ → List (Option Kept) → ℤ → List (Option Kept) → Type 0
+OpensAll k old code new = (answer : Result (Unit {0}) Refusal) × Opens k old answer new × (code ≡ done_code answer)
+
+-- what is copied out, and how much of it there is
+abbrev pub Copies : (Arrival → List ℕ) → Option Kept → List ℕ → ℤ → ℕ → ℕ → List ℕ → Type 0
+Copies what old room code before count out = (answer : Result ℕ Refusal)
+    × CopiesOut what (arrival_in old) room answer out × (code ≡ done_code answer) × (count ≡ number_after before answer)
+
+abbrev pub CopiesRaces : Option Kept → List ℕ → ℤ → ℕ → ℕ → List ℕ → Type 0
+CopiesRaces old room code before count out = (answer : Result ℕ Refusal)
+    × races.CopiesRaces (arrival_in old) room answer out × (code ≡ done_code answer) × (count ≡ number_after before answer)
+
+abbrev pub OpensRegion : Option Kept → ℤ → Option Kept → Type 0
+OpensRegion old code new = (answer : Result (Unit {0}) Refusal) × HandleOpens old answer new × (code ≡ done_code answer)
+
+abbrev pub ShutsRegion : Option Kept → ℤ → Option Kept → Type 0
+ShutsRegion old code new = (answer : Result (Unit {0}) Refusal) × HandleShuts old answer new × (code ≡ done_code answer)
+
+-- what is told of an event, field by field: 1 says that it is a receive
+abbrev pub event_from : Told → MscEvent
+event_from told = record {
+  receives = cond told.receives 1 0;
+  partner = told.partner;
+  region = told.region;
+  name_length = told.name;
+}
+
+-- and else what was told before
+abbrev pub told_event : MscEvent → Result Told Refusal → MscEvent
+told_event before (Ok told) = event_from told
+told_event before (Err refusal) = before
+
+abbrev pub TellsEvent : Option Kept → ℕ → List ℕ → ℤ → MscEvent → MscEvent → List ℕ → Type 0
+TellsEvent old number room code before event out = (answer : Result Told Refusal)
+    × HandleTells old number room answer out × (code ≡ done_code answer) × (event ≡ told_event before answer)

@@ -1,0 +1,92 @@
+//! Answers as numbers.
+ghost use Rattle.std.specs.Prelude.{◌≡◌};
+ghost use Rattle.msc.specs.Answers.{code_of, done_code, found_code, arrival_from, told_after, number_after, event_from, told_event};
+
+use crate::answers::{MscArrival, MscEvent};
+use handles::{Arrived, Found, Refusal, Told};
+
+/// The number of a refusal, below 0.
+pub(crate) fn code_of(refusal: Refusal) -> i32
+    ensures { result ≡ code_of refusal }
+{
+    -(refusal.number() as i32)
+}
+
+/// What is told of a message, as C reads it.
+fn arrival_from(arrived: Arrived) -> MscArrival
+    ensures { result ≡ arrival_from arrived }
+{
+    MscArrival {
+        from: arrived.from,
+        event: arrived.event,
+        name_length: arrived.name,
+        body_length: arrived.body,
+        races: arrived.races,
+    }
+}
+
+/// The number of what a receive answers; of a message that came it tells.
+pub(crate) fn found_code(answer: Result<Found, Refusal>, told: &mut MscArrival) -> i32
+    ensures code { result ≡ found_code answer }
+    ensures told { told.new ≡ told_after told.old answer }
+{
+    match answer {
+        Ok(Found::Message(arrived)) => {
+            *told = arrival_from(arrived);
+            0
+        }
+        Ok(Found::Nothing) => 1,
+        Ok(Found::Ended) => 2,
+        Err(refusal) => code_of(refusal),
+    }
+}
+
+/// The number of what is done or refused.
+pub(crate) fn done_code(answer: Result<(), Refusal>) -> i32
+    ensures { result ≡ done_code answer }
+{
+    match answer {
+        Ok(()) => 0,
+        Err(refusal) => code_of(refusal),
+    }
+}
+
+/// The number of what is counted or refused, and the count.
+pub(crate) fn count_code(answer: Result<usize, Refusal>, count: &mut usize) -> i32
+    ensures code { result ≡ done_code answer }
+    ensures count { count.new ≡ number_after count.old answer }
+{
+    match answer {
+        Ok(counted) => {
+            *count = counted;
+            0
+        }
+        Err(refusal) => code_of(refusal),
+    }
+}
+
+/// What is told of an event, as C reads it.
+fn event_from(told: Told) -> MscEvent
+    ensures { result ≡ event_from told }
+{
+    MscEvent {
+        receives: if told.receives { 1 } else { 0 },
+        partner: told.partner,
+        region: told.region,
+        name_length: told.name,
+    }
+}
+
+/// The number of what is told or refused, and what is told.
+pub(crate) fn event_code(answer: Result<Told, Refusal>, event: &mut MscEvent) -> i32
+    ensures code { result ≡ done_code answer }
+    ensures event { event.new ≡ told_event event.old answer }
+{
+    match answer {
+        Ok(told) => {
+            *event = event_from(told);
+            0
+        }
+        Err(refusal) => code_of(refusal),
+    }
+}

@@ -1,0 +1,33 @@
+//! Races by name.
+use crate::importing::view_races_of;
+use crate::input::bytes_in;
+use files::ProgramError;
+use msc_text::Out;
+use race_answers::{Wanted, races};
+use std::rt::Files;
+use told_races::Form;
+use view_line::Races;
+
+/// Which races are to be shown, and how.
+pub fn wanted_by<'a>(asked: &Races<'a>) -> Wanted<'a> {
+    Wanted {
+        only: asked.only.map(|names| names.as_bytes()),
+        receives: asked.receives,
+        run_to_completion: asked.run_to_completion,
+        form: if asked.json { Form::Json } else { Form::Plain },
+    }
+}
+
+/// Shows the races of a file by name.
+pub fn view_races<R: Files + Input + AllocGlobal, W: Out, V: Out>(
+    rt: &R,
+    asked: &Races<'_>,
+    out: &mut W,
+    err: &mut V,
+) -> Result<u8, ProgramError> {
+    if let Some(reading) = &asked.reading {
+        return view_races_of(rt, asked, reading, out, err);
+    }
+    let bytes = bytes_in(rt, asked.file)?;
+    Ok(races(rt.alloc(), &bytes, &wanted_by(asked), out, err))
+}

@@ -1,0 +1,168 @@
+//! What the words of a command line ask for.
+use crate::commands::command_line;
+use crate::request::{
+    Compare, Draw, Export, Import, Mend, Pair, Question, Races, Reading, Request,
+};
+use clap::ArgMatches;
+use command_line::CommandLineError;
+use std::alloc::{AllocError, Global};
+use std::convert::AsStr;
+
+/// What a command asks.
+fn question_of(command: &str) -> Option<Question> {
+    match command {
+        "witness" => Some(Question::Witness),
+        "why" => Some(Question::Why),
+        _ => None,
+    }
+}
+
+/// What a command's words ask about two events.
+fn pair_of<'a>(question: Question, words: &ArgMatches<'a>) -> Option<Request<'a>> {
+    Some(Request::Pair(Pair {
+        question,
+        file: words.get_str("FILE")?,
+        instance: words.get_str("INSTANCE")?,
+        earlier: words.get_str("EARLIER")?,
+        receive: words.get_str("RECEIVE")?,
+    }))
+}
+
+/// What the words of `draw` ask for.
+fn draw_of<'a>(words: &ArgMatches<'a>) -> Option<Request<'a>> {
+    Some(Request::Draw(Draw {
+        only: words.get_str("only"),
+        events: words.get_str("events"),
+        numbers: words.get_flag("numbers"),
+        file: words.get_str("FILE"),
+    }))
+}
+
+/// What the words of `export` ask for.
+fn export_of<'a>(words: &ArgMatches<'a>) -> Option<Request<'a>> {
+    Some(Request::Export(Export {
+        to: words.get_str("to")?,
+        file: words.get_str("FILE"),
+    }))
+}
+
+/// The words behind each use of an option.
+fn words_of<'a>(
+    alloc: Global,
+    words: &ArgMatches<'a>,
+    option: &str,
+) -> Result<Vec<&'a str>, AllocError> {
+    Vec::from_slice(alloc, words.get_strs(option).unwrap_or(&[]))
+}
+
+/// How the words of a command say that another tool's text is read.
+fn reading_of<'a>(alloc: Global, words: &ArgMatches<'a>) -> Result<Reading<'a>, AllocError> {
+    Ok(Reading {
+        from: words.get_str("from"),
+        strict: words.get_flag("strict"),
+        skipped: words_of(alloc, words, "skip")?,
+        joined: words_of(alloc, words, "join")?,
+    })
+}
+
+/// What the words of `import` ask for.
+fn import_of<'a>(alloc: Global, words: &ArgMatches<'a>) -> Result<Request<'a>, CommandLineError> {
+    Ok(Request::Import(Import {
+        reading: reading_of(alloc, words)?,
+        file: words.get_str("FILE"),
+    }))
+}
+
+/// How the file of `races` is read, if it is another tool's text. G1: without `--from` there is an option of `import`.
+fn races_reading<'a>(
+    alloc: Global,
+    words: &ArgMatches<'a>,
+) -> Result<Option<Reading<'a>>, CommandLineError> {
+    let reading = reading_of(alloc, words)?;
+    if reading.from.is_some() {
+        return Ok(Some(reading));
+    }
+    if reading.strict || !reading.skipped.is_empty() || !reading.joined.is_empty() {
+        return Err(CommandLineError::Usage);
+    }
+    Ok(None)
+}
+
+/// What the words of `compare` ask for.
+fn compare_of<'a>(words: &ArgMatches<'a>) -> Option<Request<'a>> {
+    Some(Request::Compare(Compare {
+        json: words.get_flag("json"),
+        first: words.get_str("A")?,
+        second: words.get_str("B")?,
+    }))
+}
+
+/// What the words of `races` ask for.
+fn races_of<'a>(alloc: Global, words: &ArgMatches<'a>) -> Result<Request<'a>, CommandLineError> {
+    Ok(Request::Races(Races {
+        reading: races_reading(alloc, words)?,
+        only: words.get_str("only"),
+        receives: words.get_flag("receives"),
+        run_to_completion: words.get_flag("run-to-completion"),
+        json: words.get_flag("json"),
+        file: words.get_str("FILE"),
+    }))
+}
+
+/// What the words of `mend` ask for. With `--all` neither a race nor a name is.
+fn mend_of<'a>(words: &ArgMatches<'a>) -> Option<Request<'a>> {
+    let name = words.get_str("name");
+    let file = words.get_str("FILE");
+    let instance = words.get_str("INSTANCE");
+    if words.get_flag("all") {
+        return match (name, instance) {
+            (None, None) => Some(Request::Mend(Mend::All(file))),
+            _ => None,
+        };
+    }
+    Some(Request::Mend(Mend::One {
+        name,
+        file: file?,
+        instance: instance?,
+        earlier: words.get_str("EARLIER")?,
+        receive: words.get_str("RECEIVE")?,
+    }))
+}
+
+/// What the words of another command ask for.
+fn other_of<'a>(command: &str, words: &ArgMatches<'a>) -> Option<Request<'a>> {
+    match command {
+        "draw" => draw_of(words),
+        "export" => export_of(words),
+        "compare" => compare_of(words),
+        "mend" => mend_of(words),
+        "tidy" => Some(Request::Tidy(words.get_str("FILE"))),
+        "explain" => Some(Request::Explain(words.get_str("FILE"))),
+        _ => pair_of(question_of(command)?, words),
+    }
+}
+
+/// What a command's words ask for.
+fn request_of<'a>(
+    alloc: Global,
+    command: &str,
+    words: &ArgMatches<'a>,
+) -> Result<Request<'a>, CommandLineError> {
+    match command {
+        "import" => import_of(alloc, words),
+        "races" => races_of(alloc, words),
+        _ => other_of(command, words).ok_or(CommandLineError::Usage),
+    }
+}
+
+/// What these words ask for, of which the first is the program's name.
+///
+/// G1: they aren't a command line that the program understands. F6: a growth was refused.
+pub fn requested<'a, S: AsStr>(
+    alloc: Global,
+    words: &'a [S],
+) -> Result<Request<'a>, CommandLineError> {
+    let matches = command_line(alloc)?.try_get_matches_from(words)?;
+    let (command, words) = matches.subcommand().ok_or(CommandLineError::Usage)?;
+    request_of(alloc, command, words)
+}

@@ -1,0 +1,88 @@
+/* Each request for memory refused in turn, by an allocator of the caller's own that counts: each call answers
+ * MSC_NO_MEMORY and has changed nothing, the same call is made again, and at the end all blocks are given back. */
+#include <msc.h>
+#include <stdio.h>
+#include <stdlib.h>
+
+static long asked, refused = -1, live;
+
+struct msc_block rattle_alloc(size_t size, size_t align) {
+    struct msc_block block = {0, NULL};
+    if (++asked == refused) return block;
+    block.at = malloc(size ? size : align);
+    block.ok = block.at != NULL;
+    live += block.ok;
+    return block;
+}
+
+struct msc_block rattle_realloc(void *at, size_t used, size_t size, size_t align) {
+    struct msc_block block = {0, NULL};
+    (void)used;
+    if (++asked == refused) return block;
+    block.at = realloc(at, size ? size : align);
+    block.ok = block.at != NULL;
+    return block;
+}
+
+void rattle_dealloc(void *at) {
+    live -= at != NULL;
+    free(at);
+}
+
+static int failures, met;
+
+/* Makes the call again where memory was refused, once. */
+#define AGAIN(call)                        \
+    do {                                   \
+        int answer_ = (call);              \
+        if (answer_ == MSC_NO_MEMORY) {    \
+            met++;                         \
+            answer_ = (call);              \
+        }                                  \
+        if (answer_ != MSC_DONE) {         \
+            printf("%s: %d\n", #call, answer_); \
+            failures++;                    \
+        }                                  \
+    } while (0)
+
+static void round_trip(void) {
+    msc_post posts[3] = {MSC_POST_INIT};
+    msc_arrival came;
+    uint32_t races[8];
+    size_t count;
+    unsigned i;
+    AGAIN(msc_open(posts, 3, 4));
+    for (i = 0; i < 3; i++) {
+        AGAIN(msc_send(&posts[0], 3, "left", "0123456789abcdef", 16, NULL));
+        AGAIN(msc_send(&posts[1], 3, "right", "0123456789abcdef", 16, NULL));
+        AGAIN(msc_any(&posts[2], &came));
+        AGAIN(msc_any(&posts[2], &came));
+        AGAIN(msc_races(&posts[2], races, 8, &count));
+        AGAIN(msc_send(&posts[2], 1, "back", NULL, 0, NULL));
+        AGAIN(msc_receive(&posts[0], 3, &came));
+    }
+    AGAIN(msc_close(&posts[0], 3));
+    for (i = 0; i < 3; i++) msc_free(&posts[i]);
+}
+
+int main(void) {
+    long all, n;
+    round_trip();
+    all = asked;
+    for (n = 1; n <= all; n++) {
+        asked = 0;
+        refused = n;
+        met = 0;
+        round_trip();
+        if (met != 1) {
+            printf("the %ld. request was refused, and %d calls said so\n", n, met);
+            failures++;
+        }
+        if (live != 0) {
+            printf("the %ld. request was refused, and %ld blocks are left\n", n, live);
+            failures++;
+        }
+    }
+    printf("%ld requests\n", all);
+    return failures != 0;
+}
