@@ -1,4 +1,4 @@
-"""Turns each race round: of each worked case and example, and of drawn charts.
+"""Turns each race round: of each worked case and example, and of drawn charts; and twenty races of a long run.
 
 For each `race` line the schedule that `mscview witness` writes is replayed. In the chart that comes out each lane has the
 same messages, and the two events, told by their lane and their turn there, stand the other way round. Prints 'held' or
@@ -14,6 +14,8 @@ import tempfile
 MSCRUN = "out/bin/mscrun"
 MSCVIEW = "out/bin/mscview"
 DRAWN = 300
+LONG_LINE = 1024
+LONG_RACES = 20
 MANY_SLOTS = "it needs more than 64 slots"
 
 
@@ -84,10 +86,13 @@ def turns_round(file, lines, race, room):
     return "", sum(turned[name] != lines[name] for name in lines if name != instance)
 
 
-def try_file(name, file, text, room):
-    """Turns each race of a file round, and answers how many there were, and how many changed other lines."""
+def try_file(name, file, text, room, most=None):
+    """Turns each race of a file round, or so many at most, equally far apart; answers how many there were, and how many
+    changed other lines."""
     lines = lines_of(text)
     races = races_in(text)
+    if most is not None:
+        races = races[:: max(1, len(races) // most)][:most]
     turned = moved = 0
     for race in races:
         fault, others = turns_round(file, lines, race, room)
@@ -120,6 +125,24 @@ def drawn_schedule(draw):
     return "\n".join([f"instances {' '.join(names)}", f"capacity {draw.choice([1, 2, 4, 64])}", *commands]) + "\n"
 
 
+def long_schedule(draw):
+    """Three instances with as many events each, by commands that are all accepted, of those that are drawn."""
+    names = "abc"
+    made = dict.fromkeys(names, 0)
+    waiting = {}
+    commands = []
+    for _ in range(100_000):
+        actor, partner = draw.sample(names, 2)
+        sends = draw.random() < 0.5
+        lane = (actor, partner) if sends else (partner, actor)
+        if made[actor] == LONG_LINE or waiting.get(lane, 0) == (64 if sends else 0):
+            continue
+        made[actor] += 1
+        waiting[lane] = waiting.get(lane, 0) + (1 if sends else -1)
+        commands.append(f"{actor} send {partner} m" if sends else f"{actor} receive {partner}")
+    return "\n".join(["instances a b c", "capacity 64", *commands]) + "\n"
+
+
 def main():
     turned = moved = 0
     with tempfile.TemporaryDirectory() as folder:
@@ -143,6 +166,10 @@ def main():
             text = chart_and_races(str(chart))
             races, others = try_file(f"drawn chart {number}", str(chart), text, room)
             turned, moved = turned + races, moved + others
+        schedule.write_text(long_schedule(draw))
+        text = chart_and_races(str(schedule))
+        races, others = try_file("long schedule", str(schedule), text, room, LONG_RACES)
+        turned, moved = turned + races, moved + others
     print(f"{turned} races were turned round; {moved} of their witnesses change another line too")
 
 

@@ -19,6 +19,16 @@ def spelled(label: bytes) -> bytes:
     return words
 
 
+def printable(text: bytes) -> bytes:
+    """Bytes as they are shown: `?` for what doesn't print."""
+    return bytes(byte if 32 <= byte <= 126 else 63 for byte in text)
+
+
+def shown(label: bytes) -> bytes:
+    """A label as it is told, with `\\n` for a new line."""
+    return b"\\n".join(printable(line) for line in label.split(b"\n"))
+
+
 class GivenNames:
     """Labels with their names, in the order in which they came."""
 

@@ -11,7 +11,7 @@ from diagram_charts import chart_of, named, refuse_full_lines, refuse_impossible
 from diagram_lines import Line
 from diagram_messages import Collector, Message
 from diagram_readings import NotRead, Reading, Told, Unfinished
-from given_names import GivenNames
+from given_names import GivenNames, printable, shown
 from joined import Join, joined, joined_instances
 from names import Refused
 from told_tools import told_tool
@@ -59,16 +59,6 @@ class Drawn(NamedTuple):
     chart: Chart
     names: list[tuple[bytes, bytes]]
     overtaking: list[tuple[Message, Message]]
-
-
-def printable(text: bytes) -> bytes:
-    """Bytes as they are shown: `?` for what doesn't print."""
-    return bytes(byte if 32 <= byte <= 126 else 63 for byte in text)
-
-
-def shown(label: bytes) -> bytes:
-    """A label as it is told, with `\\n` for a new line."""
-    return b"\\n".join(printable(line) for line in label.split(b"\n"))
 
 
 def not_read(text: bytes, line: Line) -> Refused:

@@ -1,20 +1,18 @@
 """
 The chart of a log. So that one always comes out: lost messages and those that overtake are left out, a receive without
 a send gives its peer one, and receives on a circle are freed of their sends, one by one.
-
-`log_charts.py chart FILE..` writes it; `log_charts.py races [--luck] FILE..` its races, each with the word for it.
 """
 
-import re
-import sys
-from collections import Counter, defaultdict
+from collections import defaultdict
+from collections.abc import Iterable
 from dataclasses import dataclass, field
 
 from chart_texts import MOST_EVENTS, MOST_INSTANCES, Chart, Event
 from charts import direct_pairs, sends_of_receives
 from circles import on_circles
+from given_names import GivenNames, shown
 from logs import Entry, Log, Message, messages_of
-from names import LONGEST_NAME, RESERVED, Refused
+from names import Refused
 
 # An event of a line: "out" or "in", and its message.
 Item = tuple[str, Message]
@@ -32,6 +30,7 @@ class LogChart:
     overtaking: list[tuple[Message, Message]]
     freed: list[Entry]
     names: dict[str, str] = field(default_factory=dict)
+    message_names: dict[str, str] = field(default_factory=dict)
     chart: Chart = Chart([], [])
 
     def is_invented(self, place: tuple[int, int]) -> bool:
@@ -49,7 +48,7 @@ def lost_messages(messages: list[Message]) -> list[Message]:
 
 
 def overtaking_messages(messages: list[Message]) -> list[tuple[Message, Message]]:
-    """Each received message that overtakes, with one that was sent before it and is received behind it."""
+    """Each received message that overtakes, with the first sent one of those sent before it and received behind it."""
     lanes: dict[object, list[Message]] = defaultdict(list)
     for message in messages:
         if message.send and message.receive:
@@ -57,13 +56,11 @@ def overtaking_messages(messages: list[Message]) -> list[tuple[Message, Message]
     found = []
     for lane in lanes.values():
         lane.sort(key=lambda m: m.send.number)
-        last = lane[0]
-        for message in lane[1:]:
-            if message.receive.number < last.receive.number:
-                found.append((message, last))
-            else:
-                last = message
-    return sorted(found, key=lambda pair: pair[0].receive.number)
+        for at, message in enumerate(lane):
+            other = next((m for m in lane[:at] if m.receive.number > message.receive.number), None)
+            if other:
+                found.append((message, other))
+    return sorted(found, key=lambda pair: pair[0].send.number)
 
 
 def logged_lines(log: Log, messages: list[Message], left_out: set[Message]) -> dict[str, list[Item]]:
@@ -137,9 +134,9 @@ def chart_of_log(log: Log) -> LogChart:
         if circled is None:
             break
         freed.append(circled)
-    for line in made.lines:
+    for name, line in zip(made.chart.names, made.lines):
         if len(line) > MOST_EVENTS:
-            raise Refused("F7", 0)
+            raise Refused("F7", name)
     return made
 
 
@@ -150,10 +147,9 @@ def paired(log: Log, hosts: list[str], freed: list[Entry]) -> LogChart:
     overtaking = overtaking_messages(messages)
     left_out = set(lost) | {message for message, _ in overtaking}
     lines = whole_lines_of(hosts, logged_lines(log, messages, left_out))
-    words = [message.name for line in lines for _, message in line]
     made = LogChart(log, hosts, lines, messages, lost, overtaking, list(freed))
-    host_names, message_names = names_of(hosts), names_of(words)
-    made.names = host_names
+    host_names, message_names = names_of(hosts), names_of(entry.name for entry in log.passed())
+    made.names, made.message_names = host_names, message_names
     numbers = {host: number for number, host in enumerate(hosts)}
     events = [
         [
@@ -166,35 +162,24 @@ def paired(log: Log, hosts: list[str], freed: list[Entry]) -> LogChart:
     return made
 
 
-def spelled(word: str) -> str:
-    """A word as a name, by itself."""
-    if re.fullmatch("[A-Za-z][A-Za-z0-9_]*", word) and word.encode() not in RESERVED:
-        name = word
-    else:
-        name = re.sub(r"[^A-Za-z0-9_]+", "\0", word).strip("\0").replace("\0", "_") or "n_"
-        if not re.match("[A-Za-z]", name):
-            name = "n_" + name
-        if name.encode() in RESERVED:
-            name += "_"
-    return name if len(name) <= LONGEST_NAME else name[:15] + "__" + name[-15:]
+def label_of(word: str) -> bytes:
+    """A word's bytes."""
+    return word.encode("utf-8", "surrogateescape")
 
 
-def names_of(words: list[str]) -> dict[str, str]:
+def names_of(words: Iterable[str]) -> dict[str, str]:
     """A name for each word, no two alike."""
-    names: dict[str, str] = {}
-    taken: set[str] = set()
-    for word in words:
-        if word in names:
-            continue
-        name = wanted = spelled(word)
-        turn = 2
-        while name in taken:
-            suffix = f"_{turn}"
-            name = wanted[: LONGEST_NAME - len(suffix)] + suffix
-            turn += 1
-        names[word] = name
-        taken.add(name)
-    return names
+    given = GivenNames()
+    return {word: given.name(label_of(word)).decode() for word in words}
+
+
+def names_told(names: dict[str, str]) -> list[str]:
+    """The names that aren't their words."""
+    return [
+        f'name {name} is "{shown(label_of(word)).decode()}"'
+        for word, name in names.items()
+        if label_of(word).replace(b" ", b"_") != name.encode()
+    ]
 
 
 def counted(places: list[str], one: str, several: str) -> list[str]:
@@ -209,15 +194,17 @@ def told(made: LogChart) -> list[str]:
     own = [entry.place for entry in made.log.entries if entry.kind != "arrive" and entry.host == entry.peer]
     lines = counted(made.log.unmatched, "line doesn't match", "lines don't match")
     lines += counted(own, "event of a message to oneself is left out", "events of messages to oneself are left out")
+    lines += ["only the order at the tap is known"] if made.log.is_captured else []
+    lines += ["a receive at which no entry of the clock grew isn't seen"] if made.log.is_timed else []
     lines += [f"{message.send.place} is lost" for message in made.lost]
-    overtaking = sorted(made.overtaking, key=lambda pair: pair[0].send.number)
-    for message, other in overtaking:
+    for message, other in made.overtaking:
         lines.append(f"{message.send.place} overtakes {other.send.place}: this lane isn't first in, first out")
     if made.overtaking:
         lines.append("races may be shown that a message which is left out enforced")
-    lines += [f"{entry.place} takes no send of the log, for it would close a circle" for entry in made.freed]
+    freed = sorted(made.freed, key=lambda entry: entry.number)
+    lines += [f"{entry.place} takes no send of the log, for it would close a circle" for entry in freed]
     invented = [(p, i) for p, line in enumerate(made.lines) for i in range(len(line)) if made.is_invented((p, i))]
     lines += [f"{made.names[made.hosts[p]]} {i + 1} is invented: the log begins in the middle" for p, i in invented]
     if invented:
         lines.append("a race whose earlier event is invented, or whose receive comes behind an invented event, isn't claimed")
-    return lines
+    return lines + names_told(made.names) + names_told(made.message_names)

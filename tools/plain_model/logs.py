@@ -8,7 +8,9 @@ from collections import defaultdict
 from dataclasses import dataclass, field
 from typing import NamedTuple
 
-LINE = re.compile(r"\s*(\S+)\s+(\S+)\s+(?:(?i:to|from)\s+)?(\S+)\s+(\S+)(?:\s+(?!takes=)(\S+))?(.*)")
+LINE = re.compile(
+    r"\s*(\S+)\s+(\S+)\s+(?:(?i:to|from)\s+)?(\S+)\s+(\S+)(?:\s+(?!takes=)(\S+))?(.*)", re.ASCII | re.DOTALL
+)
 SENDS = ("send", "sent", "tx", "out", "->", ">")
 RECEIVES = ("recv", "receive", "received", "rx", "in", "<-", "<")
 TAKES = re.compile(r"(?:^|\s)takes=([^\s:]+):(\S+)")
@@ -67,15 +69,33 @@ class Message:
         return entry.name
 
 
+class Said(NamedTuple):
+    """What a line says: who did what, with whom, and with which message."""
+
+    host: str
+    kind: str
+    peer: str
+    name: str
+    identity: str | None = None
+    takes: tuple[Pattern, ...] = ()
+
+
 @dataclass
 class Log:
-    """The lines that match, in order, the places of those that didn't, and hosts that come first."""
+    """
+    The lines that match, in order, the places of those that didn't, hosts that come first, the hosts that words of the
+    log stand for, whether messages were captured, and whether clocks told of some.
+    """
 
     entries: list[Entry] = field(default_factory=list)
     unmatched: list[str] = field(default_factory=list)
     hosts: list[str] = field(default_factory=list)
+    peers: dict[str, str] = field(default_factory=dict)
+    is_captured: bool = False
+    is_timed: bool = False
 
     def add(self, text: str, place: str) -> None:
+        """Adds what a line says by the words of this page."""
         if not text.strip():
             return
         said = LINE.match(text)
@@ -85,15 +105,26 @@ class Log:
             return
         host, _, peer, name, identity, rest = said.groups()
         takes = tuple(Pattern(*two) for two in TAKES.findall(rest or ""))
-        self.entries.append(Entry(len(self.entries), place, host, kind, peer, name, identity, takes))
+        self.add_said(Said(host, kind, peer, name, identity, takes), place)
+
+    def add_said(self, said: Said, place: str) -> None:
+        host, peer = (self.peers.get(word, word) for word in (said.host, said.peer))
+        self.entries.append(
+            Entry(len(self.entries), place, host, said.kind, peer, said.name, said.identity, said.takes)
+        )
+
+    def passed(self) -> list[Entry]:
+        """The sends and receives of messages from one host to another."""
+        return [entry for entry in self.entries if entry.kind != "arrive" and entry.host != entry.peer]
 
     def lines(self) -> dict[str, list[Entry]]:
-        """The sends and receives of each host, in order."""
+        """The sends and receives of each host that has one to another host, in order."""
         found: dict[str, list[Entry]] = {host: [] for host in self.hosts}
-        for entry in self.entries:
+        for entry in self.passed():
             found.setdefault(entry.host, [])
             found.setdefault(entry.peer, [])
-            if entry.kind != "arrive":
+        for entry in self.entries:
+            if entry.kind != "arrive" and entry.host in found:
                 found[entry.host].append(entry)
         return found
 
@@ -107,12 +138,17 @@ def kind_of(word: str) -> str | None:
     return "arrive" if word == "arrive" else None
 
 
+def place_in(files: int, name: str, number: int) -> str:
+    """How the line of this number is told, of so many files."""
+    return f"line {number}" if files == 1 else f"{name}:{number}"
+
+
 def read_logs(files: list[str]) -> Log:
     log = Log()
     for name in files:
-        with open(name, encoding="utf-8", errors="replace") as file:
+        with open(name, encoding="utf-8", errors="surrogateescape", newline="\n") as file:
             for number, line in enumerate(file, 1):
-                log.add(line, f"{name}:{number}")
+                log.add(line, place_in(len(files), name, number))
     return log
 
 

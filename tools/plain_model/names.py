@@ -11,7 +11,7 @@ REFUSALS = {
     "F2": "NameTooLong", "F3": "NameBadByte", "F4": "NameReserved", "F7": "LineFull", "F8": "Instances",
     "F9": "Capacity", "F13": "ToItself", "F16": "ReceiveWithoutSend", "F17": "NameMismatch", "F18": "Cyclic",
     "F20": "Syntax", "F21": "Unfinished", "F22": "Duplicate", "F23": "UnknownInstance",
-    "F34": "NoSuchName", "F35": "NotRead", "F37": "NotPossible",
+    "F34": "NoSuchName", "F35": "NotRead", "F37": "NotPossible", "F38": "NotALog", "F39": "BadPattern",
 }
 
 

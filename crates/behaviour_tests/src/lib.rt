@@ -16,8 +16,4 @@ mod growths;
 #[cfg(test)]
 mod reader;
 #[cfg(test)]
-mod schedules;
-#[cfg(test)]
 mod threads;
-#[cfg(test)]
-mod unfit;

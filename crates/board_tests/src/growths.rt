@@ -3,10 +3,8 @@
 //! take memory for each clock, those of two don't.
 ghost use Rattle.std.specs.Prelude.{◌≤◌};
 
-use crate::calls::{
-    are_named, every_growth_was_refused, has_come, have_come, instance, message, messages,
-};
-use board::{Board, Post, PostsError, Stop, TakeError, Taken, TakenMany};
+use crate::calls::{are_named, every_growth_was_refused, have_come, instance, message, messages};
+use board::{Board, Post, PostsError, Stop, TakeError, TakenMany};
 use chart::{InstanceNo, Message};
 use std::alloc::Global;
 use std::process::Abort;
@@ -45,18 +43,6 @@ fn posts_of(rt: &impl Abort, alloc: Global, instances: usize) {
 fn sends(rt: &impl Abort, alloc: Global, post: &mut Post, to: InstanceNo, letter: u8) {
     if let Err((back, _)) = post.send(to, message(rt, alloc, letter)) {
         assert!(rt; post.send(to, back).is_ok());
-    }
-}
-
-/// Receives a message of this name with these races, once more where memory was refused.
-fn gets(rt: &impl Abort, post: &mut Post, from: InstanceNo, letter: u8, races: &[u32]) {
-    let taken = match post.receive(from) {
-        Ok(taken) => taken,
-        Err(_) => post.receive(from).expect(rt, "a message"),
-    };
-    match taken {
-        Taken::Got(arrival) => has_come(rt, &arrival, letter, races),
-        _ => panic!(rt; "no message came"),
     }
 }
 
@@ -121,7 +107,6 @@ fn gets_several(rt: &impl Abort, post: &mut Post, from: InstanceNo, letters: &[u
 #[derive(Clone, Copy)]
 enum Deed {
     Sends(usize, u8),
-    Gets(usize, u8, &'static [u32]),
     SendsSeveral(usize, &'static [u8]),
     GetsSeveral(usize, &'static [u8], &'static [u32]),
 }
@@ -129,7 +114,6 @@ enum Deed {
 fn does(rt: &impl Abort, alloc: Global, post: &mut Post, deed: &Deed) {
     match *deed {
         Deed::Sends(to, letter) => sends(rt, alloc, post, instance(rt, to), letter),
-        Deed::Gets(from, letter, races) => gets(rt, post, instance(rt, from), letter, races),
         Deed::SendsSeveral(to, letters) => {
             sends_several(rt, alloc, post, instance(rt, to), letters)
         }
@@ -151,36 +135,9 @@ fn exchange(rt: &impl Abort, alloc: Global, instances: usize, deeds: &[(usize, D
 }
 
 #[test]
-fn refused_growths_of_posts_of_two(rt: HostRuntime) -> Result<(), Fail> {
+fn refused_growths_of_posts(rt: HostRuntime) -> Result<(), Fail> {
     posts_of(&rt, rt.alloc(), 2);
-    every_growth_was_refused(rt.alloc())
-}
-
-#[test]
-fn refused_growths_of_posts_of_nine(rt: HostRuntime) -> Result<(), Fail> {
     posts_of(&rt, rt.alloc(), 9);
-    every_growth_was_refused(rt.alloc())
-}
-
-/// Two messages from the first instance to the second, and one back that crosses the second of them.
-static CROSSING: [(usize, Deed); 6] = [
-    (1, Deed::Sends(2, b'x')),
-    (1, Deed::Sends(2, b'y')),
-    (2, Deed::Gets(1, b'x', &[])),
-    (2, Deed::Sends(1, b'z')),
-    (1, Deed::Gets(2, b'z', &[2])),
-    (2, Deed::Gets(1, b'y', &[2])),
-];
-
-#[test]
-fn refused_growths_among_two(rt: HostRuntime) -> Result<(), Fail> {
-    exchange(&rt, rt.alloc(), 2, &CROSSING);
-    every_growth_was_refused(rt.alloc())
-}
-
-#[test]
-fn refused_growths_among_nine(rt: HostRuntime) -> Result<(), Fail> {
-    exchange(&rt, rt.alloc(), 9, &CROSSING);
     every_growth_was_refused(rt.alloc())
 }
 
@@ -192,13 +149,8 @@ static SEVERAL: [(usize, Deed); 3] = [
 ];
 
 #[test]
-fn refused_growths_of_several_among_two(rt: HostRuntime) -> Result<(), Fail> {
+fn refused_growths_of_several(rt: HostRuntime) -> Result<(), Fail> {
     exchange(&rt, rt.alloc(), 2, &SEVERAL);
-    every_growth_was_refused(rt.alloc())
-}
-
-#[test]
-fn refused_growths_of_several_among_nine(rt: HostRuntime) -> Result<(), Fail> {
     exchange(&rt, rt.alloc(), 9, &SEVERAL);
     every_growth_was_refused(rt.alloc())
 }

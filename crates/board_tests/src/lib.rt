@@ -1,4 +1,4 @@
-//! Tests of a running board, by what is public of it.
+//! Tests of a running board and of mailboxes over it, by what is public of them.
 //!
 //! They are in a crate of their own, since a crate with tests is proved twice.
 #![tactic(auto)]
@@ -10,15 +10,13 @@ mod gathered;
 #[cfg(test)]
 mod growths;
 #[cfg(test)]
-mod meetings;
+mod mailboxes;
 #[cfg(test)]
-mod one_by_one;
+mod meetings;
 #[cfg(test)]
 mod parked;
 #[cfg(test)]
 mod refusals;
-#[cfg(test)]
-mod schedules;
 #[cfg(test)]
 mod several_at_once;
 #[cfg(test)]

@@ -2,74 +2,112 @@
 use crate::tables::{Call, Missed, Turns, play, play_turns};
 use board::{SendError, Stop, TakeError};
 
-static AT_BOTH_ENDS: [(usize, Call); 7] = [
-    (1, Call::SendAll(2, b"xyz", Ok(&[1, 2, 3]))),
-    (1, Call::SendAll(2, b"vw", Err(SendError::Full))),
-    (2, Call::GetAll(1, 2, b"xy", &[], Stop::Asked)),
-    (1, Call::SendAll(2, b"vw", Ok(&[4, 5]))),
-    (2, Call::GetAll(1, 9, b"zvw", &[], Stop::NoMore)),
-    (2, Call::Miss(1, Missed::Nothing)),
-    (1, Call::SendAll(2, b"abcde", Err(SendError::TooMany))),
+/// Calls at a board of so many instances, over lanes of so many slots.
+type Played = (usize, usize, &'static [(usize, Call)]);
+
+static PLAYED: [Played; 6] = [
+    // Sent all or none, and received up to so many.
+    (
+        2,
+        4,
+        &[
+            (1, Call::SendAll(2, b"xyz", Ok(&[1, 2, 3]))),
+            (1, Call::SendAll(2, b"vw", Err(SendError::Full))),
+            (2, Call::GetAll(1, 2, b"xy", &[], Stop::Asked)),
+            (1, Call::SendAll(2, b"vw", Ok(&[4, 5]))),
+            (2, Call::GetAll(1, 9, b"zvw", &[], Stop::NoMore)),
+            (2, Call::Miss(1, Missed::Nothing)),
+            (1, Call::SendAll(2, b"abcde", Err(SendError::TooMany))),
+        ],
+    ),
+    // No message makes no event, also where the lane is full.
+    (
+        2,
+        4,
+        &[
+            (1, Call::SendAll(2, b"xyz", Ok(&[1, 2, 3]))),
+            (2, Call::Gets(1, b"xyz", &[])),
+            (1, Call::SendAll(2, b"", Ok(&[]))),
+            (1, Call::SendAll(2, b"abcd", Ok(&[4, 5, 6, 7]))),
+            (1, Call::SendAll(2, b"", Ok(&[]))),
+            (1, Call::HasEvents(7)),
+        ],
+    ),
+    // Two messages of one call each race with the one of another sender that came before.
+    (
+        3,
+        2,
+        &[
+            (1, Call::SendAll(2, b"x", Ok(&[1]))),
+            (3, Call::SendAll(2, b"yz", Ok(&[1, 2]))),
+            (2, Call::Gets(1, b"x", &[])),
+            (2, Call::Gets(3, b"yz", &[1])),
+        ],
+    ),
+    // Of the causes that stand in the way, the first one answers; an empty list meets only the first four.
+    (
+        2,
+        1,
+        &[
+            (1, Call::Open(Ok(()))),
+            (1, Call::SendAll(3, b"xy", Err(SendError::NoSuchInstance))),
+            (1, Call::SendAll(1, b"xy", Err(SendError::ToItself))),
+            (1, Call::SendAll(2, b"xy", Err(SendError::InCoregion))),
+            (1, Call::Shut(Ok(()))),
+            (1, Call::Open(Ok(()))),
+            (1, Call::SendAll(3, b"", Err(SendError::NoSuchInstance))),
+            (1, Call::SendAll(1, b"", Err(SendError::ToItself))),
+            (1, Call::SendAll(2, b"", Err(SendError::InCoregion))),
+            (1, Call::Shut(Ok(()))),
+            (1, Call::SendAll(2, b"xy", Err(SendError::TooMany))),
+            (1, Call::SendAll(2, b"x", Ok(&[1]))),
+            (1, Call::SendAll(2, b"y", Err(SendError::Full))),
+            (1, Call::SendAll(2, b"yz", Err(SendError::TooMany))),
+            (1, Call::Close(2, Ok(()))),
+            (1, Call::SendAll(2, b"yz", Err(SendError::Closed))),
+            (1, Call::SendAll(2, b"", Err(SendError::Closed))),
+            (1, Call::HasEvents(1)),
+        ],
+    ),
+    // One receive ends at so many, where no more wait, and at the end of the lane.
+    (
+        2,
+        4,
+        &[
+            (1, Call::Sends(2, b"xyz")),
+            (2, Call::GetAll(1, 2, b"xy", &[], Stop::Asked)),
+            (2, Call::GetAll(1, 9, b"z", &[], Stop::NoMore)),
+            (2, Call::MissAll(1, 9, Missed::Nothing)),
+            (2, Call::Miss(1, Missed::Nothing)),
+            (1, Call::Sends(2, b"u")),
+            (1, Call::Close(2, Ok(()))),
+            (2, Call::GetAll(1, usize::MAX, b"u", &[], Stop::NoMore)),
+            (2, Call::MissAll(1, 1, Missed::Ended)),
+            (2, Call::MissAll(2, 1, Missed::Refused(TakeError::ToItself))),
+            (
+                2,
+                Call::MissAll(3, 1, Missed::Refused(TakeError::NoSuchInstance)),
+            ),
+        ],
+    ),
+    // Two messages of one sender each race with the one of another that came before.
+    (
+        3,
+        2,
+        &[
+            (1, Call::Sends(2, b"x")),
+            (3, Call::Sends(2, b"yz")),
+            (2, Call::Gets(1, b"x", &[])),
+            (2, Call::GetAll(3, 2, b"yz", &[1], Stop::Asked)),
+        ],
+    ),
 ];
 
 #[test]
-fn several_at_both_ends(rt: HostRuntime) {
-    play(&rt, rt.alloc(), 2, 4, &AT_BOTH_ENDS);
-}
-
-static SENT: [(usize, Call); 6] = [
-    (1, Call::SendAll(2, b"xyz", Ok(&[1, 2, 3]))),
-    (2, Call::Gets(1, b"xyz", &[])),
-    (1, Call::SendAll(2, b"", Ok(&[]))),
-    (1, Call::SendAll(2, b"abcd", Ok(&[4, 5, 6, 7]))),
-    (1, Call::SendAll(2, b"", Ok(&[]))),
-    (1, Call::HasEvents(7)),
-];
-
-/// No message makes no event, also where the lane is full.
-#[test]
-fn several_sent(rt: HostRuntime) {
-    play(&rt, rt.alloc(), 2, 4, &SENT);
-}
-
-static SENT_IN_A_RACE: [(usize, Call); 4] = [
-    (1, Call::SendAll(2, b"x", Ok(&[1]))),
-    (3, Call::SendAll(2, b"yz", Ok(&[1, 2]))),
-    (2, Call::Gets(1, b"x", &[])),
-    (2, Call::Gets(3, b"yz", &[1])),
-];
-
-/// Two messages of one call each race with the one of another sender that came before.
-#[test]
-fn several_sent_race(rt: HostRuntime) {
-    play(&rt, rt.alloc(), 3, 2, &SENT_IN_A_RACE);
-}
-
-static REFUSED: [(usize, Call); 18] = [
-    (1, Call::Open(Ok(()))),
-    (1, Call::SendAll(3, b"xy", Err(SendError::NoSuchInstance))),
-    (1, Call::SendAll(1, b"xy", Err(SendError::ToItself))),
-    (1, Call::SendAll(2, b"xy", Err(SendError::InCoregion))),
-    (1, Call::Shut(Ok(()))),
-    (1, Call::Open(Ok(()))),
-    (1, Call::SendAll(3, b"", Err(SendError::NoSuchInstance))),
-    (1, Call::SendAll(1, b"", Err(SendError::ToItself))),
-    (1, Call::SendAll(2, b"", Err(SendError::InCoregion))),
-    (1, Call::Shut(Ok(()))),
-    (1, Call::SendAll(2, b"xy", Err(SendError::TooMany))),
-    (1, Call::SendAll(2, b"x", Ok(&[1]))),
-    (1, Call::SendAll(2, b"y", Err(SendError::Full))),
-    (1, Call::SendAll(2, b"yz", Err(SendError::TooMany))),
-    (1, Call::Close(2, Ok(()))),
-    (1, Call::SendAll(2, b"yz", Err(SendError::Closed))),
-    (1, Call::SendAll(2, b"", Err(SendError::Closed))),
-    (1, Call::HasEvents(1)),
-];
-
-/// Of the causes that stand in the way, the first one answers; an empty list meets only the first four.
-#[test]
-fn first_refusal_of_several(rt: HostRuntime) {
-    play(&rt, rt.alloc(), 2, 1, &REFUSED);
+fn several_by_one_call(rt: HostRuntime) {
+    for (instances, capacity, calls) in &PLAYED {
+        play(&rt, rt.alloc(), *instances, *capacity, calls);
+    }
 }
 
 static THREE: [(usize, Call); 2] = [
@@ -95,41 +133,6 @@ fn several_fill_a_line(rt: HostRuntime) {
         last: &LAST_PLACE,
     };
     play_turns(&rt, rt.alloc(), 2, 3, &turns);
-}
-
-static RECEIVED: [(usize, Call); 11] = [
-    (1, Call::Sends(2, b"xyz")),
-    (2, Call::GetAll(1, 2, b"xy", &[], Stop::Asked)),
-    (2, Call::GetAll(1, 9, b"z", &[], Stop::NoMore)),
-    (2, Call::MissAll(1, 9, Missed::Nothing)),
-    (2, Call::Miss(1, Missed::Nothing)),
-    (1, Call::Sends(2, b"u")),
-    (1, Call::Close(2, Ok(()))),
-    (2, Call::GetAll(1, usize::MAX, b"u", &[], Stop::NoMore)),
-    (2, Call::MissAll(1, 1, Missed::Ended)),
-    (2, Call::MissAll(2, 1, Missed::Refused(TakeError::ToItself))),
-    (
-        2,
-        Call::MissAll(3, 1, Missed::Refused(TakeError::NoSuchInstance)),
-    ),
-];
-
-#[test]
-fn several_received(rt: HostRuntime) {
-    play(&rt, rt.alloc(), 2, 4, &RECEIVED);
-}
-
-static RECEIVED_IN_A_RACE: [(usize, Call); 4] = [
-    (1, Call::Sends(2, b"x")),
-    (3, Call::Sends(2, b"yz")),
-    (2, Call::Gets(1, b"x", &[])),
-    (2, Call::GetAll(3, 2, b"yz", &[1], Stop::Asked)),
-];
-
-/// Two messages of one sender each race with the one of another that came before.
-#[test]
-fn several_received_race(rt: HostRuntime) {
-    play(&rt, rt.alloc(), 3, 2, &RECEIVED_IN_A_RACE);
 }
 
 static OWN_SEND: [(usize, Call); 1] = [(2, Call::Sends(1, b"w"))];

@@ -208,10 +208,6 @@ fn pass<R: Threads + Wait + Abort + Sync>(
 #[test]
 fn two_holders(rt: HostRuntime) {
     pass(&rt, rt.alloc(), Calls::Single, 1, 2);
-}
-
-#[test]
-fn two_thousand_messages(rt: HostRuntime) {
     for calls in [Calls::Single, Calls::Several] {
         pass(&rt, rt.alloc(), calls, 64, 2000);
     }

@@ -32,8 +32,8 @@ verdicts_object d =
 -- an object on a line of its own: a pair
 unfoldable pub json_difference : List (List ℕ) → List Event → Difference → List ℕ
 json_difference names events d =
-    word_text words.Instance ++ (name_at names d.instance ++ (earlier_text events d ++ (later_text events d
-    ++ verdicts_object d)))
+    (word_text words.Instance ++ name_at names d.instance) ++ (earlier_text events d ++ (later_text events d
+    ++ verdicts_object d))
 
 -- an event that one recording alone has
 unfoldable pub json_only : Word → List (List ℕ) → List Event → ℕ → ℕ → List ℕ

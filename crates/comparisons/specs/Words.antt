@@ -1,12 +1,13 @@
 -- The words of what is told of two recordings (this project's own; JSON is that of RFC 8259).
-use Rattle.std.specs.Prelude.{ℕ, List, [], Option, None, Some, codes}
+use Rattle.std.specs.Prelude.{ℕ, List, [], Option, None, Some, codes, decimal}
 use Rattle.chart.specs.declared.event.Event.{Event}
-use Rattle.chart.specs.Events.{name_of, partner_of}
-use Rattle.msc_text.specs.ChartText.{name_at}
+use Rattle.chart.specs.Events.{name_of}
 use Rattle.comparing.specs.declared.verdict.Verdict.{Verdict}
 use Rattle.comparing.specs.declared.verdict.Verdict.TheVariants as verdicts
 use Rattle.comparisons.specs.declared.word.Word.{Word}
 use Rattle.comparisons.specs.declared.word.Word.TheVariants as words
+use Rattle.comparisons.specs.declared.part.Part.{Part}
+use Rattle.comparisons.specs.declared.part.Part.TheVariants as parts
 
 -- what stands between names and numbers
 unfoldable pub word_text : Word → List ℕ
@@ -52,7 +53,9 @@ abbrev pub message_at : Option Event → List ℕ
 message_at None = []
 message_at (Some m) = name_of m
 
--- the name of the instance at its other end
-abbrev pub partner_at : List (List ℕ) → Option Event → List ℕ
-partner_at names None = []
-partner_at names (Some m) = name_at names (partner_of m)
+-- a part of a line as it is written
+abbrev pub part_text : Part → List ℕ
+part_text (parts.Word word) = word_text word
+part_text (parts.Number n) = decimal n
+part_text (parts.Name None) = []
+part_text (parts.Name (Some name)) = name

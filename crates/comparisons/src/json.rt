@@ -5,13 +5,16 @@ ghost use Rattle.msc_text.specs.Writing.{Adds};
 ghost use Rattle.comparisons.specs.JsonText.{numbers_text, earlier_text, later_text, verdicts_object};
 ghost use Rattle.comparisons.specs.JsonText.{json_difference, json_only};
 
-use crate::word::{Word, add_message, add_name, add_word, verdict_word};
+use crate::part::{
+    Part, add_parts, add_word_and_message, add_word_and_name, message_part, name_part,
+};
+use crate::word::{Word, verdict_word};
 use chart::{Event, InstanceNo, Names};
 use comparing::{Difference, event_at};
 use msc_text::{Out, TextBuffer, WriteError};
 
 /// An event's number in the first recording behind one word, and that in the second behind another.
-#[tactic(auto, using(msc_text::proofs::Writes::joining), unfolding(crate::specs::JsonText::numbers_text))]
+#[tactic(auto, unfolding(crate::specs::JsonText::numbers_text))]
 fn add_numbers<W: Out>(
     text: &mut TextBuffer<'_, W>,
     word: Word,
@@ -21,10 +24,17 @@ fn add_numbers<W: Out>(
 ) -> Result<(), WriteError>
     ensures { Adds W.sink text.old text.new result (numbers_text word index there_word there) }
 {
-    add_word(text, word)?;
-    text.add_number(index as u64)?;
-    add_word(text, there_word)?;
-    text.add_number(there as u64)
+    let number = Part::Number(index as u64);
+    let there_number = Part::Number(there as u64);
+    add_parts(
+        text,
+        &[
+            Part::Word(word),
+            number,
+            Part::Word(there_word),
+            there_number,
+        ],
+    )
 }
 
 /// The earlier event of a pair.
@@ -44,8 +54,7 @@ fn add_earlier<W: Out>(
         Word::EarlierThere,
         pair.earlier_there,
     )?;
-    add_word(text, Word::EarlierMessage)?;
-    add_message(text, &event_at(events, pair.earlier))
+    add_word_and_message(text, Word::EarlierMessage, &event_at(events, pair.earlier))
 }
 
 /// The later event of a pair.
@@ -65,23 +74,27 @@ fn add_later<W: Out>(
         Word::LaterThere,
         pair.later_there,
     )?;
-    add_word(text, Word::LaterMessage)?;
-    add_message(text, &event_at(events, pair.later))
+    add_word_and_message(text, Word::LaterMessage, &event_at(events, pair.later))
 }
 
 /// What they are in either recording.
-#[tactic(auto, using(msc_text::proofs::Writes::joining), unfolding(crate::specs::JsonText::verdicts_object))]
+#[tactic(auto, unfolding(crate::specs::JsonText::verdicts_object))]
 fn add_verdicts<W: Out>(
     text: &mut TextBuffer<'_, W>,
     difference: &Difference,
 ) -> Result<(), WriteError>
     ensures { Adds W.sink text.old text.new result (verdicts_object difference.now) }
 {
-    add_word(text, Word::First)?;
-    add_word(text, verdict_word(difference.here))?;
-    add_word(text, Word::Second)?;
-    add_word(text, verdict_word(difference.there))?;
-    add_word(text, Word::EndObject)
+    add_parts(
+        text,
+        &[
+            Part::Word(Word::First),
+            Part::Word(verdict_word(difference.here)),
+            Part::Word(Word::Second),
+            Part::Word(verdict_word(difference.there)),
+            Part::Word(Word::EndObject),
+        ],
+    )
 }
 
 /// An object for two events that stand the other way round.
@@ -94,15 +107,14 @@ pub(crate) fn add_json_difference<W: Out>(
 ) -> Result<(), WriteError>
     ensures { Adds W.sink text.old text.new result (json_difference names.now events.now difference.now) }
 {
-    add_word(text, Word::Instance)?;
-    add_name(text, names, difference.instance)?;
+    add_word_and_name(text, Word::Instance, names, difference.instance)?;
     add_earlier(text, events, difference)?;
     add_later(text, events, difference)?;
     add_verdicts(text, difference)
 }
 
 /// An object for an event that one recording alone has.
-#[tactic(auto, using(msc_text::proofs::Writes::joining), unfolding(crate::specs::JsonText::json_only))]
+#[tactic(auto, unfolding(crate::specs::JsonText::json_only))]
 pub(crate) fn add_json_only<W: Out>(
     text: &mut TextBuffer<'_, W>,
     owner: Word,
@@ -113,11 +125,16 @@ pub(crate) fn add_json_only<W: Out>(
 ) -> Result<(), WriteError>
     ensures { Adds W.sink text.old text.new result (json_only owner names.now events.now instance index) }
 {
-    add_word(text, owner)?;
-    add_name(text, names, instance)?;
-    add_word(text, Word::Event)?;
-    text.add_number(index as u64)?;
-    add_word(text, Word::Message)?;
-    add_message(text, &event_at(events, index))?;
-    add_word(text, Word::EndObject)
+    add_parts(
+        text,
+        &[
+            Part::Word(owner),
+            name_part(names, instance),
+            Part::Word(Word::Event),
+            Part::Number(index as u64),
+            Part::Word(Word::Message),
+            message_part(&event_at(events, index)),
+            Part::Word(Word::EndObject),
+        ],
+    )
 }

@@ -13,6 +13,7 @@ mod answering;
 mod comparison_text;
 mod error;
 mod json;
+mod part;
 mod plain;
 mod showing;
 mod word;

@@ -2,16 +2,16 @@
 ghost use Rattle.std.specs.Prelude.{◌≡◌};
 ghost use Rattle.chart.specs.Events.{ith};
 ghost use Rattle.msc_text.specs.Writing.{Adds};
-ghost use Rattle.comparisons.specs.PlainText.{side_text, place_text, both_text, events_text, verdicts_text};
+ghost use Rattle.comparisons.specs.PlainText.{side_text, place_front, place_text, there_text, both_text, events_text, verdicts_text};
 ghost use Rattle.comparisons.specs.PlainText.{plain_difference, plain_only};
 
-use crate::word::{Word, add_message, add_name, add_word, verdict_word};
+use crate::part::{Part, add_name_and, add_parts, add_word, add_word_and_name, message_part};
+use crate::word::{Word, verdict_word};
 use chart::{Event, InstanceNo, Names};
 use comparing::{Difference, event_at};
 use msc_text::{Out, TextBuffer, WriteError};
 
 /// `, to NAME` or `, from NAME`.
-#[tactic(auto, using(msc_text::proofs::Writes::joining))]
 fn add_side<W: Out>(
     text: &mut TextBuffer<'_, W>,
     names: &Names,
@@ -20,16 +20,24 @@ fn add_side<W: Out>(
     ensures { Adds W.sink text.old text.new result (side_text names.now event.now) }
 {
     match event {
-        Some(Event::Send { to, .. }) => {
-            add_word(text, Word::To)?;
-            add_name(text, names, *to)
-        }
-        Some(Event::Receive { from, .. }) => {
-            add_word(text, Word::From)?;
-            add_name(text, names, *from)
-        }
-        None => text.add(b""),
+        Some(Event::Send { to, .. }) => { add_word_and_name(text, Word::To, names, *to) }
+        Some(Event::Receive { from, .. }) => { add_word_and_name(text, Word::From, names, *from) }
+        None => add_parts(text, &[]),
     }
+}
+
+/// `MESSAGE (INDEX`.
+#[tactic(auto, unfolding(crate::specs::PlainText::place_front))]
+fn add_place_front<W: Out>(
+    text: &mut TextBuffer<'_, W>,
+    event: &Option<Event>,
+    index: usize,
+) -> Result<(), WriteError>
+    ensures { Adds W.sink text.old text.new result (place_front event.now index) }
+{
+    let open = Part::Word(Word::Open);
+    let number = Part::Number(index as u64);
+    add_parts(text, &[message_part(event), open, number])
 }
 
 /// `MESSAGE (INDEX, from NAME`.
@@ -42,10 +50,18 @@ fn add_place<W: Out>(
 ) -> Result<(), WriteError>
     ensures { Adds W.sink text.old text.new result (place_text names.now event.now index) }
 {
-    add_message(text, event)?;
-    add_word(text, Word::Open)?;
-    text.add_number(index as u64)?;
+    add_place_front(text, event, index)?;
     add_side(text, names, event)
+}
+
+/// `; INDEX in B)`.
+#[tactic(auto, unfolding(crate::specs::PlainText::there_text))]
+fn add_there<W: Out>(text: &mut TextBuffer<'_, W>, there: usize) -> Result<(), WriteError>
+    ensures { Adds W.sink text.old text.new result (there_text there) }
+{
+    let close = Part::Word(Word::CloseThere);
+    let number = Part::Number(there as u64);
+    add_parts(text, &[Part::Word(Word::There), number, close])
 }
 
 /// `MESSAGE (INDEX, from NAME; INDEX in B)`.
@@ -60,9 +76,7 @@ fn add_both<W: Out>(
     ensures { Adds W.sink text.old text.new result (both_text names.now events.now index there) }
 {
     add_place(text, names, &event_at(events, index), index)?;
-    add_word(text, Word::There)?;
-    text.add_number(there as u64)?;
-    add_word(text, Word::CloseThere)
+    add_there(text, there)
 }
 
 /// The two events of a pair.
@@ -82,18 +96,23 @@ fn add_events<W: Out>(
 }
 
 /// What they are in either recording.
-#[tactic(auto, using(msc_text::proofs::Writes::joining), unfolding(crate::specs::PlainText::verdicts_text))]
+#[tactic(auto, unfolding(crate::specs::PlainText::verdicts_text))]
 fn add_verdicts<W: Out>(
     text: &mut TextBuffer<'_, W>,
     difference: &Difference,
 ) -> Result<(), WriteError>
     ensures { Adds W.sink text.old text.new result (verdicts_text difference.now) }
 {
-    add_word(text, Word::InSecond)?;
-    add_word(text, verdict_word(difference.here))?;
-    add_word(text, Word::InFirst)?;
-    add_word(text, verdict_word(difference.there))?;
-    add_word(text, Word::InSecondEnd)
+    add_parts(
+        text,
+        &[
+            Part::Word(Word::InSecond),
+            Part::Word(verdict_word(difference.here)),
+            Part::Word(Word::InFirst),
+            Part::Word(verdict_word(difference.there)),
+            Part::Word(Word::InSecondEnd),
+        ],
+    )
 }
 
 /// `NAME: EVENT comes before EVENT in B: VERDICT in A, VERDICT in B`.
@@ -106,8 +125,7 @@ pub(crate) fn add_plain_difference<W: Out>(
 ) -> Result<(), WriteError>
     ensures { Adds W.sink text.old text.new result (plain_difference names.now events.now difference.now) }
 {
-    add_name(text, names, difference.instance)?;
-    add_word(text, Word::Colon)?;
+    add_name_and(text, names, difference.instance, Word::Colon)?;
     add_events(text, names, events, difference)?;
     add_verdicts(text, difference)
 }
@@ -124,8 +142,7 @@ pub(crate) fn add_plain_only<W: Out>(
 ) -> Result<(), WriteError>
     ensures { Adds W.sink text.old text.new result (plain_only owner names.now events.now instance index) }
 {
-    add_name(text, names, instance)?;
-    add_word(text, owner)?;
+    add_name_and(text, names, instance, owner)?;
     add_place(text, names, &event_at(events, index), index)?;
     add_word(text, Word::Close)
 }

@@ -1,13 +1,8 @@
 //! The words of what is told of two recordings.
 ghost use Rattle.std.specs.Prelude.{◌≡◌};
-ghost use Rattle.chart.specs.Events.{partner_of};
-ghost use Rattle.msc_text.specs.ChartText.{name_at};
-ghost use Rattle.msc_text.specs.Writing.{Adds};
-ghost use Rattle.comparisons.specs.Words.{word_text, message_at, partner_at, verdict_word};
+ghost use Rattle.comparisons.specs.Words.{word_text, verdict_word};
 
-use chart::{Event, InstanceNo, Names};
 use comparing::Verdict;
-use msc_text::{Out, TextBuffer, WriteError};
 
 /// What stands between names and numbers.
 #[derive(Clone, Copy)]
@@ -45,7 +40,7 @@ pub(crate) enum Word {
 }
 
 #[tactic(auto, unfolding(crate::specs::Words::word_text))]
-fn word_of(word: &Word) -> &[u8]
+pub(crate) fn word_of(word: &Word) -> &[u8]
     ensures { result.now ≡ word_text word.now }
 {
     match word {
@@ -82,12 +77,6 @@ fn word_of(word: &Word) -> &[u8]
     }
 }
 
-pub(crate) fn add_word<W: Out>(text: &mut TextBuffer<'_, W>, word: Word) -> Result<(), WriteError>
-    ensures { Adds W.sink text.old text.new result (word_text word) }
-{
-    text.add(word_of(&word))
-}
-
 /// The word for what two events are.
 pub(crate) fn verdict_word(verdict: Verdict) -> Word
     ensures { result ≡ verdict_word verdict }
@@ -96,46 +85,5 @@ pub(crate) fn verdict_word(verdict: Verdict) -> Word
         Verdict::Enforced => Word::Enforced,
         Verdict::Race => Word::Race,
         Verdict::Unclaimed => Word::Unclaimed,
-    }
-}
-
-/// Adds the name of the instance, if it has one.
-pub(crate) fn add_name<W: Out>(
-    text: &mut TextBuffer<'_, W>,
-    names: &Names,
-    instance: InstanceNo,
-) -> Result<(), WriteError>
-    ensures { Adds W.sink text.old text.new result (name_at names.now instance) }
-{
-    match names.name(instance) {
-        Some(name) => text.add(name.as_bytes()),
-        None => text.add(b""),
-    }
-}
-
-/// Adds the name of the event's message, if there is an event.
-pub(crate) fn add_message<W: Out>(
-    text: &mut TextBuffer<'_, W>,
-    event: &Option<Event>,
-) -> Result<(), WriteError>
-    ensures { Adds W.sink text.old text.new result (message_at event.now) }
-{
-    match event {
-        Some(event) => text.add(event.name().as_bytes()),
-        None => text.add(b""),
-    }
-}
-
-/// Adds the name of the instance at the other end of the event's message, if there is an event.
-pub(crate) fn add_partner<W: Out>(
-    text: &mut TextBuffer<'_, W>,
-    names: &Names,
-    event: &Option<Event>,
-) -> Result<(), WriteError>
-    ensures { Adds W.sink text.old text.new result (partner_at names.now event.now) }
-{
-    match event {
-        Some(event) => add_name(text, names, event.partner()),
-        None => text.add(b""),
     }
 }

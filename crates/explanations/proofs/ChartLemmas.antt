@@ -9,7 +9,7 @@ use Rattle.files.specs.declared.error.ProgramError.{ProgramError}
 use Rattle.msc_reader.specs.Reading.{chart_of}
 
 -- it's a matter of the whole text
-pub whole_chart : (text : List ℕ) (named : Named) (result : Result Verdict ProgramError) → chart_of (chart_part text) ≡ Ok named → IsOfLines named.1 Read → IfOk result (IsOfWhole text) → IfOk result (IsOfChart text)
+pub whole_chart : (text : List ℕ) (named : Named) (result : Result Verdict ProgramError) → chart_of (chart_part text) ≡ Ok named → IsOfLines text named Read → IfOk result (IsOfWhole text) → IfOk result (IsOfChart text)
 whole_chart text named (Ok Read) e l h = (named, e, l, h)
 whole_chart text named (Ok (Behind fault)) e l h = (named, e, l, h)
 whole_chart text named (Ok (Ran notes)) e l h = absurd h
@@ -18,5 +18,5 @@ whole_chart text named (Ok (NotDrawn why)) e l h = absurd h
 whole_chart text named (Ok (Refused fault)) e l h = absurd h
 whole_chart text named (Ok (NoSend receive)) e l h = absurd h
 whole_chart text named (Ok (OtherName receive)) e l h = absurd h
-whole_chart text named (Ok Cyclic) e l h = absurd h
+whole_chart text named (Ok (Cyclic steps)) e l h = absurd h
 whole_chart text named (Err error) e l h = h

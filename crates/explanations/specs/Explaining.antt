@@ -1,5 +1,5 @@
 -- What `mscview explain` answers to the bytes of a file.
-use Rattle.std.specs.Prelude.{◌≡◌, ℕ, Bool, true, false, List, [], ◌∷◌, ◌++◌, map, Result, Ok, Err, is_ok, if◌then◌else◌}
+use Rattle.std.specs.Prelude.{◌≡◌, ℕ, Bool, false, List, [], ◌∷◌, ◌++◌, map, Result, Ok, Err, is_ok, if◌then◌else◌}
 use Rattle.std.specs.List.{flat_map}
 use Rattle.explanations.specs.Findings.{behind_finding, fault_finding, no_send, other_name, unread_finding}
 use Rattle.explanations.specs.Kinds.{kind_of, shown}
@@ -39,12 +39,13 @@ first_told kind text (Behind fault) = sayings.Finding (behind_finding kind text 
 first_told kind text (Refused fault) = sayings.Finding (fault_finding kind text fault)
 first_told kind text (NoSend receive) = sayings.Finding (no_send text receive)
 first_told kind text (OtherName receive) = sayings.Finding (other_name text receive)
-first_told kind text Cyclic = sayings.Cyclic
+first_told kind text (Cyclic steps) = sayings.Cyclic
 
--- what is told besides: the notes of a schedule, and what a diagram's chart doesn't keep
+-- what is told besides: the notes of a schedule, what a diagram's chart doesn't keep, and the steps of a circle
 abbrev pub more_told : Verdict → List Saying
 more_told (Ran notes) = map sayings.Note notes.items
 more_told (Drawn left_out overtaking) = map sayings.LeftOut left_out.items ++ map sayings.Overtaking overtaking.items
+more_told (Cyclic steps) = map sayings.Step steps.items
 more_told _ = []
 
 -- all that is told

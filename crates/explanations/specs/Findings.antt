@@ -1,5 +1,5 @@
 -- Faults with their places, and what may stand there.
-use Rattle.std.specs.Prelude.{ℕ, ◌+◌, ◌-◌, ◌==◌, List, [], length, take, drop, Option, None, Some, if◌then◌else◌}
+use Rattle.std.specs.Prelude.{ℕ, ◌+◌, ◌-◌, ◌==◌, List, length, take, drop, Option, None, Some, if◌then◌else◌}
 use Rattle.chart.specs.declared.instance.EventNo.{EventNo}
 use Rattle.explanations.specs.declared.finding.Finding.{Finding}
 use Rattle.explanations.specs.declared.finding.What.{What}

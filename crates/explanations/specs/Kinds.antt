@@ -1,5 +1,5 @@
 -- What kind of file it is, by its first words.
-use Rattle.std.specs.Prelude.{ℕ, ◌==◌, ◌||◌, Bool, true, false, not, List, codes, bytes_eq, Result, Ok, Err, if◌then◌else◌}
+use Rattle.std.specs.Prelude.{ℕ, ◌==◌, ◌||◌, Bool, true, not, List, codes, bytes_eq, Result, Ok, Err, if◌then◌else◌}
 use Rattle.std.specs.List.{list_any}
 use Rattle.diagram_imports.specs.Importing.{behind_mark}
 use Rattle.explanations.specs.declared.kind.Kind.{Kind}

@@ -8,7 +8,8 @@ use Rattle.explanations.specs.declared.finding.What.{What}
 use Rattle.explanations.specs.declared.saying.Saying.{Saying}
 use Rattle.explanations.specs.declared.saying.Saying.TheVariants.{Kind, Read, Cyclic, Tidy}
 use Rattle.explanations.specs.declared.saying.Saying.TheVariants as sayings
-use Rattle.explanations.specs.declared.verdict.Noted.{Noted}
+use Rattle.schedule_notes.specs.declared.notes.Noted.{Noted}
+use Rattle.told_circles.specs.Telling.{step_text}
 use Rattle.fault_places.specs.declared.want.Want.{Want}
 use Rattle.import_answers.specs.Telling.{left_out_line, overtaking_line}
 use Rattle.mscgen_text.specs.Faults.{printable}
@@ -114,4 +115,5 @@ saying_text file (sayings.Note noted) = noted_text file noted
 saying_text file (sayings.LeftOut left_out) = left_out_line left_out
 saying_text file (sayings.Overtaking message) = overtaking_line message
 saying_text file Cyclic = cyclic_text
+saying_text file (sayings.Step step) = step_text step
 saying_text file Tidy = tidy_text

@@ -1,6 +1,6 @@
 -- What came of reading a file: the first fault that its readers answer, or that there is none.
-use Rattle.std.specs.Prelude.{◌≡◌, ◌≢◌, ℕ, ◌==◌, ◌&&◌, Bool, true, false, List, [], ◌∷◌, length, map, nat_lt, Option, None, Some, Result, Ok, Err, if◌then◌else◌}
-use Rattle.chart.specs.Charts.{LineView, chart_lines, IsPossible}
+use Rattle.std.specs.Prelude.{◌≡◌, ◌≢◌, ℕ, false, List, [], length, None, Ok, Err}
+use Rattle.chart.specs.Charts.{chart_lines, IsPossible}
 use Rattle.closure.specs.Faults.{Refuses}
 use Rattle.closure.specs.declared.error.ChartError.TheVariants as charts
 use Rattle.diagram_imports.specs.Importing.{OptionsView, imported}
@@ -9,7 +9,6 @@ use Rattle.diagram_imports.specs.declared.error.ImportError.{ImportError}
 use Rattle.diagram_imports.specs.declared.error.ImportError.TheVariants as imports
 use Rattle.explanations.specs.declared.kind.Kind.{Kind}
 use Rattle.explanations.specs.declared.kind.Kind.TheVariants as kinds
-use Rattle.explanations.specs.declared.verdict.Noted.{Noted}
 use Rattle.explanations.specs.declared.verdict.Unread.{Unread}
 use Rattle.explanations.specs.declared.verdict.Unread.TheVariants as unreads
 use Rattle.explanations.specs.declared.verdict.Verdict.{Verdict}
@@ -20,15 +19,10 @@ use Rattle.import_answers.specs.Order.{in_order}
 use Rattle.joined_diagrams.specs.Drawing.{joined_drawn_view}
 use Rattle.joined_diagrams.specs.declared.drawing.JoinedDrawn.{JoinedDrawn}
 use Rattle.msc_reader.specs.Reading.{chart_of}
-use Rattle.outcomes.specs.Outcomes.{OutcomeView, IsOutcome}
 use Rattle.schedule.specs.Plans.{Plan}
 use Rattle.schedule.specs.Reading.{schedule_of}
-use Rattle.schedule.specs.declared.command.Action.{Action}
-use Rattle.schedule.specs.declared.command.Action.TheVariants as actions
-use Rattle.schedule.specs.declared.command.Command.{Command}
-use Rattle.schedule.specs.declared.command.Note.{Note}
-use Rattle.schedule.specs.declared.command.Word.{Word}
-use Rattle.schedule.specs.declared.command.Word.TheVariants as words
+use Rattle.schedule_notes.specs.Notes.{AreNotesOf}
+use Rattle.told_circles.specs.Telling.{AreStepsOf}
 
 -- the exit status: 1 where a fault is told
 abbrev pub status_of : Verdict → ℕ
@@ -40,57 +34,27 @@ status_of (Behind fault) = 0
 status_of (Refused fault) = 1
 status_of (NoSend receive) = 1
 status_of (OtherName receive) = 1
-status_of Cyclic = 1
+status_of (Cyclic steps) = 1
 
 abbrev pub verdict_said : Verdict → Said
 verdict_said verdict = record { status = status_of verdict; told = None }
 
--- the command sends from the one instance to the other
-abbrev pub is_send_to : ℕ → Action → Bool
-is_send_to to (actions.Send receiver name) = receiver == to
-is_send_to to _ = false
-
-abbrev pub is_send : ℕ → ℕ → Command → Bool
-is_send from to command = command.actor == from && is_send_to to command.action
-
--- the command of this line
-abbrev pub command_at : ℕ → List Command → Option Command
-command_at line [] = None
-command_at line (command ∷ commands) = if command.line == line then Some command else command_at line commands
-
--- the line of the first send from one instance to another behind this line
-abbrev pub later_send : ℕ → ℕ → ℕ → List Command → Option ℕ
-later_send from to line [] = None
-later_send from to line (command ∷ commands) =
-    if nat_lt line command.line && is_send from to command then Some command.line else later_send from to line commands
-
--- the line of the send that comes too late for a command that left this word: for a receive that found nothing
-abbrev pub later_by : Word → ℕ → Action → ℕ → List Command → Option ℕ
-later_by words.Nothing actor (actions.Receive from) line commands = later_send from actor line commands
-later_by _ actor action line commands = None
-
--- the same of a note, by its command
-abbrev pub later_for : Note → Option Command → List Command → Option ℕ
-later_for note None commands = None
-later_for note (Some command) commands = later_by note.word command.actor command.action note.line commands
-
-abbrev pub noted : List Command → Note → Noted
-noted commands note = record { note = note; later = later_for note (command_at note.line commands) commands }
-
 -- a schedule's text is read, and its commands leave these notes; or it has this fault
 abbrev pub IsOfSchedule : List ℕ → Verdict → Type 0
 IsOfSchedule text (Ran notes) = (plan : Plan) × (schedule_of text ≡ Ok plan)
-    × ((outcome : OutcomeView) × IsOutcome plan outcome × (notes.items ≡ map (noted plan.commands) outcome.notes))
+    × AreNotesOf plan notes.items
 IsOfSchedule text (Refused fault) = schedule_of text ≡ Err fault
 IsOfSchedule text _ = ⊥
 
--- a chart is possible, or is refused so
-abbrev pub IsOfLines : List LineView → Verdict → Type 0
-IsOfLines lines Read = IsPossible (length lines) (chart_lines lines)
-IsOfLines lines (NoSend receive) = Refuses (chart_lines lines) (charts.ReceiveWithoutSend receive)
-IsOfLines lines (OtherName receive) = Refuses (chart_lines lines) (charts.NameMismatch receive)
-IsOfLines lines Cyclic = Refuses (chart_lines lines) charts.Cyclic
-IsOfLines lines _ = ⊥
+-- the chart of this text is possible, or is refused so; of one in which events come before each other a shortest circle
+-- is told
+abbrev pub IsOfLines : List ℕ → Named → Verdict → Type 0
+IsOfLines text named Read = IsPossible (length named.1) (chart_lines named.1)
+IsOfLines text named (NoSend receive) = Refuses (chart_lines named.1) (charts.ReceiveWithoutSend receive)
+IsOfLines text named (OtherName receive) = Refuses (chart_lines named.1) (charts.NameMismatch receive)
+IsOfLines text named (Cyclic steps) = Refuses (chart_lines named.1) charts.Cyclic
+    × AreStepsOf text named.0 named.1 steps.items
+IsOfLines text named _ = ⊥
 
 -- the whole text is a chart's, or it has this fault
 abbrev pub IsOfWhole : List ℕ → Verdict → Type 0
@@ -101,14 +65,14 @@ IsOfWhole text _ = ⊥
 -- what a text says through the first line that ends a chart is refused, or is a chart that isn't possible; or a possible
 -- one, and then it's a matter of the whole text
 abbrev pub IsOfChart : List ℕ → Verdict → Type 0
-IsOfChart text Read = (named : Named) × (chart_of (chart_part text) ≡ Ok named) × IsOfLines named.1 Read × IsOfWhole text Read
-IsOfChart text (Behind fault) = (named : Named) × (chart_of (chart_part text) ≡ Ok named) × IsOfLines named.1 Read
+IsOfChart text Read = (named : Named) × (chart_of (chart_part text) ≡ Ok named) × IsOfLines text named Read × IsOfWhole text Read
+IsOfChart text (Behind fault) = (named : Named) × (chart_of (chart_part text) ≡ Ok named) × IsOfLines text named Read
     × IsOfWhole text (Behind fault)
 IsOfChart text (Refused fault) = chart_of (chart_part text) ≡ Err fault
 IsOfChart text (Ran notes) = ⊥
 IsOfChart text (Drawn left_out overtaking) = ⊥
 IsOfChart text (NotDrawn why) = ⊥
-IsOfChart text verdict = (named : Named) × (chart_of (chart_part text) ≡ Ok named) × IsOfLines named.1 verdict
+IsOfChart text verdict = (named : Named) × (chart_of (chart_part text) ≡ Ok named) × IsOfLines text named verdict
 
 -- nothing is skipped or joined, and things may be left out
 abbrev pub no_options : OptionsView

@@ -11,12 +11,14 @@ use crate::finding::{behind_finding, fault_finding, no_send, other_name, unread_
 use crate::judging::judge;
 use crate::kind::{Kind, kind_by, shown};
 use crate::saying::{Saying, write_sayings};
-use crate::verdict::{Noted, Verdict};
+use crate::verdict::Verdict;
 use diagrams::LeftOut;
 use files::{ProgramError, Text, answered};
 use joined_diagrams::Overtaking;
 use msc_text::Out;
+use schedule_notes::Noted;
 use std::alloc::{AllocError, Global};
+use told_circles::Step;
 use typed_texts::exact_text;
 
 /// Whether a text has no fault as a text.
@@ -72,6 +74,16 @@ fn add_overtaking(sayings: &mut Vec<Saying>, overtaking: &[Overtaking]) -> Resul
     Ok(())
 }
 
+/// Adds the steps of a circle.
+fn add_steps(sayings: &mut Vec<Saying>, steps: &[Step]) -> Result<(), AllocError>
+    ensures { OnOk result (sayings.new.items ≡ sayings.old.items ++ map sayings_told.Step steps.now) }
+{
+    for step in steps {
+        sayings.push(Saying::Step(*step))?;
+    }
+    Ok(())
+}
+
 /// The first thing that is told of what came of reading a file of this kind.
 fn first_told(kind: Kind, text: &[u8], verdict: &Verdict) -> Saying
     ensures { result ≡ first_told kind text.now verdict.now }
@@ -83,7 +95,7 @@ fn first_told(kind: Kind, text: &[u8], verdict: &Verdict) -> Saying
         Verdict::Refused(fault) => Saying::Finding(fault_finding(kind, text, *fault)),
         Verdict::NoSend(receive) => Saying::Finding(no_send(text, *receive)),
         Verdict::OtherName(receive) => Saying::Finding(other_name(text, *receive)),
-        Verdict::Cyclic => Saying::Cyclic,
+        Verdict::Cyclic(_) => Saying::Cyclic,
     }
 }
 
@@ -97,6 +109,7 @@ fn add_more(sayings: &mut Vec<Saying>, verdict: &Verdict) -> Result<(), AllocErr
             add_left_out(sayings, left_out)?;
             add_overtaking(sayings, overtaking)
         }
+        Verdict::Cyclic(steps) => add_steps(sayings, steps),
         _ => Ok(()),
     }
 }

@@ -1,5 +1,7 @@
 //! What comes of reading a file.
-ghost use Rattle.std.specs.Prelude.{◌≡◌, ◌≢◌, false, None, Ok, IfOk, IfErr};
+ghost use Rattle.std.specs.Prelude.{◌≡◌, ◌≢◌, false, None, Ok, length, IfOk, IfErr};
+ghost use Rattle.chart.specs.Charts.{chart_lines};
+ghost use Rattle.closure.specs.Faults.{Refuses};
 ghost use Rattle.diagram_imports.specs.Importing.{imported};
 ghost use Rattle.diagram_imports.specs.Refusals.{Gives};
 ghost use Rattle.joined_diagrams.specs.Drawing.{joined_drawn_view};
@@ -9,15 +11,16 @@ ghost use Rattle.files.specs.Files.{Named, is_schedule, chart_part};
 ghost use Rattle.msc_reader.specs.Reading.{chart_of};
 
 use crate::kind::Kind;
-use crate::notes::notes_of;
 use crate::verdict::{Unread, Verdict};
-use chart::Chart;
+use chart::{Chart, Names};
 use closure::{ChartError, Closure};
 use diagram_imports::{ImportError, Options, import_text};
 use files::{ProgramError, Text, chart_in, schedule_in};
 use import_answers::in_order;
 use joined_diagrams::JoinedDrawn;
+use schedule_notes::notes_of;
 use std::alloc::Global;
+use told_circles::steps_of;
 
 /// What comes of a schedule's text.
 fn judge_schedule(alloc: Global, text: &[u8]) -> Result<Verdict, ProgramError>
@@ -76,9 +79,33 @@ fn judge_diagram(alloc: Global, text: &[u8]) -> Result<Verdict, ProgramError>
     }
 }
 
-/// Whether a chart is possible.
-fn judge_lines(alloc: Global, chart: &Chart) -> Result<Verdict, ProgramError>
-    ensures verdict { IfOk result (IsOfLines chart.now) }
+/// A shortest circle of the chart of this text, in which events come before each other.
+fn judge_circle(
+    alloc: Global,
+    text: &[u8],
+    names: &Names,
+    chart: &Chart,
+) -> Result<Verdict, ProgramError>
+    requires names { length chart.now ≡ length names.now }
+    requires refused { Refuses (chart_lines chart.now) ChartError.Cyclic }
+    ensures verdict { IfOk result (IsOfLines text.now (names.now, chart.now)) }
+    ensures memory { IfErr result (λ e. e ≡ ProgramError.Memory) }
+{
+    match steps_of(alloc, text, names, chart) {
+        Ok(steps) => Ok(Verdict::Cyclic(steps)),
+        Err(_) => Err(ProgramError::Memory),
+    }
+}
+
+/// Whether the chart of this text is possible.
+fn judge_lines(
+    alloc: Global,
+    text: &[u8],
+    names: &Names,
+    chart: &Chart,
+) -> Result<Verdict, ProgramError>
+    requires { length chart.now ≡ length names.now }
+    ensures verdict { IfOk result (IsOfLines text.now (names.now, chart.now)) }
     ensures memory { IfErr result (λ e. e ≡ ProgramError.Memory) }
 {
     let error = match Closure::of(alloc, chart) {
@@ -88,7 +115,7 @@ fn judge_lines(alloc: Global, chart: &Chart) -> Result<Verdict, ProgramError>
     match error {
         ChartError::ReceiveWithoutSend(receive) => Ok(Verdict::NoSend(receive)),
         ChartError::NameMismatch(receive) => Ok(Verdict::OtherName(receive)),
-        ChartError::Cyclic => Ok(Verdict::Cyclic),
+        ChartError::Cyclic => judge_circle(alloc, text, names, chart),
         ChartError::Memory => Err(ProgramError::Memory),
     }
 }
@@ -107,7 +134,7 @@ fn judge_whole(alloc: Global, text: &[u8]) -> Result<Verdict, ProgramError>
 
 /// What comes of a text whose chart was judged: where that is possible, it's a matter of the whole text.
 fn or_whole(alloc: Global, text: &[u8], judged: Verdict) -> Result<Verdict, ProgramError>
-    requires { (named : Named) × (chart_of (chart_part text.now) ≡ Ok named) × IsOfLines named.1 judged }
+    requires { (named : Named) × (chart_of (chart_part text.now) ≡ Ok named) × IsOfLines text.now named judged }
     ensures verdict { IfOk result (IsOfChart text.now) }
     ensures memory { IfErr result (λ e. e ≡ ProgramError.Memory) }
 {
@@ -115,7 +142,7 @@ fn or_whole(alloc: Global, text: &[u8], judged: Verdict) -> Result<Verdict, Prog
         Verdict::Read => judge_whole(alloc, text),
         Verdict::NoSend(receive) => Ok(Verdict::NoSend(receive)),
         Verdict::OtherName(receive) => Ok(Verdict::OtherName(receive)),
-        Verdict::Cyclic => Ok(Verdict::Cyclic),
+        Verdict::Cyclic(steps) => Ok(Verdict::Cyclic(steps)),
         Verdict::Ran(_) => unreachable!(),
         Verdict::Drawn(_, _) => unreachable!(),
         Verdict::NotDrawn(_) => unreachable!(),
@@ -136,7 +163,7 @@ fn judge_chart(alloc: Global, text: &[u8]) -> Result<Verdict, ProgramError>
         Err(ProgramError::Text(fault)) => return Ok(Verdict::Refused(fault)),
         Err(_) => return Err(ProgramError::Memory),
     };
-    let judged = judge_lines(alloc, named.chart())?;
+    let judged = judge_lines(alloc, text, named.names(), named.chart())?;
     or_whole(alloc, text, judged)
 }
 

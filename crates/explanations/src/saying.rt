@@ -8,14 +8,15 @@ ghost use Rattle.msc_text.specs.Writing.{Wrote, Adds};
 use crate::adding::{add_blanks, add_margin, add_shown};
 use crate::finding::{Finding, What, note_finding};
 use crate::kind::Kind;
-use crate::verdict::Noted;
 use crate::words::{kind_words, start_of, want_words, what_label, what_words};
 use diagrams::LeftOut;
 use fault_places::{Want, line_from, standing_at};
 use import_answers::{add_left_out, add_overtaking};
 use joined_diagrams::Overtaking;
 use msc_text::{Out, TextBuffer, WriteError};
+use schedule_notes::Noted;
 use text_parts::{Piece, add_pieces};
+use told_circles::{Step, add_step};
 
 /// What is told of a file.
 #[derive(Clone, Copy, Debug)]
@@ -34,6 +35,8 @@ pub(crate) enum Saying {
     Overtaking(Overtaking),
     /// F18.
     Cyclic,
+    /// A step of the circle.
+    Step(Step),
     /// That `mscview tidy` writes it so that it is read.
     Tidy,
 }
@@ -313,6 +316,7 @@ fn add_saying<W: Out>(
         Saying::LeftOut(left_out) => add_left_out(text, left_out),
         Saying::Overtaking(message) => add_overtaking(text, message),
         Saying::Cyclic => text.add(cyclic_words()),
+        Saying::Step(step) => add_step(text, step),
         Saying::Tidy => text.add(tidy_words()),
     }
 }

@@ -7,7 +7,8 @@ use diagrams::{LeftOut, Place};
 use files::Answer;
 use joined_diagrams::{JoinError, Overtaking};
 use msc_text::{Fault, Out};
-use schedule::Note;
+use schedule_notes::Noted;
+use told_circles::Step;
 
 /// Why another tool's text isn't imported.
 #[derive(Clone, Copy, Debug)]
@@ -22,13 +23,6 @@ pub(crate) enum Unread {
     UnknownInstance(u64),
     /// F7, F8, F22, F34 or F37: there is no such chart.
     NoChart(JoinError),
-}
-
-/// A note that a command leaves, and the line of the send that comes too late for it.
-#[derive(Clone, Copy, Debug)]
-pub(crate) struct Noted {
-    pub note: Note,
-    pub later: Option<u64>,
 }
 
 /// What came of reading a file.
@@ -50,8 +44,8 @@ pub(crate) enum Verdict {
     NoSend(EventNo),
     /// F17: the message of this receive was sent by another name.
     OtherName(EventNo),
-    /// F18: an event comes before itself.
-    Cyclic,
+    /// F18: these events come before each other, in a circle.
+    Cyclic(Vec<Step>),
 }
 
 /// The exit status: 1 where a fault is told.
@@ -65,7 +59,7 @@ impl Answer for Verdict {
             | Verdict::Refused(_)
             | Verdict::NoSend(_)
             | Verdict::OtherName(_)
-            | Verdict::Cyclic => 1,
+            | Verdict::Cyclic(_) => 1,
         }
     }
 

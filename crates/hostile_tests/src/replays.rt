@@ -1,13 +1,9 @@
-//! Replays of worked schedules with each growth of memory refused in turn: each refused call is made once more, and
-//! then answers in full.
-use crate::calls::every_growth_was_refused;
-use msc_text::StreamOut;
+//! Replays of worked schedules: each call that was refused for want of memory is made once more.
 use outcomes::Outcome;
 use replayer::replay;
 use schedule::Schedule;
 use std::alloc::Global;
 use std::process::Abort;
-use std::test::Fail;
 
 /// The texts of the schedules, and those of what they come to.
 pub static TEXTS: [(&[u8], &[u8]); 4] = [
@@ -43,24 +39,4 @@ pub fn outcome_of<'a>(rt: &impl Abort, alloc: Global, schedule: &'a Schedule) ->
         Ok(outcome) => outcome,
         Err(_) => replay(alloc, schedule).expect(rt, "an outcome"),
     }
-}
-
-/// The outcome has this text, which is written without memory.
-fn has_text(rt: &impl Abort, outcome: &Outcome, text: &[u8]) {
-    let mut place = [0; 512];
-    assert!(rt; text.len() <= 512);
-    let room = &mut place[..text.len()];
-    let mut out = StreamOut::new(room);
-    assert!(rt; outcome.write(&mut out).is_ok());
-    drop(out);
-    assert!(rt; place.starts_with(text));
-}
-
-#[test]
-fn refused_growths_of_replays(rt: HostRuntime) -> Result<(), Fail> {
-    for (text, written) in &TEXTS {
-        let schedule = schedule_of(&rt, rt.alloc(), text);
-        has_text(&rt, &outcome_of(&rt, rt.alloc(), &schedule), written);
-    }
-    every_growth_was_refused(rt.alloc())
 }

@@ -25,8 +25,19 @@ captured_note = codes "only the order at the tap is known\n"
 abbrev pub captured_text : Told → List ℕ
 captured_text t = if t.is_captured then captured_note else []
 
+unfoldable pub timed_note : List ℕ
+timed_note = codes "a receive at which no entry of the clock grew isn't seen\n"
+
+-- once, where messages are told by clocks
+abbrev pub timed_text : Told → List ℕ
+timed_text t = if t.is_timed then timed_note else []
+
+-- what isn't known of how messages were seen
+unfoldable pub taps_text : Told → List ℕ
+taps_text t = captured_text t ++ timed_text t
+
 unfoldable pub counts_text : List (List ℕ) → Told → List ℕ
-counts_text files t = unmatched_text files t ++ (own_text files t ++ captured_text t)
+counts_text files t = unmatched_text files t ++ (own_text files t ++ taps_text t)
 
 unfoldable pub enforced_note : List ℕ
 enforced_note = codes "races may be shown that a message which is left out enforced\n"

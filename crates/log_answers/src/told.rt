@@ -1,7 +1,7 @@
 //! What is told of a chart that was drawn from a log.
 ghost use Rattle.std.specs.Prelude.{◌≤◌, length, map, All};
 ghost use Rattle.msc_text.specs.Writing.{Wrote, Adds};
-ghost use Rattle.log_answers.specs.Told.{unmatched_text, own_text, captured_note, captured_text, enforced_note, overtaking_note, unclaimed_note, invented_note};
+ghost use Rattle.log_answers.specs.Told.{unmatched_text, own_text, captured_note, captured_text, timed_note, timed_text, taps_text, enforced_note, overtaking_note, unclaimed_note, invented_note};
 ghost use Rattle.log_answers.specs.Told.{counts_text, left_out_text, made_text, names_text, told_text};
 
 use crate::overtaking::Overtaking;
@@ -23,6 +23,8 @@ pub struct Told {
     pub own: Option<Others>,
     /// Whether messages were captured, so that only their order at the tap is known.
     pub is_captured: bool,
+    /// Whether there are messages of which clocks tell.
+    pub is_timed: bool,
     /// Lines whose messages are lost.
     pub lost: Vec<Place>,
     pub overtaking: Vec<Overtaking>,
@@ -92,6 +94,34 @@ fn add_captured<V: Out>(text: &mut TextBuffer<'_, V>, told: &Told) -> Result<(),
     }
 }
 
+/// Adds what clocks can't tell.
+#[tactic(auto, unfolding(crate::specs::Told::timed_note))]
+fn add_timed_note<V: Out>(text: &mut TextBuffer<'_, V>) -> Result<(), WriteError>
+    ensures { Adds V.sink text.old text.new result timed_note }
+{
+    text.add(b"a receive at which no entry of the clock grew isn't seen\n")
+}
+
+/// Adds what clocks can't tell, if messages are told by clocks.
+fn add_timed<V: Out>(text: &mut TextBuffer<'_, V>, told: &Told) -> Result<(), WriteError>
+    ensures { Adds V.sink text.old text.new result (timed_text told.now) }
+{
+    if told.is_timed {
+        add_timed_note(text)
+    } else {
+        Ok(())
+    }
+}
+
+/// Adds what isn't known of how the messages were seen.
+#[tactic(auto, using(msc_text::proofs::Writes::joining), unfolding(crate::specs::Told::taps_text))]
+fn add_taps<V: Out>(text: &mut TextBuffer<'_, V>, told: &Told) -> Result<(), WriteError>
+    ensures { Adds V.sink text.old text.new result (taps_text told.now) }
+{
+    add_captured(text, told)?;
+    add_timed(text, told)
+}
+
 /// Adds what may be shown where a message is left out.
 #[tactic(auto, unfolding(crate::specs::Told::enforced_note))]
 fn add_enforced_note<V: Out>(text: &mut TextBuffer<'_, V>) -> Result<(), WriteError>
@@ -149,7 +179,7 @@ fn add_counts<V: Out>(
 {
     add_unmatched(text, files, told)?;
     add_own(text, files, told)?;
-    add_captured(text, told)
+    add_taps(text, told)
 }
 
 /// Adds which messages are left out.

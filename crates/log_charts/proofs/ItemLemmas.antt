@@ -1,11 +1,11 @@
 -- Each event of the hosts' lines is of a message that a line of the log names.
-use Rattle.std.proofs.Common.{◌≡◌, ℕ, zero, suc, ◌<◌, ◌==◌, ◌&&◌, Bool, true, false, cond, List, [], ◌∷◌, Option, None, Some, length, map, refl, subst, arith}
+use Rattle.std.proofs.Common.{◌≡◌, ℕ, zero, suc, ◌<◌, ◌==◌, ◌&&◌, Bool, true, false, cond, List, [], ◌∷◌, Option, None, Some, length, map, refl, arith}
 use Rattle.std.specs.Prelude.{All, is_none}
 use Rattle.std.specs.List.{flat_map}
 use Rattle.std.proofs.lemmas.List.Elements.{All-nil, All-cons, All-append}
 use Rattle.logs.specs.Begun.{begun, behind, heads, heads_to}
 use Rattle.logs.specs.BegunTables.{AreGiven}
-use Rattle.logs.specs.Entries.{is_send, HaveStreams}
+use Rattle.logs.specs.Entries.{is_send}
 use Rattle.logs.specs.Fates.{is_sent_at}
 use Rattle.logs.specs.FateTables.{IsWithin}
 use Rattle.logs.specs.HostLines.{lines_from, kept, host_lines}
@@ -16,15 +16,7 @@ use Rattle.logs.specs.declared.item.Item.{Item}
 use Rattle.logs.specs.declared.item.MessageNo.TheVariants.{Sent}
 use Rattle.logs.specs.declared.matching.LogLine.{LogLine}
 use Rattle.logs.proofs.OrderLemmas.{Within, kept_within, are_given}
-use Rattle.log_circles.specs.Freeing.{Settles}
-use Rattle.log_circles.specs.Freeing.Settles.{done, turn}
-use Rattle.log_circles.proofs.SettleLemmas.{freed_streams}
-use Rattle.chart.specs.Charts.{LineView, chart_lines}
-use Rattle.closure.specs.Faults.{Refuses}
-use Rattle.log_charts.specs.ChartLines.{naming_line, chart_from, AreNamed}
-use Rattle.log_charts.specs.Drawing.{IsRefusal, IsSettledRefusal}
-use Rattle.log_charts.specs.declared.drawing.DrawError.{DrawError}
-use Rattle.log_charts.specs.declared.drawing.DrawError.TheVariants.{Memory, Instances, LineFull, NotPossible}
+use Rattle.log_charts.specs.ChartLines.{naming_line, AreNamed}
 
 abbrev AllBelow : ℕ → List ℕ → Type 0
 AllBelow n [] = Unit {0}
@@ -124,15 +116,3 @@ lines_count hosts lines given p (suc m) = let rest = lines_count hosts lines giv
 
 pub hosts_count : (hosts : ℕ) (log : List Entry) → length (host_lines hosts log) ≡ hosts
 hosts_count hosts log = lines_count hosts (kept log) (begun (kept log)) 1 hosts
-
--- what a settled log keeps
-pub settled_streams : (log out : List Entry) → Settles log out → HaveStreams log → HaveStreams out
-settled_streams log out (done none) have = have
-settled_streams log out (turn k first rest) have = settled_streams _ out rest (freed_streams k log have)
-
--- why a settled log has no chart
-pub refusal_settled : (hosts : ℕ) (log : List Entry) (lines : List LineView) (e : DrawError) → lines ≡ chart_from log 1 (host_lines hosts log) → IsRefusal lines e → IsSettledRefusal hosts log e
-refusal_settled hosts log lines Memory is refused = tt
-refusal_settled hosts log lines Instances is refused = refused
-refusal_settled hosts log lines (LineFull p) is refused = absurd refused
-refusal_settled hosts log lines (NotPossible e) is refused = subst (λ l. Refuses (chart_lines l) e) is refused

@@ -1,2 +1,11 @@
+pub mod ChartLemmas
+pub mod CircleLemmas
+pub mod FaultLemmas
 pub mod ItemLemmas
+pub mod LineLemmas
+pub mod OriginLemmas
+pub mod PlacedLemmas
+pub mod PossibleLemmas
+pub mod RoundLemmas
+pub mod TurnLemmas
 pub mod WalkLemmas

@@ -1,9 +1,9 @@
 -- Lists that loops make, one element more at a time.
-use Rattle.std.proofs.Common.{◌≡◌, ℕ, zero, suc, ◌+◌, ◌<◌, ◌≤◌, Bool, true, false, cond, List, [], ◌∷◌, ◌++◌, None, Some, length, drop, get_or, map, refl, ap, ◌∙◌, arith, append_assoc, add-one}
+use Rattle.std.proofs.Common.{◌≡◌, ℕ, zero, suc, ◌+◌, ◌<◌, ◌≤◌, Bool, true, false, cond, List, [], ◌∷◌, ◌++◌, None, Some, length, drop, get_or, map, refl, sym, ap, ◌∙◌, arith, append_assoc, add-one}
 use Rattle.std.specs.Prelude.{is_none, nat_lt, slice_get, All}
 use Rattle.std.proofs.lemmas.List.Elements.{All-nil, All-cons}
 use Rattle.std.proofs.lemmas.Bool.{lt-ltb, le-ltb, ltb-false}
-use Rattle.std.proofs.lemmas.List.{drop_all, append-nil}
+use Rattle.std.proofs.lemmas.List.{drop_all, append-nil, length-append, length-map, length-drop}
 use Rattle.chart.specs.Charts.{LineView, IsNumbered}
 use Rattle.chart.specs.declared.instance.EventNo.{EventNo}
 use Rattle.chart.specs.declared.line.TheConstants.{MAX_EVENTS}
@@ -76,6 +76,21 @@ events_more f events more items n x within is grown = rw (grown, from_here items
 
 pub events_end : {E : Type 0} (f : Item → E) (events : List E) (items : List Item) (n : ℕ) → length items ≤ n → events ++ map f (drop n items) ≡ events
 events_end f events items n past = rw (drop_all n items past) (append-nil events)
+
+-- the next one, and how many came
+pub event_here : {E : Type 0} (f : Item → E) (items : List Item) (n : ℕ) (x : Item) → n < length items → x ≡ get_or items n x → slice_get (map f items) n ≡ Some (f x)
+event_here f [] n x within is = absurd (omega (arith, within))
+event_here f (i ∷ items) zero x within is = ap (λ y. Some (f y)) (sym is)
+event_here f (i ∷ items) (suc n) x within is = event_here f items n x (omega (arith, within)) is
+
+pub events_so_far : {E : Type 0} (f : Item → E) (events : List E) (items : List Item) (n : ℕ) → n < length items → events ++ map f (drop n items) ≡ map f items → length events ≡ n
+events_so_far f events items n within is =
+    let all = ap length is in
+    let joined = length-append events (map f (drop n items)) in
+    let left = length-map (drop n items) f in
+    let whole = length-map items f in
+    let rest = length-drop n items in
+    omega (arith, all, joined, left, whole, rest, within)
 
 -- those that are invented
 module _ (p : ℕ) (items : List Item) (n : ℕ) (x : Item) (within : n < length items) (is : x ≡ get_or items n x) (told : List EventNo) where

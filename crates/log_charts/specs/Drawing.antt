@@ -1,9 +1,5 @@
 -- What a log comes to.
 use Rattle.std.specs.Prelude.{◌≡◌, ℕ, ◌<◌, List, Some}
-use Rattle.chart.specs.Charts.{LineView, chart_lines}
-use Rattle.closure.specs.Faults.{Refuses}
-use Rattle.closure.specs.declared.error.ChartError.{ChartError}
-use Rattle.closure.specs.declared.error.ChartError.TheVariants.{ReceiveWithoutSend, NameMismatch, Cyclic, Memory as ChartMemory}
 use Rattle.logs.specs.Fates.{fates}
 use Rattle.logs.specs.HostLines.{host_lines}
 use Rattle.logs.specs.Matching.{matched}
@@ -12,7 +8,7 @@ use Rattle.log_circles.specs.Freeing.{Settles}
 use Rattle.log_charts.specs.ChartLines.{chart_from, first_full}
 use Rattle.log_charts.specs.Told.{freed_places, lost_of, overtakings_of, all_invented}
 use Rattle.log_charts.specs.declared.drawing.DrawError.{DrawError}
-use Rattle.log_charts.specs.declared.drawing.DrawError.TheVariants.{Memory, Instances, LineFull, NotPossible}
+use Rattle.log_charts.specs.declared.drawing.DrawError.TheVariants.{Memory, Instances, LineFull}
 use Rattle.log_charts.specs.declared.drawing.Drawn.{Drawn}
 
 -- the chart of so many hosts' lines of a log whose receives are freed, and what is told of it
@@ -23,29 +19,14 @@ pub record IsDrawn (hosts : ℕ) (log : List Entry) (d : Drawn) : Type 0 where
   pub invented : d.invented.items ≡ all_invented 1 (host_lines hosts log)
   pub freed : d.freed.items ≡ freed_places log
 
-abbrev pub refusal_of : ChartError → DrawError
-refusal_of (ReceiveWithoutSend r) = NotPossible (ReceiveWithoutSend r)
-refusal_of (NameMismatch r) = NotPossible (NameMismatch r)
-refusal_of Cyclic = NotPossible Cyclic
-refusal_of ChartMemory = Memory
-
--- why a chart is refused
-abbrev pub IsRefusal : List LineView → DrawError → Type 0
-IsRefusal lines Memory = Unit {0}
-IsRefusal lines Instances = ⊥
-IsRefusal lines (LineFull p) = ⊥
-IsRefusal lines (NotPossible e) = Refuses (chart_lines lines) e
-
 -- why there is no chart of a log whose receives are freed
 abbrev pub IsSettledRefusal : ℕ → List Entry → DrawError → Type 0
 IsSettledRefusal hosts log Memory = Unit {0}
 IsSettledRefusal hosts log Instances = ⊥
 IsSettledRefusal hosts log (LineFull p) = first_full 1 (host_lines hosts log) ≡ Some p
-IsSettledRefusal hosts log (NotPossible e) = Refuses (chart_lines (chart_from log 1 (host_lines hosts log))) e
 
 -- why there is none of a log, which is left as it is where its receives are freed
 abbrev pub IsRefusalOf : ℕ → List Entry → List Entry → DrawError → Type 0
 IsRefusalOf hosts log out Memory = Unit {0}
 IsRefusalOf hosts log out Instances = hosts < 2
 IsRefusalOf hosts log out (LineFull p) = Settles log out × IsSettledRefusal hosts out (LineFull p)
-IsRefusalOf hosts log out (NotPossible e) = Settles log out × IsSettledRefusal hosts out (NotPossible e)

@@ -1,10 +1,12 @@
 //! The lines of a log's chart.
-ghost use Rattle.std.specs.Prelude.{◌≡◌, ◌<◌, ◌≤◌, ◌++◌, ◌∷◌, [], length, map, All, IfOk, OnOk};
-ghost use Rattle.chart.specs.Events.{region_of};
+ghost use Rattle.std.specs.Prelude.{◌≡◌, ◌≢◌, ◌<◌, ◌≤◌, ◌++◌, ◌∷◌, [], length, map, All, IfOk, OnOk};
+ghost use Rattle.chart.specs.Charts.{IsLine};
+ghost use Rattle.chart.specs.Events.{partner_of, region_of};
 ghost use Rattle.chart.specs.declared.instance.TheConstants.{MAX_INSTANCES};
+ghost use Rattle.chart.specs.declared.line.TheConstants.{MAX_EVENTS};
 ghost use Rattle.log_charts.specs.ChartLines.{naming_line, name_at, event_of, chart_from, first_full, AreNamed};
 
-use chart::{Event, InstanceNo, Line, MAX_EVENTS, Name};
+use chart::{Event, InstanceNo, Line, LineError, MAX_EVENTS, Name};
 use logs::{Entry, HostLine, Item, MessageNo};
 use std::alloc::{AllocError, Global};
 
@@ -48,23 +50,27 @@ fn event_of(log: &[Entry], item: &Item) -> Event
 
 /// One event more, which the line takes.
 fn push(line: &mut Line, event: Event) -> Result<(), AllocError>
-    requires { region_of event ≡ 0 }
+    requires region { region_of event ≡ 0 }
+    requires apart { partner_of event ≢ line.old.instance }
+    requires room { length line.old.events < MAX_EVENTS }
     ensures { OnOk result (line.new ≡ record line.old { events = line.old.events ++ event ∷ [] }) }
 {
     match line.push(event) {
         Ok(()) => Ok(()),
-        Err(_) => Err(AllocError),
+        Err(LineError::Memory) => Err(AllocError),
+        Err(LineError::ToItself | LineError::LineFull) => unreachable!(),
     }
 }
 
-/// The line of a host.
+/// The line of a host, whose events are those of one. It fails only where there is no memory.
 fn line_of(
     alloc: Global,
     log: &[Entry],
     host: InstanceNo,
     items: &[Item],
 ) -> Result<Line, AllocError>
-    requires { AreNamed (length log.now) items.now }
+    requires named { AreNamed (length log.now) items.now }
+    requires line { IsLine (record { instance = host; events = map (event_of log.now) items.now }) }
     ensures { IfOk result (λ line. line ≡ record { instance = host; events = map (event_of log.now) items.now }) }
 {
     let mut line = Line::new(alloc, host);
@@ -74,7 +80,7 @@ fn line_of(
     Ok(line)
 }
 
-/// The lines of the hosts. It fails only where there is no memory.
+/// The lines of the hosts, each of which is one. It fails only where there is no memory.
 pub(crate) fn lines_of(
     alloc: Global,
     log: &[Entry],
@@ -82,6 +88,7 @@ pub(crate) fn lines_of(
 ) -> Result<Vec<Line>, AllocError>
     requires count { length lines.now ≤ MAX_INSTANCES }
     requires named { All (AreNamed (length log.now)) lines.now }
+    requires each { All IsLine (chart_from log.now 1 lines.now) }
     ensures { IfOk result (λ made. made.items ≡ chart_from log.now 1 lines.now) }
 {
     let mut made = Vec::new(alloc);

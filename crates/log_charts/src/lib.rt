@@ -1,8 +1,9 @@
 //! The charts of logs.
 //!
-//! What is promised ([`draw`]), unless an allocation is refused: each line of a host is an event of its line, in their
-//! order, but for what is left out and what is invented, and each of these is told; the chart is possible; and each
-//! receive's send is the one that the rules of the crates `logs` and `log_circles` say.
+//! What is promised ([`draw`]), unless an allocation is refused: a chart always comes out where there are two hosts and
+//! none has too many events, and it is possible; each line of a host is an event of its line, in their order, but for
+//! what is left out and what is invented, and each of these is told; and each receive's send is the one that the rules of
+//! the crates `logs` and `log_circles` say.
 #![tactic(auto)]
 
 mod chart_lines;

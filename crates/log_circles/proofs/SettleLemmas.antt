@@ -1,18 +1,22 @@
 -- Turns of freeing: each frees one receive more.
 use Rattle.std.proofs.Common.{◌≡◌, ℕ, zero, suc, ◌+◌, ◌<◌, ◌≤◌, Bool, true, false, cond, List, [], ◌∷◌, None, Some, length, set, get_or, refl, sym, ap, ◌∙◌, subst, arith}
-use Rattle.std.specs.Prelude.{All, AllPairs}
-use Rattle.std.proofs.lemmas.List.Elements.{All-cons, All-nil, All-head, All-tail, All-filter, All-contains}
+use Rattle.std.specs.Prelude.{All, AllPairs, Contains}
+use Rattle.std.proofs.lemmas.Bool.{false≢true}
+use Rattle.std.proofs.lemmas.List.Elements.{All-cons, All-nil, All-head, All-tail, All-filter, All-contains, All-weaker}
+use Rattle.chart.specs.Histories.{AreTwo}
 use Rattle.logs.specs.Chains.{first_of}
-use Rattle.logs.specs.Entries.{takes, HaveStreams}
-use Rattle.logs.specs.Fates.{fate_of, stays}
+use Rattle.logs.specs.Entries.{is_send, takes, HaveStreams}
+use Rattle.logs.specs.Fates.{sender_of, receiver_of, fate_of, stays}
 use Rattle.logs.specs.FateTables.{IsWithin}
 use Rattle.logs.specs.HostLines.{kept}
 use Rattle.logs.specs.Matching.{sends_from, send_for, left_after, matched_from, matched}
 use Rattle.logs.specs.declared.entry.Entry.{Entry}
-use Rattle.logs.specs.declared.entry.Kind.TheVariants.{Freed}
+use Rattle.logs.specs.declared.entry.Kind.{Kind}
+use Rattle.logs.specs.declared.entry.Kind.TheVariants.{Send, Receive, Freed}
 use Rattle.logs.specs.declared.matching.LogLine.{LogLine}
 use Rattle.logs.proofs.OrderLemmas.{IsAbove, Rises, Within, kept_within, kept_rises}
-use Rattle.log_circles.specs.Freeing.{IsFirst, freed, AreAmong}
+use Rattle.log_circles.specs.Freeing.{IsFirst, HasNone, freed, Settles, AreAmong, HaveLanes}
+use Rattle.log_circles.specs.Freeing.Settles.{done, turn}
 use Rattle.log_circles.specs.Sources.{AreLines, HaveHosts}
 
 -- a line of the log, with its entry; only one that takes sends has one
@@ -21,6 +25,11 @@ IsLineOf log n x = (e : Entry) × (i : ℕ) × (i < length log) × (get_or log i
 
 later_line : (log : List Entry) (e : Entry) (n : ℕ) (x : LogLine) → IsLineOf log (n + 1) x → IsLineOf (e ∷ log) n x
 later_line log e n x w = (w.0, suc w.1, omega (arith, w.2), w.3, omega (arith, w.4), w.5, w.6)
+
+pub takes_no_send : (kind : Kind) → takes kind ≡ true → is_send kind ≡ false
+takes_no_send Send its = absurd (false≢true its)
+takes_no_send Receive its = refl
+takes_no_send Freed its = refl
 
 takes_one : (left : ℕ → List ℕ) (e : Entry) (s : ℕ) → send_for left e ≡ Some s → takes e.kind ≡ true
 takes_one left e s is = go (takes e.kind) is
@@ -70,10 +79,20 @@ kept_are log = record {
   rise = all_rise (kept log) (kept_rises log);
 }
 
-pub kept_among : (hosts : ℕ) (log : List Entry) → AreAmong hosts log → HaveHosts hosts (kept log)
-kept_among hosts log among k d less =
+-- what holds of all lines of the log
+pub kept_all : (P : Entry → Type 0) (log : List Entry) → All P log → All (λ x. P x.entry) (kept log)
+kept_all P log all k d less =
     let w = kept_lines_of log k d less in
-    subst (λ (e : Entry). (1 ≤ e.host) × (e.host ≤ hosts)) (sym w.5) (All-contains (λ (e : Entry). (1 ≤ e.host) × (e.host ≤ hosts)) log w.0 among (w.1, w.2, w.3))
+    subst P (sym w.5) (All-contains P log w.0 all (w.1, w.2, w.3))
+
+pub kept_among : (hosts : ℕ) (log : List Entry) → AreAmong hosts log → HaveHosts hosts (kept log)
+kept_among hosts log among = kept_all (λ e. (1 ≤ e.host) × (e.host ≤ hosts)) log (All-weaker (λ e. AreTwo hosts e.host e.peer) (λ e. (1 ≤ e.host) × (e.host ≤ hosts)) (λ e two. (two.0, two.1)) log among)
+
+-- one that takes a send is no send
+pub kept_takes : (log : List Entry) (x : LogLine) (s : ℕ) → Contains (kept log) x → x.send ≡ Some s → is_send x.entry.kind ≡ false
+kept_takes log x s has is =
+    let w = All-contains (IsLineOf log 0) (kept log) x (kept_lines_of log) has in
+    takes_no_send x.entry.kind (ap (λ (e : Entry). takes e.kind) w.5 ∙ w.6 s is)
 
 -- the receive that is freed next took a send
 pub first_takes : (log : List Entry) (k : ℕ) → IsFirst (kept log) k → (e : Entry) × (k < length log) × (get_or log k e ≡ e) × (takes e.kind ≡ true)
@@ -119,4 +138,42 @@ freed_streams k log have =
     subst (λ n. All (λ (e : Entry). e.stream < n) (freed k log)) (sym (freed_length k log)) (freed_all (λ (e : Entry). e.stream < length log) (λ e its. its) k log have)
 
 pub freed_among : (hosts k : ℕ) (log : List Entry) → AreAmong hosts log → AreAmong hosts (freed k log)
-freed_among hosts k log among = freed_all (λ (e : Entry). (1 ≤ e.host) × (e.host ≤ hosts)) (λ e its. its) k log among
+freed_among hosts k log among = freed_all (λ (e : Entry). AreTwo hosts e.host e.peer) (λ e its. its) k log among
+
+-- what holds of a line that takes a send holds of it where it is freed
+freed_one : (P : Entry → Type 0) → ((e : Entry) → takes e.kind ≡ true → P e → P (record e { kind = Freed })) → (k : ℕ) (log : List Entry) (e : Entry) → k < length log → get_or log k e ≡ e
+    → takes e.kind ≡ true → All P log → All P (freed k log)
+freed_one P keeps k [] e within is one all = absurd (omega arith)
+freed_one P keeps zero (x ∷ log) e within is one all =
+    All-cons P (record x { kind = Freed }) log (keeps x (ap (λ (y : Entry). takes y.kind) is ∙ one) (All-head P x log all)) (All-tail P x log all)
+freed_one P keeps (suc k) (x ∷ log) e within is one all = All-cons P x (freed k log) (All-head P x log all) (freed_one P keeps k log e (omega (arith, within)) is one (All-tail P x log all))
+
+freed_lane : (from to : ℕ → ℕ) (e : Entry) → takes e.kind ≡ true → (sender_of e ≡ from e.stream) × (receiver_of e ≡ to e.stream) → (e.peer ≡ from e.stream) × (e.host ≡ to e.stream)
+freed_lane from to e one its = go (is_send e.kind) (takes_no_send e.kind one) its
+  where
+    go : (sends : Bool) → sends ≡ false → (cond sends e.host e.peer ≡ from e.stream) × (cond sends e.peer e.host ≡ to e.stream) → (e.peer ≡ from e.stream) × (e.host ≡ to e.stream)
+    go true other ends = absurd (false≢true (sym other))
+    go false other ends = ends
+
+pub freed_lanes : (log : List Entry) (k : ℕ) → IsFirst (kept log) k → HaveLanes log → HaveLanes (freed k log)
+freed_lanes log k first (from, to, lanes) =
+    let its = first_takes log k first in
+    (from, to, freed_one (λ (e : Entry). (sender_of e ≡ from e.stream) × (receiver_of e ≡ to e.stream)) (freed_lane from to) k log its.0 its.1 its.2 its.3 lanes)
+
+-- what a settled log keeps
+pub settled_streams : (log out : List Entry) → Settles log out → HaveStreams log → HaveStreams out
+settled_streams log out (done none) have = have
+settled_streams log out (turn k first rest) have = settled_streams _ out rest (freed_streams k log have)
+
+pub settled_among : (hosts : ℕ) (log out : List Entry) → Settles log out → AreAmong hosts log → AreAmong hosts out
+settled_among hosts log out (done none) among = among
+settled_among hosts log out (turn k first rest) among = settled_among hosts _ out rest (freed_among hosts k log among)
+
+pub settled_lanes : (log out : List Entry) → Settles log out → HaveLanes log → HaveLanes out
+settled_lanes log out (done none) lanes = lanes
+settled_lanes log out (turn k first rest) lanes = settled_lanes _ out rest (freed_lanes log k first lanes)
+
+-- and no receive is on a circle
+pub settled_none : (log out : List Entry) → Settles log out → HasNone (kept out)
+settled_none log out (done none) = none
+settled_none log out (turn k first rest) = settled_none _ out rest

@@ -1,7 +1,9 @@
 -- Logs whose lines come before themselves, as one that begins in the middle of a ping-pong: receives are freed, one after
 -- another, until none does (this project's profile).
-use Rattle.std.specs.Prelude.{◌≡◌, ℕ, zero, suc, ◌<◌, ◌≤◌, List, [], ◌∷◌, Some, Contains, All}
+use Rattle.std.specs.Prelude.{◌≡◌, ℕ, zero, suc, ◌<◌, List, [], ◌∷◌, Some, Contains, All}
+use Rattle.chart.specs.Histories.{AreTwo}
 use Rattle.logs.specs.HostLines.{kept}
+use Rattle.logs.specs.Laws.{AreOfLanes}
 use Rattle.logs.specs.declared.entry.Entry.{Entry}
 use Rattle.logs.specs.declared.entry.Kind.TheVariants.{Freed}
 use Rattle.logs.specs.declared.matching.LogLine.{LogLine}
@@ -36,6 +38,10 @@ pub data Settles : List Entry → List Entry → Type 0 where
   done : {log : List Entry} → HasNone (kept log) → Settles log log
   turn : {log out : List Entry} (k : ℕ) → IsFirst (kept log) k → Settles (freed k log) out → Settles log out
 
--- its hosts are among so many
+-- each line is of two of so many hosts
 abbrev pub AreAmong : ℕ → List Entry → Type 0
-AreAmong n log = All (λ e. (1 ≤ e.host) × (e.host ≤ n)) log
+AreAmong n log = All (λ e. AreTwo n e.host e.peer) log
+
+-- each stream is of one lane
+abbrev pub HaveLanes : List Entry → Type 0
+HaveLanes log = (from : ℕ → ℕ) × (to : ℕ → ℕ) × AreOfLanes from to log

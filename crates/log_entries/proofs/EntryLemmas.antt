@@ -1,6 +1,7 @@
--- Entries of logs: their streams are among the lines, and their hosts among the names.
-use Rattle.std.proofs.Common.{◌≡◌, ℕ, suc, ◌+◌, ◌<◌, ◌≤◌, List, [], ◌∷◌, ◌++◌, length, take, take_all, drop, get_or, refl, sym, ap, ◌∙◌, arith, append_assoc}
+-- Entries of logs: their streams are among the lines, and each is of two hosts that are among the names.
+use Rattle.std.proofs.Common.{◌≡◌, ℕ, suc, ◌+◌, ◌<◌, ◌≤◌, List, [], ◌∷◌, ◌++◌, None, length, take, take_all, drop, get_or, refl, sym, ap, ◌∙◌, arith, append_assoc}
 use Rattle.std.specs.Prelude.{bytes_eq, fold, All}
+use Rattle.chart.specs.Histories.{AreTwo}
 use Rattle.std.proofs.lemmas.List.{drop_all, append-nil}
 use Rattle.std.proofs.lemmas.List.Elements.{All-nil, All-cons}
 use Rattle.std.proofs.lemmas.List.Sums.{fold_more}
@@ -12,6 +13,8 @@ use Rattle.log_circles.specs.Freeing.{AreAmong}
 use Rattle.log_entries.specs.Logs.{begun}
 use Rattle.log_entries.specs.declared.said.Said.{Said}
 use Rattle.log_entries.specs.declared.stream.Stream.{Stream}
+use Rattle.log_entries.specs.Faults.{fault_in, first_fault}
+use Rattle.log_entries.proofs.FaultLemmas.{hosts_up, sooner_none, two_hosts}
 use Rattle.log_entries.proofs.WordLemmas.{position_up, put_within, put_longer, put_by_one}
 
 -- one line more, and the last
@@ -51,27 +54,21 @@ have_streams hosts said =
     let whole = entries_whole (begun hosts) said in
     streams_from (begun hosts) said 0 (length (entries_from (begun hosts) said)) (omega arith) (omega (arith, whole))
 
--- hosts are among the names
-hosts_up : (b : Before) (said : List Said) → length b.hosts ≤ length (hosts_from b said)
-unfolding hosts_from
-hosts_up b [] = omega arith
-hosts_up b (s ∷ said) =
-    let one = put_longer (bytes_eq s.host) b.hosts s.host in
-    let two = put_longer (bytes_eq s.peer) (with_word b.hosts s.host) s.peer in
-    let rest = hosts_up (with_line b s) said in
-    omega (arith, one, two, rest)
-
-among_from : (b : Before) (said : List Said) (n : ℕ) → length (hosts_from b said) ≤ n → AreAmong n (entries_from b said)
-unfolding entries_from hosts_from
-among_from b [] n all = All-nil (λ (e : Entry). (1 ≤ e.host) × (e.host ≤ n))
-among_from b (s ∷ said) n all =
+-- each line is of two of the names
+among_from : (b : Before) (said : List Said) (n : ℕ) → first_fault b said ≡ None → length (hosts_from b said) ≤ n → AreAmong n (entries_from b said)
+unfolding first_fault entries_from hosts_from
+among_from b [] n none all = All-nil (λ (e : Entry). AreTwo n e.host e.peer)
+among_from b (s ∷ said) n none all =
     let inside = put_within (bytes_eq s.host) b.hosts s.host in
     let two = put_longer (bytes_eq s.peer) (with_word b.hosts s.host) s.peer in
+    let peer = put_within (bytes_eq s.peer) (with_word b.hosts s.host) s.peer in
     let rest = hosts_up (with_line b s) said in
-    All-cons (λ (e : Entry). (1 ≤ e.host) × (e.host ≤ n)) (entry_in b s) (entries_from (with_line b s) said) (omega arith, omega (arith, inside, two, rest, all)) (among_from (with_line b s) said n all)
+    let first = sooner_none (fault_in b s) (first_fault (with_line b s) said) none in
+    All-cons (λ (e : Entry). AreTwo n e.host e.peer) (entry_in b s) (entries_from (with_line b s) said)
+    (omega arith, omega (arith, inside, two, rest, all), omega arith, omega (arith, peer, rest, all), two_hosts b s first.0) (among_from (with_line b s) said n first.1 all)
 
-pub are_among : (hosts : List (List ℕ)) (said : List Said) → AreAmong (length (hosts_from (begun hosts) said)) (entries_from (begun hosts) said)
-are_among hosts said = among_from (begun hosts) said (length (hosts_from (begun hosts) said)) (omega arith)
+pub are_among : (hosts : List (List ℕ)) (said : List Said) → first_fault (begun hosts) said ≡ None → AreAmong (length (hosts_from (begun hosts) said)) (entries_from (begun hosts) said)
+are_among hosts said none = among_from (begun hosts) said (length (hosts_from (begun hosts) said)) none (omega arith)
 
 -- hosts that come first, one by one
 abbrev before : List (List ℕ) → List (List ℕ) → List Stream → Before

@@ -1,2 +1,4 @@
 pub mod EntryLemmas
+pub mod FaultLemmas
+pub mod StreamLemmas
 pub mod WordLemmas

@@ -1,9 +1,11 @@
 //! The entries of a log.
-ghost use Rattle.std.specs.Prelude.{◌≡◌, ◌++◌, ◌∷◌, [], suc, length, IfOk, OnOk};
+ghost use Rattle.std.specs.Prelude.{◌≡◌, ◌≤◌, ◌++◌, ◌∷◌, [], suc, length, None, IfOk, OnOk, IfErr};
+ghost use Rattle.chart.specs.declared.instance.TheConstants.{MAX_INSTANCES};
 ghost use Rattle.logs.specs.Entries.{HaveStreams};
 ghost use Rattle.log_entries.specs.Entering.{place_in, with_word, kind_of, entry_in, with_line, entries_from, hosts_from};
-ghost use Rattle.log_circles.specs.Freeing.{AreAmong};
-ghost use Rattle.log_entries.specs.Logs.{before_of, begun};
+ghost use Rattle.log_circles.specs.Freeing.{AreAmong, HaveLanes};
+ghost use Rattle.log_entries.specs.Faults.{fault_in, fault_of, IsRefusal, IsHostRefusal};
+ghost use Rattle.log_entries.specs.Logs.{before_of, begun, IsRefusalOf};
 ghost use Rattle.log_entries.specs.declared.entering.LogError.TheVariants.{Memory};
 
 use crate::hosts::instance_in;
@@ -57,13 +59,17 @@ struct Reading {
 
 /// The instance of a host.
 fn host_in(hosts: &mut Names, name: Name) -> Result<InstanceNo, LogError>
+    requires few { length hosts.old ≤ MAX_INSTANCES }
     ensures instance { IfOk result (λ p. p ≡ suc (place_in hosts.old name)) }
     ensures kept { OnOk result (hosts.new ≡ with_word hosts.old name) }
+    ensures few { OnOk result (length hosts.new ≤ MAX_INSTANCES) }
+    ensures refused { IfErr result (IsHostRefusal hosts.old name) }
 {
     match instance_in(hosts, name) {
         Ok(instance) => Ok(instance),
         Err(NamesError::Instances) => Err(LogError::Instances),
-        Err(_) => Err(LogError::Memory),
+        Err(NamesError::Memory) => Err(LogError::Memory),
+        Err(NamesError::Duplicate) => unreachable!(),
     }
 }
 
@@ -80,9 +86,13 @@ fn kind_of(said: &Said) -> Kind
 impl Reading {
     /// One line more.
     fn add(&mut self, said: &Said) -> Result<(), LogError>
+        requires few { length self.old.hosts ≤ MAX_INSTANCES }
         ensures before { OnOk result (before_of self.new ≡ with_line (before_of self.old) said.now) }
         ensures entry { OnOk result (self.new.entries.items
             ≡ self.old.entries.items ++ entry_in (before_of self.old) said.now ∷ []) }
+        ensures few { OnOk result (length self.new.hosts ≤ MAX_INSTANCES) }
+        ensures faultless { OnOk result (fault_in (before_of self.old) said.now ≡ None) }
+        ensures refused { IfErr result (IsRefusal (fault_in (before_of self.old) said.now)) }
     {
         let host = host_in(&mut self.hosts, said.host)?;
         let peer = host_in(&mut self.hosts, said.peer)?;
@@ -113,12 +123,17 @@ pub struct Log {
 /// The entries of these lines, in their order: these hosts come first, and then those of the lines, each line's host before
 /// its peer. Along a lane messages are of one stream where they have one id or, where neither has one, one name.
 ///
-/// F8 where there is a 33rd host, F13 where a host is its own peer: the first line decides. F6 may come at any point.
+/// F8 exactly where there is a 33rd host, F13 exactly where a host is its own peer: the first line decides, and of one
+/// line F8. F6 may come at any point.
 pub fn entries_of(alloc: Global, hosts: &[Name], lines: &[Said]) -> Result<Log, LogError>
     ensures names { IfOk result (λ log. log.names ≡ hosts_from (begun hosts.now) lines.now) }
     ensures entries { IfOk result (λ log. log.entries.items ≡ entries_from (begun hosts.now) lines.now) }
     ensures streams { IfOk result (λ log. HaveStreams log.entries.items) }
+    ensures lanes { IfOk result (λ log. HaveLanes log.entries.items) }
     ensures among { IfOk result (λ log. AreAmong (length log.names) log.entries.items) }
+    ensures faultless { OnOk result (fault_of hosts.now lines.now ≡ None) }
+    ensures first { IfErr result (IsRefusal (fault_of hosts.now lines.now)) }
+    ensures refused { IfErr result (IsRefusalOf hosts.now lines.now) }
 {
     let mut reading = Reading {
         hosts: Names::new(alloc),

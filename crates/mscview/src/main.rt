@@ -6,8 +6,10 @@ mod drawing;
 mod importing;
 mod input;
 mod joins;
+mod log_words;
 mod mends;
 mod racing;
+mod recorded;
 
 use crate::asking::{view_comparison, view_pair};
 use crate::drawing::{view_export, view_picture};
@@ -15,6 +17,7 @@ use crate::importing::view_import;
 use crate::input::{bytes_in, words_of};
 use crate::mends::view_mend;
 use crate::racing::view_races;
+use crate::recorded::view_log;
 use command_line::CommandLineError;
 use explanations::explain;
 use files::{ProgramError, refused};
@@ -67,6 +70,7 @@ fn view<R: Files + Input + AllocGlobal, W: Out, V: Out>(
         Request::Draw(picture) => view_picture(rt, &picture, out, err),
         Request::Export(exported) => view_export(rt, &exported, out, err),
         Request::Import(imported) => view_import(rt, &imported, out, err),
+        Request::ImportLog(imported) => view_log(rt, &imported, out, err),
         Request::Compare(wanted) => view_comparison(rt, &wanted, out, err),
         Request::Races(asked) => view_races(rt, &asked, out, err),
         Request::Mend(wanted) => view_mend(rt, &wanted, out, err),

@@ -42,14 +42,30 @@ fn flag<'a>(alloc: Global, name: &'static str) -> Arg<'a> {
     Arg::new(alloc, name).long(name).action(ArgAction::SetTrue)
 }
 
-/// A command with the options of reading another tool's text, and a file.
+/// Several files, all of which a command may do without.
+fn files<'a>(alloc: Global) -> Arg<'a> {
+    Arg::new(alloc, "FILE")
+        .num_args(0..)
+        .action(ArgAction::Append)
+}
+
+/// A command with the options of reading another tool's text.
 fn reads_tools<'a>(alloc: Global, command: Command<'a>) -> Result<Command<'a>, AllocError> {
     command
         .arg(option(alloc, "from"))?
         .arg(flag(alloc, "strict"))?
         .arg(repeated(alloc, "skip"))?
-        .arg(repeated(alloc, "join"))?
-        .arg(file(alloc))
+        .arg(repeated(alloc, "join"))
+}
+
+/// A command with the options of reading a log.
+fn reads_logs<'a>(alloc: Global, command: Command<'a>) -> Result<Command<'a>, AllocError> {
+    command
+        .arg(option(alloc, "pattern"))?
+        .arg(option(alloc, "hosts"))?
+        .arg(repeated(alloc, "peer"))?
+        .arg(option(alloc, "from-line"))?
+        .arg(option(alloc, "to-line"))
 }
 
 /// The command that shows the races of a file by name.
@@ -60,7 +76,7 @@ fn races_command<'a>(alloc: Global) -> Result<Command<'a>, AllocError> {
         .arg(flag(alloc, "receives"))?
         .arg(flag(alloc, "run-to-completion"))?
         .arg(flag(alloc, "json"))?;
-    reads_tools(alloc, command)
+    reads_tools(alloc, command)?.arg(file(alloc))
 }
 
 /// The command that draws a file.
@@ -81,9 +97,11 @@ fn export_command<'a>(alloc: Global) -> Result<Command<'a>, AllocError> {
         .arg(file(alloc))
 }
 
-/// The command that reads a file of another tool.
+/// The command that reads a file of another tool, or a log.
 fn import_command<'a>(alloc: Global) -> Result<Command<'a>, AllocError> {
-    reads_tools(alloc, Command::new(alloc, "import").disable_help_flag(true))
+    let command = Command::new(alloc, "import").disable_help_flag(true);
+    let command = reads_logs(alloc, reads_tools(alloc, command)?)?;
+    command.arg(files(alloc))
 }
 
 /// The command that compares two files.

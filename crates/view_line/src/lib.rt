@@ -9,4 +9,7 @@ mod request;
 
 pub use command_line::CommandLineError;
 pub use reading::requested;
-pub use request::{Compare, Draw, Export, Import, Mend, Pair, Question, Races, Reading, Request};
+pub use request::{
+    Compare, Draw, Export, Import, ImportLog, LogForm, Mend, Pair, Question, Races, Reading,
+    Request,
+};

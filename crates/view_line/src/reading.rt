@@ -1,7 +1,8 @@
 //! What the words of a command line ask for.
 use crate::commands::command_line;
 use crate::request::{
-    Compare, Draw, Export, Import, Mend, Pair, Question, Races, Reading, Request,
+    Compare, Draw, Export, Import, ImportLog, LogForm, Mend, Pair, Question, Races, Reading,
+    Request,
 };
 use clap::ArgMatches;
 use command_line::CommandLineError;
@@ -65,12 +66,55 @@ fn reading_of<'a>(alloc: Global, words: &ArgMatches<'a>) -> Result<Reading<'a>, 
     })
 }
 
-/// What the words of `import` ask for.
-fn import_of<'a>(alloc: Global, words: &ArgMatches<'a>) -> Result<Request<'a>, CommandLineError> {
+/// The log that the words of `import` ask for. G1: there is an option for another tool's text.
+fn log_of<'a>(
+    alloc: Global,
+    form: LogForm<'a>,
+    words: &ArgMatches<'a>,
+) -> Result<Request<'a>, CommandLineError> {
+    let reading = reading_of(alloc, words)?;
+    if reading.strict || !reading.skipped.is_empty() || !reading.joined.is_empty() {
+        return Err(CommandLineError::Usage);
+    }
+    Ok(Request::ImportLog(ImportLog {
+        form,
+        hosts: words.get_str("hosts"),
+        peers: words_of(alloc, words, "peer")?,
+        from_line: words.get_str("from-line"),
+        to_line: words.get_str("to-line"),
+        files: words_of(alloc, words, "FILE")?,
+    }))
+}
+
+/// Whether the words have an option for logs.
+fn is_for_logs(words: &ArgMatches<'_>) -> bool {
+    words.get_str("pattern").is_some()
+        || words.get_str("hosts").is_some()
+        || words.get_str("peer").is_some()
+        || words.get_str("from-line").is_some()
+        || words.get_str("to-line").is_some()
+}
+
+/// Another tool's text that the words of `import` ask for. G1: there are several files, or there is an option for logs.
+fn tool_of<'a>(alloc: Global, words: &ArgMatches<'a>) -> Result<Request<'a>, CommandLineError> {
+    let files = words_of(alloc, words, "FILE")?;
+    if files.len() > 1 || is_for_logs(words) {
+        return Err(CommandLineError::Usage);
+    }
     Ok(Request::Import(Import {
         reading: reading_of(alloc, words)?,
         file: words.get_str("FILE"),
     }))
+}
+
+/// What the words of `import` ask for.
+fn import_of<'a>(alloc: Global, words: &ArgMatches<'a>) -> Result<Request<'a>, CommandLineError> {
+    match (words.get_str("from"), words.get_str("pattern")) {
+        (Some("log"), None) => log_of(alloc, LogForm::Plain, words),
+        (Some("log"), Some(pattern)) => log_of(alloc, LogForm::Pattern(pattern), words),
+        (Some("shiviz"), None) => log_of(alloc, LogForm::ShiViz, words),
+        _ => tool_of(alloc, words),
+    }
 }
 
 /// How the file of `races` is read, if it is another tool's text. G1: without `--from` there is an option of `import`.

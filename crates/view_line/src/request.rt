@@ -62,6 +62,33 @@ pub struct Import<'a> {
     pub file: Option<&'a str>,
 }
 
+/// How the lines of a log are written.
+#[derive(Clone, Copy, Debug, PartialEq, Eq)]
+pub enum LogForm<'a> {
+    /// `--from log`.
+    Plain,
+    /// `--from log --pattern REGEX`.
+    Pattern(&'a str),
+    /// `--from shiviz`.
+    ShiViz,
+}
+
+/// A log that is to be read. The hosts and the numbers are words still.
+#[derive(Debug, Drop)]
+pub struct ImportLog<'a> {
+    pub form: LogForm<'a>,
+    /// The names behind `--hosts`, joined by commas.
+    pub hosts: Option<&'a str>,
+    /// The words behind each `--peer`, in the order of the command line.
+    pub peers: Vec<&'a str>,
+    /// The number behind `--from-line`.
+    pub from_line: Option<&'a str>,
+    /// The number behind `--to-line`.
+    pub to_line: Option<&'a str>,
+    /// Without any, and where it is one that is `-`, standard input is read.
+    pub files: Vec<&'a str>,
+}
+
 /// Two recordings to be compared.
 #[derive(Clone, Copy, Debug, PartialEq, Eq)]
 pub struct Compare<'a> {
@@ -115,6 +142,9 @@ pub enum Request<'a> {
     Export(Export<'a>),
     /// `import [--from TOOL] [--strict] [--skip A..B].. [--join NAME=NAME,NAME..].. [FILE]`.
     Import(Import<'a>),
+    /// `import --from log|shiviz [--pattern REGEX] [--hosts NAME,NAME..] [--peer NAME=NAME,NAME..].. [--from-line A]
+    /// [--to-line B] [FILE..]`.
+    ImportLog(ImportLog<'a>),
     /// `compare [--json] A B`.
     Compare(Compare<'a>),
     /// `races [--only NAME,NAME..] [--receives] [--run-to-completion] [--json] [FILE]`, and with `--from TOOL` the

@@ -6,11 +6,7 @@
 #[cfg(test)]
 mod every_run;
 #[cfg(test)]
-mod long_run;
-#[cfg(test)]
 mod recorded;
-#[cfg(test)]
-mod replayed;
 #[cfg(test)]
 mod runs;
 #[cfg(test)]

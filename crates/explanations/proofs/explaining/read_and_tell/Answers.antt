@@ -1,4 +1,3 @@
-use Rattle.std.proofs.Common.{◌≡◌, sym}
 use Rattle.explanations.proofs.KindLemmas.{no_schedule}
 use Rattle.explanations.proofs.explaining.read_and_tell.Goals as goal
 

@@ -1,0 +1,113 @@
+"""Times `mscview import` of logs of 131,072 lines, and tells its peak memory: 32 hosts have 4,096 events each, so that all
+lines of the chart are full. Each time is the median of five runs, with what is written thrown away.
+
+A token is passed round the hosts. The log says it in plain words, with an id for each message; by an expression; in the
+words of a log for ShiViz, with a clock of three hosts in each line; and in a file for each host. In the log that begins
+in the middle, of four rounds less, the first host begins later than the others: there are circles, and sends are invented.
+Last comes a log for ShiViz of 8,192 lines whose clocks alone tell what is a message."""
+
+import os
+import statistics
+import subprocess
+import sys
+import tempfile
+import time
+
+REPETITIONS = 5
+HOSTS = 32
+ROUNDS = 2048
+PATTERN = r"^\S+ (?<host>\w+) \w+: (?<dir>sent|received) (?<name>\w+) (?:to|from) (?<peer>\w+), message (?<id>\d+)"
+
+
+def events(rounds=ROUNDS):
+    """Each event of the token: its host, whether it is a send, the peer, and the message's number."""
+    for turn in range(HOSTS * rounds):
+        sender, receiver = turn % HOSTS, (turn + 1) % HOSTS
+        yield sender, True, receiver, turn
+        yield receiver, False, sender, turn
+
+
+def plain_line(host, is_send, peer, turn):
+    return f"host{host} {'send to' if is_send else 'receive from'} host{peer} token {turn}\n"
+
+
+def pattern_line(host, is_send, peer, turn):
+    words = f"sent token to host{peer}" if is_send else f"received token from host{peer}"
+    time_of_day = f"10:{turn // 60000 % 60:02}:{turn // 1000 % 60:02}.{turn % 1000:03}"
+    return f"2026-03-02T{time_of_day} host{host} INFO: {words}, message {turn}\n"
+
+
+def timed_lines(rounds):
+    """The token by clocks: a host has heard of the events of those before it."""
+    known = [{} for _ in range(HOSTS)]
+    for host, is_send, peer, turn in events(rounds):
+        clock = known[host]
+        if not is_send:
+            clock |= {p: max(count, clock.get(p, 0)) for p, count in known[peer].items()}
+        clock[host] = clock.get(host, 0) + 1
+        shown = ", ".join(f'"host{p}":{count}' for p, count in clock.items())
+        yield f"host{host} {{{shown}}} {'token ' + str(turn) if is_send else 'takes it'}\n"
+
+
+def clocked_line(host, is_send, peer, turn):
+    words = f"out token to host{peer}" if is_send else f"in token from host{peer}"
+    clock = ", ".join(f'"host{(host - k) % HOSTS}":{2 * (turn // HOSTS) + 1}' for k in range(3))
+    return f"host{host} {{{clock}}} {words}\n"
+
+
+def in_one(folder, name, line):
+    path = os.path.join(folder, name)
+    with open(path, "w", encoding="ascii") as file:
+        file.writelines(line(*event) for event in events())
+    return [path]
+
+
+def in_clocks(folder, name, rounds):
+    path = os.path.join(folder, name)
+    with open(path, "w", encoding="ascii") as file:
+        file.writelines(timed_lines(rounds))
+    return [path]
+
+
+def by_host(folder, name, rounds, missing):
+    """A file for each host, without so many first lines of the first one."""
+    lines = [[] for _ in range(HOSTS)]
+    for event in events(rounds):
+        lines[event[0]].append(plain_line(*event).rsplit(" ", 1)[0] + "\n")
+    paths = []
+    for host, own in enumerate(lines):
+        paths.append(os.path.join(folder, f"{name}{host}"))
+        with open(paths[-1], "w", encoding="ascii") as file:
+            file.writelines(own if host else own[missing:])
+    return paths
+
+
+def run(words):
+    """The seconds, the peak megabytes and the status of one run."""
+    began = time.monotonic()
+    with open(os.devnull, "wb") as nowhere:
+        child = subprocess.Popen(words, stdout=nowhere, stderr=nowhere)
+        _, status, usage = os.wait4(child.pid, 0)
+    return time.monotonic() - began, usage.ru_maxrss / 1000, os.waitstatus_to_exitcode(status)
+
+
+def main(mscview):
+    with tempfile.TemporaryDirectory() as folder:
+        logs = {
+            "plain words": (["--from", "log"], in_one(folder, "plain", plain_line)),
+            "an expression": (["--from", "log", "--pattern", PATTERN], in_one(folder, "pattern", pattern_line)),
+            "for ShiViz": (["--from", "shiviz"], in_one(folder, "clocked", clocked_line)),
+            "a file for each host": (["--from", "log"], by_host(folder, "host", ROUNDS, 0)),
+            "begun in the middle": (["--from", "log"], by_host(folder, "later", ROUNDS - 4, 3)),
+            "8,192 lines by clocks": (["--from", "shiviz"], in_clocks(folder, "timed", 128)),
+        }
+        for name, (words, paths) in logs.items():
+            seen = [run([mscview, "import", *words, *paths]) for _ in range(REPETITIONS)]
+            seconds = statistics.median(one[0] for one in seen)
+            peak = max(one[1] for one in seen)
+            size = sum(map(os.path.getsize, paths)) / 1e6
+            print(f"{name}, {size:.1f} MB: {seconds:.3f} s, at most {peak:.0f} MB, status {seen[0][2]}", flush=True)
+
+
+if __name__ == "__main__":
+    main(sys.argv[1])

@@ -1,0 +1,8 @@
+pub mod BestLemmas
+pub mod CircleLemmas
+pub mod FrontLemmas
+pub mod LeadLemmas
+pub mod PassLemmas
+pub mod ShorterRounds
+pub mod StepLemmas
+pub mod UnderLemmas

@@ -1,0 +1,5 @@
+pub mod Hearing
+pub mod Moments
+pub mod Numbers
+pub mod Saying
+pub mod Stamps

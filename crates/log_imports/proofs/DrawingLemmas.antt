@@ -1,0 +1,41 @@
+-- The chart of lines by names, where names, hosts and entries are known by equations.
+use Rattle.std.proofs.Common.{◌≡◌, ℕ, ◌≤◌, List, None, length, sym, ap, ◌∙◌, subst, subst₂}
+use Rattle.std.specs.Prelude.{All}
+use Rattle.chart.specs.Charts.{chart_lines, IsPossible}
+use Rattle.chart.specs.declared.instance.EventNo.{EventNo}
+use Rattle.log_charts.specs.ChartLines.{first_full}
+use Rattle.log_charts.specs.Drawing.{IsDrawn}
+use Rattle.log_charts.specs.declared.drawing.Drawn.{Drawn}
+use Rattle.log_circles.specs.Freeing.{Settles}
+use Rattle.log_names.specs.Naming.{NamedView}
+use Rattle.logs.specs.HostLines.{host_lines}
+use Rattle.logs.specs.declared.entry.Entry.{Entry}
+use Rattle.log_imports.specs.Drawing.{IsToldOf, IsNamedDrawing}
+use Rattle.log_imports.specs.Entries.{entries_in, names_in, fault_in}
+use Rattle.log_imports.specs.declared.drawing.Beside.{Beside}
+use Rattle.log_imports.specs.declared.drawing.LogDrawing.{LogDrawing}
+use Rattle.log_imports.proofs.CountLemmas.{chart_whole, invented_up_to}
+
+module _ (b : Beside) (n : NamedView) (names : List (List ℕ)) (hosts : ℕ) (old settled : List Entry) (drawn : Drawn) (d : LogDrawing)
+    (whole : hosts ≡ length names) (is_drawn : IsDrawn hosts settled drawn) (told : IsToldOf b n names drawn d.told) (chart : d.chart ≡ drawn.chart) where
+  pub drawing_as : names ≡ names_in n → old ≡ entries_in n → fault_in n ≡ None → Settles old settled → first_full 1 (host_lines hosts settled) ≡ None → IsPossible (length drawn.chart) (chart_lines drawn.chart)
+      → IsNamedDrawing b n d
+  drawing_as is entries faultless settles short possible = record {
+    settled = settled;
+    faultless = faultless;
+    short = subst (λ h. first_full 1 (host_lines h settled) ≡ None) (whole ∙ ap length is) short;
+    settles = subst (λ (o : List Entry). Settles o settled) entries settles;
+    drawn = drawn;
+    is_drawn = subst (λ h. IsDrawn h settled drawn) (whole ∙ ap length is) is_drawn;
+    chart = chart;
+    possible = subst (λ l. IsPossible (length l) (chart_lines l)) (sym chart) possible;
+    told = subst (λ (l : List (List ℕ)). IsToldOf b n l drawn d.told) is told;
+  }
+
+  pub whole_as : length d.told.names ≡ length d.chart
+  whole_as = ap length told.names ∙ sym whole ∙ sym (chart_whole hosts settled) ∙ ap length (sym is_drawn.chart) ∙ ap length (sym chart)
+
+  pub up_to_as : All (λ (e : EventNo). e.instance ≤ length d.told.names) d.told.invented.items
+  up_to_as =
+      subst₂ (λ (k : ℕ) (l : List EventNo). All (λ (e : EventNo). e.instance ≤ k) l) (whole ∙ ap length (sym told.names)) (sym (ap (λ v. v.items) told.invented ∙ is_drawn.invented))
+      (invented_up_to hosts settled)

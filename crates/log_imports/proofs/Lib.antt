@@ -1,0 +1,4 @@
+pub mod CountLemmas
+pub mod DrawingLemmas
+pub mod ReadingLemmas
+pub mod RefusalLemmas

@@ -1,0 +1,6 @@
+pub mod Drawing
+pub mod Entries
+pub mod Importing
+pub mod Options
+pub mod Reading
+pub mod Refusals

@@ -1,0 +1,62 @@
+//! Reports that are not those of their chart.
+use crate::calls::event;
+use chart::{EventNo, Report};
+use closure::{AuditError, audit};
+use msc_reader::read;
+use std::alloc::Global;
+use std::process::Abort;
+
+/// The chart of `any_takes_turns`: two send to b in turns.
+const TURNS: &[u8] =
+    b"msc run;\ninstance a;\nout x to b;\nout z to b;\nendinstance;\ninstance b;\nin x from a;\nin y from c;\nin z from a;\nendinstance;\ninstance c;\nout y to b;\nendinstance;\nendmsc;\n";
+
+/// A report of b, by its receive and the numbers of the earlier events.
+type Races = (u32, &'static [u32]);
+
+static RIGHT: [Races; 3] = [(1, &[]), (2, &[1]), (3, &[2])];
+
+/// Reports that are not those of the turns, and the first receive whose report is wrong: a race is left out, a report is
+/// missing at either end, and there is one too many.
+static WRONG: [(&[Races], u32); 4] = [
+    (&[(1, &[]), (2, &[1]), (3, &[])], 3),
+    (&[(1, &[]), (2, &[1])], 3),
+    (&[(2, &[1]), (3, &[])], 1),
+    (&[(1, &[]), (2, &[1]), (3, &[2]), (2, &[1])], 2),
+];
+
+fn b(rt: &impl Abort, index: u32) -> EventNo {
+    event(rt, 2, index)
+}
+
+/// A report of this receive, with these earlier events.
+fn report(rt: &impl Abort, alloc: Global, receive: u32, earlier: &[u32]) -> Report {
+    let mut events = Vec::new(alloc);
+    for index in earlier {
+        assert!(rt; events.push(b(rt, *index)).is_ok());
+    }
+    Report::of(alloc, b(rt, receive), events.as_slice()).expect(rt, "a report")
+}
+
+fn reports_of(rt: &impl Abort, alloc: Global, told: &[Races]) -> Vec<Report> {
+    let mut reports = Vec::new(alloc);
+    for (receive, earlier) in told {
+        let report = report(rt, alloc, *receive, earlier);
+        assert!(rt; reports.push(report).is_ok());
+    }
+    reports
+}
+
+#[test]
+fn wrong_reports(rt: HostRuntime) {
+    let alloc = rt.alloc();
+    let (_, chart) = read(alloc, TURNS).expect(&rt, "a chart");
+    for (told, receive) in &WRONG {
+        let wrong = reports_of(&rt, alloc, told);
+        assert_eq!(rt;
+            audit(alloc, &chart, wrong.as_slice()),
+            Err(AuditError::WrongReport(b(&rt, *receive)))
+        );
+    }
+    let right = reports_of(&rt, alloc, &RIGHT);
+    assert_eq!(rt; audit(alloc, &chart, right.as_slice()), Ok(()));
+}

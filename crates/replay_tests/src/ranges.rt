@@ -1,0 +1,74 @@
+//! That a run of events is one range, which no contract says.
+use crate::calls::{event, instance, name};
+use chart::{Event, EventNo, EventRanges, Line};
+use online_races::{race_ranges, races};
+use std::alloc::Global;
+use std::process::Abort;
+
+/// The events of instance 1 with these numbers.
+fn events(rt: &impl Abort, alloc: Global, indices: &[u32]) -> Vec<EventNo> {
+    let mut events = Vec::new(alloc);
+    for index in indices {
+        let event = event(rt, 1, *index);
+        assert!(rt; events.push(event).is_ok());
+    }
+    events
+}
+
+#[test]
+fn event_ranges(rt: HostRuntime) {
+    let alloc = rt.alloc();
+    let events = events(&rt, alloc, &[2, 3, 4, 7, 9, 10]);
+    let ranges = EventRanges::of(alloc, events.as_slice()).expect(&rt, "ranges");
+    assert_eq!(rt; ranges.as_slice().len(), 3, "2 to 4, 7, and 9 to 10");
+    let listed = ranges.listed(alloc).expect(&rt, "a list");
+    assert!(rt; listed.as_slice() == events.as_slice());
+}
+
+/// A line that received from these instances.
+fn line_from(rt: &impl Abort, alloc: Global, senders: &[usize]) -> Line {
+    let mut line = Line::new(alloc, instance(rt, 1));
+    for sender in senders {
+        let event = Event::Receive {
+            from: instance(rt, *sender),
+            name: name(rt, b"x"),
+            region: 0,
+        };
+        line.push(event).expect(rt, "an event");
+    }
+    line
+}
+
+/// Before so many events and past this entry, the first range is of so many events, and so many ranges there are.
+fn has_ranges(
+    rt: &impl Abort,
+    alloc: Global,
+    line: &Line,
+    (before, entry): (usize, u32),
+    (count, ranges): (usize, usize),
+) {
+    assert!(rt; before <= line.len());
+    let sender = instance(rt, 2);
+    let found = race_ranges(alloc, line.as_growing(), before, entry, sender, 0).expect(
+        rt, "ranges",
+    );
+    let found = found.as_slice();
+    assert_eq!(rt; found.len(), ranges);
+    assert!(rt; found.first().is_some_and(|range| range.count == count));
+}
+
+/// Events 2 to 4 and 6, and earlier on the line 3 and 4.
+#[test]
+fn runs_of_races(rt: HostRuntime) {
+    let line = line_from(&rt, rt.alloc(), &[2, 3, 3, 3, 2, 4]);
+    has_ranges(&rt, rt.alloc(), &line, (6, 1), (3, 2));
+    has_ranges(&rt, rt.alloc(), &line, (4, 2), (2, 1));
+}
+
+#[test]
+fn races_of_a_line(rt: HostRuntime) {
+    let line = line_from(&rt, rt.alloc(), &[2, 3, 3, 3, 2, 4]);
+    let found = races(rt.alloc(), &line, 1, instance(&rt, 2), 0).expect(&rt, "the races");
+    let wanted = events(&rt, rt.alloc(), &[2, 3, 4, 6]);
+    assert!(rt; found.as_slice() == wanted.as_slice());
+}

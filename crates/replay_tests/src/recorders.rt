@@ -1,0 +1,177 @@
+//! Each call of a recorder among nine instances, whose clocks take memory, with each growth refused: it is made once more,
+//! and then answers in full.
+ghost use Rattle.std.specs.Prelude.{◌≡◌, ◌≢◌, ◌≤◌, length};
+
+use crate::calls::{every_growth_was_refused, instance, name};
+use chart::{InstanceNo, Name, Report};
+use clock::Clock;
+use line_recorder::Recorder;
+use std::alloc::Global;
+use std::process::Abort;
+use std::test::Fail;
+
+/// How many instances there are, of which the first three do something.
+const MANY: usize = 9;
+
+const A: usize = 1;
+
+const B: usize = 2;
+
+const C: usize = 3;
+
+/// What is done in a schedule, and what has to come of it. A clock is told by its place: messages are counted from 0 on as
+/// they are sent.
+#[derive(Clone, Copy)]
+enum Step {
+    /// A send of one instance to another: the letter of its name, and the entries of its clock.
+    Send(usize, usize, u8, &'static [u32]),
+    /// Two at once: the letters of their names.
+    SendTwo(usize, usize, u8, u8),
+    /// A receive of one instance from another: the letter of its name, its clock, and the earlier events of its report.
+    Receive(usize, usize, u8, usize, &'static [u32]),
+    /// What an instance knows.
+    Knows(usize, &'static [u32]),
+}
+
+use Step::{Knows, Receive, Send, SendTwo};
+
+/// The recorder of one of the instances, asked for once more where the growth was refused.
+fn one_of(rt: &impl Abort, alloc: Global, p: usize) -> Recorder {
+    let p = instance(rt, p);
+    assert!(rt; p.number() <= MANY);
+    match Recorder::new(alloc, p, MANY) {
+        Ok(recorder) => recorder,
+        Err(_) => Recorder::new(alloc, p, MANY).expect(rt, "a recorder"),
+    }
+}
+
+/// Another of the recorder's instances.
+fn other(rt: &impl Abort, recorder: &Recorder, number: usize) -> InstanceNo
+    ensures among { result ≤ length recorder.now.knowledge }
+    ensures not_itself { result ≢ recorder.now.line.instance }
+{
+    let to = instance(rt, number);
+    assert!(rt; to.number() <= recorder.knowledge().len());
+    assert!(rt; to != recorder.line().instance());
+    to
+}
+
+/// The clock's entries are these.
+fn holds(rt: &impl Abort, clock: &Clock, entries: &[u32]) {
+    assert_eq!(rt; clock.len(), entries.len());
+    for (place, entry) in entries.iter().enumerate() {
+        assert_eq!(rt; clock.entry(InstanceNo::at_place(place)), *entry);
+    }
+}
+
+/// A send whose clock has these entries, made once more where the growth was refused.
+fn send(rt: &impl Abort, recorder: &mut Recorder, to: usize, letter: u8, entries: &[u32]) -> Clock {
+    let to = other(rt, recorder, to);
+    let message = name(rt, &[letter]);
+    let clock = match recorder.send(to, message) {
+        Ok(clock) => clock,
+        Err(_) => recorder.send(to, message).expect(rt, "a send"),
+    };
+    holds(rt, &clock, entries);
+    clock
+}
+
+/// The same of two sends at once.
+fn send_two(rt: &impl Abort, recorder: &mut Recorder, to: usize, names: &[Name]) -> Vec<Clock> {
+    let to = other(rt, recorder, to);
+    match recorder.send_many(to, names) {
+        Ok(clocks) => clocks,
+        Err(_) => recorder.send_many(to, names).expect(rt, "two sends"),
+    }
+}
+
+/// The report is of the receive of this index, and has these earlier events.
+fn reports(rt: &impl Abort, report: &Report, receive: usize, earlier: &[u32]) {
+    assert_eq!(rt; report.receive().index as usize, receive);
+    assert_eq!(rt; report.earlier().len(), earlier.len());
+    for (race, index) in report.earlier().iter().zip(earlier) {
+        assert_eq!(rt; race.instance, report.receive().instance);
+        assert_eq!(rt; race.index, *index);
+    }
+}
+
+/// A receive with these races, made once more where the growth was refused.
+fn receive(
+    rt: &impl Abort,
+    recorder: &mut Recorder,
+    from: usize,
+    letter: u8,
+    clock: &Clock,
+    earlier: &[u32],
+) {
+    let from = other(rt, recorder, from);
+    let message = name(rt, &[letter]);
+    assert!(rt; clock.len() == recorder.knowledge().len());
+    let report = match recorder.receive(from, message, clock, 0) {
+        Ok(report) => report,
+        Err(_) => recorder
+            .receive(from, message, clock, 0)
+            .expect(rt, "a receive"),
+    };
+    reports(rt, &report, recorder.line().len(), earlier);
+}
+
+fn keep(rt: &impl Abort, clocks: &mut Vec<Clock>, clock: Clock) {
+    if clocks.reserve(1).is_err() {
+        clocks.reserve(1).expect(rt, "room for a clock");
+    }
+    clocks.push(clock).expect(rt, "a clock with room");
+}
+
+/// Takes a step of one instance.
+fn record(rt: &impl Abort, recorder: &mut Recorder, clocks: &mut Vec<Clock>, step: &Step) {
+    match *step {
+        Send(_, to, letter, entries) => {
+            let clock = send(rt, recorder, to, letter, entries);
+            keep(rt, clocks, clock);
+        }
+        SendTwo(_, to, first, second) => {
+            let two = send_two(rt, recorder, to, &[name(rt, &[first]), name(rt, &[second])]);
+            assert_eq!(rt; two.len(), 2);
+            for clock in two {
+                keep(rt, clocks, clock);
+            }
+        }
+        Receive(_, from, letter, clock, earlier) => {
+            let clock = clocks.get(clock).expect(rt, "a clock");
+            receive(rt, recorder, from, letter, clock, earlier);
+        }
+        Knows(_, entries) => holds(rt, recorder.knowledge(), entries),
+    }
+}
+
+/// Plays a schedule.
+fn play(rt: &impl Abort, alloc: Global, steps: &[Step]) {
+    let mut recorders = [
+        one_of(rt, alloc, A),
+        one_of(rt, alloc, B),
+        one_of(rt, alloc, C),
+    ];
+    let mut clocks = Vec::new(alloc);
+    for step in steps {
+        let (Send(at, ..) | SendTwo(at, ..) | Receive(at, ..) | Knows(at, ..)) = *step;
+        let place = instance(rt, at).place();
+        let recorder = recorders.get_mut(place).expect(rt, "a recorder");
+        record(rt, recorder, &mut clocks, step);
+    }
+}
+
+static STEPS: [Step; 6] = [
+    Send(A, B, b'x', &[1, 0, 0, 0, 0, 0, 0, 0, 0]),
+    SendTwo(C, B, b'y', b'z'),
+    Receive(B, A, b'x', 0, &[]),
+    Receive(B, C, b'y', 1, &[1]),
+    Receive(B, C, b'z', 2, &[1]),
+    Knows(B, &[1, 0, 2, 0, 0, 0, 0, 0, 0]),
+];
+
+#[test]
+fn refused_growths(rt: HostRuntime) -> Result<(), Fail> {
+    play(&rt, rt.alloc(), &STEPS);
+    every_growth_was_refused(rt.alloc())
+}

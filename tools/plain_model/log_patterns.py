@@ -1,0 +1,77 @@
+"""
+Logs that an expression tells how to read: its first match in each line, or in as many lines as it has line feeds and one
+more, says by its named groups what happened.
+"""
+
+import re
+from collections.abc import Callable
+
+from logs import Log, Said, kind_of
+from names import Refused
+from shiviz_logs import Clocked
+
+
+def identity_of(found: re.Match) -> str | None:
+    return found.groupdict().get("id") or None
+
+
+def event_said(found: re.Match) -> list[Said] | None:
+    kind = kind_of(found["dir"])
+    return [Said(found["host"], kind, found["peer"], found["name"], identity_of(found))] if kind else None
+
+
+def capture_said(found: re.Match) -> list[Said] | None:
+    sender, receiver, name, identity = found["src"], found["dst"], found["name"], identity_of(found)
+    return [Said(sender, "send", receiver, name, identity), Said(receiver, "receive", sender, name, identity)]
+
+
+EVENT = {"host", "dir", "peer", "name"}
+CAPTURE = {"src", "dst", "name"}
+CLOCK = {"host", "clock", "event"}
+SETS = ((EVENT, event_said), (CAPTURE, capture_said), (CLOCK, None))
+
+
+class Expression:
+    """An expression with one of the three sets of groups."""
+
+    def __init__(self, text: str):
+        self.found = re.compile(text.replace("(?<", "(?P<"))
+        # (an escaped backslash may stand before an `n`)
+        self.more = len(re.findall(r"\\n|\n", re.sub(r"\\\\", "", text)))
+        there = set(self.found.groupindex)
+        # (the first of the three that it has whole)
+        sets = [one for one in SETS if one[0] <= there]
+        if not sets:
+            raise Refused("F39", len(text.encode()) + 1)
+        self.groups, self.said_by = sets[0]
+
+    @property
+    def captures(self) -> bool:
+        return self.groups is CAPTURE
+
+    def match(self, lines: str) -> re.Match | None:
+        """The first match, if each group takes part."""
+        found = self.found.search(lines)
+        return found if found and all(found[name] is not None for name in self.groups) else None
+
+
+def read_by(
+    log: Log, expression: Expression, lines: list[str], place: Callable[[int], str], first: int, last: int
+) -> list[Clocked]:
+    """Adds the lines of a file from the first to the last of these numbers, and answers their events with clocks."""
+    log.is_captured = log.is_captured or expression.captures
+    clocked = []
+    number = first
+    while number <= min(last, len(lines)):
+        window = "\n".join(lines[number - 1 : number + expression.more]).removesuffix("\r")
+        found = expression.match(window)
+        said = found and expression.said_by and expression.said_by(found)
+        if said:
+            for event in said:
+                log.add_said(event, place(number))
+        elif found and not expression.said_by:
+            clocked.append(Clocked(found["host"], found["clock"], found["event"], place(number)))
+        elif lines[number - 1].strip(" \t\r"):
+            log.unmatched.append(place(number))
+        number += 1 + expression.more if said or found and not expression.said_by else 1
+    return clocked
