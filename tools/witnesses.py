@@ -148,7 +148,7 @@ def main():
     with tempfile.TemporaryDirectory() as folder:
         room = pathlib.Path(folder)
         files = sorted(pathlib.Path("cases").glob("*/input"))
-        files += sorted(path for path in pathlib.Path("examples").iterdir() if path.suffix != ".stdout")
+        files += sorted(path for path in pathlib.Path("examples").iterdir() if path.suffix in (".schedule", ".msc"))
         for path in files:
             text = chart_and_races(str(path))
             if text is not None:
