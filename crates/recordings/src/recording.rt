@@ -35,7 +35,7 @@ pub struct Arrival {
 }
 
 /// A log, with what it tells beside its messages.
-#[derive(Clone, Copy, Debug)]
+#[derive(Clone, Copy)]
 pub struct Recording<'a> {
     /// Its lines, each receive with the send that it takes. The line with number n is the n-th, from 0.
     pub lines: &'a [LogLine],
