@@ -2,6 +2,7 @@ pub mod Clocks
 pub mod Exports
 pub mod ExportText
 pub mod LogText
+pub mod Parts
 pub mod Preparing
 pub mod Sayings
 pub mod Spelling

@@ -57,9 +57,12 @@ races_of (Some report) = races_said report (counted report)
 unfoldable pub sent_text : ExportView → ℕ → List ℕ → List ℕ
 sent_text v to name = spelled words.Out ++ (name ++ (spelled words.To ++ name_at v.names to))
 
+unfoldable pub in_text : ExportView → ℕ → List ℕ → List ℕ
+in_text v from name = spelled words.In ++ (name ++ (spelled words.From ++ name_at v.names from))
+
+-- and behind a receive its races
 unfoldable pub received_text : ExportView → Stamped → ℕ → List ℕ → List ℕ
-received_text v stamped from name = spelled words.In ++ (name ++ (spelled words.From ++ (name_at v.names from
-    ++ races_of (note_of v stamped.event))))
+received_text v stamped from name = in_text v from name ++ races_of (note_of v stamped.event)
 
 abbrev pub event_text : ExportView → Stamped → Option Event → List ℕ
 event_text v stamped None = []

@@ -20,6 +20,7 @@ mod drawn;
 mod export;
 mod log;
 mod log_text;
+mod part;
 mod preparing;
 mod saying;
 mod spelling;

@@ -4,11 +4,11 @@ ghost use Rattle.std.specs.List.{flat_map};
 ghost use Rattle.msc_text.specs.Writing.{Wrote, Adds};
 ghost use Rattle.exports.specs.ExportText.{counted};
 ghost use Rattle.exports.specs.LogText.{log_start, entry_in, entry_text, next_entry, other_entry, clock_text};
-ghost use Rattle.exports.specs.LogText.{races_said, races_of, sent_text, received_text, event_text, log_line, log_text};
+ghost use Rattle.exports.specs.LogText.{races_said, races_of, sent_text, in_text, received_text, event_text, log_line, log_text};
 
 use crate::export::Export;
 use crate::log::{Log, Stamped};
-use crate::spelling::{add_name, add_quoted};
+use crate::part::{Part, add_one, add_parts, name_of};
 use crate::word::Word;
 use chart::{Event, InstanceNo, Line, Name, Report};
 use clock::Clock;
@@ -35,7 +35,7 @@ fn entry_in(clock: &Clock, instance: InstanceNo) -> u32
 }
 
 /// Adds an entry of a clock.
-#[tactic(auto, using(msc_text::proofs::Writes::joining), unfolding(crate::specs::LogText::entry_text))]
+#[tactic(auto, unfolding(crate::specs::LogText::entry_text))]
 fn add_entry<W: Out>(
     text: &mut TextBuffer<'_, W>,
     export: &Export<'_>,
@@ -44,9 +44,9 @@ fn add_entry<W: Out>(
 ) -> Result<(), WriteError>
     ensures { Adds W.sink text.old text.new result (entry_text export.now clock.now instance) }
 {
-    add_quoted(text, export.names(), instance)?;
-    text.add(Word::Colon.as_bytes())?;
-    text.add_number(u64::from(entry_in(clock, instance)))
+    let name = Part::Quoted(name_of(export.names(), instance));
+    let entry = Part::Number(u64::from(entry_in(clock, instance)));
+    add_parts(text, &[name, Part::Word(Word::Colon), entry])
 }
 
 #[tactic(auto, using(msc_text::proofs::Writes::joining), unfolding(crate::specs::LogText::next_entry))]
@@ -134,7 +134,7 @@ fn add_races_of<W: Out>(
     }
 }
 
-#[tactic(auto, using(msc_text::proofs::Writes::joining), unfolding(crate::specs::LogText::sent_text))]
+#[tactic(auto, unfolding(crate::specs::LogText::sent_text))]
 fn add_sent<W: Out>(
     text: &mut TextBuffer<'_, W>,
     export: &Export<'_>,
@@ -143,10 +143,35 @@ fn add_sent<W: Out>(
 ) -> Result<(), WriteError>
     ensures { Adds W.sink text.old text.new result (sent_text export.now to name.now) }
 {
-    text.add(Word::Out.as_bytes())?;
-    text.add(name.as_bytes())?;
-    text.add(Word::To.as_bytes())?;
-    add_name(text, export.names(), to)
+    add_parts(
+        text,
+        &[
+            Part::Word(Word::Out),
+            Part::Name(Some(*name)),
+            Part::Word(Word::To),
+            Part::Name(name_of(export.names(), to)),
+        ],
+    )
+}
+
+#[tactic(auto, unfolding(crate::specs::LogText::in_text))]
+fn add_in<W: Out>(
+    text: &mut TextBuffer<'_, W>,
+    export: &Export<'_>,
+    from: InstanceNo,
+    name: &Name,
+) -> Result<(), WriteError>
+    ensures { Adds W.sink text.old text.new result (in_text export.now from name.now) }
+{
+    add_parts(
+        text,
+        &[
+            Part::Word(Word::In),
+            Part::Name(Some(*name)),
+            Part::Word(Word::From),
+            Part::Name(name_of(export.names(), from)),
+        ],
+    )
 }
 
 #[tactic(auto, using(msc_text::proofs::Writes::joining), unfolding(crate::specs::LogText::received_text))]
@@ -160,10 +185,7 @@ fn add_received<W: Out>(
     ensures { Adds W.sink text.old text.new result
         (received_text export.now stamped.now from name.now) }
 {
-    text.add(Word::In.as_bytes())?;
-    text.add(name.as_bytes())?;
-    text.add(Word::From.as_bytes())?;
-    add_name(text, export.names(), from)?;
+    add_in(text, export, from, name)?;
     add_races_of(text, export.note_of(&stamped.event))
 }
 
@@ -194,7 +216,10 @@ fn add_log_line<W: Out>(
 ) -> Result<(), WriteError>
     ensures { Adds W.sink text.old text.new result (log_line export.now stamped.now) }
 {
-    add_name(text, export.names(), stamped.event.instance)?;
+    add_one(
+        text,
+        Part::Name(name_of(export.names(), stamped.event.instance)),
+    )?;
     add_clock(text, export, stamped)?;
     add_event(text, export, stamped, export.event_of(&stamped.event))?;
     text.add(Word::LineEnd.as_bytes())

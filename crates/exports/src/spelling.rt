@@ -1,76 +1,23 @@
 //! How each tool spells what a chart says.
-ghost use Rattle.std.specs.Prelude.{◌≡◌};
+ghost use Rattle.std.specs.Prelude.{◌≡◌, ◌++◌, decimal};
 ghost use Rattle.msc_text.specs.ChartText.{name_at};
 ghost use Rattle.msc_text.specs.Writing.{Adds};
 ghost use Rattle.exports.specs.ExportText.{counted};
-ghost use Rattle.exports.specs.Spelling.{indent, arrow_sign, lost_sign, label_start, label_end, quoted, numbered, who};
+ghost use Rattle.exports.specs.Parts.{sign_text};
 ghost use Rattle.exports.specs.Spelling.{arrow, whole_arrow, late_arrow, space, note_front, between, note_place};
 ghost use Rattle.exports.specs.Spelling.{note_start, sending, receiving, races, saying_text};
+ghost use Rattle.exports.specs.Spelling.{who, label_start, label_end};
+ghost use Rattle.exports.specs.Words.{spelled};
+ghost use Rattle.exports.specs.declared.word.Word.TheVariants as words;
 
 use crate::export::Export;
+use crate::part::{Part, Sign, add_one, add_parts, name_of, who_part};
 use crate::saying::Saying;
 use crate::word::Word;
-use chart::{InstanceNo, Name, Names, Report};
-use msc_text::{Out, TextBuffer, WriteError, named};
+use chart::{InstanceNo, Name, Report};
+use msc_text::{Out, TextBuffer, WriteError};
 use text_parts::{add_amount, add_ranges};
 use tool_text::Tool;
-
-/// What stands before each line of a chart.
-#[tactic(auto, unfolding(crate::specs::Spelling::indent))]
-pub(crate) fn indent(tool: Tool) -> &'static [u8]
-    ensures { result.now ≡ indent tool }
-{
-    match tool {
-        Tool::Mscgen => b"  ",
-        Tool::PlantUml => b"",
-        Tool::Mermaid => b"    ",
-    }
-}
-
-/// What stands between the ends of a message.
-#[tactic(auto, unfolding(crate::specs::Spelling::arrow_sign))]
-fn arrow_sign(tool: Tool) -> &'static [u8]
-    ensures { result.now ≡ arrow_sign tool }
-{
-    match tool {
-        Tool::Mscgen | Tool::PlantUml => b" -> ",
-        Tool::Mermaid => b"->>",
-    }
-}
-
-/// The same where nobody receives it.
-#[tactic(auto, unfolding(crate::specs::Spelling::lost_sign))]
-fn lost_sign(tool: Tool) -> &'static [u8]
-    ensures { result.now ≡ lost_sign tool }
-{
-    match tool {
-        Tool::Mscgen | Tool::Mermaid => b" -x ",
-        Tool::PlantUml => b" ->x ",
-    }
-}
-
-/// What stands before a label.
-#[tactic(auto, unfolding(crate::specs::Spelling::label_start))]
-fn label_start(tool: Tool) -> &'static [u8]
-    ensures { result.now ≡ label_start tool }
-{
-    match tool {
-        Tool::Mscgen => b" [label=\"",
-        Tool::PlantUml => b" : ",
-        Tool::Mermaid => b": ",
-    }
-}
-
-/// What stands behind it.
-#[tactic(auto, unfolding(crate::specs::Spelling::label_end))]
-fn label_end(tool: Tool) -> &'static [u8]
-    ensures { result.now ≡ label_end tool }
-{
-    match tool {
-        Tool::Mscgen => b"\"];\n",
-        Tool::PlantUml | Tool::Mermaid => b"\n",
-    }
-}
 
 /// What stands before the instance of a note.
 #[tactic(auto, unfolding(crate::specs::Spelling::note_front))]
@@ -84,78 +31,31 @@ fn note_front(tool: Tool) -> &'static [u8]
     }
 }
 
-/// Adds the name of an instance.
-pub(crate) fn add_name<W: Out>(
-    text: &mut TextBuffer<'_, W>,
-    names: &Names,
-    instance: InstanceNo,
-) -> Result<(), WriteError>
-    ensures { Adds W.sink text.old text.new result (name_at names.now instance) }
-{
-    if instance.place() < names.len() {
-        let name = named(names, instance);
-        text.add(name.as_bytes())
-    } else {
-        text.add(b"")
-    }
-}
-
-#[tactic(auto, using(msc_text::proofs::Writes::joining), unfolding(crate::specs::Spelling::quoted))]
-pub(crate) fn add_quoted<W: Out>(
-    text: &mut TextBuffer<'_, W>,
-    names: &Names,
-    instance: InstanceNo,
-) -> Result<(), WriteError>
-    ensures { Adds W.sink text.old text.new result (quoted (name_at names.now instance)) }
-{
-    text.add(Word::Quote.as_bytes())?;
-    add_name(text, names, instance)?;
-    text.add(Word::Quote.as_bytes())
-}
-
-#[tactic(auto, using(msc_text::proofs::Writes::joining), unfolding(crate::specs::Spelling::numbered))]
-fn add_numbered<W: Out>(
-    text: &mut TextBuffer<'_, W>,
-    instance: InstanceNo,
-) -> Result<(), WriteError>
-    ensures { Adds W.sink text.old text.new result (numbered instance) }
-{
-    text.add(Word::Number.as_bytes())?;
-    text.add_number(instance.number() as u64)
-}
-
-/// Adds an instance as an arrow names it.
-pub(crate) fn add_who<W: Out>(
-    text: &mut TextBuffer<'_, W>,
-    export: &Export<'_>,
-    instance: InstanceNo,
-) -> Result<(), WriteError>
-    ensures { Adds W.sink text.old text.new result (who export.now instance) }
-{
-    match export.tool() {
-        Tool::Mscgen | Tool::PlantUml => add_quoted(text, export.names(), instance),
-        Tool::Mermaid => add_numbered(text, instance),
-    }
-}
-
 /// Adds an arrow without what stands behind its label.
-#[tactic(auto, using(msc_text::proofs::Writes::joining), unfolding(crate::specs::Spelling::arrow))]
+#[tactic(auto, unfolding(crate::specs::Spelling::arrow))]
 fn add_arrow<W: Out>(
     text: &mut TextBuffer<'_, W>,
     export: &Export<'_>,
-    sign: &[u8],
+    sign: Sign,
     from: InstanceNo,
     to: InstanceNo,
     name: &Name,
 ) -> Result<(), WriteError>
-    ensures { Adds W.sink text.old text.new result (arrow export.now sign.now from to name.now) }
+    ensures { Adds W.sink text.old text.new result
+        (arrow export.now (sign_text export.now.tool sign) from to name.now) }
 {
-    text.add(indent(export.tool()))?;
-    add_who(text, export, from)?;
-    text.add(sign)?;
-    add_who(text, export, to)?;
-    text.add(label_start(export.tool()))?;
-    text.add(name.as_bytes())
+    let tool = export.tool();
+    add_parts(
+        text,
+        &[
+            Part::Indent(tool),
+            who_part(export, from),
+            Part::Sign(tool, sign),
+            who_part(export, to),
+            Part::LabelStart(tool),
+            Part::Name(Some(*name)),
+        ],
+    )
 }
 
 /// Adds a message that is level, or that nobody receives.
@@ -163,16 +63,27 @@ fn add_arrow<W: Out>(
 fn add_whole_arrow<W: Out>(
     text: &mut TextBuffer<'_, W>,
     export: &Export<'_>,
-    sign: &[u8],
+    sign: Sign,
     from: InstanceNo,
     to: InstanceNo,
     name: &Name,
 ) -> Result<(), WriteError>
     ensures { Adds W.sink text.old text.new result
-        (whole_arrow export.now sign.now from to name.now) }
+        (whole_arrow export.now (sign_text export.now.tool sign) from to name.now) }
 {
     add_arrow(text, export, sign, from, to, name)?;
-    text.add(label_end(export.tool()))
+    add_one(text, Part::LabelEnd(export.tool()))
+}
+
+/// Adds so many rows behind an arrow's label, and its end.
+fn add_skip<W: Out>(text: &mut TextBuffer<'_, W>, tool: Tool, rows: u32) -> Result<(), WriteError>
+    ensures { Adds W.sink text.old text.new result (spelled words.ArcSkip ++ (decimal rows ++ label_end tool)) }
+{
+    let rows = Part::Number(u64::from(rows));
+    add_parts(
+        text,
+        &[Part::Word(Word::ArcSkip), rows, Part::LabelEnd(tool)],
+    )
 }
 
 /// Adds a message that ends so many rows further down, in mscgen.
@@ -187,10 +98,8 @@ fn add_late_arrow<W: Out>(
 ) -> Result<(), WriteError>
     ensures { Adds W.sink text.old text.new result (late_arrow export.now from to name.now rows) }
 {
-    add_arrow(text, export, arrow_sign(export.tool()), from, to, name)?;
-    text.add(Word::ArcSkip.as_bytes())?;
-    text.add_number(u64::from(rows))?;
-    text.add(label_end(export.tool()))
+    add_arrow(text, export, Sign::Received, from, to, name)?;
+    add_skip(text, export.tool(), rows)
 }
 
 /// Adds a row of mscgen without anything.
@@ -201,7 +110,7 @@ pub(crate) fn add_space<W: Out>(text: &mut TextBuffer<'_, W>) -> Result<(), Writ
     text.add(b"  |||;\n")
 }
 
-#[tactic(auto, using(msc_text::proofs::Writes::joining), unfolding(crate::specs::Spelling::between))]
+#[tactic(auto, unfolding(crate::specs::Spelling::between))]
 fn add_between<W: Out>(
     text: &mut TextBuffer<'_, W>,
     export: &Export<'_>,
@@ -209,8 +118,7 @@ fn add_between<W: Out>(
 ) -> Result<(), WriteError>
     ensures { Adds W.sink text.old text.new result (between export.now at) }
 {
-    add_who(text, export, at)?;
-    text.add(Word::Note.as_bytes())
+    add_parts(text, &[who_part(export, at), Part::Word(Word::Note)])
 }
 
 /// Adds what stands before the instance of a note that says it once more.
@@ -227,6 +135,20 @@ fn add_note_place<W: Out>(
     }
 }
 
+/// Adds the instance of a note, and what stands before its label.
+fn add_noted<W: Out>(
+    text: &mut TextBuffer<'_, W>,
+    export: &Export<'_>,
+    at: InstanceNo,
+) -> Result<(), WriteError>
+    ensures { Adds W.sink text.old text.new result (who export.now at ++ label_start export.now.tool) }
+{
+    add_parts(
+        text,
+        &[who_part(export, at), Part::LabelStart(export.tool())],
+    )
+}
+
 /// Adds the beginning of a note at an instance.
 #[tactic(auto, using(msc_text::proofs::Writes::joining), unfolding(crate::specs::Spelling::note_start))]
 fn add_note_start<W: Out>(
@@ -236,11 +158,35 @@ fn add_note_start<W: Out>(
 ) -> Result<(), WriteError>
     ensures { Adds W.sink text.old text.new result (note_start export.now at) }
 {
-    text.add(indent(export.tool()))?;
-    text.add(note_front(export.tool()))?;
+    let tool = export.tool();
+    add_one(text, Part::Indent(tool))?;
+    text.add(note_front(tool))?;
     add_note_place(text, export, at)?;
-    add_who(text, export, at)?;
-    text.add(label_start(export.tool()))
+    add_noted(text, export, at)
+}
+
+/// Adds what such a note says, and its end: a word, a message, another word and a name.
+fn add_words<W: Out>(
+    text: &mut TextBuffer<'_, W>,
+    export: &Export<'_>,
+    front: Word,
+    name: &Name,
+    side: Word,
+    partner: InstanceNo,
+) -> Result<(), WriteError>
+    ensures { Adds W.sink text.old text.new result (spelled front ++ (name.now ++ (spelled side
+        ++ (name_at export.now.names partner ++ label_end export.now.tool)))) }
+{
+    add_parts(
+        text,
+        &[
+            Part::Word(front),
+            Part::Name(Some(*name)),
+            Part::Word(side),
+            Part::Name(name_of(export.names(), partner)),
+            Part::LabelEnd(export.tool()),
+        ],
+    )
 }
 
 /// Adds a note that says a send alone.
@@ -255,11 +201,7 @@ fn add_sending<W: Out>(
     ensures { Adds W.sink text.old text.new result (sending export.now at to name.now) }
 {
     add_note_start(text, export, at)?;
-    text.add(Word::Out.as_bytes())?;
-    text.add(name.as_bytes())?;
-    text.add(Word::To.as_bytes())?;
-    add_name(text, export.names(), to)?;
-    text.add(label_end(export.tool()))
+    add_words(text, export, Word::Out, name, Word::To, to)
 }
 
 /// Adds a note that says a receive alone.
@@ -274,11 +216,7 @@ fn add_receiving<W: Out>(
     ensures { Adds W.sink text.old text.new result (receiving export.now at from name.now) }
 {
     add_note_start(text, export, at)?;
-    text.add(Word::In.as_bytes())?;
-    text.add(name.as_bytes())?;
-    text.add(Word::From.as_bytes())?;
-    add_name(text, export.names(), from)?;
-    text.add(label_end(export.tool()))
+    add_words(text, export, Word::In, name, Word::From, from)
 }
 
 /// Adds a note that says which earlier events a receive may come before.
@@ -292,10 +230,10 @@ pub(crate) fn add_races<W: Out>(
 {
     let earlier = report.earlier();
     add_note_start(text, export, report.receive().instance)?;
-    text.add(Word::MayComeBefore.as_bytes())?;
+    add_one(text, Part::Word(Word::MayComeBefore))?;
     add_amount(text, earlier.len())?;
     add_ranges(text, earlier.as_slice())?;
-    text.add(label_end(export.tool()))
+    add_one(text, Part::LabelEnd(export.tool()))
 }
 
 /// Adds what is said, as the tool spells it.
@@ -306,13 +244,12 @@ pub(crate) fn add_saying<W: Out>(
 ) -> Result<(), WriteError>
     ensures { Adds W.sink text.old text.new result (saying_text export.now saying.now) }
 {
-    let tool = export.tool();
     match saying {
         Saying::Arrow { from, to, name } => {
-            add_whole_arrow(text, export, arrow_sign(tool), *from, *to, name)
+            add_whole_arrow(text, export, Sign::Received, *from, *to, name)
         }
         Saying::Lost { from, to, name } => {
-            add_whole_arrow(text, export, lost_sign(tool), *from, *to, name)
+            add_whole_arrow(text, export, Sign::Lost, *from, *to, name)
         }
         Saying::Late {
             from,

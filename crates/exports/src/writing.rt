@@ -7,8 +7,9 @@ ghost use Rattle.exports.specs.ExportText.{participant, participants_end, note_t
 ghost use Rattle.exports.specs.ExportText.{noted, export_text};
 
 use crate::export::Export;
+use crate::part::{Part, add_one, add_parts, name_of, who_part};
 use crate::saying::saying_of;
-use crate::spelling::{add_name, add_races, add_saying, add_space, add_who, indent};
+use crate::spelling::{add_races, add_saying, add_space};
 use crate::word::Word;
 use chart::{EventNo, InstanceNo, Line, Report};
 use layout::Row;
@@ -70,10 +71,10 @@ fn add_in_mscgen<W: Out>(
     ensures { Adds W.sink text.old text.new result (in_mscgen export.now instance) }
 {
     text.add(comma_before(instance))?;
-    add_who(text, export, instance)
+    add_one(text, who_part(export, instance))
 }
 
-#[tactic(auto, using(msc_text::proofs::Writes::joining), unfolding(crate::specs::ExportText::in_plantuml))]
+#[tactic(auto, unfolding(crate::specs::ExportText::in_plantuml))]
 fn add_in_plantuml<W: Out>(
     text: &mut TextBuffer<'_, W>,
     export: &Export<'_>,
@@ -81,12 +82,17 @@ fn add_in_plantuml<W: Out>(
 ) -> Result<(), WriteError>
     ensures { Adds W.sink text.old text.new result (in_plantuml export.now instance) }
 {
-    text.add(Word::Participant.as_bytes())?;
-    add_who(text, export, instance)?;
-    text.add(Word::LineEnd.as_bytes())
+    add_parts(
+        text,
+        &[
+            Part::Word(Word::Participant),
+            who_part(export, instance),
+            Part::Word(Word::LineEnd),
+        ],
+    )
 }
 
-#[tactic(auto, using(msc_text::proofs::Writes::joining), unfolding(crate::specs::ExportText::in_mermaid))]
+#[tactic(auto, unfolding(crate::specs::ExportText::in_mermaid))]
 fn add_in_mermaid<W: Out>(
     text: &mut TextBuffer<'_, W>,
     export: &Export<'_>,
@@ -94,12 +100,17 @@ fn add_in_mermaid<W: Out>(
 ) -> Result<(), WriteError>
     ensures { Adds W.sink text.old text.new result (in_mermaid export.now instance) }
 {
-    text.add(indent(export.tool()))?;
-    text.add(Word::Participant.as_bytes())?;
-    add_who(text, export, instance)?;
-    text.add(Word::As.as_bytes())?;
-    add_name(text, export.names(), instance)?;
-    text.add(Word::LineEnd.as_bytes())
+    add_parts(
+        text,
+        &[
+            Part::Indent(export.tool()),
+            Part::Word(Word::Participant),
+            who_part(export, instance),
+            Part::Word(Word::As),
+            Part::Name(name_of(export.names(), instance)),
+            Part::Word(Word::LineEnd),
+        ],
+    )
 }
 
 /// Adds a participant.
