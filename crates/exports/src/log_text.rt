@@ -44,7 +44,7 @@ fn add_entry<W: Out>(
 ) -> Result<(), WriteError>
     ensures { Adds W.sink text.old text.new result (entry_text export.now clock.now instance) }
 {
-    let name = Part::Quoted(name_of(export.names(), instance));
+    let name = Part::Quoted(export.names().name(instance));
     let entry = Part::Number(u64::from(entry_in(clock, instance)));
     add_parts(text, &[name, Part::Word(Word::Colon), entry])
 }
@@ -149,7 +149,7 @@ fn add_sent<W: Out>(
             Part::Word(Word::Out),
             Part::Name(Some(*name)),
             Part::Word(Word::To),
-            Part::Name(name_of(export.names(), to)),
+            Part::Name(export.names().name(to)),
         ],
     )
 }
@@ -169,7 +169,7 @@ fn add_in<W: Out>(
             Part::Word(Word::In),
             Part::Name(Some(*name)),
             Part::Word(Word::From),
-            Part::Name(name_of(export.names(), from)),
+            Part::Name(export.names().name(from)),
         ],
     )
 }

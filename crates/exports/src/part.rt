@@ -4,7 +4,7 @@ ghost use Rattle.std.specs.List.{flat_map};
 ghost use Rattle.msc_text.specs.ChartText.{name_at};
 ghost use Rattle.msc_text.specs.Writing.{Adds};
 ghost use Rattle.exports.specs.Parts.{bytes_of, named_text, who_text, sign_text, part_text};
-ghost use Rattle.exports.specs.Spelling.{who, numbered, indent, arrow_sign, lost_sign, label_start, label_end};
+ghost use Rattle.exports.specs.Spelling.{who, indent, label_start, label_end};
 
 use crate::export::Export;
 use crate::word::Word;
@@ -56,34 +56,20 @@ fn indent(tool: Tool) -> &'static [u8]
     }
 }
 
-/// What stands between the ends of a message that is received.
-#[tactic(auto, unfolding(crate::specs::Spelling::arrow_sign))]
-fn arrow_sign(tool: Tool) -> &'static [u8]
-    ensures { result.now ≡ arrow_sign tool }
-{
-    match tool {
-        Tool::Mscgen | Tool::PlantUml => b" -> ",
-        Tool::Mermaid => b"->>",
-    }
-}
-
-/// What stands between them where nobody receives it.
-#[tactic(auto, unfolding(crate::specs::Spelling::lost_sign))]
-fn lost_sign(tool: Tool) -> &'static [u8]
-    ensures { result.now ≡ lost_sign tool }
-{
-    match tool {
-        Tool::Mscgen | Tool::Mermaid => b" -x ",
-        Tool::PlantUml => b" ->x ",
-    }
-}
-
+/// What stands between the ends of a message.
+#[tactic(auto, unfolding(crate::specs::Spelling::arrow_sign, crate::specs::Spelling::lost_sign))]
 fn spelled_sign(tool: Tool, sign: Sign) -> &'static [u8]
     ensures { result.now ≡ sign_text tool sign }
 {
     match sign {
-        Sign::Received => arrow_sign(tool),
-        Sign::Lost => lost_sign(tool),
+        Sign::Received => match tool {
+            Tool::Mscgen | Tool::PlantUml => b" -> ",
+            Tool::Mermaid => b"->>",
+        },
+        Sign::Lost => match tool {
+            Tool::Mscgen | Tool::Mermaid => b" -x ",
+            Tool::PlantUml => b" ->x ",
+        },
     }
 }
 
@@ -131,7 +117,7 @@ pub(crate) fn name_of(names: &Names, instance: InstanceNo) -> Option<Name>
 pub(crate) fn who_part(export: &Export<'_>, instance: InstanceNo) -> Part
     ensures { part_text result ≡ who export.now instance }
 {
-    Part::Who(export.tool(), name_of(export.names(), instance), instance)
+    Part::Who(export.tool(), export.names().name(instance), instance)
 }
 
 #[tactic(auto, unfolding(crate::specs::Spelling::quoted))]
@@ -146,17 +132,6 @@ fn add_quoted<W: Out>(text: &mut TextBuffer<'_, W>, name: &Option<Name>) -> Resu
 }
 
 #[tactic(auto, unfolding(crate::specs::Spelling::numbered))]
-fn add_numbered<W: Out>(
-    text: &mut TextBuffer<'_, W>,
-    instance: InstanceNo,
-) -> Result<(), WriteError>
-    ensures { Adds W.sink text.old text.new result (numbered instance) }
-{
-    let mut buffer = Buffer::new();
-    let digits = buffer.format(instance.number() as u64).as_bytes();
-    text.add_all(&[Word::Number.as_bytes(), digits])
-}
-
 fn add_who<W: Out>(
     text: &mut TextBuffer<'_, W>,
     tool: Tool,
@@ -167,7 +142,11 @@ fn add_who<W: Out>(
 {
     match tool {
         Tool::Mscgen | Tool::PlantUml => add_quoted(text, name),
-        Tool::Mermaid => add_numbered(text, instance),
+        Tool::Mermaid => {
+            let mut buffer = Buffer::new();
+            let digits = buffer.format(instance.number() as u64).as_bytes();
+            text.add_all(&[Word::Number.as_bytes(), digits])
+        }
     }
 }
 

@@ -11,7 +11,7 @@ ghost use Rattle.exports.specs.Words.{spelled};
 ghost use Rattle.exports.specs.declared.word.Word.TheVariants as words;
 
 use crate::export::Export;
-use crate::part::{Part, Sign, add_one, add_parts, name_of, who_part};
+use crate::part::{Part, Sign, add_one, add_parts, who_part};
 use crate::saying::Saying;
 use crate::word::Word;
 use chart::{InstanceNo, Name, Report};
@@ -183,7 +183,7 @@ fn add_words<W: Out>(
             Part::Word(front),
             Part::Name(Some(*name)),
             Part::Word(side),
-            Part::Name(name_of(export.names(), partner)),
+            Part::Name(export.names().name(partner)),
             Part::LabelEnd(export.tool()),
         ],
     )

@@ -3,11 +3,11 @@ ghost use Rattle.std.specs.Prelude.{◌≡◌, option_map};
 ghost use Rattle.std.specs.List.{flat_map};
 ghost use Rattle.msc_text.specs.Writing.{Wrote, Adds};
 ghost use Rattle.exports.specs.ExportText.{start, end, comma_before, in_mscgen, in_plantuml, in_mermaid, declared_in};
-ghost use Rattle.exports.specs.ExportText.{participant, participants_end, note_text, row_text, no_rows, rows_text};
+ghost use Rattle.exports.specs.ExportText.{participant, participants_end, note_text, row_text, rows_text};
 ghost use Rattle.exports.specs.ExportText.{noted, export_text};
 
 use crate::export::Export;
-use crate::part::{Part, add_one, add_parts, name_of, who_part};
+use crate::part::{Part, add_one, add_parts, who_part};
 use crate::saying::saying_of;
 use crate::spelling::{add_races, add_saying, add_space};
 use crate::word::Word;
@@ -107,7 +107,7 @@ fn add_in_mermaid<W: Out>(
             Part::Word(Word::Participant),
             who_part(export, instance),
             Part::Word(Word::As),
-            Part::Name(name_of(export.names(), instance)),
+            Part::Name(export.names().name(instance)),
             Part::Word(Word::LineEnd),
         ],
     )
@@ -192,21 +192,15 @@ fn add_rows<W: Out>(
     Ok(())
 }
 
-/// Adds what stands in place of rows.
-fn add_no_rows<W: Out>(text: &mut TextBuffer<'_, W>, tool: Tool) -> Result<(), WriteError>
-    ensures { Adds W.sink text.old text.new result (no_rows tool) }
-{
-    match tool {
-        Tool::Mscgen => add_space(text),
-        Tool::PlantUml | Tool::Mermaid => text.add(b""),
-    }
-}
-
+/// Adds the rows, or what stands in their place.
 fn add_all_rows<W: Out>(text: &mut TextBuffer<'_, W>, export: &Export<'_>) -> Result<(), WriteError>
     ensures { Adds W.sink text.old text.new result (rows_text export.now) }
 {
     if export.rows().is_empty() {
-        add_no_rows(text, export.tool())
+        match export.tool() {
+            Tool::Mscgen => add_space(text),
+            Tool::PlantUml | Tool::Mermaid => text.add(b""),
+        }
     } else {
         add_rows(text, export, export.rows())
     }
