@@ -10,6 +10,7 @@
  *
  * - burst: the first instance sends as many messages to the second as the lane has slots, and then they are received.
  *   (By turns alone.)
+ * - batch: the same, for a peer that passes several messages by a call. Here they go one by one.
  * - one_way: the first instance sends to the second.
  * - ping_pong: the first two instances answer each other's messages.
  * - all_to_all: each instance sends to each other one. MESSAGES are shared out equally.
@@ -21,7 +22,7 @@
 #include <stdio.h>
 #include <time.h>
 
-enum pattern { BURST, ONE_WAY, PING_PONG, ALL_TO_ALL };
+enum pattern { BURST, BATCH, ONE_WAY, PING_PONG, ALL_TO_ALL };
 
 struct load {
   enum pattern pattern;
@@ -62,6 +63,7 @@ static size_t share(const struct load *load, size_t from, size_t to) {
     return 0;
   switch (load->pattern) {
   case BURST:
+  case BATCH:
   case ONE_WAY:
     return from == 0 && to == 1 ? load->messages : 0;
   case PING_PONG:
@@ -206,7 +208,7 @@ static bool run_round(const struct load *load) {
       messages += players[own].to_get[other];
     }
   }
-  uint64_t took = load->pattern == BURST ? run_bursts(players, load)
+  uint64_t took = load->pattern <= BATCH ? run_bursts(players, load)
                   : load->on_threads     ? run_threads(players, load->instances)
                                          : run_turns(players, load->instances);
   bool done = true;
@@ -231,21 +233,21 @@ static long number(const char *word) {
 }
 
 static int usage(void) {
-  fputs("usage: ring burst|one_way|ping_pong|all_to_all threads|turns INSTANCES SLOTS BODY MESSAGES ROUNDS\n", stderr);
+  fputs("usage: ring burst|batch|one_way|ping_pong|all_to_all threads|turns INSTANCES SLOTS BODY MESSAGES ROUNDS\n", stderr);
   return 2;
 }
 
 int main(int count, char **words) {
-  static const char *const patterns[] = {"burst", "one_way", "ping_pong", "all_to_all"};
+  static const char *const patterns[] = {"burst", "batch", "one_way", "ping_pong", "all_to_all"};
   if (count != 8)
     return usage();
   int pattern = 0;
-  while (pattern < 4 && strcmp(words[1], patterns[pattern]) != 0)
+  while (pattern < 5 && strcmp(words[1], patterns[pattern]) != 0)
     pattern++;
   bool on_threads = strcmp(words[2], "threads") == 0;
   long instances = number(words[3]), capacity = number(words[4]), body = number(words[5]);
   long messages = number(words[6]), rounds = number(words[7]);
-  if (pattern == 4 || (!on_threads && strcmp(words[2], "turns") != 0) || instances < 2 || instances > MAX_INSTANCES ||
+  if (pattern == 5 || (!on_threads && strcmp(words[2], "turns") != 0) || instances < 2 || instances > MAX_INSTANCES ||
       capacity < 1 || capacity > 64 || body < 0 || messages < 0 || rounds < 0)
     return usage();
   struct load load = {(enum pattern)pattern, on_threads,      (size_t)instances,

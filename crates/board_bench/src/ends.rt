@@ -1,9 +1,13 @@
 //! What an instance passes messages by in a round: a post of a board, or rings by hand.
-use crate::load::Stopped;
 use crate::rings::{Instance, Message as HandMessage, make_instances};
-use board::{Board, Post, SendError, Taken};
-use chart::{InstanceNo, Message, Name};
+use board::{Board, Post, SendError, Taken, TakenMany};
+use chart::{InstanceNo, Message, Name, Report};
 use std::alloc::Global;
+
+/// A message could not be made, or not be passed. (A result with `anyhow`'s error has some 300 bytes, which would be
+/// timed.)
+#[derive(Clone, Copy, Debug)]
+pub struct Stopped;
 
 /// What reports list: how many events, and the sum of their ranges' first numbers.
 #[derive(Clone, Copy, Debug)]
@@ -28,6 +32,18 @@ pub trait End {
 
     /// Receives a message, and looks through its report. Answers whether one waited.
     fn receive(&mut self, from: usize, seen: &mut Seen) -> Result<bool, Stopped>;
+
+    /// Sends so many messages, with bodies of so many bytes, by one call where there is one for it.
+    fn send_batch(
+        &mut self,
+        alloc: Global,
+        to: usize,
+        body: usize,
+        many: usize,
+    ) -> Result<(), Stopped>;
+
+    /// Receives so many messages, by one call where there is one for it, and looks through their reports.
+    fn receive_batch(&mut self, from: usize, many: usize, seen: &mut Seen) -> Result<(), Stopped>;
 }
 
 /// A post of a board.
@@ -35,6 +51,52 @@ pub trait End {
 pub struct PostEnd<'a> {
     post: Post<'a>,
     name: Name,
+}
+
+/// So many messages, with bodies of so many bytes.
+fn messages_of(
+    alloc: Global,
+    name: Name,
+    body: usize,
+    many: usize,
+) -> Result<Vec<Message>, Stopped> {
+    let Ok(mut messages) = Vec::with_capacity(alloc, many) else {
+        return Err(Stopped);
+    };
+    for _ in 0..many {
+        let message = message_of(alloc, name, body)?;
+        if messages.push(message).is_err() {
+            return Err(Stopped);
+        }
+    }
+    Ok(messages)
+}
+
+/// A message with a body of so many bytes.
+fn message_of(alloc: Global, name: Name, body: usize) -> Result<Message, Stopped> {
+    let Ok(body) = body_of(alloc, body) else {
+        return Err(Stopped);
+    };
+    match Message::new(name, body) {
+        Ok(message) => Ok(message),
+        Err(_) => Err(Stopped),
+    }
+}
+
+/// A body of so many bytes.
+pub fn body_of(alloc: Global, bytes: usize) -> Result<Vec<u8>, Stopped> {
+    match vec![in alloc; 0; bytes] {
+        Ok(body) => Ok(body),
+        Err(_) => Err(Stopped),
+    }
+}
+
+/// Looks through a report.
+#[inline(always)]
+fn see(report: &Report, seen: &mut Seen) {
+    for range in report.earlier().as_slice() {
+        seen.add(range.first.index, range.count as u64);
+    }
 }
 
 impl<'a> End for PostEnd<'a> {
@@ -60,12 +122,42 @@ impl<'a> End for PostEnd<'a> {
         };
         match self.post.receive(from) {
             Ok(Taken::Got(arrival)) => {
-                for range in arrival.report.earlier().as_slice() {
-                    seen.add(range.first.index, range.count as u64);
-                }
+                see(&arrival.report, seen);
                 Ok(true)
             }
             Ok(Taken::Nothing) => Ok(false),
+            _ => Err(Stopped),
+        }
+    }
+
+    fn send_batch(
+        &mut self,
+        alloc: Global,
+        to: usize,
+        body: usize,
+        many: usize,
+    ) -> Result<(), Stopped> {
+        let Some(to) = InstanceNo::new(to.saturating_add(1)) else {
+            return Err(Stopped);
+        };
+        let messages = messages_of(alloc, self.name, body, many)?;
+        match self.post.send_all(to, messages) {
+            Ok(_) => Ok(()),
+            Err(_) => Err(Stopped),
+        }
+    }
+
+    fn receive_batch(&mut self, from: usize, many: usize, seen: &mut Seen) -> Result<(), Stopped> {
+        let Some(from) = InstanceNo::new(from.saturating_add(1)) else {
+            return Err(Stopped);
+        };
+        match self.post.receive_up_to(from, many.max(1)) {
+            Ok(TakenMany::Got { arrivals, .. }) if arrivals.len() == many => {
+                for arrival in &arrivals {
+                    see(&arrival.report, seen);
+                }
+                Ok(())
+            }
             _ => Err(Stopped),
         }
     }
@@ -113,6 +205,30 @@ impl End for HandEnd {
             seen.add(range.first, u64::from(range.count));
         }
         Ok(true)
+    }
+
+    fn send_batch(
+        &mut self,
+        alloc: Global,
+        to: usize,
+        body: usize,
+        many: usize,
+    ) -> Result<(), Stopped> {
+        for _ in 0..many {
+            if !self.send(to, body_of(alloc, body)?)? {
+                return Err(Stopped);
+            }
+        }
+        Ok(())
+    }
+
+    fn receive_batch(&mut self, from: usize, many: usize, seen: &mut Seen) -> Result<(), Stopped> {
+        for _ in 0..many {
+            if !self.receive(from, seen)? {
+                return Err(Stopped);
+            }
+        }
+        Ok(())
     }
 }
 

@@ -1,7 +1,6 @@
 //! Rounds of messages, which `bench/pass_on_boards` times: over a board, or over rings by hand. The peer in C has the
 //! same rounds, in `bench/peers/rounds.c`.
-use crate::ends::{End, Seen, hand_ends, post_ends};
-use crate::load::Stopped;
+use crate::ends::{End, Seen, Stopped, body_of, hand_ends, post_ends};
 use board::Board;
 use std::alloc::{AllocError, Global};
 use std::sync::atomic::{AtomicU64, Ordering};
@@ -14,6 +13,8 @@ use std::{fmt, thread};
 pub enum Traffic {
     /// The first instance sends as many as the lane has slots to the second, and then they are received. On one thread.
     Burst,
+    /// The same, by one call that sends and one that receives.
+    Batch,
     /// The first instance sends to the second.
     OneWay,
     /// The first two instances answer each other's messages.
@@ -33,6 +34,7 @@ impl fmt::Display for Traffic {
     fn fmt<W: fmt::Write>(&self, f: &mut fmt::Formatter<W>) -> fmt::Result {
         match self {
             Traffic::Burst => write!(f, "burst"),
+            Traffic::Batch => write!(f, "batch"),
             Traffic::OneWay => write!(f, "one_way"),
             Traffic::PingPong => write!(f, "ping_pong"),
             Traffic::AllToAll => write!(f, "all_to_all"),
@@ -76,7 +78,9 @@ impl Plan {
             return 0;
         }
         match self.traffic {
-            Traffic::Burst | Traffic::OneWay if from == 0 && to == 1 => self.messages,
+            Traffic::Burst | Traffic::Batch | Traffic::OneWay if from == 0 && to == 1 => {
+                self.messages
+            }
             Traffic::PingPong if from < 2 && to < 2 => self.messages / 2,
             Traffic::AllToAll => {
                 self.messages
@@ -159,10 +163,7 @@ fn send_one<E: End>(
     body: usize,
     other: usize,
 ) -> Result<bool, Stopped> {
-    let Ok(body) = vec![in alloc; 0; body] else {
-        return Err(Stopped);
-    };
-    end.send(other, body)
+    end.send(other, body_of(alloc, body)?)
 }
 
 impl<E: End> Player<E> {
@@ -243,6 +244,22 @@ fn pass_bursts<E: End>(
     Ok(())
 }
 
+/// Passes batches from the first instance to the second.
+fn pass_batches<E: End>(
+    plan: &Plan,
+    first: &mut Player<E>,
+    second: &mut Player<E>,
+) -> Result<(), Stopped> {
+    let many = plan.capacity;
+    for _ in 0..plan.messages / many.max(1) {
+        first.end.send_batch(first.alloc, 1, first.body, many)?;
+        first.left = first.left.saturating_sub(many);
+        second.end.receive_batch(0, many, &mut second.seen)?;
+        second.left = second.left.saturating_sub(many);
+    }
+    Ok(())
+}
+
 /// The outcome of instances that have passed all, in so many nanoseconds.
 fn told<E>(plan: &Plan, players: &Vec<Player<E>>, nanoseconds: u64) -> anyhow::Result<Outcome> {
     let mut messages = 0u64;
@@ -277,13 +294,10 @@ fn run_here<R: Clock, E: End + Drop>(
 ) -> anyhow::Result<Outcome> {
     let mut players = players;
     let start = Instant::now(rt)?;
-    let passed = if plan.traffic == Traffic::Burst {
-        match players.as_mut_slice() {
-            [first, second, ..] => pass_bursts(plan, first, second),
-            _ => Err(Stopped),
-        }
-    } else {
-        pass_by_turns(&mut players)
+    let passed = match (plan.traffic, players.as_mut_slice()) {
+        (Traffic::Burst, [first, second, ..]) => pass_bursts(plan, first, second),
+        (Traffic::Batch, [first, second, ..]) => pass_batches(plan, first, second),
+        _ => pass_by_turns(&mut players),
     };
     let took = start.elapsed(rt)?;
     if passed.is_err() {
