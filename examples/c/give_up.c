@@ -1,5 +1,6 @@
 /* A client asks a server, which gives up when nothing comes for a while, and tells a logger. Three threads, a post each.
- * Each race is printed as it comes.
+ * Each race is printed as it comes. At the end the board is gathered, and its chart is printed, which mscrun check and
+ * mscview read.
  *
  *     cc give_up.c -lmsc -lmsc_malloc -pthread && ./a.out
  */
@@ -80,6 +81,25 @@ static void *logger(void *arg) {
     return NULL;
 }
 
+/* Gathers the board, and prints its chart and what still waits. */
+static int show_board(msc_post *posts) {
+    static char text[1 << 16];
+    msc_board board = MSC_BOARD_INIT;
+    msc_left left;
+    size_t length = 0;
+    uint32_t from, to;
+    int answer = msc_gather(posts, INSTANCES, &board);
+    if (answer == MSC_DONE) answer = msc_board_text(&board, names + 1, INSTANCES, text, sizeof text, &length);
+    if (answer != MSC_DONE) fprintf(stderr, "gather: %s\n", msc_refusal_text(answer));
+    fwrite(text, 1, length < sizeof text ? length : sizeof text, stdout);
+    for (from = 1; from <= INSTANCES; from++)
+        for (to = 1; to <= INSTANCES; to++)
+            if (msc_board_left(&board, from, to, 1, &left, NULL, 0, NULL, 0) == MSC_DONE)
+                printf("something waits from %s to %s\n", names[from], names[to]);
+    msc_board_free(&board);
+    return answer != MSC_DONE;
+}
+
 int main(void) {
     static void *(*const run[])(void *) = {client, server, logger};
     msc_post posts[INSTANCES] = {MSC_POST_INIT};
@@ -91,6 +111,7 @@ int main(void) {
     }
     for (i = 0; i < INSTANCES; i++) pthread_create(&threads[i], NULL, run[i], &posts[i]);
     for (i = 0; i < INSTANCES; i++) pthread_join(threads[i], NULL);
+    answer = show_board(posts);
     for (i = 0; i < INSTANCES; i++) msc_free(&posts[i]);
-    return 0;
+    return answer;
 }

@@ -46,7 +46,14 @@ static int failures, met;
     } while (0)
 
 static void round_trip(void) {
+    static const char *const names[] = {"client", "server", "logger"};
+    static char text[4096];
+    static const msc_message one[] = {{4, 3}};
+    size_t carried[3];
     msc_post posts[3] = {MSC_POST_INIT};
+    msc_board board = MSC_BOARD_INIT;
+    msc_report report;
+    msc_left left;
     msc_arrival came;
     uint32_t races[8];
     size_t count;
@@ -62,6 +69,19 @@ static void round_trip(void) {
         AGAIN(msc_receive(&posts[0], 3, &came));
     }
     AGAIN(msc_close(&posts[0], 3));
+    AGAIN(msc_reserve(&posts[0], 64));
+    AGAIN(msc_meet(posts, 3));
+    AGAIN(msc_send_all(&posts[0], 2, "itemtea", 7, one, 1, NULL));
+    AGAIN(msc_send(&posts[0], 2, "waits", "0123456789abcdef", 16, NULL));
+    AGAIN(msc_gather(posts, 3, &board));
+    AGAIN(msc_board_text(&board, names, 3, text, sizeof text, &count));
+    if (count > sizeof text) failures++;
+    AGAIN(msc_board_report(&board, 1, &report, races, 8));
+    AGAIN(msc_board_left(&board, 1, 2, 1, &left, NULL, 0, NULL, 0));
+    AGAIN(msc_open(posts, 3, 4));
+    AGAIN(msc_carry_over(&board, posts, 3, carried));
+    AGAIN(msc_receive(&posts[1], 1, &came));
+    msc_board_free(&board);
     for (i = 0; i < 3; i++) msc_free(&posts[i]);
 }
 

@@ -1,4 +1,4 @@
--- What closing a lane, coregions and room over a handle answer (this project's profile).
+-- What closing a lane over a handle answers (this project's profile).
 use Rattle.std.specs.Prelude.{◌≡◌, ℕ, Option, None, Some, Result, Ok, Err}
 use Rattle.board.specs.Views.{Sound}
 use Rattle.board.specs.Closing.{IsClosed, IsUnclosed}
@@ -20,6 +20,8 @@ SeatCloses old to (Err why.BodyTooLong) new = ⊥
 SeatCloses old to (Err why.Memory) new = ⊥
 SeatCloses old to (Err why.NoEvent) new = ⊥
 SeatCloses old to (Err why.NotAllPosts) new = ⊥
+SeatCloses old to (Err why.OtherBoard) new = ⊥
+SeatCloses old to (Err why.NameTwice) new = ⊥
 SeatCloses old to (Err (why.Opening error)) new = ⊥
 SeatCloses old to (Err (why.Sending error)) new = ⊥
 SeatCloses old to (Err (why.Taking error)) new = ⊥

@@ -1,5 +1,6 @@
 -- What is copied out of a handle (this project's profile): as much as there is room for.
-use Rattle.std.specs.Prelude.{◌≡◌, ℕ, ◌-◌, ◌^◌, min, List, ◌++◌, length, take, drop, map, Option, None, Some, Result, Ok, Err}
+use Rattle.std.specs.Prelude.{◌≡◌, ℕ, ◌-◌, ◌^◌, min, List, ◌++◌, length, take, drop, map, Option, None, Some, Result}
+use Rattle.std.specs.Prelude.{Ok, Err}
 use Rattle.chart.specs.declared.instance.EventNo.{EventNo}
 use Rattle.std.specs.Borrow.{Bor}
 use Rattle.board.specs.declared.answer.Arrival.{Arrival}
@@ -39,7 +40,8 @@ counted events = min (length events) (2 ^ 64 - 1)
 -- something of the message is copied out, and how much there is of it is told; where there is no message it is a misuse
 abbrev pub CopiesOut : (Arrival → List ℕ) → Option Arrival → List ℕ → Result ℕ Refusal → List ℕ → Type 0
 CopiesOut what None room result out = (result ≡ Err why.Misuse) × (out ≡ room)
-CopiesOut what (Some arrival) room result out = (result ≡ Ok (length (what arrival))) × (out ≡ put_over (what arrival) room)
+CopiesOut what (Some arrival) room result out = (result ≡ Ok (length (what arrival)))
+    × (out ≡ put_over (what arrival) room)
 
 -- this message is looked at, or there is none
 abbrev pub IsSeen : Option Arrival → Option (Bor Arrival) → Type 0

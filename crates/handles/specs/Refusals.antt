@@ -51,7 +51,7 @@ abbrev pub of_region : RegionError → ℕ
 of_region region.CoregionOpen = 28
 of_region region.CoregionNotOpen = 29
 
--- 100 tells of a misuse, which has no number there
+-- 100 tells of a misuse, as posts of two boards are one, which has no number there
 abbrev pub number_of : Refusal → ℕ
 number_of why.Misuse = 100
 number_of (why.Naming error) = of_name error
@@ -60,6 +60,8 @@ number_of why.Memory = 6
 number_of why.NoInstance = 14
 number_of why.NoEvent = 31
 number_of why.NotAllPosts = 15
+number_of why.OtherBoard = 100
+number_of why.NameTwice = 22
 number_of (why.Opening error) = of_board error
 number_of (why.Sending error) = of_send error
 number_of (why.Taking error) = of_take error

@@ -1,4 +1,4 @@
--- What coregions and room over a handle answer (this project's profile).
+-- What coregions over a handle answer (this project's profile).
 use Rattle.std.specs.Prelude.{◌≡◌, ◌+◌, ◌<◌, Option, None, Some, Result, Ok, Err}
 use Rattle.chart.specs.Events.{greatest_region}
 use Rattle.board.specs.declared.error.RegionError.TheVariants.{CoregionOpen, CoregionNotOpen}
@@ -23,6 +23,8 @@ SeatOpens old (Err why.Memory) new = ⊥
 SeatOpens old (Err why.NoInstance) new = ⊥
 SeatOpens old (Err why.NoEvent) new = ⊥
 SeatOpens old (Err why.NotAllPosts) new = ⊥
+SeatOpens old (Err why.OtherBoard) new = ⊥
+SeatOpens old (Err why.NameTwice) new = ⊥
 SeatOpens old (Err (why.Opening error)) new = ⊥
 SeatOpens old (Err (why.Sending error)) new = ⊥
 SeatOpens old (Err (why.Taking error)) new = ⊥
@@ -40,6 +42,8 @@ SeatShuts old (Err why.Memory) new = ⊥
 SeatShuts old (Err why.NoInstance) new = ⊥
 SeatShuts old (Err why.NoEvent) new = ⊥
 SeatShuts old (Err why.NotAllPosts) new = ⊥
+SeatShuts old (Err why.OtherBoard) new = ⊥
+SeatShuts old (Err why.NameTwice) new = ⊥
 SeatShuts old (Err (why.Opening error)) new = ⊥
 SeatShuts old (Err (why.Sending error)) new = ⊥
 SeatShuts old (Err (why.Taking error)) new = ⊥

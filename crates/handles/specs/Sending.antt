@@ -35,6 +35,8 @@ SeatSends old to name body (Err (why.Sending error)) new = IsMessage name body �
 SeatSends old to name body (Err why.Misuse) new = ⊥
 SeatSends old to name body (Err why.NoEvent) new = ⊥
 SeatSends old to name body (Err why.NotAllPosts) new = ⊥
+SeatSends old to name body (Err why.OtherBoard) new = ⊥
+SeatSends old to name body (Err why.NameTwice) new = ⊥
 SeatSends old to name body (Err (why.Opening error)) new = ⊥
 SeatSends old to name body (Err (why.Taking error)) new = ⊥
 SeatSends old to name body (Err (why.Closing error)) new = ⊥
@@ -54,7 +56,8 @@ KeptSends Away to name body result new = (new ≡ Away) × (result ≡ Err why.M
 -- what a send over a handle answers
 abbrev pub HandleSends : Option Kept → ℕ → List ℕ → List ℕ → Result EventNo Refusal → Option Kept → Type 0
 HandleSends None to name body result new = IsNoPost None result new
-HandleSends (Some old) to name body result new = (kept : Kept) × (new ≡ Some kept) × KeptSends old to name body result kept
+HandleSends (Some old) to name body result new = (kept : Kept) × (new ≡ Some kept)
+    × KeptSends old to name body result kept
 
 -- the message of bytes, or why they make none
 abbrev pub MakesMessage : List ℕ → List ℕ → Result Content Refusal → Type 0
@@ -66,6 +69,8 @@ MakesMessage name body (Err why.Misuse) = ⊥
 MakesMessage name body (Err why.NoInstance) = ⊥
 MakesMessage name body (Err why.NoEvent) = ⊥
 MakesMessage name body (Err why.NotAllPosts) = ⊥
+MakesMessage name body (Err why.OtherBoard) = ⊥
+MakesMessage name body (Err why.NameTwice) = ⊥
 MakesMessage name body (Err (why.Opening error)) = ⊥
 MakesMessage name body (Err (why.Sending error)) = ⊥
 MakesMessage name body (Err (why.Taking error)) = ⊥

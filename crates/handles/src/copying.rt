@@ -1,6 +1,7 @@
 //! What is copied out of a handle.
 ghost use Rattle.std.specs.Prelude.{◌≡◌, length};
-ghost use Rattle.handles.specs.Copying.{put_over, arrival_of, arrival_in, name_in, body_in, CopiesOut, CopiesRaces, IsSeen, counted, indices};
+ghost use Rattle.handles.specs.Copying.{put_over, arrival_of, arrival_in, name_in, body_in, CopiesOut, CopiesRaces};
+ghost use Rattle.handles.specs.Copying.{IsSeen, counted, indices};
 
 use crate::handle::Handle;
 use crate::kept::Kept;
@@ -10,7 +11,7 @@ use chart::EventRanges;
 use std::alloc::Global;
 
 /// Writes the first of these bytes, as many as find room, and tells how many they are.
-pub(crate) fn copy_out(bytes: &[u8], out: &mut [u8]) -> usize
+pub fn copy_out(bytes: &[u8], out: &mut [u8]) -> usize
     ensures all { result ≡ length bytes.now }
     ensures copied { out.new ≡ put_over bytes.now out.old }
 {
@@ -20,7 +21,7 @@ pub(crate) fn copy_out(bytes: &[u8], out: &mut [u8]) -> usize
 }
 
 /// Writes the numbers of the first of these events, as many as find room, and tells how many events they are.
-fn copy_events(events: &EventRanges, out: &mut [u32]) -> usize
+pub(crate) fn copy_events(events: &EventRanges, out: &mut [u32]) -> usize
     ensures all { result ≡ counted events.now }
     ensures copied { out.new ≡ put_over (indices events.now) out.old }
 {

@@ -10,24 +10,40 @@
 #![tactic(auto)]
 
 mod any;
+mod away;
+mod bearing;
+mod board_left;
+mod board_reports;
+mod board_text;
+mod carrying;
+mod chair;
 mod closing;
 mod copying;
 mod found;
+mod gathering;
 mod handle;
 mod kept;
 mod loose;
+mod meeting;
+mod naming;
 mod opening;
 mod receiving;
 mod refusal;
 mod regions;
+mod reserving;
 mod seat;
 mod sending;
+mod sending_all;
 mod slot;
+mod taking;
 mod telling;
 
-pub use found::{Arrived, Found, Told};
+pub use copying::copy_out;
+pub use found::{Arrived, Found, MessageLengths, Reported, Told, Waiting};
+pub use gathering::gather;
 pub use handle::Handle;
 pub use kept::Kept;
+pub use meeting::meet;
 pub use opening::open;
 pub use refusal::Refusal;
 pub use seat::Seat;

@@ -2,7 +2,8 @@
 ghost use Rattle.std.specs.Prelude.{◌≡◌, length, true, false, IfOk};
 ghost use Rattle.board.specs.Parked.{IsAtBoard, AreAtBoard};
 ghost use Rattle.handles.specs.declared.kept.Kept.TheVariants.{Post};
-ghost use Rattle.handles.specs.Opening.{kept_by, AreEmpty, IsOneFull, Opens, seated, seats_of, values_of, all_of, MakesPosts};
+ghost use Rattle.handles.specs.Opening.{kept_by, AreEmpty, IsOneFull, Opens, seated, seats_of, values_of, all_of};
+ghost use Rattle.handles.specs.Opening.{MakesPosts};
 
 use crate::handle::Handle;
 use crate::kept::Kept;

@@ -22,6 +22,10 @@ pub enum Refusal {
     NoEvent,
     /// F15: the posts are none, or not all of their board.
     NotAllPosts,
+    /// The posts are of two boards, as far as the counts of their tables' owners tell. No contract sees these.
+    OtherBoard,
+    /// F22: two instances are to have one name.
+    NameTwice,
     /// F8, F9, F6: no board is made.
     Opening(BoardError),
     /// Nothing is sent.
@@ -107,7 +111,7 @@ fn region_number(error: RegionError) -> u32
 }
 
 impl Refusal {
-    /// Its number, as in `docs/FORMATS.md`; 100 for a misuse.
+    /// Its number, as in `docs/FORMATS.md`; 100 for a misuse and for posts of two boards.
     pub fn number(self) -> u32
         ensures value { result ≡ number_of self }
         ensures small { result ≤ 100 }
@@ -120,6 +124,8 @@ impl Refusal {
             Refusal::NoInstance => 14,
             Refusal::NoEvent => 31,
             Refusal::NotAllPosts => 15,
+            Refusal::OtherBoard => 100,
+            Refusal::NameTwice => 22,
             Refusal::Opening(error) => board_number(error),
             Refusal::Sending(error) => send_number(error),
             Refusal::Taking(error) => take_number(error),

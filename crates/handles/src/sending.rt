@@ -20,7 +20,7 @@ fn copied(alloc: Global, bytes: &[u8]) -> Result<Vec<u8>, AllocError>
 }
 
 /// The message of these bytes. The first of F1 to F6 refuses it.
-fn message_of(alloc: Global, name: &[u8], body: &[u8]) -> Result<Message, Refusal>
+pub(crate) fn message_of(alloc: Global, name: &[u8], body: &[u8]) -> Result<Message, Refusal>
     ensures { MakesMessage name.now body.now result }
 {
     let name = match Name::new(name) {

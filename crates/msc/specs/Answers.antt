@@ -1,6 +1,6 @@
 -- The numbers that C gets (this project's profile): 0 done, 1 nothing waits, 2 ended, and the number of a refusal,
 -- below 0.
-use Rattle.std.specs.Prelude.{◌≡◌, ℕ, cond, List, Option, Result, Ok, Err}
+use Rattle.std.specs.Prelude.{◌≡◌, ℕ, cond, List, Option, None, Some, Result, Ok, Err}
 use lib.IntN.{ℤ, pos, neg_ℤ}
 use Rattle.board.specs.declared.answer.Arrival.{Arrival}
 use Rattle.chart.specs.declared.instance.EventNo.{EventNo}
@@ -11,6 +11,8 @@ use Rattle.handles.specs.declared.kept.Kept.{Kept}
 use Rattle.handles.specs.declared.refusal.Refusal.{Refusal}
 use Rattle.handles.specs.Refusals.{number_of}
 use Rattle.handles.specs.Sending.{HandleSends}
+use Rattle.handles.specs.SendingAll.{HandleSendsAll}
+use Rattle.chart.specs.Messages.{Content}
 use Rattle.handles.specs.Receiving.{HandleTakes, HandleTakesAny}
 use Rattle.handles.specs.Closing.{HandleCloses}
 use Rattle.handles.specs.Copying as races
@@ -18,9 +20,20 @@ use Rattle.handles.specs.Copying.{CopiesOut, arrival_in}
 use Rattle.handles.specs.Opening.{Opens}
 use Rattle.handles.specs.declared.found.Told.{Told}
 use Rattle.handles.specs.Regions.{HandleOpens, HandleShuts}
+use Rattle.handles.specs.Reserving.{HandleReserves}
+use Rattle.handles.specs.declared.found.Reported.{Reported}
+use Rattle.handles.specs.declared.found.Waiting.{Waiting}
+use Rattle.handles.specs.BoardTelling.{HandleReports, HandleWaits}
+use Rattle.handles.specs.BoardText.{HandleWritesText}
+use Rattle.handles.specs.Gathering.{Gathers}
+use Rattle.handles.specs.Meeting.{Meets}
+use Rattle.handles.specs.Carrying.{CarriesAll}
 use Rattle.handles.specs.Telling.{HandleTells}
 use Rattle.msc.specs.declared.answers.MscArrival.{MscArrival}
 use Rattle.msc.specs.declared.answers.MscEvent.{MscEvent}
+use Rattle.msc.specs.declared.answers.MscLeft.{MscLeft}
+use Rattle.msc.specs.declared.answers.MscPlace.{MscPlace}
+use Rattle.msc.specs.declared.answers.MscReport.{MscReport}
 
 -- a refusal
 abbrev pub code_of : Refusal → ℤ
@@ -70,6 +83,10 @@ abbrev pub Sends : Option Kept → ℕ → List ℕ → List ℕ → ℤ → ℕ
 Sends old to name body code before event new = (answer : Result EventNo Refusal)
     × HandleSends old to name body answer new × (code ≡ done_code answer) × (event ≡ event_after before answer)
 
+abbrev pub SendsAll : Option Kept → ℕ → List Content → ℤ → ℕ → ℕ → Option Kept → Type 0
+SendsAll old to all code before event new = (answer : Result ℕ Refusal)
+    × HandleSendsAll old to all answer new × (code ≡ done_code answer) × (event ≡ number_after before answer)
+
 abbrev pub Takes : Option Kept → ℕ → ℤ → MscArrival → MscArrival → Option Kept → Type 0
 Takes old from code before told new = (answer : Result Found Refusal)
     × HandleTakes old from answer new × (code ≡ found_code answer) × (told ≡ told_after before answer)
@@ -79,7 +96,8 @@ TakesAny old code before told new = (answer : Result Found Refusal)
     × HandleTakesAny old answer new × (code ≡ found_code answer) × (told ≡ told_after before answer)
 
 abbrev pub Closes : Option Kept → ℕ → ℤ → Option Kept → Type 0
-Closes old to code new = (answer : Result (Unit {0}) Refusal) × HandleCloses old to answer new × (code ≡ done_code answer)
+Closes old to code new = (answer : Result (Unit {0}) Refusal) × HandleCloses old to answer new
+    × (code ≡ done_code answer)
 
 abbrev pub OpensAll : ℕ → List (Option Kept) → ℤ → List (Option Kept) → Type 0
 OpensAll k old code new = (answer : Result (Unit {0}) Refusal) × Opens k old answer new × (code ≡ done_code answer)
@@ -91,7 +109,8 @@ Copies what old room code before count out = (answer : Result ℕ Refusal)
 
 abbrev pub CopiesRaces : Option Kept → List ℕ → ℤ → ℕ → ℕ → List ℕ → Type 0
 CopiesRaces old room code before count out = (answer : Result ℕ Refusal)
-    × races.CopiesRaces (arrival_in old) room answer out × (code ≡ done_code answer) × (count ≡ number_after before answer)
+    × races.CopiesRaces (arrival_in old) room answer out × (code ≡ done_code answer)
+    × (count ≡ number_after before answer)
 
 abbrev pub OpensRegion : Option Kept → ℤ → Option Kept → Type 0
 OpensRegion old code new = (answer : Result (Unit {0}) Refusal) × HandleOpens old answer new × (code ≡ done_code answer)
@@ -116,3 +135,54 @@ told_event before (Err refusal) = before
 abbrev pub TellsEvent : Option Kept → ℕ → List ℕ → ℤ → MscEvent → MscEvent → List ℕ → Type 0
 TellsEvent old number room code before event out = (answer : Result Told Refusal)
     × HandleTells old number room answer out × (code ≡ done_code answer) × (event ≡ told_event before answer)
+
+abbrev pub Reserves : Option Kept → ℕ → ℤ → Option Kept → Type 0
+Reserves old events code new = (answer : Result (Unit {0}) Refusal) × HandleReserves old events answer new
+    × (code ≡ done_code answer)
+
+abbrev pub GathersAll : List (Option Kept) → Option Kept → ℤ → List (Option Kept) → Option Kept → Type 0
+GathersAll old board code new made = (answer : Result (Unit {0}) Refusal) × Gathers old board answer new made
+    × (code ≡ done_code answer)
+
+abbrev pub MeetsAll : List (Option Kept) → ℤ → List (Option Kept) → Type 0
+MeetsAll old code new = (answer : Result (Unit {0}) Refusal) × Meets old answer new × (code ≡ done_code answer)
+
+abbrev pub CarriesBoard : Option Kept → List (Option Kept) → List ℕ → ℤ → ℕ → ℕ → Option Kept → List (Option Kept)
+    → List ℕ → Type 0
+CarriesBoard board old room code before count now new out = (answer : Result ℕ Refusal)
+    × CarriesAll board old room answer now new out × (code ≡ done_code answer) × (count ≡ number_after before answer)
+
+abbrev pub WritesText : Option Kept → List (List ℕ) → List ℕ → ℤ → ℕ → ℕ → List ℕ → Type 0
+WritesText old names room code before count out = (answer : Result ℕ Refusal)
+    × HandleWritesText old names room answer out × (code ≡ done_code answer) × (count ≡ number_after before answer)
+
+-- what is told of a report, field by field, and else what was told before
+abbrev pub report_from : Reported → MscReport
+report_from told = record { instance = told.instance; event = told.event; races = told.races }
+
+abbrev pub told_report : MscReport → Result Reported Refusal → MscReport
+told_report before (Ok told) = report_from told
+told_report before (Err refusal) = before
+
+abbrev pub TellsReport : Option Kept → ℕ → List ℕ → ℤ → MscReport → MscReport → List ℕ → Type 0
+TellsReport old number room code before report out = (answer : Result Reported Refusal)
+    × HandleReports old number room answer out × (code ≡ done_code answer) × (report ≡ told_report before answer)
+
+-- what is told of a message that waits, field by field, and else what was told before
+abbrev pub left_from : Waiting → MscLeft
+left_from told = record { name_length = told.name; body_length = told.body }
+
+abbrev pub told_left : MscLeft → Result (Option Waiting) Refusal → MscLeft
+told_left before (Ok (Some told)) = left_from told
+told_left before (Ok None) = before
+told_left before (Err refusal) = before
+
+abbrev pub waiting_code : Result (Option Waiting) Refusal → ℤ
+waiting_code (Ok (Some told)) = pos 0
+waiting_code (Ok None) = pos 1
+waiting_code (Err refusal) = code_of refusal
+
+abbrev pub TellsLeft : Option Kept → MscPlace → List ℕ → List ℕ → ℤ → MscLeft → MscLeft → List ℕ → List ℕ → Type 0
+TellsLeft old place names bodies code before left name body = (answer : Result (Option Waiting) Refusal)
+    × HandleWaits old place.from place.to place.number names bodies answer name body
+    × (code ≡ waiting_code answer) × (left ≡ told_left before answer)

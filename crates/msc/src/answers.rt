@@ -21,3 +21,29 @@ pub struct MscEvent {
     pub region: u32,
     pub name_length: usize,
 }
+
+/// What is told of a report of a gathered board.
+#[repr(C)]
+#[derive(Clone, Copy)]
+pub struct MscReport {
+    pub instance: u32,
+    pub event: u32,
+    pub races: usize,
+}
+
+/// A message that waits on a gathered board: its lane's sender and receiver, and its number there, from 1.
+#[repr(C)]
+#[derive(Clone, Copy)]
+pub struct MscPlace {
+    pub from: u32,
+    pub to: u32,
+    pub number: usize,
+}
+
+/// What is told of a message that waits on a gathered board.
+#[repr(C)]
+#[derive(Clone, Copy)]
+pub struct MscLeft {
+    pub name_length: usize,
+    pub body_length: usize,
+}

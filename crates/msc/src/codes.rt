@@ -1,9 +1,11 @@
 //! Answers as numbers.
 ghost use Rattle.std.specs.Prelude.{◌≡◌};
-ghost use Rattle.msc.specs.Answers.{code_of, done_code, found_code, arrival_from, told_after, number_after, event_from, told_event};
+ghost use Rattle.msc.specs.Answers.{code_of, done_code, found_code, arrival_from, told_after, number_after};
+ghost use Rattle.msc.specs.Answers.{event_from, told_event, report_from, told_report, left_from, waiting_code};
+ghost use Rattle.msc.specs.Answers.{told_left};
 
-use crate::answers::{MscArrival, MscEvent};
-use handles::{Arrived, Found, Refusal, Told};
+use crate::answers::{MscArrival, MscEvent, MscLeft, MscReport};
+use handles::{Arrived, Found, Refusal, Reported, Told, Waiting};
 
 /// The number of a refusal, below 0.
 pub(crate) fn code_of(refusal: Refusal) -> i32
@@ -65,6 +67,20 @@ pub(crate) fn count_code(answer: Result<usize, Refusal>, count: &mut usize) -> i
     }
 }
 
+/// The number of what is sent or refused, and the first event.
+pub(crate) fn first_code(answer: Result<u32, Refusal>, event: &mut u32) -> i32
+    ensures code { result ≡ done_code answer }
+    ensures event { event.new ≡ number_after event.old answer }
+{
+    match answer {
+        Ok(first) => {
+            *event = first;
+            0
+        }
+        Err(refusal) => code_of(refusal),
+    }
+}
+
 /// What is told of an event, as C reads it.
 fn event_from(told: Told) -> MscEvent
     ensures { result ≡ event_from told }
@@ -87,6 +103,56 @@ pub(crate) fn event_code(answer: Result<Told, Refusal>, event: &mut MscEvent) ->
             *event = event_from(told);
             0
         }
+        Err(refusal) => code_of(refusal),
+    }
+}
+
+/// What is told of a report, as C reads it.
+fn report_from(reported: Reported) -> MscReport
+    ensures { result ≡ report_from reported }
+{
+    MscReport {
+        instance: reported.instance,
+        event: reported.event,
+        races: reported.races,
+    }
+}
+
+/// The number of what is told of a report or refused, and what is told.
+pub(crate) fn report_code(answer: Result<Reported, Refusal>, report: &mut MscReport) -> i32
+    ensures code { result ≡ done_code answer }
+    ensures report { report.new ≡ told_report report.old answer }
+{
+    match answer {
+        Ok(reported) => {
+            *report = report_from(reported);
+            0
+        }
+        Err(refusal) => code_of(refusal),
+    }
+}
+
+/// What is told of a message that waits, as C reads it.
+fn left_from(waiting: Waiting) -> MscLeft
+    ensures { result ≡ left_from waiting }
+{
+    MscLeft {
+        name_length: waiting.name,
+        body_length: waiting.body,
+    }
+}
+
+/// The number of what is told of a message that waits, if there is one, or refused; and what is told.
+pub(crate) fn waiting_code(answer: Result<Option<Waiting>, Refusal>, left: &mut MscLeft) -> i32
+    ensures code { result ≡ waiting_code answer }
+    ensures left { left.new ≡ told_left left.old answer }
+{
+    match answer {
+        Ok(Some(waiting)) => {
+            *left = left_from(waiting);
+            0
+        }
+        Ok(None) => 1,
         Err(refusal) => code_of(refusal),
     }
 }

@@ -1,12 +1,14 @@
 //! The exports.
 ghost use Rattle.std.specs.Prelude.{◌≡◌, None};
 ghost use Rattle.handles.specs.Opening.{kept_by};
-ghost use Rattle.msc.specs.Answers.{Sends, Takes, TakesAny, Closes, OpensAll, Copies, CopiesRaces, OpensRegion, ShutsRegion, TellsEvent};
+ghost use Rattle.msc.specs.Answers.{Sends, Takes, TakesAny, Closes, OpensAll, Copies, CopiesRaces, OpensRegion};
+ghost use Rattle.msc.specs.Answers.{ShutsRegion, TellsEvent, Reserves, SendsAll};
 ghost use Rattle.handles.specs.Copying.{name_in, body_in};
+ghost use Rattle.handles.specs.SendingAll.{contents_in};
 
 use crate::answers::{MscArrival, MscEvent};
-use crate::codes::{code_of, count_code, done_code, event_code, found_code};
-use handles::{Handle, open};
+use crate::codes::{code_of, count_code, done_code, event_code, first_code, found_code};
+use handles::{Handle, MessageLengths, open};
 use std::alloc::Global;
 
 #[unsafe(no_mangle)]
@@ -34,6 +36,21 @@ pub extern "C" fn msc_send_(
         }
         Err(refusal) => code_of(refusal),
     }
+}
+
+#[unsafe(no_mangle)]
+pub extern "C" fn msc_send_all_(
+    alloc: Global,
+    post: &mut Handle,
+    to: u32,
+    bytes: &[u8],
+    lengths: &[MessageLengths],
+    event: &mut u32,
+) -> i32
+    ensures { SendsAll post.old.slot.value to (contents_in bytes.now lengths.now) result event.old event.new
+        post.new.slot.value }
+{
+    first_code(post.send_all(alloc, to, bytes, lengths), event)
 }
 
 #[unsafe(no_mangle)]
@@ -113,6 +130,13 @@ pub extern "C" fn msc_close_coregion_(alloc: Global, post: &mut Handle) -> i32
     ensures { ShutsRegion post.old.slot.value result post.new.slot.value }
 {
     done_code(post.close_coregion(alloc))
+}
+
+#[unsafe(no_mangle)]
+pub extern "C" fn msc_reserve_(alloc: Global, post: &mut Handle, events: u32) -> i32
+    ensures { Reserves post.old.slot.value events result post.new.slot.value }
+{
+    done_code(post.reserve(alloc, events))
 }
 
 #[unsafe(no_mangle)]

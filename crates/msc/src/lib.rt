@@ -4,11 +4,20 @@
 #![tactic(auto)]
 
 mod answers;
+mod boards;
 mod codes;
 mod exports;
+mod performing;
+mod version;
 
-pub use answers::{MscArrival, MscEvent};
+pub use answers::{MscArrival, MscEvent, MscLeft, MscPlace, MscReport};
+pub use boards::{
+    msc_board_left_, msc_board_report_, msc_board_text_, msc_carry_over_, msc_gather_, msc_meet_,
+};
 pub use exports::{
     msc_any_, msc_body_, msc_close_, msc_close_coregion_, msc_event_, msc_free_, msc_name_,
-    msc_open_, msc_open_coregion_, msc_races_, msc_receive_, msc_send_,
+    msc_open_, msc_open_coregion_, msc_races_, msc_receive_, msc_reserve_, msc_send_,
+    msc_send_all_,
 };
+pub use performing::{MscLengths, msc_perform_};
+pub use version::msc_version;

@@ -1,0 +1,25 @@
+-- What C gets of a task that is done with the bytes of a file (this project's profile): the exit status, and how long
+-- its texts are.
+use Rattle.std.specs.Prelude.{◌≡◌, ℕ, List, Result, Ok, Err}
+use lib.IntN.{ℤ, pos}
+use Rattle.handles.specs.declared.refusal.Refusal.{Refusal}
+use Rattle.offline.specs.declared.performing.Performed.{Performed}
+use Rattle.offline.specs.Performing.{task_in, Performs}
+use Rattle.msc.specs.declared.performing.MscLengths.{MscLengths}
+use Rattle.msc.specs.Answers.{code_of}
+
+-- the exit status, or the number of a refusal
+abbrev pub performed_code : Result Performed Refusal → ℤ
+performed_code (Ok performed) = pos performed.status
+performed_code (Err refusal) = code_of refusal
+
+-- the lengths, and else what was told before
+abbrev pub lengths_after : MscLengths → Result Performed Refusal → MscLengths
+lengths_after before (Ok performed) = record { out = performed.out; err = performed.err }
+lengths_after before (Err refusal) = before
+
+-- the task of the number is done with the bytes
+abbrev pub PerformsTask : ℕ → ℕ → List ℕ → List ℕ → List ℕ → ℤ → MscLengths → MscLengths → List ℕ → List ℕ → Type 0
+PerformsTask task seed bytes room_out room_err code before lengths out err = (answer : Result Performed Refusal)
+    × Performs (task_in task seed) bytes room_out room_err answer out err
+    × (code ≡ performed_code answer) × (lengths ≡ lengths_after before answer)

@@ -1,0 +1,91 @@
+//! The exports over whole boards.
+ghost use Rattle.std.specs.Prelude.{◌≡◌};
+ghost use Rattle.handles.specs.Carrying.{MayCarryOver};
+ghost use Rattle.handles.specs.Chairs.{KeepOneBoard};
+ghost use Rattle.handles.specs.Naming.{words_in};
+ghost use Rattle.handles.specs.Opening.{kept_by};
+ghost use Rattle.msc.specs.Answers.{CarriesBoard, GathersAll, MeetsAll, WritesText, TellsReport, TellsLeft};
+
+use crate::answers::{MscLeft, MscPlace, MscReport};
+use crate::codes::{count_code, done_code, report_code, waiting_code};
+use handles::{Handle, gather, meet};
+use std::alloc::Global;
+
+#[unsafe(no_mangle)]
+pub extern "C" fn msc_gather_(alloc: Global, posts: &mut [Handle], board: &mut Handle) -> i32
+    requires { KeepOneBoard (kept_by posts.old) }
+    ensures { GathersAll (kept_by posts.old) board.old.slot.value result (kept_by posts.new) board.new.slot.value }
+{
+    done_code(gather(alloc, posts, board))
+}
+
+#[unsafe(no_mangle)]
+pub extern "C" fn msc_meet_(alloc: Global, posts: &mut [Handle]) -> i32
+    requires { KeepOneBoard (kept_by posts.old) }
+    ensures { MeetsAll (kept_by posts.old) result (kept_by posts.new) }
+{
+    done_code(meet(alloc, posts))
+}
+
+#[unsafe(no_mangle)]
+pub extern "C" fn msc_carry_over_(
+    alloc: Global,
+    board: &mut Handle,
+    posts: &mut [Handle],
+    carried: &mut [usize],
+    count: &mut usize,
+) -> i32
+    requires one { KeepOneBoard (kept_by posts.old) }
+    requires may { MayCarryOver board.old.slot.value (kept_by posts.old) }
+    ensures { CarriesBoard board.old.slot.value (kept_by posts.old) carried.old result count.old count.new
+        board.new.slot.value (kept_by posts.new) carried.new }
+{
+    count_code(board.carry_over(alloc, posts, carried), count)
+}
+
+#[unsafe(no_mangle)]
+pub extern "C" fn msc_board_text_(
+    alloc: Global,
+    board: &mut Handle,
+    names: &[u8],
+    lengths: &[usize],
+    buffer: &mut [u8],
+    length: &mut usize,
+) -> i32
+    ensures same { board.new.slot.value ≡ board.old.slot.value }
+    ensures answer { WritesText board.old.slot.value (words_in names.now lengths.now) buffer.old result length.old
+        length.new buffer.new }
+{
+    count_code(board.copy_text(alloc, names, lengths, buffer), length)
+}
+
+#[unsafe(no_mangle)]
+pub extern "C" fn msc_board_report_(
+    alloc: Global,
+    board: &mut Handle,
+    number: usize,
+    report: &mut MscReport,
+    buffer: &mut [u32],
+) -> i32
+    ensures same { board.new.slot.value ≡ board.old.slot.value }
+    ensures answer { TellsReport board.old.slot.value number buffer.old result report.old report.new buffer.new }
+{
+    report_code(board.report(alloc, number, buffer), report)
+}
+
+#[unsafe(no_mangle)]
+pub extern "C" fn msc_board_left_(
+    alloc: Global,
+    board: &mut Handle,
+    place: &MscPlace,
+    left: &mut MscLeft,
+    name: &mut [u8],
+    body: &mut [u8],
+) -> i32
+    ensures same { board.new.slot.value ≡ board.old.slot.value }
+    ensures answer { TellsLeft board.old.slot.value place.now name.old body.old result left.old left.new name.new
+        body.new }
+{
+    let answer = board.waiting(alloc, place.from, place.to, place.number, name, body);
+    waiting_code(answer, left)
+}

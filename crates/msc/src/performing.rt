@@ -1,0 +1,48 @@
+//! What `mscrun` does with the bytes of a file.
+ghost use Rattle.std.specs.Prelude.{◌≡◌};
+ghost use Rattle.msc.specs.Performing.{PerformsTask, performed_code, lengths_after};
+
+use crate::codes::code_of;
+use handles::Refusal;
+use offline::{Performed, perform_into};
+use std::alloc::Global;
+
+/// How long the texts are that a task wrote.
+#[repr(C)]
+#[derive(Clone, Copy)]
+pub struct MscLengths {
+    pub out: usize,
+    pub err: usize,
+}
+
+/// The exit status of what was done, or the number of a refusal, and how long its texts are.
+fn performed_code(answer: Result<Performed, Refusal>, lengths: &mut MscLengths) -> i32
+    ensures code { result ≡ performed_code answer }
+    ensures lengths { lengths.new ≡ lengths_after lengths.old answer }
+{
+    match answer {
+        Ok(performed) => {
+            *lengths = MscLengths {
+                out: performed.out,
+                err: performed.err,
+            };
+            performed.status as i32
+        }
+        Err(refusal) => code_of(refusal),
+    }
+}
+
+#[unsafe(no_mangle)]
+pub extern "C" fn msc_perform_(
+    alloc: Global,
+    task: u32,
+    seed: u64,
+    text: &[u8],
+    out: &mut [u8],
+    err: &mut [u8],
+    lengths: &mut MscLengths,
+) -> i32
+    ensures { PerformsTask task seed text.now out.old err.old result lengths.old lengths.new out.new err.new }
+{
+    performed_code(perform_into(alloc, task, seed, text, out, err), lengths)
+}

@@ -1,0 +1,17 @@
+//! The library's version.
+ghost use Rattle.std.specs.Prelude.{◌≡◌, ◌+◌, ◌*◌};
+
+/// The parts of the file `VERSION`.
+const MAJOR: u32 = 0;
+
+const MINOR: u32 = 9;
+
+const PATCH: u32 = 0;
+
+/// The version as one number: major × 10,000 + minor × 100 + patch.
+#[unsafe(no_mangle)]
+pub extern "C" fn msc_version() -> u32
+    ensures { result ≡ MAJOR * 10000 + MINOR * 100 + PATCH }
+{
+    MAJOR * 10000 + MINOR * 100 + PATCH
+}
