@@ -29,7 +29,7 @@
 write(Folder, Recordings, Chosen, Recorders) ->
     Numbered = numbered_events(Recordings),
     Pairs = paired(Recordings, Numbered),
-    Lines = [{Node, ended_once(lines_of(Events, Pairs))} || {Node, Events} <- Numbered],
+    Lines = [{Node, ended_last(ended_once(lines_of(Events, Pairs)))} || {Node, Events} <- Numbered],
     Names = maps:without(Recorders, names(Recordings)),
     Shown = shown(Lines, Names, Chosen),
     ok = filelib:ensure_path(Folder),
@@ -136,6 +136,36 @@ ended_once(Lines) ->
         end,
         Lines
     ).
+
+%% An end comes behind all that its process sent. Where some of that was still in the mailbox when the end arrived, the end
+%% is received behind the last of it.
+-spec ended_last([line()]) -> [line()].
+ended_last(Lines) ->
+    Left = maps:map(fun(_, Each) -> length(Each) end, queues([{key_of_receive(Line), Line} || Line <- Lines])),
+    {Moved, _} = lists:mapfoldl(fun in_turn/2, {Left, #{}}, Lines),
+    lists:append(Moved).
+
+%% The line, with the end that waited for it, or nothing where it is an end that waits.
+-spec in_turn(line(), {#{term() => integer()}, #{term() => line()}}) ->
+    {[line()], {#{term() => integer()}, #{term() => line()}}}.
+in_turn({To, 'receive', Process, _, {ended, _}, _} = Line, {Left, Waiting}) ->
+    case Left of
+        #{{To, Process} := Count} when Count > 0 -> {[], {Left, Waiting#{{To, Process} => Line}}};
+        _ -> {[Line], {Left, Waiting}}
+    end;
+in_turn(Line, {Left, Waiting}) ->
+    Key = key_of_receive(Line),
+    Count = maps:get(Key, Left) - 1,
+    case Waiting of
+        #{Key := End} when Count =:= 0 -> {[Line, End], {Left#{Key := Count}, Waiting}};
+        _ -> {[Line], {Left#{Key := Count}, Waiting}}
+    end.
+
+%% Who received from whom; nothing of the kind for other lines, and for ends.
+-spec key_of_receive(line()) -> {pid(), pid()} | none.
+key_of_receive({_, 'receive', _, _, {ended, _}, _}) -> none;
+key_of_receive({To, 'receive', From, _, _, _}) -> {To, From};
+key_of_receive(_) -> none.
 
 %% Who received a send, or else whom it named.
 -spec receivers(pid(), term(), integer(), #pairs{}) -> [pid()].

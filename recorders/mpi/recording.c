@@ -10,10 +10,12 @@
 #include <stdlib.h>
 #include <string.h>
 #include <sys/mman.h>
+#include <sys/stat.h>
 #include <unistd.h>
 
-/* A file takes room on the disk only as it is filled. */
+/* A file takes room on the disk only as it is filled, but for its first part: what is claimed costs no time later. */
 static const int64_t MOST_EVENTS = 1 << 25;
+enum { CLAIMED = 1 << 22, PAGE = 4096 };
 
 static pthread_mutex_t lock = PTHREAD_MUTEX_INITIALIZER;
 static struct recording_head *head;
@@ -25,6 +27,22 @@ static long posts;
 static struct event probed;
 static int probed_source = NOBODY;
 static int probed_tag;
+
+static struct communicator *world;
+static bool has_threads;
+
+/* Where only one thread of the program calls MPI at a time, none has to wait for another. */
+static void enter(void) {
+    if (has_threads) {
+        pthread_mutex_lock(&lock);
+    }
+}
+
+static void leave(void) {
+    if (has_threads) {
+        pthread_mutex_unlock(&lock);
+    }
+}
 
 static void note(struct event event) {
     int64_t count;
@@ -39,9 +57,9 @@ static void note(struct event event) {
 }
 
 static void note_locked(struct event event) {
-    pthread_mutex_lock(&lock);
+    enter();
     note(event);
-    pthread_mutex_unlock(&lock);
+    leave();
 }
 
 static void map_file(const char *folder, int rank, int size) {
@@ -49,6 +67,7 @@ static void map_file(const char *folder, int rank, int size) {
     size_t length = sizeof *head + (size_t)MOST_EVENTS * sizeof *events;
     int file;
     void *mapped;
+    mkdir(folder, 0755);
     snprintf(path, sizeof path, "%s/rank_%d.raw", folder, rank);
     file = open(path, O_RDWR | O_CREAT | O_TRUNC, 0644);
     if (file < 0 || ftruncate(file, (off_t)length) != 0) {
@@ -61,6 +80,9 @@ static void map_file(const char *folder, int rank, int size) {
         fprintf(stderr, "chart recorder: %s can't be mapped, so nothing is recorded\n", path);
         return;
     }
+    for (size_t at = 0; at < CLAIMED; at += PAGE) {
+        ((volatile char *)mapped)[at] = 0;
+    }
     head = mapped;
     events = (struct event *)(head + 1);
     head->rank = rank;
@@ -71,21 +93,29 @@ static void map_file(const char *folder, int rank, int size) {
 
 void begin_recording(void) {
     const char *folder = getenv("CHART_RECORDINGS");
-    int rank, size;
+    int rank, size, level = MPI_THREAD_MULTIPLE;
+    MPI_Comm parent;
     if (folder == NULL || head != NULL) {
         return;
     }
+    /* (ranks that were begun by others have the numbers of others) */
+    PMPI_Comm_get_parent(&parent);
+    if (parent != MPI_COMM_NULL) {
+        return;
+    }
+    PMPI_Query_thread(&level);
+    has_threads = level == MPI_THREAD_MULTIPLE;
     PMPI_Comm_rank(MPI_COMM_WORLD, &rank);
     PMPI_Comm_size(MPI_COMM_WORLD, &size);
     PMPI_Comm_create_keyval(MPI_COMM_NULL_COPY_FN, MPI_COMM_NULL_DELETE_FN, &communicator_key, NULL);
     map_file(folder, rank, size);
-    known(MPI_COMM_WORLD);
+    world = known(MPI_COMM_WORLD);
 }
 
 void end_recording(void) {
-    pthread_mutex_lock(&lock);
+    enter();
     head = NULL;
-    pthread_mutex_unlock(&lock);
+    leave();
 }
 
 /* The members of a communicator as ranks of MPI_COMM_WORLD. All of this is known here. */
@@ -105,12 +135,12 @@ static void find_members(MPI_Comm handle, struct communicator *found) {
 }
 
 static void note_communicator(const struct communicator *made, int parent) {
-    pthread_mutex_lock(&lock);
+    enter();
     note((struct event){EVENT_COMMUNICATOR, made->number, parent, 0, 0, made->size});
     for (int rank = 0; rank < made->size; rank++) {
         note((struct event){EVENT_MEMBER, made->number, made->world_ranks[rank], 0, rank, 0});
     }
-    pthread_mutex_unlock(&lock);
+    leave();
 }
 
 static struct communicator *made_known(MPI_Comm handle, int parent) {
@@ -134,6 +164,9 @@ static struct communicator *known_below(MPI_Comm handle, int parent) {
     struct communicator *communicator;
     if (head == NULL || handle == MPI_COMM_NULL) {
         return NULL;
+    }
+    if (handle == MPI_COMM_WORLD && world != NULL) {
+        return world;
     }
     PMPI_Comm_get_attr(handle, communicator_key, &found, &is_there);
     communicator = is_there ? found : made_known(handle, parent);
@@ -183,10 +216,10 @@ long note_post(MPI_Comm handle, int source, int tag) {
         return -1;
     }
     post = asked(EVENT_POST, communicator, source, tag);
-    pthread_mutex_lock(&lock);
+    enter();
     post.number = posts++;
     note(post);
-    pthread_mutex_unlock(&lock);
+    leave();
     return post.number;
 }
 
@@ -201,14 +234,14 @@ void note_done(struct communicator *communicator, long post, const MPI_Status *s
     if (cancelled) {
         return;
     }
-    pthread_mutex_lock(&lock);
+    enter();
     source = world_rank(communicator, source);
     if (probed_source == source && probed_tag == status->MPI_TAG && probed.communicator == communicator->number) {
         note(probed);
         probed_source = NOBODY;
     }
     note((struct event){EVENT_DONE, communicator->number, source, status->MPI_TAG, post, 0});
-    pthread_mutex_unlock(&lock);
+    leave();
 }
 
 void note_probe(MPI_Comm handle, int source, int tag, const MPI_Status *found) {
@@ -216,11 +249,11 @@ void note_probe(MPI_Comm handle, int source, int tag, const MPI_Status *found) {
     if (source == MPI_PROC_NULL || (communicator = known(handle)) == NULL) {
         return;
     }
-    pthread_mutex_lock(&lock);
+    enter();
     probed = asked(EVENT_PROBED, communicator, source, tag);
     probed_source = world_rank(communicator, found->MPI_SOURCE);
     probed_tag = found->MPI_TAG;
-    pthread_mutex_unlock(&lock);
+    leave();
 }
 
 long next_collective(MPI_Comm handle) {

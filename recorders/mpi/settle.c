@@ -40,7 +40,10 @@ static void tell_left_out(const struct settled *settled) {
         fprintf(stderr, "settle: %ld later events are left out, for the longest line\n", left);
     }
     if (settled->calls_left_out > 0) {
-        fprintf(stderr, "settle: %ld calls on communicators between groups are left out\n", settled->calls_left_out);
+        fprintf(stderr,
+                "settle: %ld calls aren't recorded: of windows, of neighbours, of processes that were begun later, "
+                "or on communicators between groups\n",
+                settled->calls_left_out);
     }
 }
 

@@ -1,5 +1,6 @@
 """Logs that are drawn: any lines at all, cut recordings of lanes, and recordings of mailboxes with what they tell."""
 
+import re
 from dataclasses import dataclass, field
 from random import Random
 
@@ -113,3 +114,19 @@ def recorded_lines(draw: Random) -> list[str]:
     begin = draw.choice((0, 0, draw.randint(0, len(run.lines) // 4)))
     missing = draw.choice((0, 0, 0.05))
     return [line for line in run.lines[begin:] if draw.random() >= missing]
+
+
+def named_otherwise(draw: Random, lines: list[str]) -> tuple[list[str], tuple[tuple[str, tuple[str, ...]], ...]]:
+    """The lines with other words for some hosts, also where a receive would have taken a host's messages; and whose."""
+    peers = tuple((host, (f"<0.8{host}>", f"{host}@left")) for host in draw.sample(HOSTS, draw.randint(1, 3)))
+    others = {host: (host, *words) for host, words in peers}
+
+    def word(host: str) -> str:
+        return draw.choice(others.get(host, (host,)))
+
+    def renamed(line: str) -> str:
+        host, kind, peer, *rest = line.split(" ")
+        told = [re.sub("^takes=(.*):", lambda found: f"takes={word(found[1])}:", each) for each in rest]
+        return " ".join([word(host), kind, word(peer), *told])
+
+    return [renamed(line) for line in lines], peers

@@ -109,9 +109,12 @@ class Log:
 
     def add_said(self, said: Said, place: str) -> None:
         host, peer = (self.peers.get(word, word) for word in (said.host, said.peer))
-        self.entries.append(
-            Entry(len(self.entries), place, host, said.kind, peer, said.name, said.identity, said.takes)
-        )
+        takes = tuple(Pattern(self.sender(pattern.peer), pattern.names) for pattern in said.takes)
+        self.entries.append(Entry(len(self.entries), place, host, said.kind, peer, said.name, said.identity, takes))
+
+    def sender(self, word: str) -> str:
+        """Whom the word of a pattern stands for. `*` is any sender, and no host."""
+        return word if word == "*" else self.peers.get(word, word)
 
     def passed(self) -> list[Entry]:
         """The sends and receives of messages from one host to another."""

@@ -2,11 +2,10 @@ pub mod CarryLemmas
 pub mod ChairLemmas
 pub mod GatherLemmas
 pub mod KeptLists
-pub mod LaneLemmas
 pub mod Lists
 pub mod MeetLemmas
 pub mod MessageLemmas
-pub mod NameLemmas
 pub mod Names
 pub mod SlotValues
 pub mod Values
+pub mod WordLemmas

@@ -9,7 +9,7 @@ use Rattle.handles.specs.declared.refusal.Refusal.TheVariants as why
 use Rattle.handles.specs.Sending.{IsMessage, MakesMessage}
 use Rattle.handles.specs.SendingAll.{contents_in, AreMessages, ReadsMessages}
 use Rattle.handles.proofs.ChairLemmas.{drop_at, drop_all, with_none}
-use Rattle.handles.proofs.NameLemmas.{drop_more}
+use Rattle.handles.proofs.WordLemmas.{drop_more}
 
 -- the next message lies here
 pub next_content : (bytes : List ℕ) (lengths : List MessageLengths) (messages : List Content) (name body : List ℕ) (its : MessageLengths) (start n : ℕ)

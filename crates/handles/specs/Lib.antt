@@ -1,5 +1,3 @@
-pub mod BoardTelling
-pub mod BoardText
 pub mod Carrying
 pub mod Cells
 pub mod Chairs
@@ -7,7 +5,6 @@ pub mod Closing
 pub mod Copying
 pub mod Gathering
 pub mod Meeting
-pub mod Naming
 pub mod Opening
 pub mod Receiving
 pub mod Refusals

@@ -21,7 +21,7 @@ pub fn copy_out(bytes: &[u8], out: &mut [u8]) -> usize
 }
 
 /// Writes the numbers of the first of these events, as many as find room, and tells how many events they are.
-pub(crate) fn copy_events(events: &EventRanges, out: &mut [u32]) -> usize
+pub fn copy_events(events: &EventRanges, out: &mut [u32]) -> usize
     ensures all { result ≡ counted events.now }
     ensures copied { out.new ≡ put_over (indices events.now) out.old }
 {
@@ -102,6 +102,7 @@ impl Handle {
         self.put(kept);
         result
     }
+
     /// Copies the races of the last message out: the numbers of the earlier events, as many as there is room for. It
     /// tells how many there are.
     pub fn copy_races(&mut self, alloc: Global, out: &mut [u32]) -> Result<usize, Refusal>

@@ -39,26 +39,6 @@ pub struct Told {
     pub name: usize,
 }
 
-/// What is told of a report of a gathered board.
-#[derive(Clone, Copy)]
-pub struct Reported {
-    /// The number of the instance that received, from 1.
-    pub instance: u32,
-    /// The number of the receive on its line, from 1.
-    pub event: u32,
-    /// How many races it has.
-    pub races: usize,
-}
-
-/// What is told of a message that waits on a lane of a gathered board.
-#[derive(Clone, Copy)]
-pub struct Waiting {
-    /// How many bytes its name has.
-    pub name: usize,
-    /// How many bytes its body has.
-    pub body: usize,
-}
-
 /// How long the name and the body of a message are, in bytes.
 #[repr(C)]
 #[derive(Clone, Copy)]

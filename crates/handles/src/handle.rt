@@ -39,9 +39,9 @@ impl Handle {
         self.word == 0
     }
 
-    /// What it keeps, which is then out of it.
+    /// Takes out what it keeps, if it keeps anything; then it keeps nothing.
     #[inline(always)]
-    pub(crate) fn take(&mut self, alloc: Global) -> Option<Box<Kept>>
+    pub fn take(&mut self, alloc: Global) -> Option<Box<Kept>>
         ensures some { IfSome result (λ kept. self.old.slot.value ≡ Some kept.value) }
         ensures none { IfNone result (self.old.slot.value ≡ None) }
         ensures empty { self.new.slot.value ≡ None }
@@ -56,7 +56,7 @@ impl Handle {
 
     /// Puts this into it, where it keeps nothing.
     #[inline(always)]
-    pub(crate) fn put(&mut self, kept: Box<Kept>)
+    pub fn put(&mut self, kept: Box<Kept>)
         requires { self.old.slot.value ≡ None }
         ensures { self.new.slot.value ≡ Some kept.value }
     {

@@ -18,12 +18,12 @@ use Rattle.logs.specs.declared.matching.LogLine.{LogLine}
 use Rattle.logs.proofs.OrderLemmas.{Within, kept_within, are_given}
 use Rattle.log_charts.specs.ChartLines.{naming_line, AreNamed}
 
-abbrev AllBelow : ℕ → List ℕ → Type 0
+abbrev pub AllBelow : ℕ → List ℕ → Type 0
 AllBelow n [] = Unit {0}
 AllBelow n (x ∷ xs) = (x < n) × AllBelow n xs
 
 -- the receives of invented sends are among n
-abbrev AreBelow : ℕ → List Begun → Type 0
+abbrev pub AreBelow : ℕ → List Begun → Type 0
 AreBelow n [] = Unit {0}
 AreBelow n (b ∷ given) = (b.receive < n) × AreBelow n given
 
@@ -31,11 +31,11 @@ abbrev Named : ℕ → Item → Type 0
 Named n i = naming_line i.message < n
 
 module _ (n : ℕ) where
-  given_below : (given : List Begun) → AreGiven n given → AreBelow n given
+  pub given_below : (given : List Begun) → AreGiven n given → AreBelow n given
   given_below [] are = tt
   given_below (b ∷ given) are = (are.0, given_below given are.3)
 
-  heads_below : (q : ℕ) (given : List Begun) → AreBelow n given → AreBelow n (heads given q)
+  pub heads_below : (q : ℕ) (given : List Begun) → AreBelow n given → AreBelow n (heads given q)
   heads_below q [] are = tt
   heads_below q (b ∷ given) are = go (is_none b.behind && b.sender == q) (heads_below q given are.1)
     where
@@ -43,7 +43,7 @@ module _ (n : ℕ) where
       go true rest = (are.0, rest)
       go false rest = rest
 
-  heads_to_below : (p : ℕ) (given : List Begun) → AreBelow n given → AllBelow n (heads_to given p)
+  pub heads_to_below : (p : ℕ) (given : List Begun) → AreBelow n given → AllBelow n (heads_to given p)
   unfolding heads_to
   heads_to_below p [] are = tt
   heads_to_below p (b ∷ given) are = go (b.receiver == p) (heads_to_below p given are.1)
@@ -52,7 +52,7 @@ module _ (n : ℕ) where
       go true rest = (are.0, rest)
       go false rest = rest
 
-  behind_below : (s : ℕ) (given : List Begun) → AreBelow n given → AllBelow n (behind given s)
+  pub behind_below : (s : ℕ) (given : List Begun) → AreBelow n given → AllBelow n (behind given s)
   unfolding behind
   behind_below s [] are = tt
   behind_below s (b ∷ given) are = go (is_sent_at s b.behind) (behind_below s given are.1)

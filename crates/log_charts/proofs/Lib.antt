@@ -1,8 +1,10 @@
 pub mod ChartLemmas
 pub mod CircleLemmas
 pub mod FaultLemmas
+pub mod HostItemLemmas
 pub mod ItemLemmas
 pub mod LineLemmas
+pub mod NumberLemmas
 pub mod OriginLemmas
 pub mod PlacedLemmas
 pub mod PossibleLemmas

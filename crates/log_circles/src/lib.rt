@@ -3,6 +3,8 @@
 //! What is promised, unless an allocation is refused ([`settle`]): each turn frees the receive that stands first in the
 //! files, of those that take a send of the log and come before themselves; what is left of the log then is paired anew,
 //! until no such receive is left.
+//!
+//! The tables of what stands directly before each line are there for others that search a log ([`sources_of`]).
 #![tactic(auto)]
 
 mod first;
@@ -11,3 +13,4 @@ mod settling;
 mod sources;
 
 pub use settling::settle;
+pub use sources::{Sources, sources_of};

@@ -8,7 +8,7 @@ use std::alloc::{AllocError, Global};
 
 /// For each number of a line what stands directly before it.
 #[derive(Drop)]
-pub(crate) struct Sources {
+pub struct Sources {
     /// The line above of its host.
     above: Vec<Option<usize>>,
     /// The send that it takes.
@@ -27,14 +27,14 @@ fn entry_of(table: &[Option<usize>], number: usize) -> Option<usize>
 
 impl Sources {
     /// The line above, of the same host.
-    pub(crate) fn above(&self, number: usize) -> Option<usize>
+    pub fn above(&self, number: usize) -> Option<usize>
         ensures { result ≡ slice_index_or self.now.above.items number None }
     {
         entry_of(&self.above, number)
     }
 
     /// The send that a line takes.
-    pub(crate) fn send(&self, number: usize) -> Option<usize>
+    pub fn send(&self, number: usize) -> Option<usize>
         ensures { result ≡ slice_index_or self.now.sends.items number None }
     {
         entry_of(&self.sends, number)
@@ -50,7 +50,9 @@ fn nothing(alloc: Global, count: usize) -> Result<Vec<Option<usize>>, AllocError
 }
 
 /// What stands before each of these lines, which are among so many.
-pub(crate) fn sources_of(
+///
+/// F6: it fails only where there is no memory.
+pub fn sources_of(
     alloc: Global,
     count: usize,
     lines: &[LogLine],

@@ -36,7 +36,7 @@ unfolding hosts_from
 hosts_end b lines n past = rw (drop_all n lines past) refl
 
 -- there are no more streams than lines
-entries_whole : (b : Before) (said : List Said) → length (entries_from b said) ≡ length said
+pub entries_whole : (b : Before) (said : List Said) → length (entries_from b said) ≡ length said
 unfolding entries_from
 entries_whole b [] = refl
 entries_whole b (s ∷ said) = ap suc (entries_whole (with_line b s) said)

@@ -1,5 +1,5 @@
 -- The chart of what texts say, by that of its lines by names.
-use Rattle.std.proofs.Common.{◌≡◌, ◌==◌, ℕ, false, List, [], ◌∷◌, length, map, subst, subst₂, Ok, Err}
+use Rattle.std.proofs.Common.{◌≡◌, ℕ, List, [], subst, subst₂, Ok, Err}
 use Rattle.std.specs.Prelude.{Result}
 use Rattle.log_names.specs.Naming.{NamedView}
 use Rattle.log_imports.specs.Drawing.{beside, named_in, IsNamedDrawing, IsRefused, DrawsNamed, Draws}

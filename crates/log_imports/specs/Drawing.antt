@@ -24,6 +24,7 @@ use Rattle.log_imports.specs.Options.{OptionsView}
 use Rattle.log_imports.specs.Reading.{LogView, Says, IsBadForm}
 use Rattle.log_imports.specs.declared.drawing.Beside.{Beside}
 use Rattle.log_imports.specs.declared.drawing.LogDrawing.{LogDrawing}
+use Rattle.log_imports.specs.declared.drawing.Settled.{Settled}
 use Rattle.log_imports.specs.declared.error.LogImportError.{LogImportError}
 use Rattle.log_imports.specs.declared.error.LogImportError.TheVariants as errors
 
@@ -69,6 +70,10 @@ pub record IsNamedDrawing (b : Beside) (n : NamedView) (d : LogDrawing) : Type 0
   pub chart : d.chart ≡ drawn.chart
   pub possible : IsPossible (length d.chart) (chart_lines d.chart)
   pub told : IsToldOf b n (names_in n) drawn d.told
+
+-- the chart is that of lines by names, whose entries these are once receives are freed
+abbrev pub IsSettled : Beside → NamedView → Settled → Type 0
+IsSettled b n s = (d : IsNamedDrawing b n s.drawing) × (d.settled ≡ s.entries.items)
 
 -- why lines by names have no chart, where drawing it fails so
 abbrev pub refusal_of : List (List ℕ) → DrawError → LogImportError

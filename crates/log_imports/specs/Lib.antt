@@ -3,4 +3,5 @@ pub mod Entries
 pub mod Importing
 pub mod Options
 pub mod Reading
+pub mod Recording
 pub mod Refusals

@@ -4,8 +4,9 @@ ghost use Rattle.chart.specs.Charts.{chart_lines, IsPossible};
 ghost use Rattle.log_charts.specs.Drawing.{IsDrawn, IsRefusalOf};
 ghost use Rattle.log_circles.specs.Freeing.{Settles};
 ghost use Rattle.log_names.specs.Naming.{named_view};
+ghost use Rattle.logs.specs.Entries.{HaveStreams};
 ghost use Rattle.logs.specs.declared.entry.Entry.{Entry};
-ghost use Rattle.log_imports.specs.Drawing.{refusal_of, IsOfAmong, IsToldOf, DrawsNamed, Draws};
+ghost use Rattle.log_imports.specs.Drawing.{refusal_of, IsOfAmong, IsToldOf, IsSettled, IsRefused, DrawsNamed, Draws};
 ghost use Rattle.log_imports.specs.Entries.{entries_in, names_in};
 ghost use Rattle.log_imports.specs.Options.{options_view};
 
@@ -20,6 +21,7 @@ use log_charts::{DrawError, Drawn, draw};
 use log_entries::Log;
 use log_lines::Others;
 use log_names::{NamedLog, named};
+use logs::Entry;
 use msc_text::named as name_of;
 use std::alloc::{AllocError, Global};
 
@@ -45,9 +47,9 @@ fn refusal(names: &Names, error: DrawError) -> LogImportError
 /// What was read of a log beside its events.
 #[derive(Clone, Copy, Debug)]
 pub(crate) struct Beside {
-    others: Option<Others>,
-    is_captured: bool,
-    is_timed: bool,
+    pub others: Option<Others>,
+    pub is_captured: bool,
+    pub is_timed: bool,
 }
 
 /// The chart, with what is told of it.
@@ -86,18 +88,44 @@ fn with_told(
     })
 }
 
-/// The chart of the lines by names.
-fn drawing_of(alloc: Global, beside: Beside, named: &NamedLog) -> Result<LogDrawing, LogImportError>
-    ensures draws { DrawsNamed result beside (named_view named.now) }
-    ensures named { IfOk result (λ d. length d.told.names ≡ length d.chart) }
-    ensures invented { IfOk result (λ d. All (λ e. e.instance ≤ length d.told.names) d.told.invented.items) }
+/// The chart of a log, with what is told of it, and the log's entries, receives of which are freed.
+#[derive(Drop)]
+pub(crate) struct Settled {
+    pub drawing: LogDrawing,
+    pub entries: Vec<Entry>,
+}
+
+/// The chart of the lines by names, and their entries.
+pub(crate) fn settled_of(
+    alloc: Global,
+    beside: Beside,
+    named: &NamedLog,
+) -> Result<Settled, LogImportError>
+    ensures settled { IfOk result (IsSettled beside (named_view named.now)) }
+    ensures refused { IfErr result (IsRefused (named_view named.now)) }
+    ensures streams { IfOk result (λ s. HaveStreams s.entries.items) }
+    ensures named { IfOk result (λ s. length s.drawing.told.names ≡ length s.drawing.chart) }
+    ensures invented { IfOk result (λ s. All (λ e. e.instance ≤ length s.drawing.told.names) s.drawing.told.invented.items) }
 {
     let Log { names, mut entries } = entries_in(alloc, named)?;
     let drawn = match draw(alloc, names.len(), &mut entries) {
         Ok(drawn) => drawn,
         Err(error) => return Err(refusal(&names, error)),
     };
-    Ok(with_told(alloc, beside, named, names, drawn)?)
+    let drawing = with_told(alloc, beside, named, names, drawn)?;
+    Ok(Settled { drawing, entries })
+}
+
+/// The chart of the lines by names.
+fn drawing_of(alloc: Global, beside: Beside, named: &NamedLog) -> Result<LogDrawing, LogImportError>
+    ensures draws { DrawsNamed result beside (named_view named.now) }
+    ensures named { IfOk result (λ d. length d.told.names ≡ length d.chart) }
+    ensures invented { IfOk result (λ d. All (λ e. e.instance ≤ length d.told.names) d.told.invented.items) }
+{
+    match settled_of(alloc, beside, named) {
+        Ok(settled) => Ok(settled.drawing),
+        Err(error) => Err(error),
+    }
 }
 
 /// The chart that the texts of a log say. It is possible.

@@ -12,6 +12,7 @@ mod error;
 mod importing;
 mod options;
 mod reading;
+mod recording;
 mod refusing;
 mod telling;
 
@@ -19,4 +20,5 @@ pub use drawing::{LogDrawing, drawing_in};
 pub use error::LogImportError;
 pub use importing::{Unimported, import};
 pub use options::{Form, Options};
+pub use recording::{LogRecording, recording_in};
 pub use refusing::refused_log;

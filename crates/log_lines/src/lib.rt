@@ -18,7 +18,7 @@ mod worded;
 mod words;
 
 pub use event::{Act, Clocked, ClockedAt, Event, LineSays, Place, Said};
-pub use plain::{Direction, direction_of};
+pub use plain::{Direction, begins_rest, behind_preposition, direction_of, id_in};
 pub use plain_reading::read_plain;
 pub use range::{LineRange, is_within};
 pub use read::{Others, Read, one_more};
@@ -26,3 +26,4 @@ pub use shiviz::read_shiviz;
 pub use step::Step;
 pub use windows::window;
 pub use worded::by_words;
+pub use words::words_of;

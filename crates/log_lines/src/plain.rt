@@ -64,8 +64,8 @@ pub fn direction_of(word: &[u8]) -> Direction
     }
 }
 
-/// The words from the peer's on.
-fn behind_preposition<'w, 'a>(words: &'w [&'a [u8]]) -> &'w [&'a [u8]]
+/// The words from the peer's on: `to` and `from` may stand before it.
+pub fn behind_preposition<'w, 'a>(words: &'w [&'a [u8]]) -> &'w [&'a [u8]]
     ensures { map (λ w. w.now) result.now ≡ behind_preposition (map (λ w. w.now) words.now) }
 {
     match words {
@@ -81,14 +81,14 @@ fn behind_preposition<'w, 'a>(words: &'w [&'a [u8]]) -> &'w [&'a [u8]]
 }
 
 /// Whether the word belongs to what is left alone behind a message.
-fn begins_rest(word: &[u8]) -> bool
+pub fn begins_rest(word: &[u8]) -> bool
     ensures { result ≡ begins_rest word.now }
 {
     begins_with(word, b"takes=")
 }
 
 /// The id of a message, with whose name these words stand behind.
-fn id_in<'a>(words: &[&'a [u8]]) -> Option<&'a [u8]>
+pub fn id_in<'a>(words: &[&'a [u8]]) -> Option<&'a [u8]>
     ensures { option_map (λ w. w.now) result ≡ id_in (map (λ w. w.now) words.now) }
 {
     match words {

@@ -6,7 +6,7 @@ use line_statements::is_blank;
 use std::alloc::{AllocError, Global};
 
 /// The words of a line: what stands between its blanks.
-pub(crate) fn words_of(alloc: Global, line: &[u8]) -> Result<Vec<&[u8]>, AllocError>
+pub fn words_of(alloc: Global, line: &[u8]) -> Result<Vec<&[u8]>, AllocError>
     ensures { IfOk result (λ v. map (λ w. w.now) v.items ≡ words_of line.now) }
 {
     let mut words = Vec::new(alloc);

@@ -23,7 +23,7 @@ fn has_word(words: &[&[u8]], word: &[u8]) -> bool
 }
 
 /// The host that the log calls so: the first that has the word, or else the one that is called so.
-pub(crate) fn host_of<'a>(peers: &[Peer<'a>], word: &'a [u8]) -> &'a [u8]
+pub fn host_of<'a>(peers: &[Peer<'a>], word: &'a [u8]) -> &'a [u8]
     ensures { result.now ≡ host_of (map peer_view peers.now) word.now }
 {
     for peer in peers {

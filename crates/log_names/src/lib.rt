@@ -10,7 +10,7 @@ mod ids;
 mod line;
 mod naming;
 
-pub use hosts::Peer;
+pub use hosts::{Peer, host_of};
 pub use ids::Ids;
 pub use line::NamedLine;
 pub use naming::{NamedLog, named};

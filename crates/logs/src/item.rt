@@ -24,7 +24,7 @@ pub struct Item {
 }
 
 /// The message of a line.
-fn message_of(line: &LogLine) -> MessageNo
+pub fn message_of(line: &LogLine) -> MessageNo
     ensures { result ≡ message_of line.now }
 {
     if is_send(line.entry.kind) {

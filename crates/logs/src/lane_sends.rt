@@ -12,7 +12,7 @@ const LANES: usize = MAX_INSTANCES * MAX_INSTANCES;
 
 /// For each lane the number of a line that sends, if there is one. A contract sees the list.
 #[derive(Drop)]
-pub(crate) struct LaneTable {
+pub struct LaneTable {
     sends: Vec<Option<usize>>,
 }
 
@@ -37,8 +37,10 @@ fn slot(from: InstanceNo, to: InstanceNo) -> usize
 }
 
 impl LaneTable {
-    /// None for each lane. It fails only where there is no memory.
-    pub(crate) fn none(alloc: Global) -> Result<LaneTable, AllocError>
+    /// None for each lane.
+    ///
+    /// F6: it fails only where there is no memory.
+    pub fn none(alloc: Global) -> Result<LaneTable, AllocError>
         ensures { IfOk result (λ table. AreLanes table (λ q p. None)) }
     {
         Ok(LaneTable {
@@ -47,14 +49,14 @@ impl LaneTable {
     }
 
     /// The send of a lane.
-    pub(crate) fn at(&self, from: InstanceNo, to: InstanceNo) -> Option<usize>
+    pub fn at(&self, from: InstanceNo, to: InstanceNo) -> Option<usize>
         ensures { (sends : LaneSends) → AreLanes self.now sends → result ≡ sends from to }
     {
         self.sends[slot(from, to)]
     }
 
     /// Changes the send of a lane.
-    pub(crate) fn set(&mut self, from: InstanceNo, to: InstanceNo, send: Option<usize>)
+    pub fn set(&mut self, from: InstanceNo, to: InstanceNo, send: Option<usize>)
         ensures { (sends : LaneSends) → AreLanes self.old sends → AreLanes self.new (changed sends from to send) }
     {
         self.sends[slot(from, to)] = send;

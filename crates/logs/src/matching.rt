@@ -18,7 +18,8 @@ pub struct LogLine {
     pub send: Option<usize>,
 }
 
-pub(crate) fn is_send(kind: Kind) -> bool
+/// Whether a line sends. Else it receives.
+pub fn is_send(kind: Kind) -> bool
     ensures { result ≡ is_send kind }
 {
     match kind {

@@ -21,10 +21,10 @@ use Rattle.handles.specs.Opening.{Opens}
 use Rattle.handles.specs.declared.found.Told.{Told}
 use Rattle.handles.specs.Regions.{HandleOpens, HandleShuts}
 use Rattle.handles.specs.Reserving.{HandleReserves}
-use Rattle.handles.specs.declared.found.Reported.{Reported}
-use Rattle.handles.specs.declared.found.Waiting.{Waiting}
-use Rattle.handles.specs.BoardTelling.{HandleReports, HandleWaits}
-use Rattle.handles.specs.BoardText.{HandleWritesText}
+use Rattle.board_handles.specs.declared.reports.Reported.{Reported}
+use Rattle.board_handles.specs.declared.left.Waiting.{Waiting}
+use Rattle.board_handles.specs.BoardTelling.{HandleReports, HandleWaits}
+use Rattle.board_handles.specs.BoardText.{HandleWritesText}
 use Rattle.handles.specs.Gathering.{Gathers}
 use Rattle.handles.specs.Meeting.{Meets}
 use Rattle.handles.specs.Carrying.{CarriesAll}

@@ -2,12 +2,13 @@
 ghost use Rattle.std.specs.Prelude.{◌≡◌};
 ghost use Rattle.handles.specs.Carrying.{MayCarryOver};
 ghost use Rattle.handles.specs.Chairs.{KeepOneBoard};
-ghost use Rattle.handles.specs.Naming.{words_in};
+ghost use Rattle.board_handles.specs.Naming.{words_in};
 ghost use Rattle.handles.specs.Opening.{kept_by};
 ghost use Rattle.msc.specs.Answers.{CarriesBoard, GathersAll, MeetsAll, WritesText, TellsReport, TellsLeft};
 
 use crate::answers::{MscLeft, MscPlace, MscReport};
 use crate::codes::{count_code, done_code, report_code, waiting_code};
+use board_handles::{copy_text, tell_report, tell_waiting};
 use handles::{Handle, gather, meet};
 use std::alloc::Global;
 
@@ -56,7 +57,7 @@ pub extern "C" fn msc_board_text_(
     ensures answer { WritesText board.old.slot.value (words_in names.now lengths.now) buffer.old result length.old
         length.new buffer.new }
 {
-    count_code(board.copy_text(alloc, names, lengths, buffer), length)
+    count_code(copy_text(alloc, board, names, lengths, buffer), length)
 }
 
 #[unsafe(no_mangle)]
@@ -70,7 +71,7 @@ pub extern "C" fn msc_board_report_(
     ensures same { board.new.slot.value ≡ board.old.slot.value }
     ensures answer { TellsReport board.old.slot.value number buffer.old result report.old report.new buffer.new }
 {
-    report_code(board.report(alloc, number, buffer), report)
+    report_code(tell_report(alloc, board, number, buffer), report)
 }
 
 #[unsafe(no_mangle)]
@@ -86,6 +87,6 @@ pub extern "C" fn msc_board_left_(
     ensures answer { TellsLeft board.old.slot.value place.now name.old body.old result left.old left.new name.new
         body.new }
 {
-    let answer = board.waiting(alloc, place.from, place.to, place.number, name, body);
+    let answer = tell_waiting(alloc, board, place.from, place.to, place.number, name, body);
     waiting_code(answer, left)
 }

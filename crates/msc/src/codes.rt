@@ -5,7 +5,8 @@ ghost use Rattle.msc.specs.Answers.{event_from, told_event, report_from, told_re
 ghost use Rattle.msc.specs.Answers.{told_left};
 
 use crate::answers::{MscArrival, MscEvent, MscLeft, MscReport};
-use handles::{Arrived, Found, Refusal, Reported, Told, Waiting};
+use board_handles::{Reported, Waiting};
+use handles::{Arrived, Found, Refusal, Told};
 
 /// The number of a refusal, below 0.
 pub(crate) fn code_of(refusal: Refusal) -> i32

@@ -91,7 +91,7 @@ pub fn view_import<R: Files + Input + AllocGlobal, W: Out, V: Out>(
     Ok(import(rt.alloc(), read.tool, &bytes, options, out, err))
 }
 
-/// Shows the races of another tool's text by name.
+/// Shows the races of another tool's text by name. G1: luck is asked for, of which such a text tells nothing.
 pub fn view_races_of<R: Files + Input + AllocGlobal, W: Out, V: Out>(
     rt: &R,
     asked: &Races<'_>,
@@ -102,7 +102,10 @@ pub fn view_races_of<R: Files + Input + AllocGlobal, W: Out, V: Out>(
     let read = read_by(rt.alloc(), reading)?;
     let joins = joins_by(rt.alloc(), &read)?;
     let bytes = bytes_in(rt, asked.file)?;
+    if asked.showing.luck {
+        return Err(ProgramError::Usage);
+    }
     let options = options_of(&read, &joins);
-    let wanted = wanted_by(asked);
+    let wanted = wanted_by(&asked.showing);
     Ok(races_of(rt.alloc(), read.tool, &bytes, options, &wanted, out, err))
 }

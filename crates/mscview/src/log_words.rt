@@ -1,6 +1,6 @@
 //! The words of the options for logs.
 use files::{ProgramError, number_in};
-use log_imports::Form;
+use log_imports::{Form, Options};
 use log_lines::LineRange;
 use log_names::Peer;
 use std::alloc::{AllocError, Global};
@@ -8,13 +8,22 @@ use view_line::{ImportLog, LogForm};
 
 /// What a word of `--peer` says: a host, and words by which the log calls it.
 #[derive(Drop)]
-pub struct PeerWord<'a> {
+struct PeerWord<'a> {
     name: &'a [u8],
     words: Vec<&'a [u8]>,
 }
 
+/// What the words say of how a log is read.
+#[derive(Drop)]
+pub struct LogWords<'a> {
+    form: Form<'a>,
+    range: LineRange,
+    hosts: Vec<&'a [u8]>,
+    peers: Vec<PeerWord<'a>>,
+}
+
 /// How the lines of the log are written.
-pub fn form_by<'a>(form: LogForm<'a>) -> Form<'a> {
+fn form_by<'a>(form: LogForm<'a>) -> Form<'a> {
     match form {
         LogForm::Plain => Form::Plain,
         LogForm::Pattern(pattern) => Form::Pattern(pattern),
@@ -34,7 +43,7 @@ fn line_by(word: Option<&str>, default: u64) -> Result<u64, ProgramError> {
 }
 
 /// The lines that are read. G1: there are none.
-pub fn range_by(log: &ImportLog<'_>) -> Result<LineRange, ProgramError> {
+fn range_by(log: &ImportLog<'_>) -> Result<LineRange, ProgramError> {
     let first = line_by(log.from_line, LineRange::ALL.first)?;
     let last = line_by(log.to_line, LineRange::ALL.last)?;
     if first > last {
@@ -58,7 +67,7 @@ fn names_by<'a>(alloc: Global, words: &'a str) -> Result<Vec<&'a [u8]>, ProgramE
 }
 
 /// The hosts that come first. G1: one of them is empty.
-pub fn hosts_by<'a>(alloc: Global, words: Option<&'a str>) -> Result<Vec<&'a [u8]>, ProgramError> {
+fn hosts_by<'a>(alloc: Global, words: Option<&'a str>) -> Result<Vec<&'a [u8]>, ProgramError> {
     match words {
         None => Ok(Vec::new(alloc)),
         Some(words) => names_by(alloc, words),
@@ -78,7 +87,7 @@ fn peer_by<'a>(alloc: Global, word: &'a str) -> Result<PeerWord<'a>, ProgramErro
 }
 
 /// What all words say of hosts. G1: one of them says nothing.
-pub fn peer_words<'a>(alloc: Global, words: &[&'a str]) -> Result<Vec<PeerWord<'a>>, ProgramError> {
+fn peer_words<'a>(alloc: Global, words: &[&'a str]) -> Result<Vec<PeerWord<'a>>, ProgramError> {
     let mut peers = Vec::new(alloc);
     for word in words {
         let peer = peer_by(alloc, *word)?;
@@ -95,7 +104,32 @@ fn peer_of<'a>(word: &'a PeerWord<'_>) -> Peer<'a> {
     }
 }
 
-/// What words say of hosts.
-pub fn peers_of<'a>(alloc: Global, words: &'a [PeerWord<'_>]) -> Result<Vec<Peer<'a>>, AllocError> {
-    words.iter().map(|word| peer_of(word)).collect(alloc)
+/// How a log is read. G1: a word says nothing.
+pub fn log_words<'a>(alloc: Global, log: &ImportLog<'a>) -> Result<LogWords<'a>, ProgramError> {
+    Ok(LogWords {
+        form: form_by(log.form),
+        range: range_by(log)?,
+        hosts: hosts_by(alloc, log.hosts)?,
+        peers: peer_words(alloc, &log.peers)?,
+    })
+}
+
+/// The hosts that the log calls by other words.
+pub fn peers_of<'a>(alloc: Global, words: &'a LogWords<'_>) -> Result<Vec<Peer<'a>>, ProgramError> {
+    let peers: Result<Vec<Peer<'a>>, AllocError> = words
+        .peers
+        .iter()
+        .map(|word| peer_of(word))
+        .collect(alloc);
+    peers.map_err(|_| ProgramError::Memory)
+}
+
+/// The options of reading a log.
+pub fn options_of<'a>(words: &'a LogWords<'_>, peers: &'a [Peer<'a>]) -> Options<'a> {
+    Options {
+        form: words.form,
+        range: words.range,
+        hosts: words.hosts.as_slice(),
+        peers,
+    }
 }

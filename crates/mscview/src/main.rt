@@ -17,7 +17,7 @@ use crate::importing::view_import;
 use crate::input::{bytes_in, words_of};
 use crate::mends::view_mend;
 use crate::racing::view_races;
-use crate::recorded::view_log;
+use crate::recorded::{view_log, view_log_races};
 use command_line::CommandLineError;
 use explanations::explain;
 use files::{ProgramError, refused};
@@ -73,6 +73,7 @@ fn view<R: Files + Input + AllocGlobal, W: Out, V: Out>(
         Request::ImportLog(imported) => view_log(rt, &imported, out, err),
         Request::Compare(wanted) => view_comparison(rt, &wanted, out, err),
         Request::Races(asked) => view_races(rt, &asked, out, err),
+        Request::LogRaces(asked) => view_log_races(rt, &asked, out, err),
         Request::Mend(wanted) => view_mend(rt, &wanted, out, err),
         Request::Tidy(file) => view_tidy(rt, file, out, err),
         Request::Explain(file) => view_explanation(rt, file, out, err),

@@ -6,19 +6,23 @@ use msc_text::Out;
 use race_answers::{Wanted, races};
 use std::rt::Files;
 use told_races::Form;
-use view_line::Races;
+use view_line::{Races, Showing};
 
 /// Which races are to be shown, and how.
-pub fn wanted_by<'a>(asked: &Races<'a>) -> Wanted<'a> {
+pub fn wanted_by<'a>(showing: &Showing<'a>) -> Wanted<'a> {
     Wanted {
-        only: asked.only.map(|names| names.as_bytes()),
-        receives: asked.receives,
-        run_to_completion: asked.run_to_completion,
-        form: if asked.json { Form::Json } else { Form::Plain },
+        only: showing.only.map(|names| names.as_bytes()),
+        receives: showing.receives,
+        run_to_completion: showing.run_to_completion,
+        form: if showing.json {
+            Form::Json
+        } else {
+            Form::Plain
+        },
     }
 }
 
-/// Shows the races of a file by name.
+/// Shows the races of a file by name. G1: luck is asked for, of which such a file tells nothing.
 pub fn view_races<R: Files + Input + AllocGlobal, W: Out, V: Out>(
     rt: &R,
     asked: &Races<'_>,
@@ -29,5 +33,9 @@ pub fn view_races<R: Files + Input + AllocGlobal, W: Out, V: Out>(
         return view_races_of(rt, asked, reading, out, err);
     }
     let bytes = bytes_in(rt, asked.file)?;
-    Ok(races(rt.alloc(), &bytes, &wanted_by(asked), out, err))
+    if asked.showing.luck {
+        return Err(ProgramError::Usage);
+    }
+    let wanted = wanted_by(&asked.showing);
+    Ok(races(rt.alloc(), &bytes, &wanted, out, err))
 }

@@ -8,10 +8,15 @@
 //!   then. The status is 1 where one is shown, and else 0.
 //! - With status 2 the refusal's line was written, or a beginning of it where standard error failed, and nothing went
 //!   to the output before it, unless a write failed (F24).
+//!
+//! Of [`show_judged`]: the same of a chart's races with the words of their verdicts, whatever tells these, or of luck alone;
+//! and of [`show_unknown`], where luck isn't known: luck alone is refused (G1), behind a name that isn't the chart's (F34).
 #![tactic(auto)]
 
+mod judging;
 mod showing;
 mod status;
 
+pub use judging::{LuckWanted, show_judged, show_unknown};
 pub use showing::{Wanted, races, show_chart};
 pub use status::Status;

@@ -12,7 +12,7 @@ use Rattle.completion.specs.Orders.{IsCompletedReport, IsCompletedReportIn}
 use Rattle.completion.proofs.LeftRaces.{left_of}
 use Rattle.completion.proofs.OrderLemmas.{number_of}
 use Rattle.completion.proofs.Possible.{IsSound, is_sound}
-use Rattle.told_races.specs.Kept.{is_kept, is_later, later_than, kept_ranges, kept_after}
+use Rattle.told_races.specs.Kept.{is_kept, is_later, later_than, is_kept_after, kept_events, kept_ranges, kept_after}
 use Rattle.told_races.specs.Telling.{AreTold, IsToldOf, AreToldOf, without_first}
 use Rattle.told_races.specs.Telling.AreToldOf.{none, more}
 
@@ -25,6 +25,9 @@ filter_both a b (x ∷ xs) = go (a x) (filter_both a b xs)
         → cond (cond first (b x) false) (x ∷ filter (λ e. cond (a e) (b e) false) xs) (filter (λ e. cond (a e) (b e) false) xs) ≡ filter b (cond first (x ∷ filter a xs) (filter a xs))
     go true rest = ap (λ l. cond (b x) (x ∷ l) l) rest
     go false rest = rest
+
+pub kept_events_later : (events : List Event) (only : Bool) (passed : ℕ) (earlier : List EventNo) → filter (is_kept_after events only passed) earlier ≡ kept_events events only (later_than passed earlier)
+kept_events_later events only passed earlier = filter_both (is_later passed) (is_kept events only) earlier
 
 pub kept_later : (events : List Event) (only : Bool) (passed : ℕ) (earlier : List EventNo) → kept_after events only passed earlier ≡ kept_ranges events only (later_than passed earlier)
 kept_later events only passed earlier = ap ranges_of (filter_both (is_later passed) (is_kept events only) earlier)

@@ -17,9 +17,13 @@ receives (Some (Receive from name region)) = true
 abbrev pub is_kept : List Event → Bool → EventNo → Bool
 is_kept events only e = if only then receives (ith events e.index) else true
 
--- the earlier events that are shown, as the fewest ranges
+-- the earlier events that are shown
+abbrev pub kept_events : List Event → Bool → List EventNo → List EventNo
+kept_events events only earlier = filter (is_kept events only) earlier
+
+-- and as the fewest ranges
 abbrev pub kept_ranges : List Event → Bool → List EventNo → List EventRange
-kept_ranges events only earlier = ranges_of (filter (is_kept events only) earlier)
+kept_ranges events only earlier = ranges_of (kept_events events only earlier)
 
 -- an event is later than so many first ones of its line
 abbrev pub is_later : ℕ → EventNo → Bool

@@ -30,9 +30,9 @@ fn add_partner_at<W: Out>(
     }
 }
 
-/// An object up to the receive's number.
+/// Adds an object up to the receive's number. F24: a put failed.
 #[tactic(auto, using(msc_text::proofs::Writes::joining), unfolding(crate::specs::JsonText::number_text))]
-fn add_number<W: Out>(
+pub fn add_number<W: Out>(
     text: &mut TextBuffer<'_, W>,
     names: &Names,
     receive: &EventNo,
@@ -45,9 +45,9 @@ fn add_number<W: Out>(
     text.add_number(u64::from(receive.index))
 }
 
-/// What stands behind the receive's number, up to the list of its ranges.
+/// Adds what stands behind the receive's number, up to the list of its ranges. F24: a put failed.
 #[tactic(auto, using(msc_text::proofs::Writes::joining), unfolding(crate::specs::JsonText::message_and_sender))]
-fn add_message_and_sender<W: Out>(
+pub fn add_message_and_sender<W: Out>(
     text: &mut TextBuffer<'_, W>,
     names: &Names,
     event: &Option<Event>,
@@ -61,9 +61,9 @@ fn add_message_and_sender<W: Out>(
     add_word(text, Word::Ranges)
 }
 
-/// A range up to the list of its messages.
+/// Adds a range up to the list of its messages. F24: a put failed.
 #[tactic(auto, unfolding(crate::specs::JsonText::range_front))]
-fn add_range_front<W: Out>(
+pub fn add_range_front<W: Out>(
     text: &mut TextBuffer<'_, W>,
     first: u32,
     last: u32,
@@ -108,8 +108,8 @@ fn add_message<W: Out>(
     add_word(text, Word::Quote)
 }
 
-/// The messages of a range.
-fn add_messages<W: Out>(
+/// Adds the messages of a range. F24: a put failed.
+pub fn add_messages<W: Out>(
     text: &mut TextBuffer<'_, W>,
     events: &[Event],
     range: &EventRange,

@@ -4,6 +4,8 @@
 //! What is promised of [`write_races`]: exactly the ranges of the chart's reports were written, of the instances that
 //! are asked for and of the earlier events that are shown, each range as long as it can be and with the names of its
 //! messages; or a beginning of this text, where a put failed (F24). Nothing here takes memory.
+//!
+//! The parts of its texts are public for those who tell more of each range.
 #![tactic(auto)]
 
 mod json;
@@ -12,6 +14,8 @@ mod plain;
 mod telling;
 mod words;
 
-pub use plain::add_line;
-pub use telling::{Form, Told, write_races};
-pub use words::{add_event_at, add_name};
+pub use json::{add_message_and_sender, add_messages, add_number, add_range_front};
+pub use kept::{KeptEvents, event_at, goes_on};
+pub use plain::{add_line, add_range, last_of};
+pub use telling::{Form, Told, either, events_of, is_among, passed_by, write_races};
+pub use words::{Word, add_event_at, add_name, add_word};

@@ -14,7 +14,7 @@ use itoa::Buffer;
 use msc_text::{Out, TextBuffer, WriteError};
 
 /// The number of a range's last event.
-pub(crate) fn last_of(range: &EventRange) -> u32
+pub fn last_of(range: &EventRange) -> u32
     requires { IsRange range.now }
     ensures { result ≡ last_of range.now }
 {
@@ -67,8 +67,8 @@ fn add_several<W: Out>(
     add_word(text, Word::Close)
 }
 
-/// The events of a range: its one event, or its first and last.
-fn add_range<W: Out>(
+/// Adds the events of a range: its one event, or its first and last. F24: a put failed.
+pub fn add_range<W: Out>(
     text: &mut TextBuffer<'_, W>,
     names: &Names,
     events: &[Event],

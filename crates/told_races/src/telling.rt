@@ -42,7 +42,7 @@ pub struct Told<'a> {
 }
 
 /// The events of an instance's line, none where the chart has no such instance.
-fn events_of(lines: &[Line], instance: InstanceNo) -> &[Event]
+pub fn events_of(lines: &[Line], instance: InstanceNo) -> &[Event]
     ensures { result.now ≡ chart_lines lines.now instance }
 {
     match lines.get(instance.place()) {
@@ -51,13 +51,15 @@ fn events_of(lines: &[Line], instance: InstanceNo) -> &[Event]
     }
 }
 
-fn is_among(instance: InstanceNo, only: &[InstanceNo]) -> bool
+/// Whether the instance is asked for.
+pub fn is_among(instance: InstanceNo, only: &[InstanceNo]) -> bool
     ensures { result ≡ list_any (nat_eq instance) only.now }
 {
     only.iter().any(|asked| instance == *asked)
 }
 
-fn either(first: bool, second: bool) -> bool
+/// Whether one of the two holds.
+pub fn either(first: bool, second: bool) -> bool
     ensures { result ≡ (first || second) }
 {
     first || second
@@ -82,7 +84,7 @@ fn add_ranges<W: Out>(
 }
 
 /// How many first events of a receive's line aren't told as its races: those that finishing puts before it.
-fn passed_by(told: &Told<'_>, receive: &EventNo, earlier: &[EventRange]) -> u32
+pub fn passed_by(told: &Told<'_>, receive: &EventNo, earlier: &[EventRange]) -> u32
     requires report { IsReportIn (chart_lines told.now.lines.now)
         (record { receive = receive.now; earlier = events_in earlier.now }) }
     requires ranges { All IsRange earlier.now }

@@ -10,7 +10,7 @@ use msc_text::{Out, TextBuffer, WriteError};
 
 /// What stands between names and numbers.
 #[derive(Clone, Copy, Debug, PartialEq, Eq)]
-pub(crate) enum Word {
+pub enum Word {
     /// Behind an instance's name.
     Colon,
     /// Between a receive and what it may come before.
@@ -66,7 +66,8 @@ fn word_of(word: &Word) -> &[u8]
     }
 }
 
-pub(crate) fn add_word<W: Out>(text: &mut TextBuffer<'_, W>, word: Word) -> Result<(), WriteError>
+/// Adds it. F24: a put failed.
+pub fn add_word<W: Out>(text: &mut TextBuffer<'_, W>, word: Word) -> Result<(), WriteError>
     ensures { Adds W.sink text.old text.new result (word_text word) }
 {
     text.add(word_of(&word))

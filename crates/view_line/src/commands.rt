@@ -75,8 +75,10 @@ fn races_command<'a>(alloc: Global) -> Result<Command<'a>, AllocError> {
         .arg(option(alloc, "only"))?
         .arg(flag(alloc, "receives"))?
         .arg(flag(alloc, "run-to-completion"))?
+        .arg(flag(alloc, "luck"))?
         .arg(flag(alloc, "json"))?;
-    reads_tools(alloc, command)?.arg(file(alloc))
+    let command = reads_logs(alloc, reads_tools(alloc, command)?)?;
+    command.arg(files(alloc))
 }
 
 /// The command that draws a file.

@@ -1,8 +1,8 @@
 //! What the words of a command line ask for.
 use crate::commands::command_line;
 use crate::request::{
-    Compare, Draw, Export, Import, ImportLog, LogForm, Mend, Pair, Question, Races, Reading,
-    Request,
+    Compare, Draw, Export, Import, ImportLog, LogForm, LogRaces, Mend, Pair, Question, Races,
+    Reading, Request, Showing,
 };
 use clap::ArgMatches;
 use command_line::CommandLineError;
@@ -66,24 +66,34 @@ fn reading_of<'a>(alloc: Global, words: &ArgMatches<'a>) -> Result<Reading<'a>, 
     })
 }
 
-/// The log that the words of `import` ask for. G1: there is an option for another tool's text.
+/// How the lines of a log are written, where the words say that one is read.
+fn log_form<'a>(words: &ArgMatches<'a>) -> Option<LogForm<'a>> {
+    match (words.get_str("from"), words.get_str("pattern")) {
+        (Some("log"), None) => Some(LogForm::Plain),
+        (Some("log"), Some(pattern)) => Some(LogForm::Pattern(pattern)),
+        (Some("shiviz"), None) => Some(LogForm::ShiViz),
+        _ => None,
+    }
+}
+
+/// The log that the words of a command ask for. G1: there is an option for another tool's text.
 fn log_of<'a>(
     alloc: Global,
     form: LogForm<'a>,
     words: &ArgMatches<'a>,
-) -> Result<Request<'a>, CommandLineError> {
+) -> Result<ImportLog<'a>, CommandLineError> {
     let reading = reading_of(alloc, words)?;
     if reading.strict || !reading.skipped.is_empty() || !reading.joined.is_empty() {
         return Err(CommandLineError::Usage);
     }
-    Ok(Request::ImportLog(ImportLog {
+    Ok(ImportLog {
         form,
         hosts: words.get_str("hosts"),
         peers: words_of(alloc, words, "peer")?,
         from_line: words.get_str("from-line"),
         to_line: words.get_str("to-line"),
         files: words_of(alloc, words, "FILE")?,
-    }))
+    })
 }
 
 /// Whether the words have an option for logs.
@@ -95,25 +105,32 @@ fn is_for_logs(words: &ArgMatches<'_>) -> bool {
         || words.get_str("to-line").is_some()
 }
 
-/// Another tool's text that the words of `import` ask for. G1: there are several files, or there is an option for logs.
-fn tool_of<'a>(alloc: Global, words: &ArgMatches<'a>) -> Result<Request<'a>, CommandLineError> {
+/// The one file of a command, if there is one. G1: there are several files, or there is an option for logs.
+fn one_file<'a>(
+    alloc: Global,
+    words: &ArgMatches<'a>,
+) -> Result<Option<&'a str>, CommandLineError> {
     let files = words_of(alloc, words, "FILE")?;
     if files.len() > 1 || is_for_logs(words) {
         return Err(CommandLineError::Usage);
     }
+    Ok(words.get_str("FILE"))
+}
+
+/// Another tool's text that the words of `import` ask for.
+fn tool_of<'a>(alloc: Global, words: &ArgMatches<'a>) -> Result<Request<'a>, CommandLineError> {
+    let file = one_file(alloc, words)?;
     Ok(Request::Import(Import {
         reading: reading_of(alloc, words)?,
-        file: words.get_str("FILE"),
+        file,
     }))
 }
 
 /// What the words of `import` ask for.
 fn import_of<'a>(alloc: Global, words: &ArgMatches<'a>) -> Result<Request<'a>, CommandLineError> {
-    match (words.get_str("from"), words.get_str("pattern")) {
-        (Some("log"), None) => log_of(alloc, LogForm::Plain, words),
-        (Some("log"), Some(pattern)) => log_of(alloc, LogForm::Pattern(pattern), words),
-        (Some("shiviz"), None) => log_of(alloc, LogForm::ShiViz, words),
-        _ => tool_of(alloc, words),
+    match log_form(words) {
+        Some(form) => Ok(Request::ImportLog(log_of(alloc, form, words)?)),
+        None => tool_of(alloc, words),
     }
 }
 
@@ -141,16 +158,39 @@ fn compare_of<'a>(words: &ArgMatches<'a>) -> Option<Request<'a>> {
     }))
 }
 
-/// What the words of `races` ask for.
-fn races_of<'a>(alloc: Global, words: &ArgMatches<'a>) -> Result<Request<'a>, CommandLineError> {
-    Ok(Request::Races(Races {
-        reading: races_reading(alloc, words)?,
+/// Which races the words of `races` ask for.
+fn showing_of<'a>(words: &ArgMatches<'a>) -> Showing<'a> {
+    Showing {
         only: words.get_str("only"),
         receives: words.get_flag("receives"),
         run_to_completion: words.get_flag("run-to-completion"),
+        luck: words.get_flag("luck"),
         json: words.get_flag("json"),
-        file: words.get_str("FILE"),
+    }
+}
+
+/// The races of a file that the words of `races` ask for.
+fn file_races_of<'a>(
+    alloc: Global,
+    words: &ArgMatches<'a>,
+) -> Result<Request<'a>, CommandLineError> {
+    let file = one_file(alloc, words)?;
+    Ok(Request::Races(Races {
+        showing: showing_of(words),
+        reading: races_reading(alloc, words)?,
+        file,
     }))
+}
+
+/// What the words of `races` ask for.
+fn races_of<'a>(alloc: Global, words: &ArgMatches<'a>) -> Result<Request<'a>, CommandLineError> {
+    match log_form(words) {
+        Some(form) => Ok(Request::LogRaces(LogRaces {
+            showing: showing_of(words),
+            log: log_of(alloc, form, words)?,
+        })),
+        None => file_races_of(alloc, words),
+    }
 }
 
 /// What the words of `mend` ask for. With `--all` neither a race nor a name is.

@@ -99,20 +99,35 @@ pub struct Compare<'a> {
 }
 
 /// Which races are to be shown, and how. The names are words still.
-#[derive(Debug, Drop)]
-pub struct Races<'a> {
-    /// With `--from`: how the file is read, which is another tool's text then.
-    pub reading: Option<Reading<'a>>,
+#[derive(Clone, Copy, Debug, PartialEq, Eq)]
+pub struct Showing<'a> {
     /// The names behind `--only`, joined by commas.
     pub only: Option<&'a str>,
     /// Whether `--receives` is given.
     pub receives: bool,
     /// Whether `--run-to-completion` is given.
     pub run_to_completion: bool,
+    /// Whether `--luck` is given.
+    pub luck: bool,
     /// Whether `--json` is given.
     pub json: bool,
+}
+
+/// The races of a file that are to be shown.
+#[derive(Debug, Drop)]
+pub struct Races<'a> {
+    pub showing: Showing<'a>,
+    /// With `--from`: how the file is read, which is another tool's text then.
+    pub reading: Option<Reading<'a>>,
     /// Without it, and where it is `-`, standard input is read.
     pub file: Option<&'a str>,
+}
+
+/// The races of a log that are to be shown.
+#[derive(Debug, Drop)]
+pub struct LogRaces<'a> {
+    pub showing: Showing<'a>,
+    pub log: ImportLog<'a>,
 }
 
 /// Which races are to go by more messages. The name and the numbers are words still.
@@ -147,9 +162,11 @@ pub enum Request<'a> {
     ImportLog(ImportLog<'a>),
     /// `compare [--json] A B`.
     Compare(Compare<'a>),
-    /// `races [--only NAME,NAME..] [--receives] [--run-to-completion] [--json] [FILE]`, and with `--from TOOL` the
-    /// options of `import`.
+    /// `races [--only NAME,NAME..] [--receives] [--run-to-completion] [--luck] [--json] [FILE]`, and with `--from TOOL`
+    /// the options of `import`.
     Races(Races<'a>),
+    /// `races --from log|shiviz` with the options of `races` and of `import`, and `[FILE..]`.
+    LogRaces(LogRaces<'a>),
     /// `mend [--name NAME] FILE INSTANCE EARLIER RECEIVE`, or `mend --all [FILE]`.
     Mend(Mend<'a>),
     /// `tidy [FILE]`: without the file, and where it is `-`, standard input is read.

@@ -24,7 +24,7 @@ free(0) ->
     ok;
 free(Left) ->
     receive
-        {lock, Client} ->
+        {ask, Client} ->
             Client ! granted,
             held(Client, Left - 1)
     end.
@@ -37,7 +37,7 @@ held(Client, Left) ->
 
 -spec client(pid()) -> ok.
 client(Server) ->
-    Server ! {lock, self()},
+    Server ! {ask, self()},
     receive
         granted -> Server ! {unlock, self()}
     end,

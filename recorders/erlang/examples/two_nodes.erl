@@ -44,8 +44,9 @@ prepare(pg, Other) ->
 run(Program, Other) ->
     Part = maps:get(Program, #{mnesia => add, global => claim, pg => join}),
     register(first, self()),
-    [spawn(Node, ?MODULE, Part, [self()]) || Node <- [node(), Other]],
+    Parts = [spawn(Node, ?MODULE, Part, [self()]) || Node <- [node(), Other]],
     Told = [receive {done, What} -> What end || _ <- [1, 2]],
+    Program =/= global orelse [Claimer ! stop || Claimer <- Parts],
     unregister(first),
     check(Program, lists:sort(Told)).
 
@@ -69,7 +70,7 @@ add(First) ->
 claim(First) ->
     register(claimer, self()),
     First ! {done, global:register_name(leader, self())},
-    receive stop -> ok after 200 -> ok end.
+    receive stop -> ok end.
 
 -spec join(pid()) -> term().
 join(First) ->

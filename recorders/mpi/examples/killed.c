@@ -1,12 +1,13 @@
 /*
- * Rank 1 sends five messages and kills itself, after rank 0 has received them. Rank 0 waits until it is gone, and ends.
+ * Rank 1 sends five messages, and kills itself once rank 0 has told it that all of them are received. Whoever started the
+ * ranks may then kill rank 0 too.
  */
 #include <mpi.h>
 #include <signal.h>
 #include <stdlib.h>
 #include <unistd.h>
 
-enum { MESSAGES = 5 };
+enum { MESSAGES = 5, RECEIVED = MESSAGES };
 
 int main(int count, char **words) {
     int rank, data = 0;
@@ -20,7 +21,10 @@ int main(int count, char **words) {
         }
     }
     if (rank == 1) {
+        MPI_Recv(&data, 1, MPI_INT, 0, RECEIVED, MPI_COMM_WORLD, MPI_STATUS_IGNORE);
         kill(getpid(), SIGKILL);
+    } else if (rank == 0) {
+        MPI_Send(&data, 1, MPI_INT, 1, RECEIVED, MPI_COMM_WORLD);
     }
     sleep(1);
     _exit(0);

@@ -1,7 +1,7 @@
 use Rattle.std.proofs.Common.{◌+◌, ◌≤◌, ◌∷◌, [], ℕ, List, length, sym, ap, subst, arith, rules, length-append}
 use Rattle.std.proofs.lemmas.Option.{slice_get-get_or}
 use Rattle.handles.specs.SendingAll.{AreMessages}
-use Rattle.handles.proofs.NameLemmas.{start_more}
+use Rattle.handles.proofs.WordLemmas.{start_more}
 use Rattle.handles.proofs.MessageLemmas.{next_content, content_is, are_more, all_contents}
 use Rattle.handles.proofs.sending_all.messages_in.Goals as goal
 

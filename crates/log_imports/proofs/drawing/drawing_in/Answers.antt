@@ -2,7 +2,6 @@ use Rattle.std.proofs.Common.{◌≡◌, ◌==◌, Bool, false, List, [], ◌∷
 use Rattle.std.proofs.lemmas.Bool.{false≢true}
 use Rattle.log_lines.specs.Events.{said_view}
 use Rattle.log_lines.specs.declared.event.Said.{Said}
-use Rattle.log_names.specs.Hosts.{peer_view}
 use Rattle.log_names.specs.Naming.{named_view, named}
 use Rattle.log_imports.specs.Options.{options_view}
 use Rattle.log_imports.specs.Reading.{log_view}

@@ -1,0 +1,71 @@
+-- What is told of a gathered board: its reports, and the messages that wait on its lanes (this project's profile).
+use Rattle.std.specs.Prelude.{◌≡◌, ℕ, ◌==◌, ◌&&◌, Bool, List, [], ◌∷◌, length, Option, None, Some, Result, Ok, Err}
+use Rattle.std.specs.Prelude.{if◌then◌else◌}
+use Rattle.chart.specs.Events.{ith}
+use Rattle.chart.specs.Messages.{Content}
+use Rattle.chart.specs.Reports.{ReportView}
+use Rattle.board.specs.declared.gathering.Left.{Left}
+use Rattle.board_handles.specs.declared.reports.Reported.{Reported}
+use Rattle.board_handles.specs.declared.left.Waiting.{Waiting}
+use Rattle.handles.specs.declared.kept.Kept.{Kept}
+use Rattle.handles.specs.declared.kept.Kept.TheVariants.{Post, Board, Away}
+use Rattle.handles.specs.declared.refusal.Refusal.{Refusal}
+use Rattle.handles.specs.declared.refusal.Refusal.TheVariants as why
+use Rattle.handles.specs.Copying.{put_over, counted, indices}
+
+-- what is told of a report: its receive, and how many races it has
+abbrev pub reported_of : ReportView → Reported
+reported_of report = record {
+  instance = report.receive.instance;
+  event = report.receive.index;
+  races = counted report.earlier;
+}
+
+-- there is no such report, or it is told and its races are copied out
+abbrev pub TellsReport : Option ReportView → List ℕ → Result Reported Refusal → List ℕ → Type 0
+TellsReport None room result out = (result ≡ Err why.NoEvent) × (out ≡ room)
+TellsReport (Some report) room result out = (result ≡ Ok (reported_of report))
+    × (out ≡ put_over (indices report.earlier) room)
+
+-- the report of this number, from 1, of the board that is kept
+abbrev pub KeptReports : Kept → ℕ → List ℕ → Result Reported Refusal → List ℕ → Type 0
+KeptReports (Board it) number room result out = TellsReport (ith it.reports.items number) room result out
+KeptReports (Post seat) number room result out = (result ≡ Err why.Misuse) × (out ≡ room)
+KeptReports Away number room result out = (result ≡ Err why.Misuse) × (out ≡ room)
+
+abbrev pub HandleReports : Option Kept → ℕ → List ℕ → Result Reported Refusal → List ℕ → Type 0
+HandleReports None number room result out = (result ≡ Err why.Misuse) × (out ≡ room)
+HandleReports (Some kept) number room result out = KeptReports kept number room result out
+
+-- the lane is that from q to p
+abbrev pub is_on : Left → ℕ → ℕ → Bool
+is_on lane q p = lane.sender == q && lane.receiver == p
+
+-- the messages that wait on the lane from q to p
+abbrev pub messages_on : List Left → ℕ → ℕ → List Content
+messages_on [] q p = []
+messages_on (left ∷ more) q p = if is_on left q p then left.messages.items else messages_on more q p
+
+-- what is told of a message that waits
+abbrev pub waiting_of : Content → Waiting
+waiting_of message = record { name = length message.name; body = length message.body }
+
+-- there is no such message, or it is told, and its name and its body are copied out
+abbrev pub TellsWaiting : Option Content → List ℕ → List ℕ → Option Waiting → List ℕ → List ℕ → Type 0
+TellsWaiting None names bodies result name body = (result ≡ None) × (name ≡ names) × (body ≡ bodies)
+TellsWaiting (Some message) names bodies result name body = (result ≡ Some (waiting_of message))
+    × (name ≡ put_over message.name names) × (body ≡ put_over message.body bodies)
+
+-- the message of this number, from 1, on the lane from q to p of the board that is kept
+abbrev pub KeptWaits : Kept → ℕ → ℕ → ℕ → List ℕ → List ℕ → Result (Option Waiting) Refusal → List ℕ → List ℕ → Type 0
+KeptWaits (Board it) q p number names bodies result name body = (told : Option Waiting) × (result ≡ Ok told)
+    × TellsWaiting (ith (messages_on it.left.items q p) number) names bodies told name body
+KeptWaits (Post seat) q p number names bodies result name body = (result ≡ Err why.Misuse) × (name ≡ names)
+    × (body ≡ bodies)
+KeptWaits Away q p number names bodies result name body = (result ≡ Err why.Misuse) × (name ≡ names) × (body ≡ bodies)
+
+abbrev pub HandleWaits : Option Kept → ℕ → ℕ → ℕ → List ℕ → List ℕ → Result (Option Waiting) Refusal → List ℕ
+    → List ℕ → Type 0
+HandleWaits None q p number names bodies result name body = (result ≡ Err why.Misuse) × (name ≡ names) × (body ≡ bodies)
+HandleWaits (Some kept) q p number names bodies result name body =
+    KeptWaits kept q p number names bodies result name body

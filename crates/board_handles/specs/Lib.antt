@@ -1,0 +1,3 @@
+pub mod BoardTelling
+pub mod BoardText
+pub mod Naming

@@ -1,0 +1,115 @@
+//! What a gathered board left, message by message.
+ghost use Rattle.std.specs.Prelude.{◌≡◌, IfSome, IfNone, slice_get, Some, [], ℕ};
+ghost use Rattle.chart.specs.Events.{ith};
+ghost use Rattle.board.specs.declared.gathering.Left.{Left};
+ghost use Rattle.handles.specs.Copying.{put_over};
+ghost use Rattle.board_handles.specs.BoardTelling.{messages_on, is_on, waiting_of, TellsWaiting, KeptWaits};
+ghost use Rattle.board_handles.specs.BoardTelling.{HandleWaits};
+
+use board::Left;
+use chart::Message;
+use handles::{Handle, Kept, Refusal, copy_out};
+use std::alloc::Global;
+
+/// What is told of a message that waits on a lane of a gathered board.
+#[derive(Clone, Copy)]
+pub struct Waiting {
+    /// How many bytes its name has.
+    pub name: usize,
+    /// How many bytes its body has.
+    pub body: usize,
+}
+
+/// Whether the lane has these ends.
+fn is_on(lane: &Left, from: u32, to: u32) -> bool
+    ensures { result ≡ is_on lane.now from to }
+{
+    lane.sender.number() == from as usize && lane.receiver.number() == to as usize
+}
+
+/// Where the lane with these ends is, if messages wait on it.
+fn place_of_lane(left: &[Left], from: u32, to: u32) -> Option<usize>
+    ensures some { IfSome result (λ place. (lane : Left) × (slice_get left.now place ≡ Some lane)
+        × (messages_on left.now from to ≡ lane.messages.items)) }
+    ensures none { IfNone result (messages_on left.now from to ≡ []) }
+{
+    for place in 0..left.len() {
+        if is_on(&left[place], from, to) {
+            return Some(place);
+        }
+    }
+    None
+}
+
+/// What is told of a message; its name and its body are copied out, as much as there is room for.
+fn tell_message(message: &Message, name: &mut [u8], body: &mut [u8]) -> Waiting
+    ensures told { result ≡ waiting_of message.now }
+    ensures names { name.new ≡ put_over message.now.name name.old }
+    ensures bodies { body.new ≡ put_over message.now.body body.old }
+{
+    let its = message.name();
+    Waiting {
+        name: copy_out(its.as_bytes(), name),
+        body: copy_out(message.body(), body),
+    }
+}
+
+/// Tells of the message of this number, from 1, on the lane with these ends.
+fn tell_nth(
+    left: &[Left],
+    from: u32,
+    to: u32,
+    number: usize,
+    name: &mut [u8],
+    body: &mut [u8],
+) -> Option<Waiting>
+    ensures { TellsWaiting (ith (messages_on left.now from to) number) name.old body.old result name.new body.new }
+{
+    let Some(place) = place_of_lane(left, from, to) else {
+        return None;
+    };
+    let messages = left[place].messages.as_slice();
+    if number == 0 || number > messages.len() {
+        return None;
+    }
+    Some(tell_message(&messages[number - 1], name, body))
+}
+
+/// Tells of the message of this number, from 1, on the lane with these ends, where a board is kept.
+fn tell_kept(
+    kept: &Kept,
+    from: u32,
+    to: u32,
+    number: usize,
+    name: &mut [u8],
+    body: &mut [u8],
+) -> Result<Option<Waiting>, Refusal>
+    ensures { KeptWaits kept.now from to number name.old body.old result name.new body.new }
+{
+    match kept {
+        Kept::Board(it) => Ok(tell_nth(it.left.as_slice(), from, to, number, name, body)),
+        _ => Err(Refusal::Misuse),
+    }
+}
+
+/// Tells of the message of this number, from 1, that waits on the lane from an instance to another one, if so many do,
+/// and copies its name and its body out, as much as there is room for.
+pub fn tell_waiting(
+    alloc: Global,
+    board: &mut Handle,
+    from: u32,
+    to: u32,
+    number: usize,
+    name: &mut [u8],
+    body: &mut [u8],
+) -> Result<Option<Waiting>, Refusal>
+    ensures same { board.new.slot.value ≡ board.old.slot.value }
+    ensures answer { HandleWaits board.old.slot.value from to number name.old body.old result name.new body.new }
+{
+    let Some(kept) = board.take(alloc) else {
+        return Err(Refusal::Misuse);
+    };
+    let result = tell_kept(&*kept, from, to, number, name, body);
+    board.put(kept);
+    result
+}

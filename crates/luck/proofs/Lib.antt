@@ -1,0 +1,13 @@
+pub mod ArrivalLemmas
+pub mod BeginningLemmas
+pub mod BehindLemmas
+pub mod InventionLemmas
+pub mod ItemLemmas
+pub mod JudgeLemmas
+pub mod LaneLemmas
+pub mod LineLemmas
+pub mod LogLemmas
+pub mod MarkLemmas
+pub mod OrderLemmas
+pub mod TableLemmas
+pub mod TakingLemmas

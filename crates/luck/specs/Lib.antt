@@ -1,0 +1,15 @@
+pub mod ArrivalTables
+pub mod Arrivals
+pub mod Behind
+pub mod Invention
+pub mod Judging
+pub mod LaneTables
+pub mod LineTables
+pub mod Marking
+pub mod Places
+pub mod Recorded
+pub mod Tables
+pub mod Taking
+pub mod TakingTables
+pub mod Verdicts
+pub mod WholeOrder

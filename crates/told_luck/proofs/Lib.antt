@@ -1,0 +1,4 @@
+pub mod FoundParts
+pub mod PartLemmas
+pub mod RaceLemmas
+pub mod TextLemmas

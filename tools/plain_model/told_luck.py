@@ -1,0 +1,152 @@
+"""
+What `mscview races --from log` answers, by the plain model: each race's word, in ranges that are split where it changes.
+
+`told_luck.py races --from log [--luck] [--receives] [--json] [--hosts a,b] [--peer A=x,y].. FILE..` writes it.
+"""
+
+import argparse
+import json
+import sys
+from collections.abc import Iterator
+from typing import NamedTuple
+
+from chart_texts import Event
+from imported_logs import Answer, File, Options, read_log
+from log_charts import LogChart, chart_of_log, told
+from luck import LUCK, words_of_races
+from names import Refused
+
+
+class Shown(NamedTuple):
+    """What is shown of the races of a log."""
+
+    luck: bool = False
+    receives: bool = False
+    as_json: bool = False
+
+    def words(self) -> list[str]:
+        said = {"--luck": self.luck, "--receives": self.receives, "--json": self.as_json}
+        return [word for word, is_said in said.items() if is_said]
+
+
+class Told(NamedTuple):
+    """One race, by names and by numbers from 1, with its word."""
+
+    instance: str
+    receive: int
+    message: str
+    sender: str
+    earlier: int
+    earlier_message: str
+    word: str
+
+
+def races_told(made: LogChart, shown: Shown) -> list[Told]:
+    """The races that are shown, one by one, by instance, receive and earlier event."""
+    found = []
+    for (p, e, r), word in words_of_races(made).items():
+        line = made.chart.lines[p]
+        if (shown.luck and word != LUCK) or (shown.receives and line[e].kind == "out"):
+            continue
+        receive = line[r]
+        names = (made.chart.names[p], receive.message, made.chart.names[receive.partner], line[e].message)
+        instance, message, sender, earlier = (name.decode() for name in names)
+        found.append(Told(instance, r + 1, message, sender, e + 1, earlier, word))
+    return found
+
+
+def ranges_of(races: list[Told]) -> Iterator[list[Told]]:
+    """The races of one receive whose earlier events are neighbours and whose words are the same, as few as can be."""
+    together: list[Told] = []
+    for race in races:
+        after = together and together[-1]._replace(earlier=race.earlier, earlier_message=race.earlier_message)
+        if together and (after != race or together[-1].earlier + 1 != race.earlier):
+            yield together
+            together = []
+        together.append(race)
+    if together:
+        yield together
+
+
+def event_words(made: LogChart, race: Told) -> str:
+    line = made.chart.lines[made.chart.names.index(race.instance.encode())]
+    event: Event = line[race.earlier - 1]
+    partner = made.chart.names[event.partner].decode()
+    return f"{race.earlier_message} ({race.earlier}, {'to' if event.kind == 'out' else 'from'} {partner})"
+
+
+def range_words(made: LogChart, together: list[Told]) -> str:
+    first, last = together[0], together[-1]
+    if first == last:
+        return event_words(made, first)
+    between = ", " if len(together) == 2 else ", .., "
+    return f"events {first.earlier} to {last.earlier} ({first.earlier_message}{between}{last.earlier_message})"
+
+
+def lines_told(made: LogChart, races: list[Told]) -> list[str]:
+    return [
+        f"{race.instance}: {race.message} ({race.receive}, from {race.sender}) may come before "
+        f"{range_words(made, together)}; {race.word}"
+        for together in ranges_of(races)
+        for race in together[:1]
+    ]
+
+
+def objects_told(races: list[Told]) -> list[str]:
+    objects: dict[tuple[str, int], dict] = {}
+    for together in ranges_of(races):
+        race = together[0]
+        said = {"instance": race.instance, "receive": race.receive, "message": race.message, "sender": race.sender}
+        told_range = {
+            "first": race.earlier,
+            "last": together[-1].earlier,
+            "messages": [each.earlier_message for each in together],
+            "why": race.word,
+        }
+        objects.setdefault((race.instance, race.receive), said | {"ranges": []})["ranges"].append(told_range)
+    return [json.dumps(each, separators=(",", ":")) for each in objects.values()]
+
+
+def chart_of(files: list[File], options: Options) -> LogChart:
+    return chart_of_log(read_log(files, options))
+
+
+def told_beside(made: LogChart) -> bytes:
+    """What is told on standard error."""
+    return "".join(line + "\n" for line in told(made)).encode("utf-8", "surrogateescape")
+
+
+def answered(files: list[File], options: Options, shown: Shown) -> Answer:
+    try:
+        made = chart_of(files, options)
+    except Refused as refused:
+        return Answer(2, b"", refused.text)
+    races = races_told(made, shown)
+    lines = objects_told(races) if shown.as_json else lines_told(made, races)
+    return Answer(int(bool(races)), "".join(line + "\n" for line in lines).encode(), told_beside(made))
+
+
+def main() -> int:
+    words = argparse.ArgumentParser()
+    words.add_argument("command", choices=["races"])
+    words.add_argument("--from", dest="form", choices=["log"], required=True)
+    for word in ("--luck", "--receives", "--json"):
+        words.add_argument(word, action="store_true")
+    words.add_argument("--hosts", default="")
+    words.add_argument("--peer", action="append", default=[])
+    words.add_argument("files", nargs="+")
+    given = words.parse_args()
+    peers = tuple((name, tuple(others.split(","))) for name, others in (peer.split("=", 1) for peer in given.peer))
+    options = Options(hosts=tuple(given.hosts.split(",")) if given.hosts else (), peers=peers)
+    files = []
+    for name in given.files:
+        with open(name, "rb") as file:
+            files.append(File(name, file.read()))
+    answer = answered(files, options, Shown(given.luck, given.receives, given.json))
+    sys.stdout.buffer.write(answer.written)
+    sys.stderr.buffer.write(answer.said)
+    return answer.status
+
+
+if __name__ == "__main__":
+    sys.exit(main())
