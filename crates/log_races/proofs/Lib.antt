@@ -1,2 +1,1 @@
-pub mod JudgedLemmas
 pub mod RecordingLemmas

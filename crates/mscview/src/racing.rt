@@ -4,6 +4,7 @@ use crate::input::bytes_in;
 use files::ProgramError;
 use msc_text::Out;
 use race_answers::{Wanted, races};
+use schedule_luck::lucky_races;
 use std::rt::Files;
 use told_races::Form;
 use view_line::{Races, Showing};
@@ -22,7 +23,8 @@ pub fn wanted_by<'a>(showing: &Showing<'a>) -> Wanted<'a> {
     }
 }
 
-/// Shows the races of a file by name. G1: luck is asked for, of which such a file tells nothing.
+/// Shows the races of a file by name: of a schedule, where luck is asked for, those that were luck. G1: luck is asked for of a
+/// chart, which tells nothing of it.
 pub fn view_races<R: Files + Input + AllocGlobal, W: Out, V: Out>(
     rt: &R,
     asked: &Races<'_>,
@@ -33,9 +35,9 @@ pub fn view_races<R: Files + Input + AllocGlobal, W: Out, V: Out>(
         return view_races_of(rt, asked, reading, out, err);
     }
     let bytes = bytes_in(rt, asked.file)?;
-    if asked.showing.luck {
-        return Err(ProgramError::Usage);
-    }
     let wanted = wanted_by(&asked.showing);
+    if asked.showing.luck {
+        return Ok(lucky_races(rt.alloc(), &bytes, &wanted, out, err));
+    }
     Ok(races(rt.alloc(), &bytes, &wanted, out, err))
 }

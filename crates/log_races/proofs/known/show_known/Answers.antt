@@ -9,7 +9,7 @@ use Rattle.race_answers.specs.Judging.{ShowsJudged}
 use Rattle.told_luck.proofs.RaceLemmas.{race_is}
 use Rattle.log_imports.specs.Recording.{lent_of}
 use Rattle.log_races.specs.Showing.{verdict_in}
-use Rattle.log_races.proofs.JudgedLemmas.{unnamed, not_judged}
+use Rattle.race_answers.proofs.JudgedLemmas.{unnamed, not_judged}
 use Rattle.log_races.proofs.known.show_known.Goals as goal
 
 pub returns-in_err-instances : goal.returns-in_err-instances

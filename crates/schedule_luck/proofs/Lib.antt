@@ -1,0 +1,3 @@
+pub mod NoteLemmas
+pub mod TableLemmas
+pub mod BehindLemmas

@@ -1,0 +1,4 @@
+pub mod Makers
+pub mod Showing
+pub mod Tables
+pub mod Verdicts
