@@ -52,11 +52,7 @@ fn nothing(alloc: Global, count: usize) -> Result<Vec<Option<usize>>, AllocError
 /// What stands before each of these lines, which are among so many.
 ///
 /// F6: it fails only where there is no memory.
-pub fn sources_of(
-    alloc: Global,
-    count: usize,
-    lines: &[LogLine],
-) -> Result<Sources, AllocError>
+pub fn sources_of(alloc: Global, count: usize, lines: &[LogLine]) -> Result<Sources, AllocError>
     requires { AreLines count lines.now }
     ensures { IfOk result (λ s. AreSources lines.now count s.above.items s.sends.items) }
 {
