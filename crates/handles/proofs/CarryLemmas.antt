@@ -13,6 +13,7 @@ use Rattle.long_runs.specs.declared.carrying.CarryCause.{CarryCause}
 use Rattle.long_runs.specs.declared.carrying.CarryCause.TheVariants as cause
 use Rattle.long_runs.specs.declared.carrying.CarryError.{CarryError}
 use Rattle.long_runs.specs.CarryingOver.{CarriesOver, HasMoreRoom, HaveMoreRoom}
+use Rattle.handles.specs.Came.{came_list}
 use Rattle.handles.specs.declared.chair.Chair.{Chair}
 use Rattle.handles.specs.declared.kept.Kept.{Kept}
 use Rattle.handles.specs.declared.kept.Kept.TheVariants.{Post, Board, Away}
@@ -70,14 +71,14 @@ borne-fit chairs left closed posts new (Err error) fit its = unborne-fit chairs 
 
 -- and keep what they got last
 keep_all : (chairs : List Chair) (posts new : List PostView) → AreFit chairs posts → AreFit chairs new → KeepAll (seats_with chairs posts) (seats_with chairs new)
-keep_all [] [] [] fit fits = record { last = refl; arrival = refl }
+keep_all [] [] [] fit fits = record { last = refl; came = refl }
 keep_all [] [] (y ∷ new) fit fits = absurd fits
 keep_all [] (x ∷ posts) new fit fits = absurd fit
 keep_all (c ∷ chairs) [] new fit fits = absurd fit
 keep_all (c ∷ chairs) (x ∷ posts) [] fit fits = absurd fits
 keep_all (c ∷ chairs) (x ∷ posts) (y ∷ new) fit fits = let rest = keep_all chairs posts new fit.1 fits.1 in record {
   last = ap (λ (xs : List ℕ). unwrap_or c.last 0 ∷ xs) rest.last;
-  arrival = ap (λ (xs : List (Option Arrival)). c.arrival ∷ xs) rest.arrival;
+  came = ap (λ (xs : List (List Arrival)). came_list c.came ∷ xs) rest.came;
 }
 
 -- the seats of handles that keep posts
@@ -98,7 +99,7 @@ seats_in (Some Away ∷ all) keep = absurd (different (keep 0 (Some Away) refl))
     different e = cc
 
 keep_same : (seats : List SeatView) → KeepAll seats seats
-keep_same seats = record { last = refl; arrival = refl }
+keep_same seats = record { last = refl; came = refl }
 
 -- there was no memory to take them out
 pub no_lists : (old new : List (Option Kept)) → new ≡ old → KeepPosts old → HaveRoomOver old new

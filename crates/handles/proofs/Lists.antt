@@ -1,5 +1,5 @@
 -- Lists that a loop writes over, element by element.
-use Rattle.std.proofs.Common.{◌≡◌, ℕ, zero, suc, ◌+◌, ◌<◌, ◌≤◌, ◌⊎◌, inl, inr, List, [], ◌∷◌, ◌++◌, length, take, drop, set, refl, ap, subst, arith}
+use Rattle.std.proofs.Common.{◌≡◌, ℕ, zero, suc, ◌+◌, ◌<◌, ◌≤◌, ◌⊎◌, inl, inr, List, [], ◌∷◌, ◌++◌, length, take, drop, map, min, set, get_or, refl, ap, subst, arith}
 use Rattle.std.specs.Prelude.{slice_get}
 
 -- the next of these written over the next of those
@@ -59,3 +59,23 @@ mid_at xs ys zero few less = refl
 mid_at [] ys (suc n) few less = absurd (omega (arith, few))
 mid_at (x ∷ xs) [] (suc n) few less = absurd (omega (arith, less))
 mid_at (x ∷ xs) (y ∷ ys) (suc n) few less = mid_at xs ys n (omega (arith, few)) (omega (arith, less))
+
+-- what is left of those that come of these begins with what comes of the next one
+pub drop_mapped : {X Y : Type 0} (f : X → Y) (xs : List X) (n : ℕ) (d : X) → n < length xs → drop n (map f xs) ≡ f (get_or xs n d) ∷ drop (n + 1) (map f xs)
+drop_mapped {X = X} f xs n d less = let next : suc n ≡ n + 1 = omega arith in subst (λ (m : ℕ). drop n (map f xs) ≡ f (get_or xs n d) ∷ drop m (map f xs)) next (go xs n less)
+  where
+    go : (xs : List X) (n : ℕ) → n < length xs → drop n (map f xs) ≡ f (get_or xs n d) ∷ drop (suc n) (map f xs)
+    go [] n less = absurd (omega (arith, less))
+    go (x ∷ xs) zero less = refl
+    go (x ∷ xs) (suc n) less = go xs n (omega (arith, less))
+
+-- as many were written as there are and find room
+pub put_min : {X : Type 0} (xs ys : List X) (n : ℕ) → n ≡ min (length xs) (length ys) → take n xs ++ drop n ys ≡ take (length ys) xs ++ drop (length xs) ys
+put_min [] [] zero same = refl
+put_min [] [] (suc n) same = absurd (omega (arith, same))
+put_min [] (y ∷ ys) zero same = refl
+put_min [] (y ∷ ys) (suc n) same = absurd (omega (arith, same))
+put_min (x ∷ xs) [] zero same = refl
+put_min (x ∷ xs) [] (suc n) same = absurd (omega (arith, same))
+put_min (x ∷ xs) (y ∷ ys) zero same = absurd (omega (arith, same))
+put_min (x ∷ xs) (y ∷ ys) (suc n) same = ap (λ zs. x ∷ zs) (put_min xs ys n (omega (arith, same)))

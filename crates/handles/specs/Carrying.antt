@@ -34,10 +34,10 @@ abbrev pub MayCarryOver : Option Kept → List (Option Kept) → Type 0
 MayCarryOver None all = Unit {0}
 MayCarryOver (Some kept) all = MayCarryKept kept all
 
--- the last messages that they got stay in their seats
+-- the messages that came last stay in their seats
 pub record KeepAll (old new : List SeatView) : Type 0 where
   pub last : map (λ (seat : SeatView). seat.last) new ≡ map (λ (seat : SeatView). seat.last) old
-  pub arrival : map (λ (seat : SeatView). seat.arrival) new ≡ map (λ (seat : SeatView). seat.arrival) old
+  pub came : map (λ (seat : SeatView). seat.came) new ≡ map (λ (seat : SeatView). seat.came) old
 
 -- the posts have carried over what the board left, which is left no more; how many sends each instance carried is
 -- copied out

@@ -3,6 +3,7 @@ use Rattle.std.specs.Prelude.{◌≡◌, ℕ, ◌≤◌, Bool, true, false, List
 use Rattle.std.specs.Prelude.{None, Some, Result, Ok, Err}
 use Rattle.board.specs.Views.{PostView}
 use Rattle.board.specs.Parked.{IsAtBoard}
+use Rattle.handles.specs.Came.{came_list}
 use Rattle.handles.specs.declared.chair.Chair.{Chair}
 use Rattle.handles.specs.declared.chair.Taken.{Taken}
 use Rattle.handles.specs.declared.kept.Kept.{Kept}
@@ -19,7 +20,7 @@ pub record Fits (chair : Chair) (post : PostView) : Type 0 where
 
 -- the seat with the post
 abbrev pub seat_with : Chair → PostView → SeatView
-seat_with chair post = record { post = post; last = unwrap_or chair.last 0; arrival = chair.arrival }
+seat_with chair post = record { post = post; last = unwrap_or chair.last 0; came = came_list chair.came }
 
 -- a post was taken out of its seat
 pub record IsParted (kept : Kept) (chair : Chair) (post : PostView) : Type 0 where

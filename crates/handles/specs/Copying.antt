@@ -2,26 +2,27 @@
 use Rattle.std.specs.Prelude.{◌≡◌, ℕ, ◌-◌, ◌^◌, min, List, ◌++◌, length, take, drop, map, Option, None, Some, Result}
 use Rattle.std.specs.Prelude.{Ok, Err}
 use Rattle.chart.specs.declared.instance.EventNo.{EventNo}
-use Rattle.std.specs.Borrow.{Bor}
 use Rattle.board.specs.declared.answer.Arrival.{Arrival}
+use Rattle.handles.specs.Came.{picked}
+use Rattle.handles.specs.declared.came.Which.{Which}
 use Rattle.handles.specs.declared.kept.Kept.{Kept}
 use Rattle.handles.specs.declared.kept.Kept.TheVariants.{Post, Board, Away}
 use Rattle.handles.specs.declared.refusal.Refusal.{Refusal}
 use Rattle.handles.specs.declared.refusal.Refusal.TheVariants as why
 
 -- the first of these, as many as find room, and behind them what was there
-abbrev pub put_over : List ℕ → List ℕ → List ℕ
+abbrev pub put_over : {X : Type 0} → List X → List X → List X
 put_over items room = take (length room) items ++ drop (length items) room
 
--- the last message of what a handle keeps
-abbrev pub arrival_of : Kept → Option Arrival
-arrival_of (Post seat) = seat.arrival
-arrival_of (Board it) = None
-arrival_of Away = None
+-- this one of the messages that came last to what a handle keeps
+abbrev pub picked_of : Which → Kept → Option Arrival
+picked_of which (Post seat) = picked which seat.came
+picked_of which (Board it) = None
+picked_of which Away = None
 
-abbrev pub arrival_in : Option Kept → Option Arrival
-arrival_in None = None
-arrival_in (Some kept) = arrival_of kept
+abbrev pub picked_in : Which → Option Kept → Option Arrival
+picked_in which None = None
+picked_in which (Some kept) = picked_of which kept
 
 abbrev pub name_in : Arrival → List ℕ
 name_in arrival = arrival.message.name
@@ -42,11 +43,6 @@ abbrev pub CopiesOut : (Arrival → List ℕ) → Option Arrival → List ℕ �
 CopiesOut what None room result out = (result ≡ Err why.Misuse) × (out ≡ room)
 CopiesOut what (Some arrival) room result out = (result ≡ Ok (length (what arrival)))
     × (out ≡ put_over (what arrival) room)
-
--- this message is looked at, or there is none
-abbrev pub IsSeen : Option Arrival → Option (Bor Arrival) → Type 0
-IsSeen seat None = seat ≡ None
-IsSeen seat (Some seen) = seat ≡ Some seen.now
 
 -- the races of the message are copied out: the numbers of the earlier events
 abbrev pub CopiesRaces : Option Arrival → List ℕ → Result ℕ Refusal → List ℕ → Type 0

@@ -1,3 +1,4 @@
+pub mod Came
 pub mod Carrying
 pub mod Cells
 pub mod Chairs
@@ -7,6 +8,7 @@ pub mod Gathering
 pub mod Meeting
 pub mod Opening
 pub mod Receiving
+pub mod ReceivingMany
 pub mod Refusals
 pub mod Regions
 pub mod Reserving

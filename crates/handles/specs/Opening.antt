@@ -1,5 +1,5 @@
 -- What opening a board over handles answers (this project's profile).
-use Rattle.std.specs.Prelude.{◌≡◌, ℕ, suc, List, length, map, slice_get, Option, None, Some, Result, Ok, Err}
+use Rattle.std.specs.Prelude.{◌≡◌, ℕ, suc, List, [], length, map, slice_get, Option, None, Some, Result, Ok, Err}
 use Rattle.atomic_table.specs.Seated.{TableId}
 use Rattle.board.specs.Known.{IsSized}
 use Rattle.board.specs.Views.{BoardView, PostView}
@@ -28,7 +28,7 @@ IsOneFull all = (i : ℕ) × (kept : Kept) × (slice_get all i ≡ Some (Some ke
 
 -- a seated post before its first call
 abbrev pub seated : PostView → SeatView
-seated post = record { post = post; last = 0; arrival = None }
+seated post = record { post = post; last = 0; came = [] }
 
 -- they keep the posts of a new board, in order of their instances
 abbrev pub AreSeated : BoardView → List (Option Kept) → Type 0

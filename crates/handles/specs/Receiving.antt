@@ -1,5 +1,5 @@
 -- What a receive over a handle answers, and what is told of the message (this project's profile).
-use Rattle.std.specs.Prelude.{◌≡◌, ℕ, ◌-◌, ◌^◌, true, false, length, min, Option, None, Some, Result, Ok, Err}
+use Rattle.std.specs.Prelude.{◌≡◌, ℕ, ◌-◌, ◌^◌, true, false, [], ◌∷◌, length, min, Option, None, Some, Result, Ok, Err}
 use Rattle.board.specs.declared.answer.Arrival.{Arrival}
 use Rattle.board.specs.declared.answer.Taken.TheVariants as taken
 use Rattle.board.specs.Views.{Sound, Stays}
@@ -29,7 +29,7 @@ arrived_of arrival = record {
 -- the message stays in the handle, which tells of it
 pub record IsTold (arrival : Arrival) (arrived : Arrived) (new : SeatView) : Type 0 where
   pub told : arrived ≡ arrived_of arrival
-  pub stays : new.arrival ≡ Some arrival
+  pub stays : new.came ≡ arrival ∷ []
   pub last : new.last ≡ arrival.from
 
 -- what a receive over a seated post answers: what the post's own receive does

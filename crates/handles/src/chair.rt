@@ -3,9 +3,10 @@ ghost use Rattle.std.specs.Prelude.{◌≡◌, true};
 ghost use Rattle.handles.specs.declared.kept.Kept.TheVariants.{Post};
 ghost use Rattle.handles.specs.Chairs.{Fits, IsParted, is_post, seat_with};
 
+use crate::came::Came;
 use crate::kept::Kept;
 use crate::seat::Seat;
-use board::{Arrival, BoardTable, Parked};
+use board::{BoardTable, Parked};
 use chart::InstanceNo;
 use std::mem;
 use std::sync::Arc;
@@ -16,7 +17,7 @@ pub(crate) struct Chair {
     kept: Box<Kept>,
     pub(crate) table: Arc<BoardTable>,
     last: Option<InstanceNo>,
-    arrival: Option<Arrival>,
+    came: Came,
 }
 
 /// Posts that were taken out of their seats, and these in the same order.
@@ -39,13 +40,13 @@ impl Chair {
                     table,
                     parked,
                     last,
-                    arrival,
+                    came,
                 } = seat;
                 let chair = Chair {
                     kept,
                     table,
                     last,
-                    arrival,
+                    came,
                 };
                 (chair, parked)
             }
@@ -62,14 +63,14 @@ impl Chair {
             kept,
             table,
             last,
-            arrival,
+            came,
         } = self;
         let mut kept = kept;
         *kept = Kept::Post(Seat {
             table,
             parked: post,
             last,
-            arrival,
+            came,
         });
         kept
     }

@@ -1,8 +1,10 @@
 //! What is copied out of a handle.
 ghost use Rattle.std.specs.Prelude.{◌≡◌, length};
-ghost use Rattle.handles.specs.Copying.{put_over, arrival_of, arrival_in, name_in, body_in, CopiesOut, CopiesRaces};
-ghost use Rattle.handles.specs.Copying.{IsSeen, counted, indices};
+ghost use Rattle.handles.specs.Came.{IsSeen};
+ghost use Rattle.handles.specs.Copying.{put_over, picked_of, picked_in, name_in, body_in, CopiesOut, CopiesRaces};
+ghost use Rattle.handles.specs.Copying.{counted, indices};
 
+use crate::came::Which;
 use crate::handle::Handle;
 use crate::kept::Kept;
 use crate::refusal::Refusal;
@@ -37,39 +39,39 @@ pub fn copy_events(events: &EventRanges, out: &mut [u32]) -> usize
 }
 
 impl Kept {
-    /// The last message, where it is a post that got one.
-    fn arrival(&self) -> Option<&Arrival>
-        ensures { IsSeen (arrival_of self.now) result }
+    /// This one of the messages that came last, where it is a post.
+    fn arrival(&self, which: Which) -> Option<&Arrival>
+        ensures { IsSeen (picked_of which self.now) result }
     {
         match self {
-            Kept::Post(seat) => seat.arrival(),
+            Kept::Post(seat) => seat.came.pick(which),
             _ => None,
         }
     }
 
-    fn copy_name(&self, out: &mut [u8]) -> Result<usize, Refusal>
-        ensures { CopiesOut name_in (arrival_of self.now) out.old result out.new }
+    fn copy_name(&self, which: Which, out: &mut [u8]) -> Result<usize, Refusal>
+        ensures { CopiesOut name_in (picked_of which self.now) out.old result out.new }
     {
-        let Some(arrival) = self.arrival() else {
+        let Some(arrival) = self.arrival(which) else {
             return Err(Refusal::Misuse);
         };
         let name = arrival.message.name();
         Ok(copy_out(name.as_bytes(), out))
     }
 
-    fn copy_body(&self, out: &mut [u8]) -> Result<usize, Refusal>
-        ensures { CopiesOut body_in (arrival_of self.now) out.old result out.new }
+    fn copy_body(&self, which: Which, out: &mut [u8]) -> Result<usize, Refusal>
+        ensures { CopiesOut body_in (picked_of which self.now) out.old result out.new }
     {
-        let Some(arrival) = self.arrival() else {
+        let Some(arrival) = self.arrival(which) else {
             return Err(Refusal::Misuse);
         };
         Ok(copy_out(arrival.message.body(), out))
     }
 
-    fn copy_races(&self, out: &mut [u32]) -> Result<usize, Refusal>
-        ensures { CopiesRaces (arrival_of self.now) out.old result out.new }
+    fn copy_races(&self, which: Which, out: &mut [u32]) -> Result<usize, Refusal>
+        ensures { CopiesRaces (picked_of which self.now) out.old result out.new }
     {
-        let Some(arrival) = self.arrival() else {
+        let Some(arrival) = self.arrival(which) else {
             return Err(Refusal::Misuse);
         };
         Ok(copy_events(arrival.report.earlier(), out))
@@ -77,42 +79,58 @@ impl Kept {
 }
 
 impl Handle {
-    /// Copies the name of the last message out: as many bytes as there is room for. It tells how many the name has.
-    pub fn copy_name(&mut self, alloc: Global, out: &mut [u8]) -> Result<usize, Refusal>
+    /// Copies the name of this one of the messages that came last out: as many bytes as there is room for. It tells how
+    /// many the name has.
+    pub fn copy_name(
+        &mut self,
+        alloc: Global,
+        which: Which,
+        out: &mut [u8],
+    ) -> Result<usize, Refusal>
         ensures same { self.new.slot.value ≡ self.old.slot.value }
-        ensures answer { CopiesOut name_in (arrival_in self.old.slot.value) out.old result out.new }
+        ensures answer { CopiesOut name_in (picked_in which self.old.slot.value) out.old result out.new }
     {
         let Some(kept) = self.take(alloc) else {
             return Err(Refusal::Misuse);
         };
-        let result = kept.copy_name(out);
+        let result = kept.copy_name(which, out);
         self.put(kept);
         result
     }
 
-    /// Copies the body of the last message out, likewise.
-    pub fn copy_body(&mut self, alloc: Global, out: &mut [u8]) -> Result<usize, Refusal>
+    /// Copies its body out, likewise.
+    pub fn copy_body(
+        &mut self,
+        alloc: Global,
+        which: Which,
+        out: &mut [u8],
+    ) -> Result<usize, Refusal>
         ensures same { self.new.slot.value ≡ self.old.slot.value }
-        ensures answer { CopiesOut body_in (arrival_in self.old.slot.value) out.old result out.new }
+        ensures answer { CopiesOut body_in (picked_in which self.old.slot.value) out.old result out.new }
     {
         let Some(kept) = self.take(alloc) else {
             return Err(Refusal::Misuse);
         };
-        let result = kept.copy_body(out);
+        let result = kept.copy_body(which, out);
         self.put(kept);
         result
     }
 
-    /// Copies the races of the last message out: the numbers of the earlier events, as many as there is room for. It
-    /// tells how many there are.
-    pub fn copy_races(&mut self, alloc: Global, out: &mut [u32]) -> Result<usize, Refusal>
+    /// Copies its races out: the numbers of the earlier events, as many as there is room for. It tells how many there
+    /// are.
+    pub fn copy_races(
+        &mut self,
+        alloc: Global,
+        which: Which,
+        out: &mut [u32],
+    ) -> Result<usize, Refusal>
         ensures same { self.new.slot.value ≡ self.old.slot.value }
-        ensures answer { CopiesRaces (arrival_in self.old.slot.value) out.old result out.new }
+        ensures answer { CopiesRaces (picked_in which self.old.slot.value) out.old result out.new }
     {
         let Some(kept) = self.take(alloc) else {
             return Err(Refusal::Misuse);
         };
-        let result = kept.copy_races(out);
+        let result = kept.copy_races(which, out);
         self.put(kept);
         result
     }

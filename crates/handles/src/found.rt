@@ -1,6 +1,8 @@
 //! What a receive over a handle finds.
+use board::Stop;
 
-/// What is told of a message that came, which stays in the handle.
+/// What is told of a message that came, which stays in the handle. Another language reads it as it lies.
+#[repr(C)]
 #[derive(Clone, Copy)]
 pub struct Arrived {
     /// The number of its sender, from 1.
@@ -23,6 +25,17 @@ pub enum Found {
     /// None waits, and a lane is open.
     Nothing,
     /// None waits, and the lanes are closed: none will come.
+    Ended,
+}
+
+/// What a receive of several messages finds.
+#[derive(Clone, Copy)]
+pub enum FoundMany {
+    /// So many messages, one or more, which stay in the handle until the next ones come, and why no more.
+    Messages { count: usize, stop: Stop },
+    /// None waits, and the lane is open.
+    Nothing,
+    /// None waits, and the lane is closed: none will come.
     Ended,
 }
 

@@ -12,6 +12,7 @@
 mod any;
 mod away;
 mod bearing;
+mod came;
 mod carrying;
 mod chair;
 mod closing;
@@ -24,6 +25,7 @@ mod loose;
 mod meeting;
 mod opening;
 mod receiving;
+mod receiving_many;
 mod refusal;
 mod regions;
 mod reserving;
@@ -35,8 +37,9 @@ mod taking;
 mod telling;
 mod words;
 
+pub use came::{Came, Which};
 pub use copying::{copy_events, copy_out};
-pub use found::{Arrived, Found, MessageLengths, Told};
+pub use found::{Arrived, Found, FoundMany, MessageLengths, Told};
 pub use gathering::gather;
 pub use handle::Handle;
 pub use kept::Kept;

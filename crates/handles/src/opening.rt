@@ -5,6 +5,7 @@ ghost use Rattle.handles.specs.declared.kept.Kept.TheVariants.{Post};
 ghost use Rattle.handles.specs.Opening.{kept_by, AreEmpty, IsOneFull, Opens, seated, seats_of, values_of, all_of};
 ghost use Rattle.handles.specs.Opening.{MakesPosts};
 
+use crate::came::Came;
 use crate::handle::Handle;
 use crate::kept::Kept;
 use crate::refusal::Refusal;
@@ -35,7 +36,7 @@ fn boxed_post(alloc: Global, table: &Arc<BoardTable>, post: Parked) -> Result<Bo
         table: Arc::try_clone(table)?,
         parked: post,
         last: None,
-        arrival: None,
+        came: Came::None,
     };
     Ok(Box::new(alloc, Kept::Post(seat))?)
 }

@@ -4,6 +4,7 @@ ghost use Rattle.handles.specs.Receiving.{arrived_of, SeatTakes, SeatTakesAny, K
 ghost use Rattle.handles.specs.Receiving.{HandleTakes, HandleTakesAny};
 
 use crate::any::any_after;
+use crate::came::Came;
 use crate::found::{Arrived, Found};
 use crate::handle::Handle;
 use crate::kept::Kept;
@@ -41,7 +42,7 @@ impl Seat {
             Ok(Taken::Got(arrival)) => {
                 let arrived = arrived_of(&arrival);
                 self.last = Some(arrival.from);
-                self.arrival = Some(arrival);
+                self.came = Came::One(arrival);
                 Ok(Found::Message(arrived))
             }
             Ok(Taken::Nothing) => Ok(Found::Nothing),
@@ -64,7 +65,7 @@ impl Seat {
             Ok(Taken::Got(arrival)) => {
                 let arrived = arrived_of(&arrival);
                 self.last = Some(arrival.from);
-                self.arrival = Some(arrival);
+                self.came = Came::One(arrival);
                 Ok(Found::Message(arrived))
             }
             Ok(Taken::Nothing) => Ok(Found::Nothing),
