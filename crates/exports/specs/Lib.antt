@@ -1,4 +1,5 @@
 pub mod Clocks
+pub mod Earlier
 pub mod Exports
 pub mod ExportText
 pub mod LogText

@@ -10,7 +10,8 @@ use Rattle.chart.specs.declared.event.Event.{Event}
 use Rattle.chart.specs.declared.event.Event.TheVariants.{Send, Receive}
 use Rattle.clock.specs.Clocks.{entry_of}
 use Rattle.msc_text.specs.ChartText.{name_at}
-use Rattle.text_parts.specs.RaceWords.{amount, ranges_text}
+use Rattle.text_parts.specs.RaceWords.{amount}
+use Rattle.exports.specs.Earlier.{ranges_named}
 use Rattle.exports.specs.declared.log.Stamped.{Stamped}
 use Rattle.exports.specs.declared.word.Word.TheVariants as words
 use Rattle.exports.specs.Exports.{ExportView, event_of, note_of}
@@ -45,13 +46,13 @@ clock_text v stamped = spelled words.ClockStart ++ (entry_text v stamped.clock s
     ++ (flat_map (other_entry v stamped) v.lines ++ spelled words.ClockEnd))
 
 -- the earlier events that a receive may come before
-unfoldable pub races_said : ReportView → ℕ → List ℕ
-races_said report events = spelled words.Comma ++ (spelled words.MayComeBefore ++ (amount events
-    ++ ranges_text (ranges_of report.earlier)))
+unfoldable pub races_said : ExportView → ReportView → ℕ → List ℕ
+races_said v report events = spelled words.Comma ++ (spelled words.MayComeBefore ++ (amount events
+    ++ ranges_named v (ranges_of report.earlier)))
 
-abbrev pub races_of : Option ReportView → List ℕ
-races_of None = []
-races_of (Some report) = races_said report (counted report)
+abbrev pub races_of : ExportView → Option ReportView → List ℕ
+races_of v None = []
+races_of v (Some report) = races_said v report (counted report)
 
 -- out MESSAGE to NAME, or in MESSAGE from NAME
 unfoldable pub sent_text : ExportView → ℕ → List ℕ → List ℕ
@@ -62,7 +63,7 @@ in_text v from name = spelled words.In ++ (name ++ (spelled words.From ++ name_a
 
 -- and behind a receive its races
 unfoldable pub received_text : ExportView → Stamped → ℕ → List ℕ → List ℕ
-received_text v stamped from name = in_text v from name ++ races_of (note_of v stamped.event)
+received_text v stamped from name = in_text v from name ++ races_of v (note_of v stamped.event)
 
 abbrev pub event_text : ExportView → Stamped → Option Event → List ℕ
 event_text v stamped None = []

@@ -4,7 +4,8 @@ use Rattle.std.specs.Prelude.{ℕ, List, ◌++◌, codes, decimal}
 use Rattle.chart.specs.Ranges.{ranges_of}
 use Rattle.chart.specs.Reports.{ReportView}
 use Rattle.msc_text.specs.ChartText.{name_at}
-use Rattle.text_parts.specs.RaceWords.{amount, ranges_text}
+use Rattle.text_parts.specs.RaceWords.{amount}
+use Rattle.exports.specs.Earlier.{ranges_named}
 use Rattle.exports.specs.declared.saying.Saying.{Saying}
 use Rattle.exports.specs.declared.saying.Saying.TheVariants.{Arrow, Lost, Late, Sends, Receives, Space}
 use Rattle.tool_text.specs.declared.Tool.{Tool}
@@ -104,7 +105,7 @@ receiving v p from name = note_start v p ++ (spelled words.In ++ (name ++ (spell
 -- the earlier events that a receive may come before
 unfoldable pub races : ExportView → ReportView → ℕ → List ℕ
 races v report events = note_start v report.receive.instance ++ (spelled words.MayComeBefore ++ (amount events
-    ++ (ranges_text (ranges_of report.earlier) ++ label_end v.tool)))
+    ++ (ranges_named v (ranges_of report.earlier) ++ label_end v.tool)))
 
 -- what is said, as the tool spells it
 abbrev pub saying_text : ExportView → Saying → List ℕ

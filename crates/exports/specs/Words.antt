@@ -4,7 +4,7 @@ use Rattle.std.specs.Prelude.{ℕ, List, codes}
 use Rattle.exports.specs.declared.word.Word.{Word}
 use Rattle.exports.specs.declared.word.Word.TheVariants.{Quote, Number, ArcSkip, Note, Out, To, In, From}
 use Rattle.exports.specs.declared.word.Word.TheVariants.{MayComeBefore, Participant, As, LineEnd, ClockStart, ClockEnd}
-use Rattle.exports.specs.declared.word.Word.TheVariants.{Colon, Comma}
+use Rattle.exports.specs.declared.word.Word.TheVariants.{Colon, Comma, UpTo}
 
 unfoldable pub spelled : Word → List ℕ
 spelled Quote = codes "\""
@@ -23,3 +23,4 @@ spelled ClockStart = codes " {"
 spelled ClockEnd = codes "} "
 spelled Colon = codes ":"
 spelled Comma = codes ", "
+spelled UpTo = codes " up to "

@@ -4,7 +4,7 @@
 //!
 //! - [`write_export`] writes the text of the export and nothing else. A contract gives each byte of it
 //!   (`specs/ExportText`): the participants, and from the top on what each row of the layout says, with the races of a
-//!   receive as a note below it.
+//!   receive as a note below it. The note names the earlier events by their messages.
 //! - A message that is level is one arrow, and one that waits is a lost arrow. Where the ends of a message are in two
 //!   rows, mscgen has a slanted arrow, and the others two notes, which say the two events.
 //! - [`write_log`] writes each event on a line with its vector time ([`Log::of`]): each instance counts its own events,
@@ -17,6 +17,7 @@
 
 mod clocks;
 mod drawn;
+mod earlier;
 mod export;
 mod log;
 mod log_text;

@@ -6,6 +6,7 @@ ghost use Rattle.exports.specs.ExportText.{counted};
 ghost use Rattle.exports.specs.LogText.{log_start, entry_in, entry_text, next_entry, other_entry, clock_text};
 ghost use Rattle.exports.specs.LogText.{races_said, races_of, sent_text, in_text, received_text, event_text, log_line, log_text};
 
+use crate::earlier::add_ranges;
 use crate::export::Export;
 use crate::log::{Log, Stamped};
 use crate::part::{Part, add_one, add_parts, name_of};
@@ -13,7 +14,7 @@ use crate::word::Word;
 use chart::{Event, InstanceNo, Line, Name, Report};
 use clock::Clock;
 use msc_text::{Out, TextBuffer, WriteError};
-use text_parts::{add_amount, add_ranges};
+use text_parts::add_amount;
 
 /// The parser's expression, and an empty line.
 #[tactic(auto, unfolding(crate::specs::LogText::log_start))]
@@ -110,26 +111,32 @@ fn add_clock<W: Out>(
 
 /// Adds the earlier events that a receive may come before.
 #[tactic(auto, using(msc_text::proofs::Writes::joining), unfolding(crate::specs::LogText::races_said))]
-fn add_races_said<W: Out>(text: &mut TextBuffer<'_, W>, report: &Report) -> Result<(), WriteError>
-    ensures { Adds W.sink text.old text.new result (races_said report.now (counted report.now)) }
+fn add_races_said<W: Out>(
+    text: &mut TextBuffer<'_, W>,
+    export: &Export<'_>,
+    report: &Report,
+) -> Result<(), WriteError>
+    ensures { Adds W.sink text.old text.new result
+        (races_said export.now report.now (counted report.now)) }
 {
     let earlier = report.earlier();
     text.add(Word::Comma.as_bytes())?;
     text.add(Word::MayComeBefore.as_bytes())?;
     add_amount(text, earlier.len())?;
-    add_ranges(text, earlier.as_slice())
+    add_ranges(text, export, earlier.as_slice())
 }
 
 /// The same, if there are some.
 fn add_races_of<W: Out>(
     text: &mut TextBuffer<'_, W>,
+    export: &Export<'_>,
     report: Option<&Report>,
 ) -> Result<(), WriteError>
     ensures { Adds W.sink text.old text.new result
-        (races_of (option_map (λ r. r.now) report.entry)) }
+        (races_of export.now (option_map (λ r. r.now) report.entry)) }
 {
     match report {
-        Some(report) => add_races_said(text, report),
+        Some(report) => add_races_said(text, export, report),
         None => text.add(b""),
     }
 }
@@ -186,7 +193,7 @@ fn add_received<W: Out>(
         (received_text export.now stamped.now from name.now) }
 {
     add_in(text, export, from, name)?;
-    add_races_of(text, export.note_of(&stamped.event))
+    add_races_of(text, export, export.note_of(&stamped.event))
 }
 
 /// Adds what happens at an event.

@@ -10,13 +10,14 @@ ghost use Rattle.exports.specs.Spelling.{who, label_start, label_end};
 ghost use Rattle.exports.specs.Words.{spelled};
 ghost use Rattle.exports.specs.declared.word.Word.TheVariants as words;
 
+use crate::earlier::add_ranges;
 use crate::export::Export;
 use crate::part::{Part, Sign, add_one, add_parts, who_part};
 use crate::saying::Saying;
 use crate::word::Word;
 use chart::{InstanceNo, Name, Report};
 use msc_text::{Out, TextBuffer, WriteError};
-use text_parts::{add_amount, add_ranges};
+use text_parts::add_amount;
 use tool_text::Tool;
 
 /// What stands before the instance of a note.
@@ -232,7 +233,7 @@ pub(crate) fn add_races<W: Out>(
     add_note_start(text, export, report.receive().instance)?;
     add_one(text, Part::Word(Word::MayComeBefore))?;
     add_amount(text, earlier.len())?;
-    add_ranges(text, earlier.as_slice())?;
+    add_ranges(text, export, earlier.as_slice())?;
     add_one(text, Part::LabelEnd(export.tool()))
 }
 

@@ -24,6 +24,7 @@ pub(crate) enum Word {
     ClockEnd,
     Colon,
     Comma,
+    UpTo,
 }
 
 impl Word {
@@ -48,6 +49,7 @@ impl Word {
             Word::ClockEnd => b"} ",
             Word::Colon => b":",
             Word::Comma => b", ",
+            Word::UpTo => b" up to ",
         }
     }
 }

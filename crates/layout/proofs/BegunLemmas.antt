@@ -1,14 +1,13 @@
 -- Rows that were begun, from the top on, and one row more.
-use Rattle.std.proofs.Common.{◌≡◌, ℕ, zero, suc, ◌+◌, ◌-◌, ◌<◌, ◌≤◌, ◌==◌, ◌⊎◌, inl, inr, Bool, true, false, cond, List, [], ◌∷◌, ◌++◌, length, take, Some, refl, sym, ap, ◌∙◌, subst, arith, append-nil, length-append}
+use Rattle.std.proofs.Common.{◌≡◌, ℕ, zero, suc, ◌+◌, ◌-◌, ◌<◌, ◌≤◌, ◌==◌, ◌⊎◌, inl, inr, Bool, true, false, cond, List, [], ◌∷◌, ◌++◌, length, Some, refl, sym, ap, ◌∙◌, subst, arith, append-nil, length-append}
 use Rattle.std.specs.Prelude.{slice_get, option_map}
 use Rattle.std.specs.List.{range_with_len}
 use Rattle.std.proofs.lemmas.Bool.{cases_eq, cases_lt, or_left, or_right, eqb-true, false≢true}
-use Rattle.std.proofs.lemmas.List.{take_at, take-append-le}
 use Rattle.std.proofs.lemmas.Option.{slice_get_within, same_Some, none-some}
 use Rattle.chart.specs.declared.instance.EventNo.{EventNo}
 use Rattle.chart.specs.declared.event.Event.{Event as Occurs}
 use Rattle.chart.specs.declared.event.Event.TheVariants as events
-use Rattle.chart.specs.Events.{ith, is_send_to, is_receive_from, partner_of}
+use Rattle.chart.specs.Events.{ith, is_send_to, partner_of}
 use Rattle.chart.specs.Charts.{Chart, Place, at, chart_event, LineView, IsChart, BelongsTo, chart_lines}
 use Rattle.chart.proofs.Tally.{ith_at, ith_from_append, ith_single, ith_nil}
 use Rattle.chart.proofs.Belongs.{IsEvent-from_passes, same_place}
@@ -16,20 +15,20 @@ use Rattle.closure.specs.Faults.{place_of}
 use Rattle.closure.proofs.ReadLemmas.{empty_line, instance_within, partner_other}
 use Rattle.layout.specs.declared.row.Row.{Row}
 use Rattle.layout.specs.declared.row.Row.TheVariants.{Message, Event}
-use Rattle.layout.specs.Layouts.{number_on, row_on, drawn, is_at, has_event, row_of, IsNext, IsLayout}
+use Rattle.layout.specs.Layouts.{number_on, row_on, drawn, is_at, has_event, row_of, AreInOrder, IsDrawing}
 use Rattle.layout.specs.Indexes.{AreNext}
-use Rattle.layout.specs.Ways.{IsNextEvent, IsAbove, IsNextRow, AreDrawn, line_of}
+use Rattle.layout.specs.Picking.{line_of}
+use Rattle.layout.specs.Ways.{IsNextEvent, IsNextRow, AreDrawn}
 use Rattle.layout.proofs.DrawnLemmas.{drawn-push, number_on-own, number_on-other}
 use Rattle.layout.proofs.IndexLemmas.{is_at-same}
-use Rattle.layout.proofs.RowLemmas.{row_of-push_old}
+use Rattle.layout.proofs.RowLemmas.{row_of-push_old, row_of-within}
 
 -- of each line the first events stand in the rows, as a layout has them
 pub record IsBegun (lines : List LineView) (rows : List Row) : Type 0 where
-  pub order : (p : ℕ) → drawn rows p ≡ range_with_len 1 (length (drawn rows p))
+  pub order : AreInOrder rows
   pub within : (p : ℕ) → length (drawn rows p) ≤ length (chart_lines lines p)
   pub level : (i : ℕ) (s r : EventNo) → slice_get rows i ≡ Some (Message s r) → BelongsTo (chart_lines lines) (place_of s) (place_of r)
   pub lower : (i : ℕ) (e : EventNo) (s : Place) → slice_get rows i ≡ Some (Event e) → BelongsTo (chart_lines lines) s (place_of e) → (j : ℕ) × (row_of rows s ≡ Some j) × (j < i)
-  pub greedy : (i : ℕ) (e : EventNo) (s r : Place) → slice_get rows i ≡ Some (Event e) → BelongsTo (chart_lines lines) s r → IsNext (take i rows) s → IsNext (take i rows) r → ⊥
 
 -- no row was begun with
 pub IsBegun-none : (lines : List LineView) → IsBegun lines []
@@ -38,7 +37,6 @@ IsBegun-none lines = record {
   within = λ p. omega arith;
   level = λ i s r at_i. absurd (none-some _ at_i);
   lower = λ i e s at_i belongs. absurd (none-some _ at_i);
-  greedy = λ i e s r at_i belongs next_s next_r. absurd (none-some _ at_i);
 }
 
 -- a range, and one more
@@ -85,7 +83,7 @@ has_row (row ∷ rows) p x k at_k =
     go false (j, at_j, inside) = (suc j, ap (option_map suc) at_j, omega arith)
 
 -- so each event up to the last one that is drawn of its line
-pub row_of_drawn : (rows : List Row) → ((p : ℕ) → drawn rows p ≡ range_with_len 1 (length (drawn rows p))) → (e : Place) → 1 ≤ e.index → IsAbove rows e → (j : ℕ) × (row_of rows e ≡ Some j) × (j < length rows)
+pub row_of_drawn : (rows : List Row) → AreInOrder rows → (e : Place) → 1 ≤ e.index → e.index ≤ length (drawn rows e.instance) → (j : ℕ) × (row_of rows e ≡ Some j) × (j < length rows)
 row_of_drawn rows order e begun above = go e.index refl
   where
     go : (k : ℕ) → e.index ≡ k → (j : ℕ) × (row_of rows e ≡ Some j) × (j < length rows)
@@ -200,22 +198,8 @@ module _ (lines : List LineView) (rows : List Row) (row : Row) (chart : IsChart 
         | inl first ↦ let w = old.lower i e s first.0 belongs in (w.0, row_of-push_old rows row s w.0 w.1, w.2)
         | inr last ↦
             let above = (subst (IsNextRow c rows) last.1 next).after s belongs in
-            let event = IsEvent-from_passes c (is_send_to e.instance) s belongs.sent in
-            let w = row_of_drawn rows old.order s event.0 above in
-            (w.0, row_of-push_old rows row s w.0 w.1, omega (arith, w.2, last.0))
-      ]
-
-  greedy_more : (i : ℕ) (e : EventNo) (s r : Place) → slice_get (rows ++ row ∷ []) i ≡ Some (Event e) → BelongsTo c s r → IsNext (take i (rows ++ row ∷ [])) s → IsNext (take i (rows ++ row ∷ [])) r → ⊥
-  greedy_more i e s r at_i belongs next_s next_r =
-      elim (which i (Event e) at_i) [
-        | inl first ↦
-            let front = take-append-le i rows (row ∷ []) (omega (arith, first.1)) in
-            old.greedy i e s r first.0 belongs (subst (λ xs. IsNext xs s) front next_s) (subst (λ xs. IsNext xs r) front next_r)
-        | inr last ↦
-            let front = take_at rows (row ∷ []) i (sym last.0) in
-            let sends = IsEvent-from_passes c (is_send_to r.instance) s belongs.sent in
-            let receives = IsEvent-from_passes c (is_receive_from s.instance) r belongs.received in
-            (subst (IsNextRow c rows) last.1 next).greedy s r belongs (record { event = sends; next = subst (λ xs. IsNext xs s) front next_s }) (record { event = receives; next = subst (λ xs. IsNext xs r) front next_r })
+            let less = row_of-within rows s above.0 above.1 in
+            (above.0, row_of-push_old rows row s above.0 above.1, omega (arith, less, last.0))
       ]
 
   pub IsBegun-next : IsBegun lines (rows ++ row ∷ [])
@@ -224,18 +208,14 @@ module _ (lines : List LineView) (rows : List Row) (row : Row) (chart : IsChart 
     within = within_more;
     level = level_more;
     lower = lower_more;
-    greedy = greedy_more;
   }
 
--- where all events stand in the rows, they are a layout
-pub IsLayout-from_begun : (lines : List LineView) (rows : List Row) → IsBegun lines rows → AreDrawn (chart_lines lines) (length lines) rows → IsLayout lines rows
-IsLayout-from_begun lines rows is all = record {
-  drawing = record {
-    order = λ p. is.order p ∙ ap (range_with_len 1) (whole p);
-    level = is.level;
-    lower = is.lower;
-  };
-  greedy = is.greedy;
+-- where all events stand in the rows, these draw the chart
+pub IsDrawing-from_begun : (lines : List LineView) (rows : List Row) → IsBegun lines rows → AreDrawn (chart_lines lines) (length lines) rows → IsDrawing lines rows
+IsDrawing-from_begun lines rows is all = record {
+  order = λ p. is.order p ∙ ap (range_with_len 1) (whole p);
+  level = is.level;
+  lower = is.lower;
 }
   where
     whole : (p : ℕ) → length (drawn rows p) ≡ length (chart_lines lines p)

@@ -1,9 +1,10 @@
 -- Which line can go on, and that one can while events are left.
-use Rattle.std.proofs.Common.{◌≡◌, ℕ, suc, ◌+◌, ◌-◌, ◌<◌, ◌≤◌, ◌⊎◌, inl, inr, List, length, map, Option, None, Some, refl, sym, ap, ◌∙◌, subst, arith}
-use Rattle.std.specs.Prelude.{slice_index, MatchOption}
+use Rattle.std.proofs.Common.{◌≡◌, ℕ, suc, ◌+◌, ◌-◌, ◌<◌, ◌≤◌, ◌⊎◌, inl, inr, List, length, map, None, Some, refl, sym, ap, ◌∙◌, subst, arith}
+use Rattle.std.specs.Prelude.{slice_index}
 use Rattle.std.specs.List.{range_with_len}
 use Rattle.std.proofs.Math.Path.{fun_ext}
 use Rattle.std.proofs.lemmas.Bool.{cases_lt}
+use Rattle.std.proofs.lemmas.Option.{none-some}
 use Rattle.std.proofs.lemmas.List.FromFn.{get_or-map-range_with_len}
 use Rattle.std.proofs.Common.{eq-eqb}
 use Rattle.chart.specs.declared.event.Event.{Event as Occurs}
@@ -21,19 +22,18 @@ use Rattle.closure.proofs.Impossible.{no_cycle}
 use Rattle.closure.proofs.ReadLemmas.{instance_within}
 use Rattle.closure.proofs.RunLemmas.{IsCyclic-from_stopped}
 use Rattle.layout.specs.declared.row.Row.{Row}
-use Rattle.layout.specs.declared.row.Row.TheVariants.{Message, Event}
 use Rattle.layout.specs.declared.finding.Way.{Way}
-use Rattle.layout.specs.declared.finding.Way.TheVariants.{Level, After, Early}
-use Rattle.layout.specs.Layouts.{drawn}
-use Rattle.closure.specs.Faults.{place_of}
-use Rattle.layout.specs.Ways.{IsNextEvent, IsAbove, IsWay, HasNoWay, HaveNoWay, HasNoLevel, IsNextRow, AreDrawn}
+use Rattle.layout.specs.declared.finding.Way.TheVariants.{Level, Early}
+use Rattle.layout.specs.Layouts.{drawn, row_of, AreInOrder}
+use Rattle.layout.specs.Ways.{IsNextEvent, IsArrival, HasNoArrival, HasNoWay, HaveNoArrival, HaveNoWay, AreDrawn}
+use Rattle.layout.proofs.BegunLemmas.{row_of_drawn}
 
 -- a line has one next event
-same_next : (c : Chart) (rows : List Row) (e f : Place) → e.instance ≡ f.instance → IsNextEvent c rows e → IsNextEvent c rows f → e ≡ f
+pub same_next : (c : Chart) (rows : List Row) (e f : Place) → e.instance ≡ f.instance → IsNextEvent c rows e → IsNextEvent c rows f → e ≡ f
 same_next c rows e f line x y = same_place e f line (x.next ∙ ap (λ p. length (drawn rows p) + 1) line ∙ sym y.next)
 
 -- and none where all of its events stand in the rows
-none_next : (c : Chart) (rows : List Row) (p : ℕ) → length (c (suc p)) ≤ length (drawn rows (suc p)) → (e : Place) → e.instance ≡ suc p → IsNextEvent c rows e → ⊥
+pub none_next : (c : Chart) (rows : List Row) (p : ℕ) → length (c (suc p)) ≤ length (drawn rows (suc p)) → (e : Place) → e.instance ≡ suc p → IsNextEvent c rows e → ⊥
 none_next c rows p all e line next =
     let number = subst (λ q. e.index ≡ length (drawn rows q) + 1) line next.next in
     let bound = subst (λ q. e.index ≤ length (c q)) line next.event.1 in
@@ -41,11 +41,13 @@ none_next c rows p all e line next =
 
 pub no_way : (c : Chart) (rows : List Row) (way : Way) (p : ℕ) → length (c (suc p)) ≤ length (drawn rows (suc p)) → HasNoWay c rows way p
 no_way c rows Level p all = λ s r line belongs next_s next_r. none_next c rows p all r line next_r
-no_way c rows After p all = λ s r line belongs above next_r. none_next c rows p all r line next_r
 no_way c rows Early p all = λ q s line sends next_s. none_next c rows p all s line next_s
 
+pub no_arrival : (c : Chart) (rows : List Row) (p : ℕ) → length (c (suc p)) ≤ length (drawn rows (suc p)) → HasNoArrival c rows p
+no_arrival c rows p all e i line arrival = none_next c rows p all e line arrival.next
+
 -- an event is a send or a receive
-kind_of : (c : Chart) (e : Place) → IsEvent c e → ((q : ℕ) × IsSendTo c q e) ⊎ ((q : ℕ) × IsReceiveFrom c q e)
+pub kind_of : (c : Chart) (e : Place) → IsEvent c e → ((q : ℕ) × IsSendTo c q e) ⊎ ((q : ℕ) × IsReceiveFrom c q e)
 kind_of c e here = let m = ith_at (c e.instance) e.index here.0 here.1 in go m.0 m.1
   where
     go : (m : Occurs) → chart_event c e ≡ Some m → ((q : ℕ) × IsSendTo c q e) ⊎ ((q : ℕ) × IsReceiveFrom c q e)
@@ -61,12 +63,11 @@ module _ (c : Chart) (rows : List Row) (e : Place) (p : ℕ) (line : e.instance 
     pub not_level : HasNoWay c rows Level p
     not_level = λ s r here belongs next_s next_r. none s.instance (subst (IsReceiveFrom c s.instance) (same_next c rows r e (here ∙ sym line) next_r next) belongs.received)
 
-    pub not_after : HasNoWay c rows After p
-    not_after = λ s r here belongs above next_r. none s.instance (subst (IsReceiveFrom c s.instance) (same_next c rows r e (here ∙ sym line) next_r next) belongs.received)
+    pub not_arrival : HasNoArrival c rows p
+    not_arrival = λ x i here arrival. none arrival.send.instance (subst (IsReceiveFrom c arrival.send.instance) (same_next c rows x e (here ∙ sym line) arrival.next next) arrival.belongs.received)
 
     pub not_otherwise : (way : Way) → (way ≡ Early → ⊥) → HasNoWay c rows way p
     not_otherwise Level other = not_level
-    not_otherwise After other = not_after
     not_otherwise Early other = absurd (other refl)
 
   -- where it is the receive of a send, what becomes of it hangs on that one
@@ -80,57 +81,32 @@ module _ (c : Chart) (rows : List Row) (e : Place) (p : ℕ) (line : e.instance 
     pub not_level_yet : (s.index ≡ length (drawn rows s.instance) + 1 → ⊥) → HasNoWay c rows Level p
     not_level_yet later = λ t r here other next_t next_r. later (subst (λ (x : Place). x.index ≡ length (drawn rows x.instance) + 1) (its_send t r here other next_r) next_t.next)
 
-    pub not_after_yet : length (drawn rows s.instance) < s.index → HasNoWay c rows After p
-    not_after_yet later = λ t r here other above next_r. let low = subst (IsAbove rows) (its_send t r here other next_r) above in omega arith
-
     -- as many events of the send's line stand in the rows as there are before it
     pub send_next : s.index - 1 ≡ length (drawn rows s.instance) → IsNextEvent c rows s
     send_next same = let event = IsEvent-from_passes c (is_send_to e.instance) s belongs.sent in record { event = event; next = omega (arith, event.0, same) }
 
-    -- or more
-    pub send_above : s.index - 1 < length (drawn rows s.instance) → IsAbove rows s
-    send_above less = omega (arith, less)
-
     pub not_level_there : (s.index - 1 ≡ length (drawn rows s.instance) → ⊥) → HasNoWay c rows Level p
     not_level_there differs = not_level_yet (λ same. differs (omega (arith, same)))
 
-    pub not_after_there : (s.index - 1 < length (drawn rows s.instance) → ⊥) → HasNoWay c rows After p
-    not_after_there past =
-        let event = IsEvent-from_passes c (is_send_to e.instance) s belongs.sent in
-        not_after_yet (elim (cases_lt (s.index - 1) (length (drawn rows s.instance))) [ inl less ↦ absurd (past less) | inr least ↦ omega (arith, least, event.0) ])
+    pub not_else : (way : Way) → (way ≡ Level → ⊥) → HasNoWay c rows way p
+    not_else Level level = absurd (level refl)
+    not_else Early level = not_early
 
-    pub not_else : (way : Way) → (way ≡ Level → ⊥) → (way ≡ After → ⊥) → HasNoWay c rows way p
-    not_else Level level after = absurd (level refl)
-    not_else After level after = absurd (after refl)
-    not_else Early level after = not_early
+    -- it comes next where its send stands above
+    pub arrives : (i : ℕ) → row_of rows s ≡ Some i → IsArrival c rows e i
+    arrives i row = record { next = next; send = s; belongs = belongs; row = row }
 
--- no line has a message that can be drawn level, so there is none
-pub none_level : (lines : List LineView) (rows : List Row) → HaveNoWay (chart_lines lines) (length lines) rows Level → HasNoLevel (chart_lines lines) rows
-none_level lines rows none s r belongs next_s next_r = let on = instance_within lines r next_r.event in none on.0 on.2 s r on.1 belongs next_s next_r
+    pub not_there : row_of rows s ≡ None → HasNoArrival c rows p
+    not_there none x i here arrival =
+        let same : arrival.send ≡ s = its_send arrival.send x here arrival.belongs arrival.next in
+        none-some i (sym none ∙ ap (row_of rows) (sym same) ∙ arrival.row)
 
 -- each receive of a possible chart has its send
 pub has_sends : (n : ℕ) (c : Chart) → IsPossible n c → HasSends c
 has_sends n c possible = subst HasSends (fun_ext possible.3) (sends_of n possible.1 possible.0 possible.2)
 
--- a row that comes in one of the other ways is a next one, where no earlier way had one
-pub next_after : (lines : List LineView) (rows : List Row) (row : Row) → HaveNoWay (chart_lines lines) (length lines) rows Level → IsWay (chart_lines lines) rows After row → IsNextRow (chart_lines lines) rows row
-next_after lines rows (Message s r) none way = absurd way
-next_after lines rows (Event e) none way = record {
-  next = way.0;
-  after = λ s belongs. subst (IsAbove rows) (same_send (chart_lines lines) way.1.0 s (place_of e) way.1.1 belongs) way.1.2;
-  greedy = none_level lines rows none;
-}
-
-pub next_early : (lines : List LineView) (rows : List Row) (row : Row) → HaveNoWay (chart_lines lines) (length lines) rows Level → IsWay (chart_lines lines) rows Early row → IsNextRow (chart_lines lines) rows row
-next_early lines rows (Message s r) none way = absurd way
-next_early lines rows (Event e) none way = record {
-  next = way.0;
-  after = λ s belongs. absurd (not_both (chart_lines lines) way.1.0 s.instance (place_of e) way.1.1 belongs.received);
-  greedy = none_level lines rows none;
-}
-
 -- where no line can go on, all events stand in the rows: else some line could, since the chart has no cycle
-module _ (lines : List LineView) (rows : List Row) (possible : IsPossibleChart lines) (after : HaveNoWay (chart_lines lines) (length lines) rows After) (early : HaveNoWay (chart_lines lines) (length lines) rows Early) where
+module _ (lines : List LineView) (rows : List Row) (possible : IsPossibleChart lines) (order : AreInOrder rows) (arrivals : HaveNoArrival (chart_lines lines) (length lines) rows) (early : HaveNoWay (chart_lines lines) (length lines) rows Early) where
   abbrev n : ℕ
   n = length lines
 
@@ -159,7 +135,10 @@ module _ (lines : List LineView) (rows : List Row) (possible : IsPossibleChart l
           let event = IsEvent-from_passes c (is_send_to (suc p)) w.0 w.1.sent in
           let on = instance_within lines w.0 event in
           let next : IsNextEvent c rows e = record { event = (omega arith, omega arith); next = omega arith } in
-          let later : length (drawn rows w.0.instance) < w.0.index = elim (cases_lt (length (drawn rows w.0.instance)) w.0.index) [ inl low ↦ low | inr above ↦ absurd (after p inside w.0 e refl w.1 above next) ] in
+          let later : length (drawn rows w.0.instance) < w.0.index = elim (cases_lt (length (drawn rows w.0.instance)) w.0.index) [
+            | inl low ↦ low
+            | inr above ↦ let row = row_of_drawn rows order w.0 event.0 above in absurd (arrivals p inside e row.0 refl (record { next = next; send = w.0; belongs = w.1; row = row.1 }))
+          ] in
           inr (
             on.0,
             w.0.index,
@@ -174,8 +153,3 @@ module _ (lines : List LineView) (rows : List Row) (possible : IsPossibleChart l
         | inr all ↦ all
         | inl more ↦ absurd (no_cycle n c possible.possible (IsCyclic-from_stopped c n made stopped p inside (omega (arith, more, made_at p inside))))
       ]
-
--- what the last way says
-pub last_way : (lines : List LineView) (rows : List Row) → IsPossibleChart lines → HaveNoWay (chart_lines lines) (length lines) rows Level → HaveNoWay (chart_lines lines) (length lines) rows After → (found : Option Row) → MatchOption found (HaveNoWay (chart_lines lines) (length lines) rows Early) (IsWay (chart_lines lines) rows Early) → MatchOption found (AreDrawn (chart_lines lines) (length lines) rows) (IsNextRow (chart_lines lines) rows)
-last_way lines rows possible level after None none = all_drawn lines rows possible after none
-last_way lines rows possible level after (Some row) way = next_early lines rows row level way

@@ -30,7 +30,7 @@ ith-push_other (x ∷ xs) n (suc zero) other = refl
 ith-push_other (x ∷ xs) n (suc (suc j)) other = ith-push_other xs n (suc j) (λ e. other (omega (arith, e)))
 
 -- what is at a place is there
-is_at-true : (e : Place) (x : EventNo) → is_at e x ≡ true → place_of x ≡ e
+pub is_at-true : (e : Place) (x : EventNo) → is_at e x ≡ true → place_of x ≡ e
 is_at-true e x its =
     let parts = and_parts (x.instance == e.instance) (x.index == e.index) its in
     same_place (place_of x) e (eqb-true x.instance e.instance parts.0) (eqb-true x.index e.index parts.1)

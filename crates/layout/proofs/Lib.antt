@@ -3,4 +3,7 @@ pub mod DrawnLemmas
 pub mod EndLemmas
 pub mod FindLemmas
 pub mod IndexLemmas
+pub mod OneLayout
+pub mod PickLemmas
 pub mod RowLemmas
+pub mod TurnLemmas

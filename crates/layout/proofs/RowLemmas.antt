@@ -1,7 +1,7 @@
 -- Which row has an event, when a row is added.
-use Rattle.std.proofs.Common.{◌≡◌, ℕ, suc, Bool, true, false, cond, List, [], ◌∷◌, ◌++◌, length, Option, None, Some, refl, sym, ap, ◌∙◌}
+use Rattle.std.proofs.Common.{◌≡◌, ℕ, suc, ◌<◌, Bool, true, false, cond, List, [], ◌∷◌, ◌++◌, length, Option, None, Some, refl, sym, ap, ◌∙◌, arith}
 use Rattle.std.specs.Prelude.{option_map}
-use Rattle.std.proofs.lemmas.Option.{none-some}
+use Rattle.std.proofs.lemmas.Option.{none-some, same_Some}
 use Rattle.chart.specs.Charts.{Place}
 use Rattle.layout.specs.declared.row.Row.{Row}
 use Rattle.layout.specs.Layouts.{has_event, row_of}
@@ -28,3 +28,13 @@ past None more false n same false none = ap (option_map suc) (same refl)
 pub row_of-push_new : (rows : List Row) (row : Row) (e : Place) → row_of rows e ≡ None → row_of (rows ++ row ∷ []) e ≡ cond (has_event e row) (Some (length rows)) None
 row_of-push_new [] row e none = refl
 row_of-push_new (first ∷ rows) row e none = past (row_of rows e) (row_of (rows ++ row ∷ []) e) (has_event e row) (length rows) (λ never. row_of-push_new rows row e never) (has_event e first) none
+
+-- a row that has an event is one of the rows
+pub row_of-within : (rows : List Row) (e : Place) (i : ℕ) → row_of rows e ≡ Some i → i < length rows
+row_of-within [] e i is = absurd (none-some i is)
+row_of-within (row ∷ rows) e i is = go (has_event e row) (row_of rows e) (λ n at_n. row_of-within rows e n at_n) is
+  where
+    go : (here : Bool) (found : Option ℕ) → ((n : ℕ) → found ≡ Some n → n < length rows) → cond here (Some 0) (option_map suc found) ≡ Some i → i < length (row ∷ rows)
+    go true found within first = let e = same_Some 0 i first in omega arith
+    go false None within none = absurd (none-some i none)
+    go false (Some n) within later = let e = same_Some (suc n) i later in let less = within n refl in omega arith

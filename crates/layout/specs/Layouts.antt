@@ -1,7 +1,7 @@
 -- Drawings of a chart in rows, of one message or one event each (after the graphical form of ITU-T Z.120, in which a
--- message is an arrow from its output to its input event; that messages are level where they can be is this project's
+-- message is an arrow from its output to its input event; that a row has one message or one event is this project's
 -- profile).
-use Rattle.std.specs.Prelude.{◌≡◌, ℕ, suc, ◌+◌, ◌<◌, ◌==◌, ◌&&◌, ◌||◌, Bool, List, [], ◌∷◌, ◌++◌, length, take}
+use Rattle.std.specs.Prelude.{◌≡◌, ℕ, suc, ◌+◌, ◌<◌, ◌==◌, ◌&&◌, ◌||◌, Bool, List, [], ◌∷◌, ◌++◌, length}
 use Rattle.std.specs.Prelude.{slice_get, Option, None, Some, option_map, if◌then◌else◌}
 use Rattle.std.specs.List.{range_with_len}
 use Rattle.chart.specs.declared.instance.EventNo.{EventNo}
@@ -42,6 +42,10 @@ row_of (row ∷ rows) e = if has_event e row then Some 0 else option_map suc (ro
 abbrev pub IsNext : List Row → Place → Type 0
 IsNext rows e = e.index ≡ length (drawn rows e.instance) + 1
 
+-- the events of each line that these rows have are its first ones, in their order
+abbrev pub AreInOrder : List Row → Type 0
+AreInOrder rows = (p : ℕ) → drawn rows p ≡ range_with_len 1 (length (drawn rows p))
+
 -- the rows draw the chart: each line's events go down in their order, the ends of a message in one row belong together,
 -- and a receive alone stands lower than its send
 pub record IsDrawing (lines : List LineView) (rows : List Row) : Type 0 where
@@ -50,9 +54,3 @@ pub record IsDrawing (lines : List LineView) (rows : List Row) : Type 0 where
       → BelongsTo (chart_lines lines) (place_of s) (place_of r)
   pub lower : (i : ℕ) (e : EventNo) (s : Place) → slice_get rows i ≡ Some (Event e)
       → BelongsTo (chart_lines lines) s (place_of e) → (j : ℕ) × (row_of rows s ≡ Some j) × (j < i)
-
--- and an event stands alone only where no message could be drawn level: of none are both ends next below the rows above
-pub record IsLayout (lines : List LineView) (rows : List Row) : Type 0 where
-  pub drawing : IsDrawing lines rows
-  pub greedy : (i : ℕ) (e : EventNo) (s r : Place) → slice_get rows i ≡ Some (Event e)
-      → BelongsTo (chart_lines lines) s r → IsNext (take i rows) s → IsNext (take i rows) r → ⊥

@@ -1,9 +1,10 @@
 -- Charts whose messages are received at once are drawn level.
-use Rattle.std.proofs.Common.{◌≡◌, ◌≢◌, ℕ, suc, ◌+◌, ◌<◌, ◌≤◌, ◌==◌, ◌⊎◌, inl, inr, Bool, true, false, cond, List, [], ◌∷◌, ◌++◌, Some, length, take, count_by, ne_eqb, eq-eqb, eqb-true, refl, sym, ap, ◌∙◌, subst, append_assoc, arith}
-use Rattle.std.specs.Prelude.{slice_get}
+use Rattle.std.proofs.Common.{◌≡◌, ◌≢◌, ℕ, suc, ◌+◌, ◌<◌, ◌≤◌, ◌==◌, ◌⊎◌, inl, inr, Bool, true, false, cond, List, [], ◌∷◌, ◌++◌, Option, Some, None, length, take, drop, count_by, ne_eqb, eq-eqb, eqb-true, refl, sym, ap, ◌∙◌, subst, append_assoc, arith}
+use Rattle.std.specs.Prelude.{slice_get, option_map, ◌||◌}
+use Rattle.std.proofs.lemmas.Option.{none-some}
 use Rattle.std.proofs.Math.Seq.{take-append_seam}
-use Rattle.std.proofs.lemmas.Bool.{cases_eq, cases_lt}
-use Rattle.std.proofs.lemmas.List.{length-append}
+use Rattle.std.proofs.lemmas.Bool.{cases_eq, cases_lt, and_parts}
+use Rattle.std.proofs.lemmas.List.{length-append, drop_all}
 use Rattle.std.proofs.lemmas.List.Sums.{sum_by-append}
 use Rattle.std.proofs.lemmas.List.FromFn.{length-range_with_len}
 use Rattle.chart.specs.declared.event.Event.{Event}
@@ -11,9 +12,11 @@ use Rattle.chart.specs.declared.event.Event.TheVariants.{Send, Receive}
 use Rattle.chart.specs.declared.instance.EventNo.{EventNo}
 use Rattle.chart.specs.Charts.{Chart, Place, LineView, at, chart_lines, BelongsTo, IsSendTo, IsReceiveFrom}
 use Rattle.chart.specs.Events.{tally, is_send_to, is_receive_from, send_event, receive_event}
-use Rattle.chart.proofs.Belongs.{same_send, same_receive, not_both}
+use Rattle.chart.proofs.Belongs.{IsEvent-from_passes, same_send, same_receive, not_both}
 use Rattle.closure.specs.Faults.{place_of}
-use Rattle.layout.specs.Layouts.{drawn, row_on, number_on, IsLayout, IsNext}
+use Rattle.closure.proofs.ReadLemmas.{instance_within}
+use Rattle.layout.specs.Layouts.{drawn, row_on, number_on, is_at, has_event, row_of, IsNext}
+use Rattle.layout.specs.Picking.{Comes, actors, IsLayout}
 use Rattle.layout.specs.declared.row.Row.{Row}
 use Rattle.layout.specs.declared.row.Row.TheVariants as rows
 use Rattle.layout.proofs.DrawnLemmas.{number_on-own, number_on-other}
@@ -88,6 +91,33 @@ pair_at c (rows.Message s r ∷ above) p x all h = elim (has_either (number_on p
       }
 ]
 
+abbrev no_turns : List ℕ
+no_turns = []
+
+-- an event that has a row is drawn
+numbered_here : (e : Place) (x : EventNo) → is_at e x ≡ true → Has (number_on e.instance x) e.index
+numbered_here e x its =
+    let parts = and_parts (x.instance == e.instance) (x.index == e.index) its in
+    subst (λ l. Has l e.index) (sym (number_on-own e.instance x (eqb-true x.instance e.instance parts.0))) (inl (eqb-true x.index e.index parts.1))
+
+row_here : (e : Place) (row : Row) → has_event e row ≡ true → Has (row_on e.instance row) e.index
+row_here e (rows.Event x) its = numbered_here e x its
+row_here e (rows.Message s r) its = go (is_at e s) refl its
+  where
+    go : (first : Bool) → is_at e s ≡ first → (first || is_at e r) ≡ true → Has (number_on e.instance s ++ number_on e.instance r) e.index
+    go true is either = has_left (number_on e.instance s) (number_on e.instance r) e.index (numbered_here e s is)
+    go false is either = has_right (number_on e.instance s) (number_on e.instance r) e.index (numbered_here e r either)
+
+drawn_in : (above : List Row) (e : Place) (i : ℕ) → row_of above e ≡ Some i → Has (drawn above e.instance) e.index
+drawn_in [] e i is = absurd (none-some i is)
+drawn_in (row ∷ above) e i is = go (has_event e row) refl (row_of above e) (λ n at_n. drawn_in above e n at_n) is
+  where
+    go : (here : Bool) → has_event e row ≡ here → (found : Option ℕ) → ((n : ℕ) → found ≡ Some n → Has (drawn above e.instance) e.index) → cond here (Some 0) (option_map suc found) ≡ Some i
+        → Has (row_on e.instance row ++ drawn above e.instance) e.index
+    go true has found later is = has_left (row_on e.instance row) (drawn above e.instance) e.index (row_here e row has)
+    go false has None later none = absurd (none-some i none)
+    go false has (Some n) later next = has_right (row_on e.instance row) (drawn above e.instance) e.index (later n refl)
+
 -- The ends of a message that is received at once.
 
 joined : (one other : List Passed) (p : ℕ) → at_once (one ++ other) p ≡ at_once one p ++ at_once other p
@@ -157,7 +187,7 @@ fits done m k two all sent taken p =
     go false true a b long le = let more : length (at_once done p) < k p = subst (λ q. length (at_once done q) < k q) (eqb-true m.to p b) taken in omega arith
     go false false a b long le = omega arith
 
-module _ (lines : List LineView) (drawing : List Row) (messages : List Passed) (layout : IsLayout lines drawing) (are : (p : ℕ) → chart_lines lines p ≡ at_once messages p) where
+module _ (lines : List LineView) (drawing : List Row) (messages : List Passed) (layout : IsLayout lines [] drawing) (are : (p : ℕ) → chart_lines lines p ≡ at_once messages p) where
   abbrev c : Chart
   c = chart_lines lines
 
@@ -177,12 +207,8 @@ module _ (lines : List LineView) (drawing : List Row) (messages : List Passed) (
             ∙ sym (tally_here (is_receive_from m.from) (c m.to) (at_once done m.to) (at_once left m.to) (Receive m.from m.name 0) receiver (eq-eqb m.from m.from refl));
       }
 
-  -- below rows of messages alone no event stands alone
-  module _ (above : List Row) (level : Each (IsLevelRow c) above) (counts : (p : ℕ) → Counts 1 (drawn above p)) (e : EventNo) (next : e.index ≡ 1 + length (drawn above e.instance)) (within : e.index ≤ length (c e.instance))
-      (greedy : (s r : Place) → BelongsTo c s r → IsNext above s → IsNext above r → ⊥) where
-    abbrev k : ℕ → ℕ
-    k p = length (drawn above p)
-
+  -- in rows of messages alone
+  module _ (above : List Row) (level : Each (IsLevelRow c) above) where
     -- where one end of a message is drawn, so is the other
     other_taken : (s r : Place) → BelongsTo c s r → Has (drawn above s.instance) s.index → Has (drawn above r.instance) r.index
     other_taken s r b h =
@@ -204,6 +230,30 @@ module _ (lines : List LineView) (drawing : List Row) (messages : List Passed) (
               subst (λ (x : Place). Has (drawn above x.instance) x.index) (same_send c (place_of w.send) s r mine b) w.send_drawn
         ]
 
+  -- an event that has no turn stands alone only where no message is level: its send would stand above, and so would it
+  greedy_at : (above : List Row) → Each (IsLevelRow c) above → ((p : ℕ) → Counts 1 (drawn above p)) → (e : EventNo) → e.index ≡ 1 + length (drawn above e.instance) → Comes c (length lines) above [] (rows.Event e)
+      → (s r : Place) → BelongsTo c s r → IsNext above s → IsNext above r → ⊥
+  greedy_at above level counts e next (inl turn) s r b next_s next_r = turn.0
+  greedy_at above level counts e next (inr picked) s r b next_s next_r = elim picked.1 [
+    | inl highest ↦
+        let arrival = highest.1 in
+        let there = other_taken above level arrival.send (place_of e) arrival.belongs (drawn_in above arrival.send highest.0 arrival.row) in
+        let was = counts_has 1 (drawn above e.instance) e.index (counts e.instance) there in
+        let high = was.1 in
+        omega arith
+    | inr early ↦
+        let sends = IsEvent-from_passes c (is_send_to r.instance) s b.sent in
+        let receives = IsEvent-from_passes c (is_receive_from s.instance) r b.received in
+        let on = instance_within lines r receives in
+        early.1 on.0 on.2 s r on.1 b (record { event = sends; next = next_s }) (record { event = receives; next = next_r })
+  ]
+
+  -- below rows of messages alone no event stands alone
+  module _ (above : List Row) (level : Each (IsLevelRow c) above) (counts : (p : ℕ) → Counts 1 (drawn above p)) (e : EventNo) (next : e.index ≡ 1 + length (drawn above e.instance)) (within : e.index ≤ length (c e.instance))
+      (greedy : (s r : Place) → BelongsTo c s r → IsNext above s → IsNext above r → ⊥) where
+    abbrev k : ℕ → ℕ
+    k p = length (drawn above p)
+
     search : (done left : List Passed) → messages ≡ done ++ left → Each (λ (x : Passed). x.from ≢ x.to) done → Each (λ (x : Passed). x.from ≢ x.to) left → ((p : ℕ) → length (at_once done p) ≤ k p) → ⊥
     search done [] is apart two all =
         let every = all e.instance in
@@ -216,7 +266,7 @@ module _ (lines : List LineView) (drawing : List Row) (messages : List Passed) (
         elim (cases_lt (length (at_once done m.from)) (k m.from)) [
           | inl sent ↦
               let there = counts_all 1 (drawn above m.from) (suc (length (at_once done m.from))) (counts m.from) (omega arith) (omega arith) in
-              let taken = counts_has 1 (drawn above m.to) (suc (length (at_once done m.to))) (counts m.to) (other_taken s r b there) in
+              let taken = counts_has 1 (drawn above m.to) (suc (length (at_once done m.to))) (counts m.to) (other_taken above level s r b there) in
               let high = taken.1 in
               search (done ++ m ∷ []) left (is ∙ sym (append_assoc done (m ∷ []) left)) (each_append (λ (x : Passed). x.from ≢ x.to) done (m ∷ []) apart (two.0, tt)) two.1 (fits done m k two.0 all sent (omega arith))
           | inr not_sent ↦
@@ -225,7 +275,7 @@ module _ (lines : List LineView) (drawing : List Row) (messages : List Passed) (
               elim (cases_lt (length (at_once done m.to)) (k m.to)) [
                 | inl taken ↦
                     let there = counts_all 1 (drawn above m.to) (suc (length (at_once done m.to))) (counts m.to) (omega arith) (omega arith) in
-                    let was = counts_has 1 (drawn above m.from) (suc (length (at_once done m.from))) (counts m.from) (other_sent s r b there) in
+                    let was = counts_has 1 (drawn above m.from) (suc (length (at_once done m.from))) (counts m.from) (other_sent above level s r b there) in
                     let high = was.1 in
                     omega arith
                 | inr not_taken ↦
@@ -254,7 +304,9 @@ module _ (lines : List LineView) (drawing : List Row) (messages : List Passed) (
       ∙ ap (λ l. length (drawn above e.instance) + length (l ++ drawn below e.instance)) (number_on-own e.instance e refl) in
       let front : take (length above) drawing ≡ above = ap (take (length above)) is ∙ take-append_seam above (rows.Event e ∷ below) in
       absurd (search above level (λ p. counts_front 1 (drawn above p) (drawn (rows.Event e ∷ below) p) (counts p)) e its (omega arith)
-      (λ s r b next_s next_r. layout.greedy (length above) e s r here b (subst (λ l. IsNext l s) (sym front) next_s) (subst (λ l. IsNext l r) (sym front) next_r))
+      (greedy_at above level (λ p. counts_front 1 (drawn above p) (drawn (rows.Event e ∷ below) p) (counts p)) e its
+      (subst (λ (turns : List ℕ). Comes c (length lines) above turns (rows.Event e)) (drop_all (length (actors above)) no_turns (omega arith))
+      (subst (λ (l : List Row). Comes c (length lines) l (drop (length (actors l)) no_turns) (rows.Event e)) front (layout.comes (length above) (rows.Event e) here))))
       [] messages refl tt two (λ p. omega arith))
 
   pub never_alone : Each (λ (x : Passed). x.from ≢ x.to) messages → (i : ℕ) (e : EventNo) → slice_get drawing i ≡ Some (rows.Event e) → ⊥

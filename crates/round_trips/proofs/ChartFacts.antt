@@ -198,7 +198,7 @@ module _ (names : List (List ℕ)) (lines : List LineView) (drawing : List Row) 
       }
 
   pub counts : (p : ℕ) → Counts 1 (drawn drawing p)
-  counts p = subst (Counts 1) (sym (is.layout.drawing.order p)) (counts_range 1 (length (c p)))
+  counts p = subst (Counts 1) (sym (is.drawn.order p)) (counts_range 1 (length (c p)))
 
   pub has_drawn : (some : List Row) (i : ℕ) (row : Row) (p x : ℕ) → slice_get some i ≡ Some row → Has (row_on p row) x → Has (drawn some p) x
   has_drawn [] i row p x e h = absurd (none-some row e)
@@ -209,7 +209,7 @@ module _ (names : List (List ℕ)) (lines : List LineView) (drawing : List Row) 
   lost i e here =
       let its = has_drawn drawing i (rows.Event e) e.instance e.index here (subst (λ l. Has l e.index) (sym (number_on-own e.instance e refl)) (inl refl)) in
       let w = counts_has 1 (drawn drawing e.instance) e.index (counts e.instance) its in
-      let long : length (drawn drawing e.instance) ≡ length (c e.instance) = ap length (is.layout.drawing.order e.instance) ∙ length-range_with_len 1 (length (c e.instance)) in
+      let long : length (drawn drawing e.instance) ≡ length (c e.instance) = ap length (is.drawn.order e.instance) ∙ length-range_with_len 1 (length (c e.instance)) in
       let low = w.0 in
       let high = w.1 in
       let m = ith_at (c e.instance) e.index low (omega arith) in

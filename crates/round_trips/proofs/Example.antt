@@ -1,5 +1,5 @@
 -- A chart whose messages are level: one is received, and another one isn't.
-use Rattle.std.proofs.Common.{◌≡◌, ◌≢◌, ℕ, zero, suc, ◌+◌, ◌<◌, ◌≤◌, inl, inr, List, [], ◌∷◌, Option, None, Some, All, length, codes, get_or, take, ne_eqb, refl, sym, ap, ◌∙◌, subst, arith}
+use Rattle.std.proofs.Common.{◌≡◌, ◌≢◌, ℕ, zero, suc, ◌<◌, ◌≤◌, inl, inr, List, [], ◌∷◌, Option, None, Some, All, length, codes, get_or, ne_eqb, refl, sym, ap, ◌∙◌, subst, arith}
 use Rattle.std.specs.Prelude.{slice_get}
 use Rattle.std.specs.List.{range_with_len}
 use Rattle.std.proofs.lemmas.Bool.{false≢true}
@@ -21,7 +21,7 @@ use Rattle.chart.specs.Reports.{ReportView, AreReports, IsReportIn}
 use Rattle.closure.specs.Faults.{place_of}
 use Rattle.exports.specs.Preparing.{notes_of, starts_from}
 use Rattle.layout.specs.Ends.{IsEnd, AreEnds, end_of}
-use Rattle.layout.specs.Layouts.{drawn, IsLayout, IsNext}
+use Rattle.layout.specs.Layouts.{drawn, IsDrawing}
 use Rattle.layout.specs.declared.row.Row.{Row}
 use Rattle.layout.specs.declared.row.Row.TheVariants as rows
 use Rattle.round_trips.specs.Laws.{SomeLevelExport}
@@ -196,22 +196,14 @@ level zero s r f =
 level (suc zero) s r f = absurd (cc f)
 level (suc (suc i)) s r f = absurd (none-some (rows.Message s r) f)
 
-drawing_is : IsLayout lines drawing
+drawing_is : IsDrawing lines drawing
 drawing_is = record {
-  drawing = record {
-    order = order;
-    level = level;
-    lower = λ i e s f b.
-        let its = subst (λ x. BelongsTo c s (place_of x)) (alone i e f).1 b in
-        let w = received 1 2 s.instance its.received in
-        absurd (omega (arith, w.0));
-  };
-  greedy = λ i e s r f b next_s next_r.
-      let w = received r.instance r.index s.instance b.received in
-      let first : IsNext (take 1 drawing) r = subst (λ k. IsNext (take k drawing) r) (alone i e f).0 next_r in
-      let here : r.index ≡ length (drawn (take 1 drawing) 2) + 1 = subst (λ p. r.index ≡ length (drawn (take 1 drawing) p) + 1) w.0 first in
-      let late : r.index ≡ 2 = here in
-      omega (arith, w.1);
+  order = order;
+  level = level;
+  lower = λ i e s f b.
+      let its = subst (λ x. BelongsTo c s (place_of x)) (alone i e f).1 b in
+      let w = received 1 2 s.instance its.received in
+      absurd (omega (arith, w.0));
 }
 
 level_chart : IsLevelChart names lines drawing
@@ -230,7 +222,7 @@ level_chart = record {
     all_of (λ m. region_of m ≡ 0) first_line.events (refl, (refl, tt)),
     (all_of (λ m. region_of m ≡ 0) second_line.events (refl, tt), tt),
   );
-  layout = drawing_is;
+  drawn = drawing_is;
   level = λ i e f. subst (λ x. IsEnd c (place_of x) None) (sym (alone i e f).1) lost_end;
 }
 

@@ -134,17 +134,17 @@ module _ (first : List ℕ) (others : List (List ℕ)) (lines : List LineView) (
 
   row_says : (i : ℕ) (row : Row) → slice_get drawing i ≡ Some row → RowSays names lines drawing reports ends notes starts row
   row_says i (rows.Message s r) here =
-      message_says names lines drawing reports ends notes starts are_ends is s r (message names lines drawing is s r (is.layout.drawing.level i s r here)) (λ report e. at_instance r report e)
+      message_says names lines drawing reports ends notes starts are_ends is s r (message names lines drawing is s r (is.drawn.level i s r here)) (λ report e. at_instance r report e)
   row_says i (rows.Event e) here =
       lost_says names lines drawing reports ends notes starts are_ends is e (lost names lines drawing is i e here) (is.level i e here) (λ report f. at_instance e report f)
 
   pub all_say : RowsSay names lines drawing reports ends notes starts is drawing
   all_say =
-      rows_say names lines drawing reports ends notes starts is drawing (λ p. 1) (counts names lines drawing is) is.level (λ i s r here. is.layout.drawing.level i s r here) row_says
+      rows_say names lines drawing reports ends notes starts is drawing (λ p. 1) (counts names lines drawing is) is.level (λ i s r here. is.drawn.level i s r here) row_says
 
   -- the events of each line
   pub events_all : (p : ℕ) → events_on p all_say.said ≡ chart_lines lines p
-  events_all p = all_say.events p ∙ ap (map (event_at (chart_lines lines) p)) (is.layout.drawing.order p) ∙ reads_from (chart_lines lines p) [] (chart_lines lines p) 1 refl refl
+  events_all p = all_say.events p ∙ ap (map (event_at (chart_lines lines) p)) (is.drawn.order p) ∙ reads_from (chart_lines lines p) [] (chart_lines lines p) 1 refl refl
 
   rows_spelled : (some : List Row) (said : List Said) (rest : List ℕ) → ((more : List ℕ) → flat_map (row_text w) some ++ more ≡ all_text names said more) → (length some ≡ 0 → said ≡ []) → (0 < length some → (s : Said) × (more : List Said) × (said ≡ s ∷ more))
       → cond (length some == 0) space (flat_map (row_text w) some) ++ rest ≡ said_rows names said rest

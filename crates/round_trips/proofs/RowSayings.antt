@@ -1,5 +1,5 @@
 -- What the rows of an export say.
-use Rattle.std.proofs.Common.{◌≡◌, ℕ, zero, suc, ◌+◌, ◌-◌, ◌<◌, ◌==◌, ◌%◌, ◌/◌, inl, inr, Bool, true, false, cond, List, [], ◌∷◌, ◌++◌, Option, None, Some, length, map, codes, decimal, nat_lt, lt-ltb, ne_eqb, eq-eqb, eqb-true, ◌&&◌, append-nil, refl, sym, ap, ◌∙◌, subst, append_assoc, arith}
+use Rattle.std.proofs.Common.{◌≡◌, ℕ, zero, suc, ◌+◌, ◌-◌, ◌<◌, ◌==◌, ◌%◌, ◌/◌, inl, inr, Bool, true, false, cond, List, [], ◌∷◌, ◌++◌, Option, None, Some, All, length, map, codes, decimal, nat_lt, lt-ltb, ne_eqb, eq-eqb, eqb-true, ◌&&◌, append-nil, refl, sym, ap, ◌∙◌, subst, append_assoc, arith}
 use Rattle.std.specs.Prelude.{unwrap_or}
 use Rattle.std.specs.Fmt.{digits, digits_onto, digit_glyph}
 use Rattle.std.specs.List.{flat_map, list_any}
@@ -9,13 +9,13 @@ use Rattle.chart.specs.declared.event.Event.TheVariants.{Send, Receive}
 use Rattle.chart.specs.declared.instance.EventNo.{EventNo}
 use Rattle.chart.specs.declared.ranges.EventRange.{EventRange}
 use Rattle.chart.specs.Charts.{Chart, LineView, at, chart_event, chart_lines, IsSendTo}
-use Rattle.chart.specs.Events.{ith, send_event}
+use Rattle.chart.specs.Events.{ith, name_of, send_event}
 use Rattle.chart.specs.Ranges.{ranges_of}
 use Rattle.chart.specs.Reports.{ReportView}
 use Rattle.chart.proofs.NameBytes.{name_bytes}
 use Rattle.chart.specs.Names.{IsName}
 use Rattle.closure.specs.Faults.{place_of}
-use Rattle.exports.specs.Exports.{ExportView, end_of, note_of}
+use Rattle.exports.specs.Exports.{ExportView, event_of, end_of, note_of}
 use Rattle.exports.specs.ExportText.{counted, note_text, noted, row_text}
 use Rattle.exports.specs.Sayings.{level, alone as stands_alone, sent as said_sent}
 use Rattle.exports.specs.Spelling.{indent, arrow_sign, lost_sign, label_start, label_end, quoted, arrow, whole_arrow, note_front, between, note_start, races, saying_text}
@@ -25,15 +25,16 @@ use Rattle.layout.specs.Layouts.{row_on, number_on}
 use Rattle.layout.specs.declared.row.Row.{Row}
 use Rattle.layout.specs.declared.row.Row.TheVariants as rows
 use Rattle.msc_text.specs.ChartText.{name_at}
-use Rattle.text_parts.specs.RaceWords.{amount, kind, up_to, range_text, comma, next_range, ranges_text}
+use Rattle.text_parts.specs.RaceWords.{amount, kind}
+use Rattle.exports.specs.Earlier.{sent_to, received_from, event_words, event_named, last_of, up_to, range_named, next_named, ranges_named}
 use Rattle.tool_text.specs.declared.Tool.TheVariants.{Mscgen}
 use Rattle.round_trips.specs.LevelCharts.{IsLevelChart}
-use Rattle.round_trips.proofs.ChartFacts.{IsMessage, IsLost}
+use Rattle.round_trips.proofs.ChartFacts.{IsMessage, IsLost, on_line}
 use Rattle.round_trips.proofs.DiagramLemmas.{IsSaid}
 use Rattle.round_trips.proofs.LineLemmas.{is_taken, StaysLost, event_on}
-use Rattle.round_trips.proofs.Lists.{Each}
+use Rattle.round_trips.proofs.Lists.{Each, each_of, all_at}
 use Rattle.round_trips.proofs.PlainBytes.{ArePlain, is_plain, plain_byte, plain_all, plain_both}
-use Rattle.round_trips.proofs.Said.{Said, Sent, Told, said_text, all_text}
+use Rattle.round_trips.proofs.Said.{Said, Sent, Told, said_text, all_text, name_is_plain}
 
 -- Words of races are plain.
 
@@ -66,31 +67,48 @@ plain_amount n = plain_both (decimal n) (cond (n == 1) (codes " earlier event: "
     go true = refl
     go false = refl
 
-plain_range : (r : EventRange) → ArePlain (range_text r)
-unfolding range_text up_to
-plain_range r = go (r.count == 1)
-  where
-    go : (one : Bool) → ArePlain (cond one (decimal r.first.index) (decimal r.first.index ++ (codes " to " ++ decimal (r.first.index + (r.count - 1)))))
-    go true = plain_number r.first.index
-    go false = plain_both (decimal r.first.index) (codes " to " ++ decimal (r.first.index + (r.count - 1))) (plain_number r.first.index) (plain_both (codes " to ") (decimal (r.first.index + (r.count - 1))) refl (plain_number (r.first.index + (r.count - 1))))
-
-plain_others : (ranges : List EventRange) → ArePlain (flat_map next_range ranges)
-unfolding next_range comma
-plain_others [] = refl
-plain_others (r ∷ ranges) = plain_both (codes ", " ++ range_text r) (flat_map next_range ranges) (plain_both (codes ", ") (range_text r) refl (plain_range r)) (plain_others ranges)
-
-plain_ranges : (ranges : List EventRange) → ArePlain (ranges_text ranges)
-plain_ranges [] = refl
-plain_ranges (r ∷ ranges) = plain_both (range_text r) (flat_map next_range ranges) (plain_range r) (plain_others ranges)
-
-abbrev words_of : ReportView → List ℕ
-words_of report = amount (counted report) ++ ranges_text (ranges_of report.earlier)
-
-plain_words : (report : ReportView) → ArePlain (words_of report)
-plain_words report = plain_both (amount (counted report)) (ranges_text (ranges_of report.earlier)) (plain_amount (counted report)) (plain_ranges (ranges_of report.earlier))
-
 pub plain_name : (name : List ℕ) → IsName name → ArePlain name
 plain_name name is = plain_all _ plain_byte name (name_bytes name is).1
+
+plain_at : (names : List (List ℕ)) (p : ℕ) → Each ArePlain names → ArePlain (name_at names p)
+plain_at names zero all = refl
+plain_at names (suc p) all = name_is_plain names p all
+
+-- an event that is named by its message
+abbrev Names : ExportView → Type 0
+Names w = (e : EventNo) → ArePlain (event_named w e)
+
+plain_event : (w : ExportView) → Each ArePlain w.names → ((p i : ℕ) (m : Event) → chart_event (chart_lines w.lines) (at p i) ≡ Some m → ArePlain (name_of m)) → Names w
+unfolding sent_to received_from spelled
+plain_event w all messages e = go (event_of w e) refl
+  where
+    go : (o : Option Event) → event_of w e ≡ o → ArePlain (event_words w o)
+    go None is = refl
+    go (Some (Send to name)) is = plain_both name (codes " to " ++ name_at w.names to) (messages e.instance e.index (Send to name) is) (plain_both (codes " to ") (name_at w.names to) refl (plain_at w.names to all))
+    go (Some (Receive from name region)) is = plain_both name (codes " from " ++ name_at w.names from) (messages e.instance e.index (Receive from name region) is) (plain_both (codes " from ") (name_at w.names from) refl (plain_at w.names from all))
+
+plain_range : (w : ExportView) → Names w → (r : EventRange) → ArePlain (range_named w r)
+unfolding range_named up_to spelled
+plain_range w named r = go (r.count == 1)
+  where
+    go : (one : Bool) → ArePlain (cond one (event_named w r.first) (event_named w r.first ++ (codes " up to " ++ event_named w (last_of r))))
+    go true = named r.first
+    go false = plain_both (event_named w r.first) (codes " up to " ++ event_named w (last_of r)) (named r.first) (plain_both (codes " up to ") (event_named w (last_of r)) refl (named (last_of r)))
+
+plain_others : (w : ExportView) → Names w → (ranges : List EventRange) → ArePlain (flat_map (next_named w) ranges)
+unfolding next_named spelled
+plain_others w named [] = refl
+plain_others w named (r ∷ ranges) = plain_both (codes ", " ++ range_named w r) (flat_map (next_named w) ranges) (plain_both (codes ", ") (range_named w r) refl (plain_range w named r)) (plain_others w named ranges)
+
+plain_ranges : (w : ExportView) → Names w → (ranges : List EventRange) → ArePlain (ranges_named w ranges)
+plain_ranges w named [] = refl
+plain_ranges w named (r ∷ ranges) = plain_both (range_named w r) (flat_map (next_named w) ranges) (plain_range w named r) (plain_others w named ranges)
+
+abbrev words_of : ExportView → ReportView → List ℕ
+words_of w report = amount (counted report) ++ ranges_named w (ranges_of report.earlier)
+
+plain_words : (w : ExportView) → Names w → (report : ReportView) → ArePlain (words_of w report)
+plain_words w named report = plain_both (amount (counted report)) (ranges_named w (ranges_of report.earlier)) (plain_amount (counted report)) (plain_ranges w named (ranges_of report.earlier))
 
 abbrev pub IsTold : Said → Type 0
 IsTold (Sent is_lost from to name) = ⊥
@@ -157,11 +175,11 @@ module _ (names : List (List ℕ)) (lines : List LineView) (drawing : List Row) 
   arrow_said true from to name rest = joined_arrow (codes "  ") (codes "\"") (name_at names (suc from)) (codes "\"") (codes " -x ") (name_at names (suc to)) (codes " [label=\"") name (codes "\"];\n") rest
   arrow_said false from to name rest = joined_arrow (codes "  ") (codes "\"") (name_at names (suc from)) (codes "\"") (codes " -> ") (name_at names (suc to)) (codes " [label=\"") name (codes "\"];\n") rest
 
-  races_said : (report : ReportView) (at : ℕ) (rest : List ℕ) → report.receive.instance ≡ suc at → races v report (counted report) ++ rest ≡ said_text names (Told at (words_of report)) rest
+  races_said : (report : ReportView) (at : ℕ) (rest : List ℕ) → report.receive.instance ≡ suc at → races v report (counted report) ++ rest ≡ said_text names (Told at (words_of v report)) rest
   unfolding races note_start indent note_front between quoted spelled label_start label_end
   races_said report p rest is =
-      ap (λ q. (note_start v q ++ (codes "may come before " ++ (amount (counted report) ++ (ranges_text (ranges_of report.earlier) ++ codes "\"];\n")))) ++ rest) is
-      ∙ joined_note (codes "  ") [] (codes "\"") (name_at names (suc p)) (codes "\"") (codes " note ") (codes " [label=\"") (codes "may come before ") (amount (counted report)) (ranges_text (ranges_of report.earlier)) (codes "\"];\n") rest
+      ap (λ q. (note_start v q ++ (codes "may come before " ++ (amount (counted report) ++ (ranges_named v (ranges_of report.earlier) ++ codes "\"];\n")))) ++ rest) is
+      ∙ joined_note (codes "  ") [] (codes "\"") (name_at names (suc p)) (codes "\"") (codes " note ") (codes " [label=\"") (codes "may come before ") (amount (counted report)) (ranges_named v (ranges_of report.earlier)) (codes "\"];\n") rest
 
   -- the note of a row
   pub record NoteSays (o : Option ReportView) : Type 0 where
@@ -171,14 +189,14 @@ module _ (names : List (List ℕ)) (lines : List LineView) (drawing : List Row) 
     pub only : Each IsTold told
     pub quiet : o ≡ None → told ≡ []
 
-  note_says : (o : Option ReportView) → ((report : ReportView) → o ≡ Some report → (at : ℕ) × (report.receive.instance ≡ suc at) × (at < length lines)) → NoteSays o
-  note_says None where_it_is = record { told = []; text = λ rest. refl; valid = tt; only = tt; quiet = λ none. refl }
-  note_says (Some report) where_it_is =
+  note_says : Names v → (o : Option ReportView) → ((report : ReportView) → o ≡ Some report → (at : ℕ) × (report.receive.instance ≡ suc at) × (at < length lines)) → NoteSays o
+  note_says named None where_it_is = record { told = []; text = λ rest. refl; valid = tt; only = tt; quiet = λ none. refl }
+  note_says named (Some report) where_it_is =
       let w = where_it_is report refl in
       record {
-        told = Told w.0 (words_of report) ∷ [];
+        told = Told w.0 (words_of v report) ∷ [];
         text = λ rest. races_said report w.0 rest w.1;
-        valid = ((w.2, plain_words report), tt);
+        valid = ((w.2, plain_words v named report), tt);
         only = (tt, tt);
         quiet = λ none. absurd (cc none);
       }
@@ -209,6 +227,12 @@ module _ (names : List (List ℕ)) (lines : List LineView) (drawing : List Row) 
       abbrev Noted : EventNo → Type 0
       Noted e = (report : ReportView) → note_of v e ≡ Some report → (at : ℕ) × (report.receive.instance ≡ suc at) × (at < length lines)
 
+      -- each event has a name that is plain
+      named : Names v
+      named = plain_event v (each_of ArePlain names (λ i n e. plain_name n (all_at IsName names i n e is.named))) (λ p i m e.
+          let on = on_line lines p i m e in
+          plain_name (name_of m) (all_at (λ (x : Event). IsName (name_of x)) on.line.events on.number m on.event (all_at (λ (l : LineView). All (λ (x : Event). IsName (name_of x)) l.events) lines on.place on.line on.here is.messages)))
+
       message_spelled : (s r : EventNo) (m : IsMessage names lines drawing is s r) (note : NoteSays (note_of v r)) (rest : List ℕ)
           → row_text v (rows.Message s r) ++ rest ≡ said_text names (Sent false m.from m.to m.name) (all_text names note.told rest)
       unfolding row_text
@@ -232,7 +256,7 @@ module _ (names : List (List ℕ)) (lines : List LineView) (drawing : List Row) 
 
       pub message_says : (s r : EventNo) → IsMessage names lines drawing is s r → Noted r → RowSays (rows.Message s r)
       message_says s r m where_it_is =
-          let note = note_says (note_of v r) where_it_is in
+          let note = note_says named (note_of v r) where_it_is in
           record {
             head = Sent false m.from m.to m.name;
             message = tt;
@@ -274,7 +298,7 @@ module _ (names : List (List ℕ)) (lines : List LineView) (drawing : List Row) 
 
       pub lost_says : (e : EventNo) → IsLost names lines drawing is e → IsEnd (chart_lines lines) (place_of e) None → Noted e → RowSays (rows.Event e)
       lost_says e m alone where_it_is =
-          let note = note_says (note_of v e) where_it_is in
+          let note = note_says named (note_of v e) where_it_is in
           record {
             head = Sent true m.from m.to m.name;
             message = tt;

@@ -12,7 +12,7 @@ use Rattle.exports.specs.ExportText.{export_text}
 use Rattle.exports.specs.Preparing.{IsExportOf}
 use Rattle.joined_diagrams.specs.Drawing.{JoinedDrawnView}
 use Rattle.layout.specs.Ends.{AreEnds}
-use Rattle.layout.specs.Layouts.{IsLayout}
+use Rattle.layout.specs.Picking.{IsLayout}
 use Rattle.layout.specs.declared.row.Row.{Row}
 use Rattle.layout.specs.declared.row.Row.TheVariants.{Message, Event}
 use Rattle.tool_text.specs.declared.Tool.{Tool}
@@ -59,8 +59,8 @@ SomeLevelExport = (names : List (List ℕ)) × (lines : List LineView) × (rows 
     × ((s : EventNo) × (r : EventNo) × (slice_get rows 0 ≡ Some (Message s r)))
     × ((e : EventNo) × (slice_get rows 1 ≡ Some (Event e)))
 
--- where each message is received before the next one is sent, every layout of the chart has it level, and no event alone
+-- where each message is received before the next one is sent, the chart's layout has it level, and no event alone
 abbrev pub LevelAtOnce : Type 0
-LevelAtOnce = (lines : List LineView) (rows : List Row) (messages : List Passed) → IsLayout lines rows
+LevelAtOnce = (lines : List LineView) (rows : List Row) (messages : List Passed) → IsLayout lines [] rows
     → ((p : ℕ) → chart_lines lines p ≡ at_once messages p) → All (λ m. m.from ≢ m.to) messages
     → (i : ℕ) (e : EventNo) → slice_get rows i ≡ Some (Event e) → ⊥

@@ -9,7 +9,7 @@ use Rattle.chart.specs.declared.event.Event.{Event}
 use Rattle.chart.specs.declared.instance.EventNo.{EventNo}
 use Rattle.closure.specs.Faults.{place_of}
 use Rattle.layout.specs.Ends.{IsEnd}
-use Rattle.layout.specs.Layouts.{IsLayout}
+use Rattle.layout.specs.Layouts.{IsDrawing}
 use Rattle.layout.specs.declared.row.Row.{Row}
 use Rattle.layout.specs.declared.row.Row.TheVariants as rows
 
@@ -34,7 +34,7 @@ pub record IsLevelChart (names : List (List ℕ)) (lines : List LineView) (rows 
   pub named : All IsName names
   pub messages : HaveNames lines
   pub regions : HasNoRegions lines
-  pub layout : IsLayout lines rows
+  pub drawn : IsDrawing lines rows
   pub level : AreLevel (chart_lines lines) rows
 
 -- a message from one instance to another

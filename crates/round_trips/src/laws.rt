@@ -6,7 +6,7 @@ pub fn mscgen_law()
     ensures { MscgenRoundTrip }
 {}
 
-/// A chart of which each message is received before the next one is sent is drawn level, whatever its layout.
+/// A chart of which each message is received before the next one is sent is drawn level.
 pub fn level_law()
     ensures { LevelAtOnce }
 {}

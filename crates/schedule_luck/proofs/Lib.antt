@@ -1,3 +1,2 @@
-pub mod NoteLemmas
 pub mod TableLemmas
 pub mod BehindLemmas

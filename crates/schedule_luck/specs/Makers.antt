@@ -1,7 +1,6 @@
 -- Which command makes a receive of the chart that a schedule comes to (this project's profile of schedules): the n-th
 -- receive of a line is made by the n-th of its instance's commands that receive and left no note.
 use Rattle.std.specs.Prelude.{◌≡◌, ℕ, Bool, true, false, not, ◌&&◌, ◌==◌, List, filter, Option, Some}
-use Rattle.std.specs.List.{list_any}
 use Rattle.chart.specs.declared.event.Event.{Event}
 use Rattle.chart.specs.declared.event.Event.TheVariants as events
 use Rattle.chart.specs.Charts.{Place, LineView, chart_lines}
@@ -10,6 +9,7 @@ use Rattle.schedule.specs.declared.command.Action.{Action}
 use Rattle.schedule.specs.declared.command.Action.TheVariants.{Send, Receive, Any, Close, Open, Shut}
 use Rattle.schedule.specs.declared.command.Command.{Command}
 use Rattle.schedule.specs.declared.command.Note.{Note}
+use Rattle.run_turns.specs.Turns.{is_noted}
 
 -- what a schedule came to: its commands, the notes that they left, and the lines of its chart
 pub record RunView : Type 0 where
@@ -34,10 +34,6 @@ receives Any = true
 receives (Close q) = false
 receives Open = false
 receives Shut = false
-
--- the command of this line left a note: it was refused, or found nothing
-abbrev pub is_noted : List Note → ℕ → Bool
-is_noted notes line = list_any (λ note. note.line == line) notes
 
 -- it is p's, and received a message
 abbrev pub has_received : List Note → ℕ → Command → Bool

@@ -1,9 +1,10 @@
 //! The commands that make a schedule's receives.
 ghost use Rattle.std.specs.Prelude.{◌≡◌, ◌≤◌, length, map, AllPairs, IfOk};
-ghost use Rattle.schedule_luck.specs.Makers.{names_sender, receives, is_noted, has_received};
+ghost use Rattle.schedule_luck.specs.Makers.{names_sender, receives, has_received};
 ghost use Rattle.schedule_luck.specs.Tables.{kinds, named, named_lines};
 
 use chart::{Event, InstanceNo, Line};
+use run_turns::is_noted;
 use schedule::{Action, Command, Note};
 use std::alloc::{AllocError, Global};
 
@@ -19,18 +20,6 @@ fn receives(action: &Action) -> bool
     ensures { result ≡ receives action.now }
 {
     matches!(action, Action::Receive { .. } | Action::Any)
-}
-
-/// Whether the command of this line left a note, of those that stand in the order of their lines.
-fn is_noted(notes: &[Note], line: u64) -> bool
-    requires { AllPairs (λ a b. a.line ≤ b.line) notes.now }
-    ensures { result ≡ is_noted notes.now line }
-{
-    let place = notes.partition_point(|note| note.line < line);
-    match notes.get(place) {
-        Some(note) => note.line == line,
-        None => false,
-    }
 }
 
 /// Whether the command is the instance's, and received a message.

@@ -5,7 +5,7 @@ use Rattle.std.specs.List.Sorted.{IsNonDecreasingBy, IsPartitionPoint}
 use Rattle.std.proofs.lemmas.Bool.{cases_lt, eq-eqb, ne_eqb, ltb-true, ltb-false}
 use Rattle.std.proofs.lemmas.List.Folds.{list_any_none, list_any_at}
 use Rattle.schedule.specs.declared.command.Note.{Note}
-use Rattle.schedule_luck.specs.Makers.{is_noted}
+use Rattle.run_turns.specs.Turns.{is_noted}
 
 pub rises : (notes : List Note) → AllPairs (λ a b. a.line ≤ b.line) notes → IsNonDecreasingBy (λ (n : Note). n.line) notes
 rises notes up i j d le lt = go (cases_lt i j)

@@ -1,8 +1,8 @@
 use Rattle.std.proofs.Common.{rules, ltb}
 use Rattle.std.proofs.lemmas.List.Sorted.{IsPartitionPoint-from_clause, IsPartitionedBy-ltb}
 use Rattle.schedule.specs.declared.command.Note.{Note}
-use Rattle.schedule_luck.proofs.NoteLemmas.{rises, noted_at, noted_past}
-use Rattle.schedule_luck.proofs.makers.is_noted.Goals as goal
+use Rattle.run_turns.proofs.NoteLemmas.{rises, noted_at, noted_past}
+use Rattle.run_turns.proofs.turns.is_noted.Goals as goal
 
 pub returns-in-Some : goal.returns-in-Some
 returns-in-Some c =
