@@ -1,33 +1,36 @@
 -- The columns of a picture as text: heads and lifelines (this project's profile, after the graphical form of ITU-T
 -- Z.120).
-use Rattle.std.specs.Prelude.{ℕ, ◌+◌, ◌*◌, ◌==◌, List, [], ◌∷◌, ◌++◌, Option, None, Some, if◌then◌else◌}
+use Rattle.std.specs.Prelude.{ℕ, ◌+◌, ◌-◌, ◌*◌, ◌/◌, true, ◌==◌, List, [], ◌∷◌, ◌++◌, Option, None, Some, option_map}
+use Rattle.std.specs.Prelude.{if◌then◌else◌}
 use Rattle.chart.specs.declared.event.Event.{Event}
 use Rattle.chart.specs.Events.{region_of}
 use Rattle.chart.specs.Charts.{chart_lines}
 use Rattle.msc_text.specs.ChartText.{name_at}
 use Rattle.pictures.specs.declared.columns.Life.{Life}
-use Rattle.pictures.specs.declared.spots.Cell.{Cell}
-use Rattle.pictures.specs.Elements.{segment, box_start, label_end, foot}
-use Rattle.pictures.specs.Pictures.{PictureView, left_of, cell_of}
-use Rattle.pictures.specs.Spots.{middle, height}
+use Rattle.chart.specs.declared.instance.EventNo.{EventNo}
+use Rattle.picture_columns.specs.declared.column.Column.{Column}
+use Rattle.picture_columns.specs.Widths.{line_break, name_width}
+use Rattle.picture_elements.specs.Elements.{segment, head_box, name_lines, foot}
+use Rattle.pictures.specs.Pictures.{PictureView, cell_of}
+use Rattle.pictures.specs.Spots.{height}
 
--- where a part of a lifeline ends before an event that isn't in its coregion: above that event, or below the coregion's
+-- where a part of a lifeline ends before an event, below so many rows, that isn't in its coregion: above that event, or below the coregion's
 -- last one
-abbrev pub cut : Life → Cell → ℕ
-cut life cell = if life.region == 0 then cell.place * 28 + 80 else life.place * 28 + 106
+abbrev pub cut : Life → ℕ → ℕ
+cut life place = if life.region == 0 then place * 24 + 72 else life.place * 24 + 96
 
 -- the part of a lifeline that ends before an event of the coregion c, if the event is drawn and a part does
-abbrev pub part : ℕ → Life → Option Cell → ℕ → List ℕ
+abbrev pub part : ℕ → Life → Option ℕ → ℕ → List ℕ
 part x life None c = []
-part x life (Some cell) c = if c == life.region then [] else segment life.region x life.start (cut life cell)
+part x life (Some place) c = if c == life.region then [] else segment life.region x life.start (cut life place)
 
 -- how far it is drawn then
-abbrev pub next_life : Life → Option Cell → ℕ → Life
+abbrev pub next_life : Life → Option ℕ → ℕ → Life
 next_life life None c = life
-next_life life (Some cell) c = record {
+next_life life (Some place) c = record {
   region = c;
-  start = if c == life.region then life.start else cut life cell;
-  place = cell.place;
+  start = if c == life.region then life.start else cut life place;
+  place = place;
 }
 
 -- the last part of a lifeline, down to this height
@@ -35,32 +38,38 @@ unfoldable pub life_end : ℕ → Life → ℕ → List ℕ
 life_end x life bottom =
     if life.region == 0
     then segment 0 x life.start bottom
-    else (segment life.region x life.start (life.place * 28 + 106) ++ segment 0 x (life.place * 28 + 106) bottom)
+    else (segment life.region x life.start (life.place * 24 + 96) ++ segment 0 x (life.place * 24 + 96) bottom)
+
+-- how many rows are drawn above an event that is drawn
+abbrev pub place_drawn : PictureView → EventNo → Option ℕ
+place_drawn v e = option_map (λ cell. cell.place) (cell_of v e)
 
 -- the rest of the lifeline of p at x, with these events, the first of which is the i-th
 abbrev pub life_text : PictureView → ℕ → ℕ → ℕ → Life → List Event → List ℕ
 life_text v p x i life [] = life_end x life (height v.count)
 life_text v p x i life (m ∷ line) =
-    part x life (cell_of v (record { instance = p; index = i })) (region_of m)
-    ++ life_text v p x (i + 1) (next_life life (cell_of v (record { instance = p; index = i })) (region_of m)) line
+    part x life (place_drawn v (record { instance = p; index = i })) (region_of m)
+    ++ life_text v p x (i + 1) (next_life life (place_drawn v (record { instance = p; index = i })) (region_of m)) line
 
 -- the lifeline of p at x, with these events: dashed where a coregion is
 abbrev pub lifeline : PictureView → ℕ → ℕ → List Event → List ℕ
-lifeline v p x line = life_text v p x 1 (record { region = 0; start = 60; place = 0 }) line
+lifeline v p x line = life_text v p x 1 (record { region = 0; start = 52; place = 0 }) line
 
--- the head of p's column, which begins at `left`
-unfoldable pub head : PictureView → ℕ → ℕ → List ℕ
-head v p left = box_start (left + 16) (2 * v.span + 48) (middle v.span left) ++ (name_at v.names p ++ label_end)
+-- where the lower line of an instance's name is
+abbrev pub name_height : ℕ → ℕ
+name_height upper = if upper == 0 then 42 else 47
 
-unfoldable pub column_at : PictureView → ℕ → ℕ → List ℕ
-column_at v p left =
-    head v p left ++ (lifeline v p (middle v.span left) (chart_lines v.lines p)
-    ++ foot (record { x = left + v.span + 28; y = height v.count }))
+-- the head of a line at x, with this name
+unfoldable pub head_of : List ℕ → ℕ → List ℕ
+head_of name x =
+    head_box (x - ((name_width true name / 2) + 6)) (2 * ((name_width true name / 2) + 6))
+    ++ name_lines (line_break true name) name (record { x = x; y = name_height (line_break true name) })
 
-abbrev pub column_from : PictureView → ℕ → Option ℕ → List ℕ
-column_from v p None = []
-column_from v p (Some left) = column_at v p left
+abbrev pub head : PictureView → ℕ → ℕ → List ℕ
+head v p x = head_of (name_at v.names p) x
 
--- the column of p
-abbrev pub column_text : PictureView → ℕ → List ℕ
-column_text v p = column_from v p (left_of v p)
+-- a column: its head, its lifeline and its foot
+unfoldable pub column_text : PictureView → Column → List ℕ
+column_text v c =
+    head v c.instance c.x ++ (lifeline v c.instance c.x (chart_lines v.lines c.instance)
+    ++ foot (record { x = c.x - 12; y = height v.count }))

@@ -1,6 +1,6 @@
 pub mod ColumnText
-pub mod Elements
 pub mod MarkText
+pub mod MarksThere
 pub mod PictureText
 pub mod Pictures
 pub mod Preparing

@@ -1,67 +1,128 @@
 -- The marks of races as text: a dot at each receive, and a bracket for each range of events that it may come before
 -- (this project's profile).
-use Rattle.std.specs.Prelude.{ℕ, ◌+◌, ◌-◌, ◌*◌, ◌%◌, ◌^◌, ◌==◌, min, max, List, [], ◌∷◌, ◌++◌, length, Option, None}
-use Rattle.std.specs.Prelude.{Some, codes, decimal, if◌then◌else◌}
+use Rattle.std.specs.Prelude.{ℕ, ◌+◌, ◌-◌, ◌*◌, ◌%◌, ◌^◌, ◌==◌, Bool, false, nat_lt, nat_le, is_some, min, max, List, [], ◌∷◌, ◌++◌, length, Option, None}
+use Rattle.std.specs.Prelude.{Some, slice_get, codes, if◌then◌else◌}
 use Rattle.std.specs.List.{flat_map}
 use Rattle.chart.specs.declared.instance.EventNo.{EventNo}
 use Rattle.chart.specs.declared.ranges.EventRange.{EventRange}
 use Rattle.chart.specs.Ranges.{ranges_of}
 use Rattle.chart.specs.Reports.{ReportView}
 use Rattle.text_parts.specs.RaceWords.{amount, range_text, ranges_text}
-use Rattle.pictures.specs.declared.spots.Spot.{Spot}
+use Rattle.picture_elements.specs.declared.spot.Spot.{Spot}
 use Rattle.pictures.specs.declared.spots.Cell.{Cell}
-use Rattle.pictures.specs.Elements.{dot_start, dot_end, bracket_start, bracket_end}
-use Rattle.pictures.specs.Pictures.{PictureView, cell_of}
-use Rattle.pictures.specs.Spots.{on_line}
+use Rattle.picture_columns.specs.declared.column.Column.{Column}
+use Rattle.picture_elements.specs.Elements.{dot_start, dot_end, bracket_name, bracket_outline, bracket_end, number_text, group_end}
+use Rattle.pictures.specs.Pictures.{PictureView, column_of, row_at, cell_of, end_of}
+use Rattle.pictures.specs.Spots.{height, number_spot}
+
+-- a column is on the left
+abbrev pub is_left : Option Column → Column → Bool
+is_left None column = false
+is_left (Some other) column = nat_lt other.x column.x
+
+-- the column of an event, if there is one
+abbrev pub column_from : PictureView → Option EventNo → Option Column
+column_from v None = None
+column_from v (Some e) = column_of v e.instance
+
+-- the message of a receive comes from the left
+abbrev pub from_left : PictureView → EventNo → Column → Bool
+from_left v e column = is_left (column_from v (end_of v e)) column
+
+-- where a receive's dot is: on the other side of the lifeline than the arrow's head
+abbrev pub dot_spot : Bool → Cell → Spot
+dot_spot left cell = record {
+  x = if left then cell.column.x + 5 else cell.column.x - 5;
+  y = height cell.place;
+}
 
 -- the dot of a receive that may come before so many earlier events, in these ranges
-unfoldable pub dot : Spot → ℕ → List EventRange → List ℕ
-dot a n ranges = dot_start a ++ (amount n ++ (ranges_text ranges ++ dot_end))
+unfoldable pub dot : EventNo → Spot → ℕ → List EventRange → List ℕ
+dot e a n ranges = dot_start e.instance e.index a ++ (amount n ++ (ranges_text ranges ++ dot_end))
 
--- the upper left corner of a bracket, and the lower right one: those of neighbouring receives are set off from each
--- other
-abbrev pub upper_left : ℕ → ℕ → Cell → Spot
-upper_left span receive cell = record { x = cell.left + span + 9 + 5 * (receive % 6); y = cell.place * 28 + 86 }
+-- the number beside a dot, where the event hasn't its number anyway
+abbrev pub race_class : Cell → List ℕ
+race_class cell = if cell.column.room.turned then codes "e k" else codes "n k"
 
-abbrev pub lower_right : ℕ → ℕ → Cell → Spot
-lower_right span receive cell = record { x = cell.left + span + 12 + 5 * (receive % 6); y = cell.place * 28 + 98 }
+abbrev pub race_number : PictureView → EventNo → Cell → List ℕ
+race_number v e cell = if v.numbers then [] else number_text (race_class cell) (number_spot cell) e.index
 
--- the bracket of a range between two of its events
-unfoldable pub bracket_between : ℕ → ℕ → EventRange → Cell → Cell → List ℕ
-bracket_between span receive r a b =
-    bracket_start (upper_left span receive a) (lower_right span receive b) receive ++ (amount r.count ++ (range_text r
-    ++ bracket_end))
+-- how far a receive's brackets are from their lifeline: those of neighbouring receives are set off from each other
+abbrev pub slot_offset : ℕ → ℕ → ℕ
+slot_offset step slot =
+    if slot == 0 then 13 else
+    (if slot == 1 then step + 13 else
+    (if slot == 2 then 2 * step + 13 else
+    (if slot == 3 then 3 * step + 13 else 4 * step + 13)))
 
--- where both are drawn
-abbrev pub bracket_from : ℕ → ℕ → EventRange → Option Cell → Option Cell → List ℕ
-bracket_from span receive r None b = []
-bracket_from span receive r (Some a) None = []
-bracket_from span receive r (Some a) (Some b) = bracket_between span receive r a b
+abbrev pub offset : Column → ℕ → ℕ
+offset column receive = slot_offset column.room.step (receive % 5)
+
+abbrev pub bracket_x : Column → ℕ → ℕ
+bracket_x column receive =
+    if column.room.turned then column.x + offset column receive else column.x - offset column receive
+
+-- how far its ends are
+abbrev pub inner_x : Column → ℕ → ℕ
+inner_x column receive =
+    if column.room.turned then (column.x + offset column receive) - 3 else column.x - (offset column receive - 3)
+
+-- where its upper corner is, below so many rows: not on the arrow, and in two steps, so that numbers stand apart
+abbrev pub upper_y : ℕ → ℕ → ℕ
+upper_y receive place = height place - (7 * ((receive % 5) % 2) + 8)
+
+-- the bracket of a range between two rows, below so many rows each, with the number of its receive at its top
+unfoldable pub bracket_between : EventNo → EventRange → Column → ℕ → ℕ → List ℕ
+bracket_between e r c upper lower =
+    bracket_name e.instance e.index r.first.index
+    ++ (bracket_outline (record { x = bracket_x c e.index; y = upper_y e.index upper }) (height lower + 7)
+    (inner_x c e.index) e.index ++ (amount r.count ++ (range_text r ++ (bracket_end
+    ++ number_text (codes "k") (record { x = bracket_x c e.index; y = upper_y e.index upper - 3 }) e.index))))
 
 -- the first event of a range that isn't before those that are drawn, and the last one that isn't behind them
 abbrev pub first_drawn : PictureView → EventRange → EventNo
-first_drawn v r = record { instance = r.first.instance; index = max r.first.index v.first }
+first_drawn v r = record { instance = r.first.instance; index = max r.first.index v.choice.first }
 
 abbrev pub last_drawn : PictureView → EventRange → EventNo
-last_drawn v r = record { instance = r.first.instance; index = min (r.first.index + (r.count - 1)) v.last }
+last_drawn v r = record { instance = r.first.instance; index = min (r.first.index + (r.count - 1)) v.choice.last }
 
--- the bracket of a range of earlier events, as far as they are drawn
-abbrev pub bracket_text : PictureView → ℕ → EventRange → List ℕ
-bracket_text v receive r = bracket_from v.span receive r (cell_of v (first_drawn v r)) (cell_of v (last_drawn v r))
+-- between these rows, if there are both
+abbrev pub bracket_places : EventNo → EventRange → Column → Option ℕ → Option ℕ → List ℕ
+bracket_places e r c None lower = []
+bracket_places e r c (Some upper) None = []
+bracket_places e r c (Some upper) (Some lower) = bracket_between e r c upper lower
+
+-- between rows of the layout
+abbrev pub bracket_rows : PictureView → EventNo → EventRange → Column → ℕ → ℕ → List ℕ
+bracket_rows v e r c upper lower =
+    if nat_le upper lower then bracket_places e r c (slice_get v.places upper) (slice_get v.places lower) else []
+
+-- the same as far as the rows are chosen
+abbrev pub bracket_from : PictureView → EventNo → EventRange → Option Column → Option ℕ → Option ℕ → List ℕ
+bracket_from v e r None upper lower = []
+bracket_from v e r (Some c) None lower = []
+bracket_from v e r (Some c) (Some upper) None = []
+bracket_from v e r (Some c) (Some upper) (Some lower) =
+    bracket_rows v e r c (max upper v.choice.top) (min lower v.choice.bottom)
+
+-- the bracket of a range of earlier events, as far as they are chosen
+abbrev pub bracket_text : PictureView → EventNo → EventRange → List ℕ
+bracket_text v e r =
+    bracket_from v e r (column_of v r.first.instance) (row_at v (first_drawn v r)) (row_at v (last_drawn v r))
 
 -- how many events they are; what is more than 64 bits hold isn't counted
 abbrev pub counted : List EventNo → ℕ
 counted events = min (length events) (2 ^ 64 - 1)
 
 -- the marks of a receive that is drawn, and may come before these events
-unfoldable pub marked : PictureView → ℕ → Cell → List EventNo → List ℕ
-marked v receive cell events =
-    dot (on_line v.span cell) (counted events) (ranges_of events)
-    ++ flat_map (bracket_text v receive) (ranges_of events)
+unfoldable pub marked : PictureView → EventNo → Cell → List EventNo → List ℕ
+marked v e cell events =
+    dot e (dot_spot (from_left v e cell.column) cell) (counted events) (ranges_of events)
+    ++ (race_number v e cell ++ (flat_map (bracket_text v e) (ranges_of events) ++ group_end))
 
 abbrev pub marked_at : PictureView → ReportView → Option Cell → List ℕ
 marked_at v report None = []
-marked_at v report (Some cell) = marked v report.receive.index cell report.earlier
+marked_at v report (Some cell) = marked v report.receive cell report.earlier
 
 -- the marks of a receive
 abbrev pub marks : PictureView → ReportView → List ℕ

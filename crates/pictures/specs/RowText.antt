@@ -1,6 +1,6 @@
 -- The rows of a picture as text: arrows with their labels, and the numbers of events (this project's profile, after the
 -- graphical form of ITU-T Z.120).
-use Rattle.std.specs.Prelude.{ℕ, ◌+◌, Bool, true, false, is_some, nat_lt, List, [], ◌++◌, Option, None, Some, codes}
+use Rattle.std.specs.Prelude.{ℕ, ◌+◌, ◌-◌, Bool, true, false, ◌==◌, is_some, nat_lt, List, [], ◌++◌, Option, None, Some, codes}
 use Rattle.std.specs.Prelude.{if◌then◌else◌}
 use Rattle.chart.specs.declared.event.Event.{Event}
 use Rattle.chart.specs.declared.event.Event.TheVariants.{Send, Receive}
@@ -9,13 +9,15 @@ use Rattle.chart.specs.Events.{name_of}
 use Rattle.layout.specs.declared.row.Row.{Row}
 use Rattle.layout.specs.declared.row.Row.TheVariants as variants
 use Rattle.msc_text.specs.ChartText.{name_at}
-use Rattle.pictures.specs.declared.rows.Side.{Side}
-use Rattle.pictures.specs.declared.rows.Side.TheVariants.{Receiver, Sender}
-use Rattle.pictures.specs.declared.spots.Spot.{Spot}
+use Rattle.pictures.specs.declared.labels.Side.{Side}
+use Rattle.pictures.specs.declared.labels.Side.TheVariants.{Receiver, Sender}
+use Rattle.picture_elements.specs.declared.spot.Spot.{Spot}
 use Rattle.pictures.specs.declared.spots.Cell.{Cell}
-use Rattle.pictures.specs.Elements.{arrow, ring, label_start, label_end, number_text}
-use Rattle.pictures.specs.Pictures.{PictureView, left_of, cell_of, end_of, event_of}
-use Rattle.pictures.specs.Spots.{on_line, aside, beside, height, label_spot, number_spot}
+use Rattle.picture_columns.specs.declared.column.Column.{Column}
+use Rattle.picture_columns.specs.Widths.{name_width}
+use Rattle.picture_elements.specs.Elements.{arrow, ring, label, label_start, label_end, number_text, point_start, group_end}
+use Rattle.pictures.specs.Pictures.{PictureView, column_of, cell_of, end_of, event_of}
+use Rattle.pictures.specs.Spots.{on_line, are_near, label_x, aside, cut_spot, height, number_spot}
 
 -- the name of an event's message, where there is the event
 abbrev pub name_in : Option Event → List ℕ
@@ -30,13 +32,27 @@ unfoldable pub side_text : Side → List ℕ
 side_text Receiver = codes " to "
 side_text Sender = codes " from "
 
+-- the classes of an event's number: it begins or ends at its spot
+abbrev pub number_class : Cell → List ℕ
+number_class cell = if cell.column.room.turned then codes "e" else codes "n"
+
 -- the number of an event, where the picture has numbers
 abbrev pub number_at : PictureView → EventNo → Cell → List ℕ
-number_at v e cell = if v.numbers then number_text (number_spot v.span cell) e.index else []
+number_at v e cell = if v.numbers then number_text (number_class cell) (number_spot cell) e.index else []
 
--- the label of an event's message
-unfoldable pub label : PictureView → EventNo → Spot → List ℕ
-label v e a = label_start a ++ (message_name v e ++ label_end)
+-- an event's group
+unfoldable pub point : PictureView → EventNo → Cell → List ℕ
+point v e cell = point_start e.instance e.index (on_line cell) ++ (number_at v e cell ++ group_end)
+
+-- the label of a message of this name
+abbrev pub label_of : List ℕ → Bool → Cell → Column → List ℕ
+label_of name level from to =
+    label (are_near from.column to) name (label_x level from.column to (name_width (are_near from.column to) name))
+    (height from.place)
+
+-- the label of an event's message, from the cell to a column
+abbrev pub event_label : PictureView → EventNo → Bool → Cell → Column → List ℕ
+event_label v e level from to = label_of (message_name v e) level from to
 
 -- the label of a message that is cut, with the instance on its other side
 unfoldable pub cut_label : PictureView → EventNo → Side → ℕ → Spot → List ℕ
@@ -45,40 +61,39 @@ cut_label v e side other a = label_start a ++ (message_name v e ++ (side_text si
 
 -- a send whose message is cut
 unfoldable pub leaving : PictureView → EventNo → ℕ → Cell → List ℕ
-leaving v e to cell = arrow (on_line v.span cell) (aside v.span cell)
-    ++ (cut_label v e Receiver to (beside v.span cell true) ++ number_at v e cell)
+leaving v e to cell = arrow (on_line cell) (aside cell) ++ (cut_label v e Receiver to (cut_spot cell) ++ point v e cell)
 
 -- a receive whose message is cut
 unfoldable pub coming : PictureView → EventNo → ℕ → Cell → List ℕ
-coming v e from cell = arrow (aside v.span cell) (on_line v.span cell)
-    ++ (cut_label v e Sender from (beside v.span cell true) ++ number_at v e cell)
+coming v e from cell = arrow (aside cell) (on_line cell) ++ (cut_label v e Sender from (cut_spot cell) ++ point v e cell)
 
--- the arrow of a message from its send to its receive, with its label beside the send
+-- the arrow of a message from its send to its receive, with its label
 unfoldable pub message : PictureView → EventNo → Cell → Cell → List ℕ
-message v e a b = arrow (on_line v.span a) (on_line v.span b) ++ label v e (label_spot v.span a b.left)
+message v e a b = arrow (on_line a) (on_line b) ++ event_label v e (a.place == b.place) a b.column
 
--- where the tip of the arrow of a message that waits is, and the circle beside it: on this side of the lifeline of the
--- column that begins at `left`
-abbrev pub waiting_ends : ℕ → Cell → ℕ → Spot × Spot
-waiting_ends span cell left =
-    if nat_lt cell.left left
-    then (record { x = left + span; y = height cell.place }, record { x = left + span + 4; y = height cell.place })
+-- where the tip of the arrow of a message that waits is, and the circle beside it: on this side of the column's room
+abbrev pub waiting_ends : Cell → Column → Spot × Spot
+waiting_ends cell column =
+    if nat_lt cell.column.x column.x
+    then (
+      record { x = column.x - (column.room.left + 8); y = height cell.place },
+      record { x = column.x - (column.room.left + 4); y = height cell.place },
+    )
     else (
-      record { x = left + span + 52; y = height cell.place },
-      record { x = left + span + 48; y = height cell.place },
+      record { x = column.x + column.room.right + 8; y = height cell.place },
+      record { x = column.x + column.room.right + 4; y = height cell.place },
     )
 
-unfoldable pub toward : ℕ → Cell → ℕ → List ℕ
-toward span cell left = arrow (on_line span cell) (waiting_ends span cell left).0
-    ++ ring (waiting_ends span cell left).1
+unfoldable pub toward : Cell → Column → List ℕ
+toward cell column = arrow (on_line cell) (waiting_ends cell column).0 ++ ring (waiting_ends cell column).1
 
--- a send whose message waits for the instance whose column begins at `left`
-unfoldable pub waiting : PictureView → EventNo → Cell → ℕ → List ℕ
-waiting v e cell left = toward v.span cell left ++ (label v e (label_spot v.span cell left) ++ number_at v e cell)
+-- a send whose message waits for the instance of a column
+unfoldable pub waiting : PictureView → EventNo → Cell → Column → List ℕ
+waiting v e cell column = toward cell column ++ (event_label v e true cell column ++ point v e cell)
 
 -- both ends of a message
 unfoldable pub both : PictureView → EventNo → EventNo → Cell → Cell → List ℕ
-both v s r a b = message v s a b ++ (number_at v s a ++ number_at v r b)
+both v s r a b = message v s a b ++ (point v s a ++ point v r b)
 
 -- a message that is drawn level, or the end of it that is drawn
 abbrev pub level : PictureView → EventNo → EventNo → Option Cell → Option Cell → List ℕ
@@ -89,7 +104,7 @@ level v s r (Some a) (Some b) = both v s r a b
 
 -- a send above its receive, with the arrow down to it
 unfoldable pub slanted : PictureView → EventNo → Cell → Cell → List ℕ
-slanted v e a b = message v e a b ++ number_at v e a
+slanted v e a b = message v e a b ++ point v e a
 
 -- a send to an instance, of a message that is received there
 abbrev pub sent_to : PictureView → EventNo → ℕ → Cell → Option Cell → List ℕ
@@ -97,13 +112,13 @@ sent_to v e to a None = leaving v e to a
 sent_to v e to a (Some b) = slanted v e a b
 
 -- a send to an instance, of a message that waits
-abbrev pub sent_off : PictureView → EventNo → ℕ → Cell → Option ℕ → List ℕ
+abbrev pub sent_off : PictureView → EventNo → ℕ → Cell → Option Column → List ℕ
 sent_off v e to a None = leaving v e to a
-sent_off v e to a (Some left) = waiting v e a left
+sent_off v e to a (Some column) = waiting v e a column
 
 -- a send alone
 abbrev pub sent : PictureView → EventNo → ℕ → Cell → Option EventNo → List ℕ
-sent v e to a None = sent_off v e to a (left_of v to)
+sent v e to a None = sent_off v e to a (column_of v to)
 sent v e to a (Some r) = sent_to v e to a (cell_of v r)
 
 -- the event of the other end is drawn
@@ -116,7 +131,7 @@ has_end v e = is_drawn_end v (end_of v e)
 
 -- a receive alone: its arrow, if it isn't cut, is drawn from its send on
 abbrev pub received : PictureView → EventNo → ℕ → Cell → List ℕ
-received v e from b = if has_end v e then number_at v e b else coming v e from b
+received v e from b = if has_end v e then point v e b else coming v e from b
 
 -- an event that stands alone in its row
 abbrev pub alone : PictureView → EventNo → Option Cell → Option Event → List ℕ

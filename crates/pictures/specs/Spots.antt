@@ -1,33 +1,46 @@
 -- Where things are on a picture, in pixels from its upper left corner (this project's profile).
-use Rattle.std.specs.Prelude.{ℕ, ◌+◌, ◌*◌, Bool, nat_lt, if◌then◌else◌}
-use Rattle.pictures.specs.declared.spots.Spot.{Spot}
+use Rattle.std.specs.Prelude.{ℕ, ◌+◌, ◌-◌, ◌*◌, ◌/◌, Bool, ◌||◌, ◌==◌, nat_lt, if◌then◌else◌}
+use Rattle.picture_columns.specs.declared.column.Column.{Column}
+use Rattle.picture_elements.specs.declared.spot.Spot.{Spot}
 use Rattle.pictures.specs.declared.spots.Cell.{Cell}
-
--- where the lifeline of a column is that begins at `left`; the span is half of what the widest label may have
-abbrev pub middle : ℕ → ℕ → ℕ
-middle span left = left + span + 40
 
 -- where the arrows of a row are that has so many rows above it
 abbrev pub height : ℕ → ℕ
-height place = place * 28 + 92
+height place = place * 24 + 84
 
 -- where the cell's event meets its lifeline
-abbrev pub on_line : ℕ → Cell → Spot
-on_line span cell = record { x = middle span cell.left; y = height cell.place }
+abbrev pub on_line : Cell → Spot
+on_line cell = record { x = cell.column.x; y = height cell.place }
 
--- where the middle of a label is that stands beside the cell's lifeline, on the right or else on the left: where two
--- columns meet
-abbrev pub beside : ℕ → Cell → Bool → Spot
-beside span cell right = record { x = if right then cell.left + 2 * span + 80 else cell.left; y = cell.place * 28 + 87 }
+-- the columns are neighbours
+abbrev pub are_near : Column → Column → Bool
+are_near a b = (a.number - b.number == 1) || (b.number - a.number == 1)
 
--- where the label of a message is that goes from the cell to a column that begins at `other`
-abbrev pub label_spot : ℕ → Cell → ℕ → Spot
-label_spot span cell other = beside span cell (nat_lt cell.left other)
+-- the middle between the rooms of two lines
+abbrev pub amid : Column → Column → ℕ
+amid left right = (left.x + left.room.right + (right.x - right.room.left)) / 2
 
--- where the number of the cell's event begins
-abbrev pub number_spot : ℕ → Cell → Spot
-number_spot span cell = record { x = middle span cell.left + 7; y = height cell.place + 11 }
+abbrev pub between : Column → Column → ℕ
+between a b = if nat_lt a.x b.x then amid a b else amid b a
 
--- where the outer end of the arrow of a message is that is cut
-abbrev pub aside : ℕ → Cell → Spot
-aside span cell = record { x = middle span cell.left + 24; y = height cell.place }
+-- the middle of a label of this width that stands beside the room of a line, on the side of another
+abbrev pub beside : Column → Column → ℕ → ℕ
+beside a b width = if nat_lt a.x b.x then a.x + a.room.right + (width / 2) else a.x - (a.room.left + (width / 2))
+
+-- the middle of a label: where its arrow is level the middle between the lines, else beside the sender
+abbrev pub label_x : Bool → Column → Column → ℕ → ℕ
+label_x level from to width = if level then between from to else beside from to width
+
+-- where the number of the cell's event is
+abbrev pub number_spot : Cell → Spot
+number_spot cell = record {
+  x = if cell.column.room.turned then cell.column.x - 7 else cell.column.x + 7;
+  y = height cell.place + 11;
+}
+
+-- where the outer end of the arrow of a message is that is cut, and where its label begins
+abbrev pub aside : Cell → Spot
+aside cell = record { x = cell.column.x + cell.column.room.right + 17; y = height cell.place }
+
+abbrev pub cut_spot : Cell → Spot
+cut_spot cell = record { x = cell.column.x + cell.column.room.right + 21; y = cell.place * 24 + 80 }

@@ -6,16 +6,15 @@ ghost use Rattle.chart.specs.Events.{region_of};
 ghost use Rattle.chart.specs.declared.line.TheConstants.{MAX_EVENTS};
 ghost use Rattle.msc_text.specs.ChartText.{name_at};
 ghost use Rattle.msc_text.specs.Writing.{Adds};
-ghost use Rattle.pictures.specs.ColumnText.{cut, part, next_life, life_end, life_text, head, lifeline, column_at};
-ghost use Rattle.pictures.specs.ColumnText.{column_text};
-ghost use Rattle.pictures.specs.Pictures.{left_of, cell_of};
+ghost use Rattle.pictures.specs.ColumnText.{cut, part, next_life, life_end, life_text, name_height, head_of, head};
+ghost use Rattle.pictures.specs.ColumnText.{place_drawn, lifeline, column_text};
 
-use crate::elements::{add_box_start, add_foot, add_label_end, add_segment};
 use crate::picture::Picture;
-use crate::rows::add_instance_name;
-use crate::spots::{Cell, Spot, height, middle};
+use crate::spots::height;
 use chart::{Event, EventNo, InstanceNo};
-use msc_text::{Out, TextBuffer, WriteError};
+use msc_text::{Out, TextBuffer, WriteError, named};
+use picture_columns::{Column, line_break, name_width};
+use picture_elements::{Spot, add_foot, add_head_box, add_name_lines, add_segment};
 
 /// How far a lifeline is drawn.
 #[derive(Clone, Copy)]
@@ -29,13 +28,13 @@ pub(crate) struct Life {
 }
 
 /// Where a part of a lifeline ends, before an event that isn't in its coregion.
-fn cut(life: Life, cell: Cell) -> u64
-    ensures { result ≡ cut life cell }
+fn cut(life: Life, place: u32) -> u64
+    ensures { result ≡ cut life place }
 {
     if life.region == 0 {
-        u64::from(cell.place) * 28 + 80
+        u64::from(place) * 24 + 72
     } else {
-        u64::from(life.place) * 28 + 106
+        u64::from(life.place) * 24 + 96
     }
 }
 
@@ -44,36 +43,36 @@ fn add_part<W: Out>(
     text: &mut TextBuffer<'_, W>,
     x: u64,
     life: Life,
-    cell: Option<Cell>,
+    place: Option<u32>,
     region: u32,
 ) -> Result<(), WriteError>
-    ensures { Adds W.sink text.old text.new result (part x life cell region) }
+    ensures { Adds W.sink text.old text.new result (part x life place region) }
 {
-    let Some(cell) = cell else {
+    let Some(place) = place else {
         return text.add(b"");
     };
     if region == life.region {
         return text.add(b"");
     }
-    add_segment(text, life.region, x, life.start, cut(life, cell))
+    add_segment(text, life.region, x, life.start, cut(life, place))
 }
 
 /// How far it is drawn then.
-fn next_life(life: Life, cell: Option<Cell>, region: u32) -> Life
-    ensures { result ≡ next_life life cell region }
+fn next_life(life: Life, place: Option<u32>, region: u32) -> Life
+    ensures { result ≡ next_life life place region }
 {
-    let Some(cell) = cell else {
+    let Some(place) = place else {
         return life;
     };
     let start = if region == life.region {
         life.start
     } else {
-        cut(life, cell)
+        cut(life, place)
     };
     Life {
         region,
         start,
-        place: cell.place,
+        place,
     }
 }
 
@@ -90,9 +89,19 @@ fn add_life_end<W: Out>(
     if life.region == 0 {
         return add_segment(text, 0, x, life.start, bottom);
     }
-    let end = u64::from(life.place) * 28 + 106;
+    let end = u64::from(life.place) * 24 + 96;
     add_segment(text, life.region, x, life.start, end)?;
     add_segment(text, 0, x, end, bottom)
+}
+
+/// How many rows are drawn above an event that is drawn.
+fn place_drawn(picture: &Picture<'_>, event: &EventNo) -> Option<u32>
+    ensures { result ≡ place_drawn picture.now event.now }
+{
+    match picture.cell_of(event) {
+        Some(cell) => Some(cell.place),
+        None => None,
+    }
 }
 
 /// Adds the lifeline at x of an instance with these events.
@@ -108,80 +117,89 @@ fn add_lifeline<W: Out>(
 {
     let mut life = Life {
         region: 0,
-        start: 60,
+        start: 52,
         place: 0,
     };
     let mut index = 1;
     for event in events {
-        let cell = picture.cell_of(&EventNo { instance, index });
-        add_part(text, x, life, cell, event.region())?;
-        life = next_life(life, cell, event.region());
+        let place = place_drawn(picture, &EventNo { instance, index });
+        add_part(text, x, life, place, event.region())?;
+        life = next_life(life, place, event.region());
         index += 1;
     }
     add_life_end(text, x, life, height(picture.count()))
 }
 
-/// Adds the head of a column that begins here.
-#[tactic(auto, using(msc_text::proofs::Writes::joining), unfolding(crate::specs::ColumnText::head))]
+/// Where the lower line of an instance's name is, so much of which is its upper line.
+fn name_height(upper: usize) -> u64
+    ensures { result ≡ name_height upper }
+{
+    if upper == 0 { 42 } else { 47 }
+}
+
+/// Adds the head of a line at x, with this name.
+#[tactic(auto, using(msc_text::proofs::Writes::joining), unfolding(crate::specs::ColumnText::head_of))]
+fn add_head_of<W: Out>(text: &mut TextBuffer<'_, W>, name: &[u8], x: u64) -> Result<(), WriteError>
+    ensures { Adds W.sink text.old text.new result (head_of name.now x) }
+{
+    let half = u64::from(name_width(name, true) / 2 + 6);
+    let upper = line_break(name, true);
+    add_head_box(text, x.saturating_sub(half), 2 * half)?;
+    let at = Spot {
+        x,
+        y: name_height(upper),
+    };
+    add_name_lines(text, upper, name, at)
+}
+
+/// Adds the head of an instance's line at x.
 fn add_head<W: Out>(
     text: &mut TextBuffer<'_, W>,
     picture: &Picture<'_>,
     instance: InstanceNo,
-    left: u32,
+    x: u64,
 ) -> Result<(), WriteError>
-    ensures { Adds W.sink text.old text.new result (head picture.now instance left) }
+    ensures { Adds W.sink text.old text.new result (head picture.now instance x) }
 {
-    let span = picture.span();
-    let width = 2 * u64::from(span) + 48;
-    add_box_start(text, u64::from(left) + 16, width, middle(span, left))?;
-    add_instance_name(text, picture, instance)?;
-    add_label_end(text)
+    let names = picture.names();
+    if instance.place() < names.len() {
+        let name = named(names, instance);
+        add_head_of(text, name.as_bytes(), x)
+    } else {
+        add_head_of(text, b"", x)
+    }
 }
 
-/// Adds the column of an instance, which begins here.
-#[tactic(auto, using(msc_text::proofs::Writes::joining), unfolding(crate::specs::ColumnText::column_at))]
-fn add_column_at<W: Out>(
-    text: &mut TextBuffer<'_, W>,
-    picture: &Picture<'_>,
-    instance: InstanceNo,
-    left: u32,
-) -> Result<(), WriteError>
-    ensures { Adds W.sink text.old text.new result (column_at picture.now instance left) }
-{
-    let span = picture.span();
-    add_head(text, picture, instance, left)?;
-    let events = picture.events_of(instance);
-    add_lifeline(text, picture, instance, middle(span, left), events)?;
-    let foot = Spot {
-        x: u64::from(left) + u64::from(span) + 28,
-        y: height(picture.count()),
-    };
-    add_foot(text, foot)
-}
-
+/// Adds a column: its head, its lifeline and its foot.
+#[tactic(auto, using(msc_text::proofs::Writes::joining), unfolding(crate::specs::ColumnText::column_text))]
 fn add_column<W: Out>(
     text: &mut TextBuffer<'_, W>,
     picture: &Picture<'_>,
-    instance: InstanceNo,
+    column: &Column,
 ) -> Result<(), WriteError>
-    ensures { Adds W.sink text.old text.new result (column_text picture.now instance) }
+    ensures { Adds W.sink text.old text.new result (column_text picture.now column.now) }
 {
-    match picture.left_of(instance) {
-        Some(left) => add_column_at(text, picture, instance, left),
-        None => text.add(b""),
-    }
+    let x = u64::from(column.x);
+    add_head(text, picture, column.instance, x)?;
+    let events = picture.events_of(column.instance);
+    add_lifeline(text, picture, column.instance, x, events)?;
+    let foot = Spot {
+        x: x.saturating_sub(12),
+        y: height(picture.count()),
+    };
+    add_foot(text, foot)
 }
 
 /// Adds columns.
 pub(crate) fn add_columns<W: Out>(
     text: &mut TextBuffer<'_, W>,
     picture: &Picture<'_>,
-    drawn: &[InstanceNo],
+    columns: &[Column],
 ) -> Result<(), WriteError>
-    ensures { Adds W.sink text.old text.new result (flat_map (column_text picture.now) drawn.now) }
+    ensures { Adds W.sink text.old text.new result (flat_map (column_text picture.now) columns.now) }
 {
-    for instance in drawn {
-        add_column(text, picture, *instance)?;
+    for column in columns {
+        add_column(text, picture, column)?;
     }
     Ok(())
 }

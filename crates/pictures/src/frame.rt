@@ -1,19 +1,21 @@
 //! What stands round the columns and rows of a picture.
 ghost use Rattle.std.specs.Prelude.{◌≡◌};
 ghost use Rattle.msc_text.specs.Writing.{Wrote, Adds};
-ghost use Rattle.pictures.specs.PictureText.{styles, markers, legend, svg_start, title, heading, top, group_start};
-ghost use Rattle.pictures.specs.PictureText.{svg_end, bottom, picture_text};
+ghost use Rattle.pictures.specs.PictureText.{styles, markers, svg_start, title, heading, top, svg_end, bottom};
+ghost use Rattle.pictures.specs.PictureText.{picture_text};
 
 use crate::columns::add_columns;
 use crate::marks::add_marks;
 use crate::picture::Picture;
 use crate::rows::add_rows;
 use crate::spots::height;
+use crate::there::marks_in;
 use msc_text::{Out, TextBuffer, WriteError};
+use picture_elements::{add_legend, legend_tall};
 use text_parts::{Piece, add_pieces};
 
-/// Adds the colours, each of which can be read on white and on black, and the kinds of lines and of labels. Nothing is
-/// fetched: the font is whichever the reader's program has.
+/// Adds the colours, those on white and those on black, and the kinds of lines and of labels. Nothing is fetched: the
+/// font is whichever the reader's program has.
 #[tactic(auto, unfolding(crate::specs::PictureText::styles))]
 fn add_styles<W: Out>(text: &mut TextBuffer<'_, W>) -> Result<(), WriteError>
     ensures { Adds W.sink text.old text.new result styles }
@@ -22,22 +24,31 @@ fn add_styles<W: Out>(text: &mut TextBuffer<'_, W>) -> Result<(), WriteError>
         text,
         &[
             Piece::Bytes(b"<style>\n"),
-            Piece::Bytes(b"text{font:12px monospace;fill:#767676;text-anchor:middle}\n"),
+            Piece::Bytes(b"text{font:11px monospace;fill:#000;text-anchor:middle}\n"),
             Piece::Bytes(b".s,.n{text-anchor:start}\n"),
-            Piece::Bytes(b".n{font-size:9px}\n"),
-            Piece::Bytes(b"path,rect,circle{fill:none;stroke:#767676}\n"),
+            Piece::Bytes(b".e{text-anchor:end}\n"),
+            Piece::Bytes(b".n,.e,.k{font-size:9px}\n"),
+            Piece::Bytes(b".k{fill:#a80000}\n"),
+            Piece::Bytes(b"path,rect,circle{fill:none;stroke:#808080}\n"),
+            Piece::Bytes(b".m,.w{stroke:#000}\n"),
             Piece::Bytes(b".m{marker-end:url(#head)}\n"),
             Piece::Bytes(b".c{stroke-dasharray:4 4;marker-start:url(#end);marker-end:url(#end)}\n"),
             Piece::Bytes(b".f{stroke-width:4}\n"),
-            Piece::Bytes(b".r{fill:#ec0000;stroke:#ec0000}\n"),
-            Piece::Bytes(b".b{stroke:#ec0000;stroke-width:1.5}\n"),
-            Piece::Bytes(b"#head path{fill:#767676}\n"),
+            Piece::Bytes(b".g{fill:#fff;stroke:none}\n"),
+            Piece::Bytes(b".p{stroke:none}\n"),
+            Piece::Bytes(b".r{fill:#a80000;stroke:none}\n"),
+            Piece::Bytes(b".b{stroke:#a80000;stroke-width:1.5}\n"),
+            Piece::Bytes(b"#head path{fill:#000;stroke:none}\n"),
+            Piece::Bytes(
+                b"@media(prefers-color-scheme:dark){text{fill:#fff}.g{fill:#111}.m,.w{stroke:#fff}#head path{fill:#fff}",
+            ),
+            Piece::Bytes(b".k,.r{fill:#ff9a9a}.b{stroke:#ff9a9a}}\n"),
             Piece::Bytes(b"</style>\n"),
         ],
     )
 }
 
-/// Adds arrow heads, and the ends of coregions.
+/// Adds arrow heads, the ends of coregions, and the picture's ground.
 #[tactic(auto, unfolding(crate::specs::PictureText::markers))]
 fn add_markers<W: Out>(text: &mut TextBuffer<'_, W>) -> Result<(), WriteError>
     ensures { Adds W.sink text.old text.new result markers }
@@ -53,33 +64,7 @@ fn add_markers<W: Out>(text: &mut TextBuffer<'_, W>) -> Result<(), WriteError>
                 b"<marker id='end' refX='1' refY='5' markerWidth='2' markerHeight='10' orient='auto'>",
             ),
             Piece::Bytes(b"<path d='M1 0V10'/></marker></defs>\n"),
-        ],
-    )
-}
-
-/// Adds what the marks mean.
-#[tactic(auto, unfolding(crate::specs::PictureText::legend))]
-fn add_legend<W: Out>(text: &mut TextBuffer<'_, W>) -> Result<(), WriteError>
-    ensures { Adds W.sink text.old text.new result legend }
-{
-    add_pieces(
-        text,
-        &[
-            Piece::Bytes(b"<circle class='r' cx='8' cy='0' r='4'/>"),
-            Piece::Bytes(b"<text class='s' x='24' y='4'>"),
-            Piece::Bytes(b"a receive that may come before earlier events (races)</text>\n"),
-            Piece::Bytes(b"<path class='b' d='M11 14H6V26H11'/>"),
-            Piece::Bytes(
-                b"<text class='s' x='24' y='24'>earlier events that such a receive may come before</text>\n",
-            ),
-            Piece::Bytes(b"<circle cx='8' cy='40' r='4'/>"),
-            Piece::Bytes(
-                b"<text class='s' x='24' y='44'>a message that waits: sent, and not received</text>\n",
-            ),
-            Piece::Bytes(b"<path class='c' d='M8 52V68'/>"),
-            Piece::Bytes(
-                b"<text class='s' x='24' y='64'>a coregion: its receives may come in any order</text>\n",
-            ),
+            Piece::Bytes(b"<rect class='g' width='100%' height='100%'/>\n"),
         ],
     )
 }
@@ -109,28 +94,28 @@ fn add_svg_start<W: Out>(
 }
 
 #[tactic(auto, unfolding(crate::specs::PictureText::title))]
-fn add_title<W: Out>(text: &mut TextBuffer<'_, W>, file: &[u8]) -> Result<(), WriteError>
-    ensures { Adds W.sink text.old text.new result (title file.now) }
+fn add_title<W: Out>(text: &mut TextBuffer<'_, W>, words: &[u8]) -> Result<(), WriteError>
+    ensures { Adds W.sink text.old text.new result (title words.now) }
 {
     add_pieces(
         text,
         &[
             Piece::Bytes(b"<title>"),
-            Piece::Escaped(file),
+            Piece::Escaped(words),
             Piece::Bytes(b"</title>\n"),
         ],
     )
 }
 
 #[tactic(auto, unfolding(crate::specs::PictureText::heading))]
-fn add_heading<W: Out>(text: &mut TextBuffer<'_, W>, file: &[u8]) -> Result<(), WriteError>
-    ensures { Adds W.sink text.old text.new result (heading file.now) }
+fn add_heading<W: Out>(text: &mut TextBuffer<'_, W>, line: &[u8]) -> Result<(), WriteError>
+    ensures { Adds W.sink text.old text.new result (heading line.now) }
 {
     add_pieces(
         text,
         &[
-            Piece::Bytes(b"<text class='s' x='16' y='20'>"),
-            Piece::Escaped(file),
+            Piece::Bytes(b"<text class='s' x='16' y='16'>"),
+            Piece::Escaped(line),
             Piece::Bytes(b"</text>\n"),
         ],
     )
@@ -142,43 +127,30 @@ fn add_top<W: Out>(text: &mut TextBuffer<'_, W>, picture: &Picture<'_>) -> Resul
     ensures { Adds W.sink text.old text.new result (top picture.now) }
 {
     let width = u64::from(picture.width());
-    add_svg_start(text, width, height(picture.count()) + 116)?;
-    add_title(text, picture.file())?;
+    let marks = marks_in(picture);
+    let tall = height(picture.count()) + legend_tall(&marks) + 20;
+    add_svg_start(text, width, tall)?;
+    add_title(text, picture.title())?;
     add_styles(text)?;
     add_markers(text)?;
-    add_heading(text, picture.file())
+    add_heading(text, picture.title())
 }
 
-/// Adds the beginning of a group of elements that begins at this height.
-#[tactic(auto, unfolding(crate::specs::PictureText::group_start))]
-fn add_group_start<W: Out>(text: &mut TextBuffer<'_, W>, y: u64) -> Result<(), WriteError>
-    ensures { Adds W.sink text.old text.new result (group_start y) }
-{
-    add_pieces(
-        text,
-        &[
-            Piece::Bytes(b"<g transform='translate(16,"),
-            Piece::Number(y),
-            Piece::Bytes(b")'>\n"),
-        ],
-    )
-}
-
-/// Adds the end of the group, and that of the picture.
+/// Adds the end of the picture.
 #[tactic(auto, unfolding(crate::specs::PictureText::svg_end))]
 fn add_svg_end<W: Out>(text: &mut TextBuffer<'_, W>) -> Result<(), WriteError>
     ensures { Adds W.sink text.old text.new result svg_end }
 {
-    text.add(b"</g>\n</svg>\n")
+    text.add(b"</svg>\n")
 }
 
 /// Adds what stands below the columns.
 #[tactic(auto, using(msc_text::proofs::Writes::joining), unfolding(crate::specs::PictureText::bottom))]
-fn add_bottom<W: Out>(text: &mut TextBuffer<'_, W>, count: u32) -> Result<(), WriteError>
-    ensures { Adds W.sink text.old text.new result (bottom count) }
+fn add_bottom<W: Out>(text: &mut TextBuffer<'_, W>, picture: &Picture<'_>) -> Result<(), WriteError>
+    ensures { Adds W.sink text.old text.new result (bottom picture.now) }
 {
-    add_group_start(text, height(count) + 32)?;
-    add_legend(text)?;
+    let marks = marks_in(picture);
+    add_legend(text, &marks, height(picture.count()) + 28)?;
     add_svg_end(text)
 }
 
@@ -191,10 +163,10 @@ fn add_picture<W: Out>(
     ensures { Adds W.sink text.old text.new result (picture_text picture.now) }
 {
     add_top(text, picture)?;
-    add_columns(text, picture, picture.drawn())?;
+    add_columns(text, picture, picture.columns())?;
     add_rows(text, picture, picture.rows())?;
     add_marks(text, picture, picture.reports())?;
-    add_bottom(text, picture.count())
+    add_bottom(text, picture)
 }
 
 /// Writes the picture's text and nothing else. It takes no memory. Where a put fails (F24), a beginning of the text was

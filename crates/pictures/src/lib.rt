@@ -5,8 +5,8 @@
 //!
 //! - [`write_picture`] writes the text of the picture and nothing else. A contract gives each byte of it
 //!   (`specs/PictureText`): where each line, label and mark is, what it says, and in which order they come. Bytes of
-//!   the file's name that XML keeps for itself, or that are no printable ASCII characters, are spelled so that none of
-//!   them is taken for an element.
+//!   the title that XML keeps for itself, or that are no printable ASCII characters, are spelled so that none of them is
+//!   taken for an element.
 //! - What it is drawn from is what the caller gave ([`Picture::of`]): the chart, its layout, the ends of its messages,
 //!   the reports of its receives, and the part of it that is to be drawn.
 //! - F24: where a put fails, a beginning of the text was written, and no other put is tried. F6: only [`Picture::of`]
@@ -14,14 +14,15 @@
 #![tactic(auto)]
 
 mod columns;
-mod elements;
 mod frame;
+mod labels;
 mod marks;
 mod part;
 mod picture;
 mod preparing;
 mod rows;
 mod spots;
+mod there;
 
 pub use frame::write_picture;
 pub use part::{Part, Source};

@@ -1,75 +1,173 @@
 //! The marks of races: a dot at each receive, and a bracket for each range of events that it may come before.
-ghost use Rattle.std.specs.Prelude.{◌≡◌, All};
+ghost use Rattle.std.specs.Prelude.{◌≡◌, ◌≤◌, All};
 ghost use Rattle.std.specs.List.{flat_map};
 ghost use Rattle.chart.specs.Ranges.{IsRange, ranges_of};
 ghost use Rattle.msc_text.specs.Writing.{Adds};
-ghost use Rattle.pictures.specs.MarkText.{dot, first_drawn, last_drawn, upper_left, lower_right, bracket_between};
-ghost use Rattle.pictures.specs.MarkText.{bracket_text, marks, marked};
+ghost use Rattle.pictures.specs.MarkText.{from_left, dot_spot, dot, race_number, offset, bracket_x, inner_x, upper_y};
+ghost use Rattle.pictures.specs.MarkText.{bracket_between, first_drawn, last_drawn, bracket_places, bracket_rows};
+ghost use Rattle.pictures.specs.MarkText.{bracket_text, marked, marks};
 ghost use Rattle.pictures.specs.Pictures.{cell_of};
 
-use crate::elements::{add_bracket_end, add_bracket_start, add_dot_end, add_dot_start};
 use crate::picture::Picture;
-use crate::spots::{Cell, Spot, on_line};
+use crate::spots::{Cell, height, number_of, number_spot};
 use chart::{EventNo, EventRange, EventRanges, Report};
 use msc_text::{Out, TextBuffer, WriteError};
+use picture_columns::Column;
+use picture_elements::{
+    Spot, add_bracket_end, add_bracket_name, add_bracket_outline, add_dot_end, add_dot_start,
+    add_group_end, add_number,
+};
 use text_parts::{add_amount, add_range, add_ranges};
+
+/// Whether the message of a receive on this column's line comes from the left.
+fn from_left(picture: &Picture<'_>, receive: &EventNo, column: &Column) -> bool
+    ensures { result ≡ from_left picture.now receive.now column.now }
+{
+    match picture.end_of(receive) {
+        Some(send) => match picture.column_of(send.instance) {
+            Some(other) => other.x < column.x,
+            None => false,
+        },
+        None => false,
+    }
+}
+
+/// Where a receive's dot is: on the other side of the lifeline than the arrow's head.
+fn dot_spot(left: bool, cell: &Cell) -> Spot
+    ensures { result ≡ dot_spot left cell.now }
+{
+    let line = u64::from(cell.column.x);
+    let x = if left {
+        line + 5
+    } else {
+        line.saturating_sub(5)
+    };
+    Spot {
+        x,
+        y: height(cell.place),
+    }
+}
 
 /// Adds the dot of a receive, which says the earlier events.
 #[tactic(auto, using(msc_text::proofs::Writes::joining), unfolding(crate::specs::MarkText::dot))]
 fn add_dot<W: Out>(
     text: &mut TextBuffer<'_, W>,
+    receive: &EventNo,
     at: Spot,
     events: usize,
     ranges: &[EventRange],
 ) -> Result<(), WriteError>
     requires { All IsRange ranges.now }
-    ensures { Adds W.sink text.old text.new result (dot at events ranges.now) }
+    ensures { Adds W.sink text.old text.new result (dot receive.now at events ranges.now) }
 {
-    add_dot_start(text, at)?;
+    let number = u64::from(receive.index);
+    add_dot_start(text, number_of(receive.instance), number, at)?;
     add_amount(text, events)?;
     add_ranges(text, ranges)?;
     add_dot_end(text)
 }
 
-/// The upper left corner of a bracket.
-fn upper_left(span: u32, receive: u32, cell: Cell) -> Spot
-    ensures { result ≡ upper_left span receive cell }
+/// Adds the number beside a dot, where the event hasn't its number anyway.
+fn add_race_number<W: Out>(
+    text: &mut TextBuffer<'_, W>,
+    picture: &Picture<'_>,
+    receive: &EventNo,
+    cell: &Cell,
+) -> Result<(), WriteError>
+    ensures { Adds W.sink text.old text.new result (race_number picture.now receive.now cell.now) }
 {
-    Spot {
-        x: u64::from(cell.left) + u64::from(span) + 9 + 5 * u64::from(receive % 6),
-        y: u64::from(cell.place) * 28 + 86,
+    if picture.has_numbers() {
+        return text.add(b"");
+    }
+    let number = u64::from(receive.index);
+    if cell.column.room.turned {
+        add_number(text, b"e k", number_spot(cell), number)
+    } else {
+        add_number(text, b"n k", number_spot(cell), number)
     }
 }
 
-/// The lower right corner of a bracket.
-fn lower_right(span: u32, receive: u32, cell: Cell) -> Spot
-    ensures { result ≡ lower_right span receive cell }
+/// How far a receive's brackets are from their lifeline.
+fn offset(column: &Column, receive: u32) -> u64
+    ensures value { result ≡ offset column.now receive }
+    ensures far { 13 ≤ result }
+    ensures limit { result ≤ 17179869193 }
 {
-    Spot {
-        x: u64::from(cell.left) + u64::from(span) + 12 + 5 * u64::from(receive % 6),
-        y: u64::from(cell.place) * 28 + 98,
+    let step = u64::from(column.room.step);
+    let slot = receive % 5;
+    if slot == 0 {
+        13
+    } else if slot == 1 {
+        step + 13
+    } else if slot == 2 {
+        2 * step + 13
+    } else if slot == 3 {
+        3 * step + 13
+    } else {
+        4 * step + 13
     }
 }
 
-/// Adds a bracket from one event of a range to another.
+/// Where a receive's brackets are.
+fn bracket_x(column: &Column, receive: u32) -> u64
+    ensures { result ≡ bracket_x column.now receive }
+{
+    let line = u64::from(column.x);
+    if column.room.turned {
+        line + offset(column, receive)
+    } else {
+        line.saturating_sub(offset(column, receive))
+    }
+}
+
+/// How far their ends are.
+fn inner_x(column: &Column, receive: u32) -> u64
+    ensures { result ≡ inner_x column.now receive }
+{
+    let line = u64::from(column.x);
+    if column.room.turned {
+        line + offset(column, receive) - 3
+    } else {
+        line.saturating_sub(offset(column, receive) - 3)
+    }
+}
+
+/// Where their upper corner is, below so many rows.
+fn upper_y(receive: u32, place: u32) -> u64
+    ensures { result ≡ upper_y receive place }
+{
+    height(place).saturating_sub(7 * u64::from(receive % 5 % 2) + 8)
+}
+
+/// Adds the bracket of a range below so many rows, with the number of its receive at its top.
 #[tactic(auto, using(msc_text::proofs::Writes::joining), unfolding(crate::specs::MarkText::bracket_between))]
 fn add_bracket_between<W: Out>(
     text: &mut TextBuffer<'_, W>,
-    span: u32,
-    receive: u32,
+    receive: &EventNo,
     range: &EventRange,
-    from: Cell,
-    to: Cell,
+    column: &Column,
+    upper: u32,
+    lower: u32,
 ) -> Result<(), WriteError>
     requires { IsRange range.now }
-    ensures { Adds W.sink text.old text.new result (bracket_between span receive range.now from to) }
+    ensures { Adds W.sink text.old text.new result
+        (bracket_between receive.now range.now column.now upper lower) }
 {
-    let start = upper_left(span, receive, from);
-    let end = lower_right(span, receive, to);
-    add_bracket_start(text, start, end, u64::from(receive))?;
+    let number = u64::from(receive.index);
+    let x = bracket_x(column, receive.index);
+    let y = upper_y(receive.index, upper);
+    let first = u64::from(range.first.index);
+    add_bracket_name(text, number_of(receive.instance), number, first)?;
+    let inner = inner_x(column, receive.index);
+    add_bracket_outline(text, Spot { x, y }, height(lower) + 7, inner, number)?;
     add_amount(text, range.count)?;
     add_range(text, range)?;
-    add_bracket_end(text)
+    add_bracket_end(text)?;
+    let above = Spot {
+        x,
+        y: y.saturating_sub(3),
+    };
+    add_number(text, b"k", above, number)
 }
 
 /// The first event of a range that isn't before those that are drawn.
@@ -94,35 +192,83 @@ fn last_drawn(picture: &Picture<'_>, range: &EventRange) -> EventNo
     }
 }
 
-/// Adds the bracket of a range of earlier events, as far as they are drawn.
-fn add_bracket<W: Out>(
+/// Adds the bracket of a range below so many rows, if they are known.
+fn add_bracket_places<W: Out>(
     text: &mut TextBuffer<'_, W>,
-    picture: &Picture<'_>,
-    receive: u32,
+    receive: &EventNo,
     range: &EventRange,
+    column: &Column,
+    upper: Option<u32>,
+    lower: Option<u32>,
 ) -> Result<(), WriteError>
     requires { IsRange range.now }
-    ensures { Adds W.sink text.old text.new result (bracket_text picture.now receive range.now) }
+    ensures { Adds W.sink text.old text.new result
+        (bracket_places receive.now range.now column.now upper lower) }
 {
-    let from = picture.cell_of(&first_drawn(picture, range));
-    let to = picture.cell_of(&last_drawn(picture, range));
-    match (from, to) {
-        (Some(from), Some(to)) => {
-            add_bracket_between(text, picture.span(), receive, range, from, to)
+    match (upper, lower) {
+        (Some(upper), Some(lower)) => {
+            add_bracket_between(text, receive, range, column, upper, lower)
         }
         _ => text.add(b""),
     }
 }
 
+/// Adds the bracket of a range between rows of the layout.
+fn add_bracket_rows<W: Out>(
+    text: &mut TextBuffer<'_, W>,
+    picture: &Picture<'_>,
+    receive: &EventNo,
+    range: &EventRange,
+    column: &Column,
+    upper: usize,
+    lower: usize,
+) -> Result<(), WriteError>
+    requires { IsRange range.now }
+    ensures { Adds W.sink text.old text.new result
+        (bracket_rows picture.now receive.now range.now column.now upper lower) }
+{
+    if upper <= lower {
+        let upper = picture.place_at(upper);
+        let lower = picture.place_at(lower);
+        add_bracket_places(text, receive, range, column, upper, lower)
+    } else {
+        text.add(b"")
+    }
+}
+
+/// Adds the bracket of a range of earlier events, as far as they are chosen.
+fn add_bracket<W: Out>(
+    text: &mut TextBuffer<'_, W>,
+    picture: &Picture<'_>,
+    receive: &EventNo,
+    range: &EventRange,
+) -> Result<(), WriteError>
+    requires { IsRange range.now }
+    ensures { Adds W.sink text.old text.new result (bracket_text picture.now receive.now range.now) }
+{
+    let Some(column) = picture.column_of(range.first.instance) else {
+        return text.add(b"");
+    };
+    let Some(upper) = picture.row_at(&first_drawn(picture, range)) else {
+        return text.add(b"");
+    };
+    let Some(lower) = picture.row_at(&last_drawn(picture, range)) else {
+        return text.add(b"");
+    };
+    let upper = upper.max(picture.top());
+    let lower = lower.min(picture.bottom());
+    add_bracket_rows(text, picture, receive, range, &column, upper, lower)
+}
+
 fn add_brackets<W: Out>(
     text: &mut TextBuffer<'_, W>,
     picture: &Picture<'_>,
-    receive: u32,
+    receive: &EventNo,
     ranges: &[EventRange],
 ) -> Result<(), WriteError>
     requires { All IsRange ranges.now }
     ensures { Adds W.sink text.old text.new result
-        (flat_map (bracket_text picture.now receive) ranges.now) }
+        (flat_map (bracket_text picture.now receive.now) ranges.now) }
 {
     for range in ranges {
         add_bracket(text, picture, receive, range)?;
@@ -135,16 +281,18 @@ fn add_brackets<W: Out>(
 fn add_marked<W: Out>(
     text: &mut TextBuffer<'_, W>,
     picture: &Picture<'_>,
-    receive: u32,
-    cell: Cell,
+    receive: &EventNo,
+    cell: &Cell,
     earlier: &EventRanges,
 ) -> Result<(), WriteError>
-    ensures { Adds W.sink text.old text.new result (marked picture.now receive cell earlier.now) }
+    ensures { Adds W.sink text.old text.new result (marked picture.now receive.now cell.now earlier.now) }
 {
     let ranges = earlier.as_slice();
-    let at = on_line(picture.span(), cell);
-    add_dot(text, at, earlier.len(), ranges)?;
-    add_brackets(text, picture, receive, ranges)
+    let at = dot_spot(from_left(picture, receive, &cell.column), cell);
+    add_dot(text, receive, at, earlier.len(), ranges)?;
+    add_race_number(text, picture, receive, cell)?;
+    add_brackets(text, picture, receive, ranges)?;
+    add_group_end(text)
 }
 
 /// Adds the marks of a receive.
@@ -156,12 +304,11 @@ fn add_report<W: Out>(
     ensures { Adds W.sink text.old text.new result (marks picture.now report.now) }
 {
     let receive = report.receive();
-    let number = receive.index;
     if report.earlier().is_empty() {
         return text.add(b"");
     }
     match picture.cell_of(&receive) {
-        Some(cell) => add_marked(text, picture, number, cell, report.earlier()),
+        Some(cell) => add_marked(text, picture, &receive, &cell, report.earlier()),
         None => text.add(b""),
     }
 }

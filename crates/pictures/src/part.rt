@@ -3,11 +3,11 @@ use chart::{InstanceNo, Names, Report};
 use closure::Closure;
 use layout::{Ends, Layout};
 
-/// What a picture is of: a chart with its names, the name of its file, its layout and the reports of its receives.
+/// What a picture is of: a chart with its names, a title, its layout and the reports of its receives.
 #[derive(Clone, Copy)]
 pub struct Source<'a> {
-    /// The name of the file, of any bytes.
-    pub file: &'a [u8],
+    /// What stands above the picture, of any bytes.
+    pub title: &'a [u8],
     pub names: &'a Names,
     /// The chart.
     pub closure: &'a Closure<'a>,
@@ -17,14 +17,17 @@ pub struct Source<'a> {
     pub reports: &'a [Report],
 }
 
-/// What of a chart is drawn.
+/// What of a chart is drawn: the events that are chosen, and the other ends of their messages.
 #[derive(Clone, Copy)]
 pub struct Part<'a> {
-    /// The instances that have a column, the leftmost first: at most [`chart::MAX_INSTANCES`].
+    /// The instances that have a column, the leftmost first.
     pub drawn: &'a [InstanceNo],
-    /// The number of the first event of each line that is drawn, from 1, and of the last one.
+    /// The number of the first event of each line that is chosen, from 1, and of the last one.
     pub first: u32,
     pub last: u32,
+    /// The number of the first row of the layout whose events are chosen, from 0, and of the last one.
+    pub top: usize,
+    pub bottom: usize,
     /// Whether each event has its number beside it.
     pub numbers: bool,
 }

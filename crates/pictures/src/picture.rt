@@ -1,88 +1,62 @@
 //! What a picture is drawn from.
-ghost use Rattle.std.specs.Prelude.{◌≡◌, ◌<◌, ◌≤◌, ◌==◌, length, position, IfSome};
+ghost use Rattle.std.specs.Prelude.{◌≡◌, ◌≤◌, length, slice_get};
 ghost use Rattle.chart.specs.Charts.{chart_lines};
 ghost use Rattle.chart.specs.declared.line.TheConstants.{MAX_EVENTS};
-ghost use Rattle.pictures.specs.Pictures.{left_of, is_within, cell_of, end_of, event_of};
+ghost use Rattle.pictures.specs.Pictures.{column_of, row_at, cell_of, end_of, event_of};
 
-use crate::part::Part;
 use crate::spots::Cell;
-use chart::{Event, EventNo, InstanceNo, Line, Name, Names, Report};
-use layout::{Ends, Layout, Row, event_in};
+use chart::{Event, EventNo, InstanceNo, Line, Names, Report};
+use layout::{Row, event_in};
+use picture_columns::{Choice, Column};
 use std::marker::Model;
 
 /// A picture of a chart: what is drawn of it, and where.
 #[derive(Drop)]
 pub struct Picture<'a> {
-    pub(crate) file: &'a [u8],
+    pub(crate) title: &'a [u8],
     pub(crate) names: &'a Names,
     pub(crate) lines: &'a [Line],
     pub(crate) reports: &'a [Report],
-    pub(crate) layout: &'a Layout,
-    pub(crate) part: Part<'a>,
-    /// Half of what the widest label may have, in pixels.
-    pub(crate) span: u32,
+    pub(crate) choice: Choice<'a>,
+    /// Whether each event has its number beside it.
+    pub(crate) numbers: bool,
     /// How wide the picture is, in pixels.
     pub(crate) width: u32,
     /// How many rows are drawn.
     pub(crate) count: u32,
     /// How many rows are drawn above each row.
     pub(crate) places: Vec<u32>,
-    /// The other end of each event's message.
-    pub(crate) ends: &'a Ends,
 }
 
 impl<'a> Model for Picture<'a> {
-    ghost use Rattle.std.specs.Prelude.{◌≤◌, ◌+◌, ◌*◌, length};
-    ghost use Rattle.chart.specs.declared.instance.TheConstants.{MAX_INSTANCES};
     ghost use Rattle.pictures.specs.Pictures.{PictureView};
 
     ghost Value = { PictureView };
 
     ghost view = { λ p. record {
-      file = p.file.now;
+      title = p.title.now;
       names = p.names.now;
       lines = p.lines.now;
       reports = p.reports.now;
-      rows = p.layout.now;
+      choice = p.choice;
       places = p.places.items;
-      ends = p.ends.now;
-      drawn = p.part.drawn.now;
-      first = p.part.first;
-      last = p.part.last;
-      numbers = p.part.numbers;
-      span = p.span;
+      numbers = p.numbers;
       width = p.width;
       count = p.count;
     } };
-
-    ghost invariant = { λ p. (p.span ≤ 400) × (length p.part.drawn.now ≤ MAX_INSTANCES) };
-}
-
-/// The place of an instance, from 0, among those that are drawn.
-fn column_of(drawn: &[InstanceNo], instance: InstanceNo) -> Option<usize>
-    ensures value { result ≡ position (λ d. d == instance) drawn.now }
-    ensures within { IfSome result (λ column. column < length drawn.now) }
-{
-    drawn.iter().position(|drawn| *drawn == instance)
 }
 
 impl<'a> Picture<'a> {
-    pub(crate) fn span(&self) -> u32
-        ensures { result ≡ self.now.span }
-    {
-        self.span
-    }
-
     pub(crate) fn has_numbers(&self) -> bool
         ensures { result ≡ self.now.numbers }
     {
-        self.part.numbers
+        self.numbers
     }
 
     pub(crate) fn rows(&self) -> &[Row]
-        ensures { result.now ≡ self.now.rows }
+        ensures { result.now ≡ self.now.choice.rows }
     {
-        self.layout.rows()
+        self.choice.layout.rows()
     }
 
     pub(crate) fn reports(&self) -> &[Report]
@@ -91,16 +65,16 @@ impl<'a> Picture<'a> {
         self.reports
     }
 
-    pub(crate) fn drawn(&self) -> &[InstanceNo]
-        ensures { result.now ≡ self.now.drawn }
+    pub(crate) fn columns(&self) -> &[Column]
+        ensures { result.now ≡ self.now.choice.columns }
     {
-        self.part.drawn
+        self.choice.columns.as_slice()
     }
 
-    pub(crate) fn file(&self) -> &[u8]
-        ensures { result.now ≡ self.now.file }
+    pub(crate) fn title(&self) -> &[u8]
+        ensures { result.now ≡ self.now.title }
     {
-        self.file
+        self.title
     }
 
     pub(crate) fn width(&self) -> u32
@@ -110,15 +84,27 @@ impl<'a> Picture<'a> {
     }
 
     pub(crate) fn first(&self) -> u32
-        ensures { result ≡ self.now.first }
+        ensures { result ≡ self.now.choice.first }
     {
-        self.part.first
+        self.choice.first
     }
 
     pub(crate) fn last(&self) -> u32
-        ensures { result ≡ self.now.last }
+        ensures { result ≡ self.now.choice.last }
     {
-        self.part.last
+        self.choice.last
+    }
+
+    pub(crate) fn top(&self) -> usize
+        ensures { result ≡ self.now.choice.top }
+    {
+        self.choice.top
+    }
+
+    pub(crate) fn bottom(&self) -> usize
+        ensures { result ≡ self.now.choice.bottom }
+    {
+        self.choice.bottom
     }
 
     pub(crate) fn count(&self) -> u32
@@ -127,40 +113,45 @@ impl<'a> Picture<'a> {
         self.count
     }
 
-    /// Where the column of an instance begins.
-    pub(crate) fn left_of(&self, instance: InstanceNo) -> Option<u32>
-        ensures { result ≡ left_of self.now instance }
+    /// The column of an instance.
+    pub(crate) fn column_of(&self, instance: InstanceNo) -> Option<Column>
+        ensures { result ≡ column_of self.now instance }
     {
-        match column_of(self.part.drawn, instance) {
-            Some(column) => Some((2 * self.span + 80) * column as u32),
-            None => None,
-        }
+        self.choice.column_of(instance)
     }
 
-    fn is_within(&self, event: &EventNo) -> bool
-        ensures { result ≡ is_within self.now event.now }
+    /// The row of an event.
+    pub(crate) fn row_at(&self, event: &EventNo) -> Option<usize>
+        ensures { result ≡ row_at self.now event.now }
     {
-        self.part.first <= event.index && event.index <= self.part.last
+        self.choice.layout.row_of(event)
+    }
+
+    /// How many rows are drawn above a row.
+    pub(crate) fn place_at(&self, row: usize) -> Option<u32>
+        ensures { result ≡ slice_get self.now.places row }
+    {
+        self.places.get(row).copied()
     }
 
     /// Where an event is drawn.
     pub(crate) fn cell_of(&self, event: &EventNo) -> Option<Cell>
         ensures { result ≡ cell_of self.now event.now }
     {
-        if !self.is_within(event) {
+        if !self.choice.is_shown(event) {
             return None;
         }
-        let left = self.left_of(event.instance)?;
-        let row = self.layout.row_of(event)?;
-        let place = *self.places.get(row)?;
-        Some(Cell { left, place })
+        let column = self.column_of(event.instance)?;
+        let row = self.row_at(event)?;
+        let place = self.place_at(row)?;
+        Some(Cell { column, place })
     }
 
     /// The other end of an event's message.
     pub(crate) fn end_of(&self, event: &EventNo) -> Option<EventNo>
         ensures { result ≡ end_of self.now event.now }
     {
-        self.ends.of_event(*event)
+        self.choice.end_of(event)
     }
 
     /// The events of an instance's line.

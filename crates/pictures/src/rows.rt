@@ -1,120 +1,19 @@
-//! The rows of a picture: arrows with their labels, and the numbers of events.
+//! The rows of a picture: arrows with their labels, and the points of events.
 ghost use Rattle.std.specs.Prelude.{◌≡◌};
 ghost use Rattle.std.specs.List.{flat_map};
-ghost use Rattle.msc_text.specs.ChartText.{name_at};
 ghost use Rattle.msc_text.specs.Writing.{Adds};
 ghost use Rattle.pictures.specs.Pictures.{cell_of, end_of, event_of};
-ghost use Rattle.pictures.specs.RowText.{message_name, side_text, number_at, label, cut_label, leaving, coming};
-ghost use Rattle.pictures.specs.RowText.{message, toward, waiting_ends, waiting, both, slanted, level, sent, has_end};
-ghost use Rattle.pictures.specs.RowText.{received, alone, row_text};
+ghost use Rattle.pictures.specs.RowText.{leaving, coming, message, toward, waiting_ends, waiting, both, slanted};
+ghost use Rattle.pictures.specs.RowText.{level, sent, has_end, received, alone, row_text};
 
-use crate::elements::{add_arrow, add_label_end, add_label_start, add_number, add_ring};
+use crate::labels::{Side, add_cut_label, add_event_label, add_point};
 use crate::picture::Picture;
-use crate::spots::{Cell, Spot, aside, beside, height, label_spot, number_spot, on_line};
+use crate::spots::{Cell, aside, cut_spot, height, on_line};
 use chart::{Event, EventNo, InstanceNo};
 use layout::Row;
-use msc_text::{Out, TextBuffer, WriteError, named};
-
-/// On which side of a message the instance is that has no column.
-#[derive(Clone, Copy)]
-pub(crate) enum Side {
-    Receiver,
-    Sender,
-}
-
-#[tactic(auto, unfolding(crate::specs::RowText::side_text))]
-fn word_of(side: &Side) -> &[u8]
-    ensures { result.now ≡ side_text side.now }
-{
-    match side {
-        Side::Receiver => b" to ",
-        Side::Sender => b" from ",
-    }
-}
-
-/// Adds the name of the event's message, or nothing where there is no such event.
-fn add_message_name<W: Out>(
-    text: &mut TextBuffer<'_, W>,
-    picture: &Picture<'_>,
-    event: &EventNo,
-) -> Result<(), WriteError>
-    ensures { Adds W.sink text.old text.new result (message_name picture.now event.now) }
-{
-    match picture.event_of(event) {
-        Some(found) => {
-            let name = found.name();
-            text.add(name.as_bytes())
-        }
-        None => text.add(b""),
-    }
-}
-
-/// Adds the name of an instance, if it has one.
-pub(crate) fn add_instance_name<W: Out>(
-    text: &mut TextBuffer<'_, W>,
-    picture: &Picture<'_>,
-    instance: InstanceNo,
-) -> Result<(), WriteError>
-    ensures { Adds W.sink text.old text.new result (name_at picture.now.names instance) }
-{
-    let names = picture.names();
-    if instance.place() < names.len() {
-        let name = named(names, instance);
-        text.add(name.as_bytes())
-    } else {
-        text.add(b"")
-    }
-}
-
-/// Adds the number of an event, where the picture has numbers.
-fn add_number_at<W: Out>(
-    text: &mut TextBuffer<'_, W>,
-    picture: &Picture<'_>,
-    event: &EventNo,
-    cell: Cell,
-) -> Result<(), WriteError>
-    ensures { Adds W.sink text.old text.new result (number_at picture.now event.now cell) }
-{
-    if !picture.has_numbers() {
-        return text.add(b"");
-    }
-    let at = number_spot(picture.span(), cell);
-    add_number(text, at, u64::from(event.index))
-}
-
-/// Adds the label of a message, whose middle is at the spot.
-#[tactic(auto, using(msc_text::proofs::Writes::joining), unfolding(crate::specs::RowText::label))]
-fn add_label<W: Out>(
-    text: &mut TextBuffer<'_, W>,
-    picture: &Picture<'_>,
-    event: &EventNo,
-    at: Spot,
-) -> Result<(), WriteError>
-    ensures { Adds W.sink text.old text.new result (label picture.now event.now at) }
-{
-    add_label_start(text, at)?;
-    add_message_name(text, picture, event)?;
-    add_label_end(text)
-}
-
-/// Adds the label of a message that is cut, with the instance on its other side.
-#[tactic(auto, using(msc_text::proofs::Writes::joining), unfolding(crate::specs::RowText::cut_label))]
-fn add_cut_label<W: Out>(
-    text: &mut TextBuffer<'_, W>,
-    picture: &Picture<'_>,
-    event: &EventNo,
-    side: Side,
-    other: InstanceNo,
-    at: Spot,
-) -> Result<(), WriteError>
-    ensures { Adds W.sink text.old text.new result (cut_label picture.now event.now side other at) }
-{
-    add_label_start(text, at)?;
-    add_message_name(text, picture, event)?;
-    text.add(word_of(&side))?;
-    add_instance_name(text, picture, other)?;
-    add_label_end(text)
-}
+use msc_text::{Out, TextBuffer, WriteError};
+use picture_columns::Column;
+use picture_elements::{Spot, add_arrow, add_ring};
 
 /// Adds a send whose message is cut.
 #[tactic(auto, using(msc_text::proofs::Writes::joining), unfolding(crate::specs::RowText::leaving))]
@@ -123,21 +22,13 @@ fn add_leaving<W: Out>(
     picture: &Picture<'_>,
     event: &EventNo,
     to: InstanceNo,
-    cell: Cell,
+    cell: &Cell,
 ) -> Result<(), WriteError>
-    ensures { Adds W.sink text.old text.new result (leaving picture.now event.now to cell) }
+    ensures { Adds W.sink text.old text.new result (leaving picture.now event.now to cell.now) }
 {
-    let span = picture.span();
-    add_arrow(text, on_line(span, cell), aside(span, cell))?;
-    add_cut_label(
-        text,
-        picture,
-        event,
-        Side::Receiver,
-        to,
-        beside(span, cell, true),
-    )?;
-    add_number_at(text, picture, event, cell)
+    add_arrow(text, on_line(cell), aside(cell))?;
+    add_cut_label(text, picture, event, Side::Receiver, to, cut_spot(cell))?;
+    add_point(text, picture, event, cell)
 }
 
 /// Adds a receive whose message is cut.
@@ -147,81 +38,75 @@ fn add_coming<W: Out>(
     picture: &Picture<'_>,
     event: &EventNo,
     from: InstanceNo,
-    cell: Cell,
+    cell: &Cell,
 ) -> Result<(), WriteError>
-    ensures { Adds W.sink text.old text.new result (coming picture.now event.now from cell) }
+    ensures { Adds W.sink text.old text.new result (coming picture.now event.now from cell.now) }
 {
-    let span = picture.span();
-    add_arrow(text, aside(span, cell), on_line(span, cell))?;
-    add_cut_label(
-        text,
-        picture,
-        event,
-        Side::Sender,
-        from,
-        beside(span, cell, true),
-    )?;
-    add_number_at(text, picture, event, cell)
+    add_arrow(text, aside(cell), on_line(cell))?;
+    add_cut_label(text, picture, event, Side::Sender, from, cut_spot(cell))?;
+    add_point(text, picture, event, cell)
 }
 
-/// Adds the arrow of a message from its send to its receive, with its label beside the send.
+/// Adds the arrow of a message from its send to its receive, with its label.
 #[tactic(auto, using(msc_text::proofs::Writes::joining), unfolding(crate::specs::RowText::message))]
 fn add_message<W: Out>(
     text: &mut TextBuffer<'_, W>,
     picture: &Picture<'_>,
     event: &EventNo,
-    from: Cell,
-    to: Cell,
+    from: &Cell,
+    to: &Cell,
 ) -> Result<(), WriteError>
-    ensures { Adds W.sink text.old text.new result (message picture.now event.now from to) }
+    ensures { Adds W.sink text.old text.new result (message picture.now event.now from.now to.now) }
 {
-    let span = picture.span();
-    add_arrow(text, on_line(span, from), on_line(span, to))?;
-    add_label(text, picture, event, label_spot(span, from, to.left))
-}
-
-/// Adds the arrow of a message that waits and the open circle at its end, beside the lifeline of the column that begins
-/// at `left`.
-#[tactic(auto, using(msc_text::proofs::Writes::joining), unfolding(crate::specs::RowText::toward))]
-fn add_toward<W: Out>(
-    text: &mut TextBuffer<'_, W>,
-    span: u32,
-    cell: Cell,
-    left: u32,
-) -> Result<(), WriteError>
-    ensures { Adds W.sink text.old text.new result (toward span cell left) }
-{
-    let (tip, circle) = waiting_ends(span, cell, left);
-    add_arrow(text, on_line(span, cell), tip)?;
-    add_ring(text, circle)
+    add_arrow(text, on_line(from), on_line(to))?;
+    let level = from.place == to.place;
+    add_event_label(text, picture, event, level, from, &to.column)
 }
 
 /// Where the tip of the arrow of a message that waits is, and the circle beside it.
-fn waiting_ends(span: u32, cell: Cell, left: u32) -> (Spot, Spot)
-    ensures { result ≡ waiting_ends span cell left }
+fn waiting_ends(cell: &Cell, column: &Column) -> (Spot, Spot)
+    ensures { result ≡ waiting_ends cell.now column.now }
 {
     let y = height(cell.place);
-    let x = u64::from(left) + u64::from(span);
-    if cell.left < left {
-        return (Spot { x, y }, Spot { x: x + 4, y });
+    let x = u64::from(column.x);
+    if cell.column.x < column.x {
+        let room = u64::from(column.room.left);
+        let tip = x.saturating_sub(room + 8);
+        let circle = x.saturating_sub(room + 4);
+        return (Spot { x: tip, y }, Spot { x: circle, y });
     }
-    (Spot { x: x + 52, y }, Spot { x: x + 48, y })
+    let end = x + u64::from(column.room.right);
+    (Spot { x: end + 8, y }, Spot { x: end + 4, y })
 }
 
-/// Adds a send whose message waits.
+/// Adds the arrow of a message that waits and the open circle at its end, beside the room of the column's line.
+#[tactic(auto, using(msc_text::proofs::Writes::joining), unfolding(crate::specs::RowText::toward))]
+fn add_toward<W: Out>(
+    text: &mut TextBuffer<'_, W>,
+    cell: &Cell,
+    column: &Column,
+) -> Result<(), WriteError>
+    ensures { Adds W.sink text.old text.new result (toward cell.now column.now) }
+{
+    let (tip, circle) = waiting_ends(cell, column);
+    add_arrow(text, on_line(cell), tip)?;
+    add_ring(text, circle)
+}
+
+/// Adds a send whose message waits for the instance of a column.
 #[tactic(auto, using(msc_text::proofs::Writes::joining), unfolding(crate::specs::RowText::waiting))]
 fn add_waiting<W: Out>(
     text: &mut TextBuffer<'_, W>,
     picture: &Picture<'_>,
     event: &EventNo,
-    cell: Cell,
-    left: u32,
+    cell: &Cell,
+    column: &Column,
 ) -> Result<(), WriteError>
-    ensures { Adds W.sink text.old text.new result (waiting picture.now event.now cell left) }
+    ensures { Adds W.sink text.old text.new result (waiting picture.now event.now cell.now column.now) }
 {
-    add_toward(text, picture.span(), cell, left)?;
-    add_label(text, picture, event, label_spot(picture.span(), cell, left))?;
-    add_number_at(text, picture, event, cell)
+    add_toward(text, cell, column)?;
+    add_event_label(text, picture, event, true, cell, column)?;
+    add_point(text, picture, event, cell)
 }
 
 /// Adds both ends of a message.
@@ -231,14 +116,14 @@ fn add_both<W: Out>(
     picture: &Picture<'_>,
     send: &EventNo,
     receive: &EventNo,
-    from: Cell,
-    to: Cell,
+    from: &Cell,
+    to: &Cell,
 ) -> Result<(), WriteError>
-    ensures { Adds W.sink text.old text.new result (both picture.now send.now receive.now from to) }
+    ensures { Adds W.sink text.old text.new result (both picture.now send.now receive.now from.now to.now) }
 {
     add_message(text, picture, send, from, to)?;
-    add_number_at(text, picture, send, from)?;
-    add_number_at(text, picture, receive, to)
+    add_point(text, picture, send, from)?;
+    add_point(text, picture, receive, to)
 }
 
 /// Adds a message that is drawn level, or the end of it that is drawn.
@@ -252,9 +137,9 @@ fn add_level<W: Out>(
         (level picture.now send.now receive.now (cell_of picture.now send.now) (cell_of picture.now receive.now)) }
 {
     match (picture.cell_of(send), picture.cell_of(receive)) {
-        (Some(from), Some(to)) => add_both(text, picture, send, receive, from, to),
-        (Some(from), None) => add_leaving(text, picture, send, receive.instance, from),
-        (None, Some(to)) => add_coming(text, picture, receive, send.instance, to),
+        (Some(from), Some(to)) => add_both(text, picture, send, receive, &from, &to),
+        (Some(from), None) => add_leaving(text, picture, send, receive.instance, &from),
+        (None, Some(to)) => add_coming(text, picture, receive, send.instance, &to),
         (None, None) => text.add(b""),
     }
 }
@@ -265,13 +150,13 @@ fn add_slanted<W: Out>(
     text: &mut TextBuffer<'_, W>,
     picture: &Picture<'_>,
     event: &EventNo,
-    from: Cell,
-    to: Cell,
+    from: &Cell,
+    to: &Cell,
 ) -> Result<(), WriteError>
-    ensures { Adds W.sink text.old text.new result (slanted picture.now event.now from to) }
+    ensures { Adds W.sink text.old text.new result (slanted picture.now event.now from.now to.now) }
 {
     add_message(text, picture, event, from, to)?;
-    add_number_at(text, picture, event, from)
+    add_point(text, picture, event, from)
 }
 
 /// Adds a send alone.
@@ -280,18 +165,18 @@ fn add_sent<W: Out>(
     picture: &Picture<'_>,
     event: &EventNo,
     to: InstanceNo,
-    cell: Cell,
+    cell: &Cell,
 ) -> Result<(), WriteError>
     ensures { Adds W.sink text.old text.new result
-        (sent picture.now event.now to cell (end_of picture.now event.now)) }
+        (sent picture.now event.now to cell.now (end_of picture.now event.now)) }
 {
     match picture.end_of(event) {
         Some(receive) => match picture.cell_of(&receive) {
-            Some(end) => add_slanted(text, picture, event, cell, end),
+            Some(end) => add_slanted(text, picture, event, cell, &end),
             None => add_leaving(text, picture, event, to, cell),
         },
-        None => match picture.left_of(to) {
-            Some(left) => add_waiting(text, picture, event, cell, left),
+        None => match picture.column_of(to) {
+            Some(column) => add_waiting(text, picture, event, cell, &column),
             None => add_leaving(text, picture, event, to, cell),
         },
     }
@@ -313,12 +198,12 @@ fn add_received<W: Out>(
     picture: &Picture<'_>,
     event: &EventNo,
     from: InstanceNo,
-    cell: Cell,
+    cell: &Cell,
 ) -> Result<(), WriteError>
-    ensures { Adds W.sink text.old text.new result (received picture.now event.now from cell) }
+    ensures { Adds W.sink text.old text.new result (received picture.now event.now from cell.now) }
 {
     if has_end(picture, event) {
-        add_number_at(text, picture, event, cell)
+        add_point(text, picture, event, cell)
     } else {
         add_coming(text, picture, event, from, cell)
     }
@@ -340,8 +225,8 @@ fn add_alone<W: Out>(
         return text.add(b"");
     };
     match found {
-        Event::Send { to, .. } => add_sent(text, picture, event, to, cell),
-        Event::Receive { from, .. } => add_received(text, picture, event, from, cell),
+        Event::Send { to, .. } => add_sent(text, picture, event, to, &cell),
+        Event::Receive { from, .. } => add_received(text, picture, event, from, &cell),
     }
 }
 

@@ -1,86 +1,133 @@
 //! Where things are on a picture, in pixels from its upper left corner.
-ghost use Rattle.std.specs.Prelude.{◌≡◌};
-ghost use Rattle.pictures.specs.Spots.{middle, height, on_line, label_spot, number_spot, beside, aside};
+ghost use Rattle.std.specs.Prelude.{◌≡◌, ◌+◌, ◌*◌};
+ghost use Rattle.pictures.specs.Spots.{height, on_line, are_near, amid, between, beside, label_x, number_spot, aside};
+ghost use Rattle.pictures.specs.Spots.{cut_spot};
 
-/// A point of a picture.
-#[derive(Clone, Copy)]
-pub(crate) struct Spot {
-    pub(crate) x: u64,
-    pub(crate) y: u64,
-}
+use chart::InstanceNo;
+use picture_columns::Column;
+use picture_elements::Spot;
 
 /// Where an event stands.
 #[derive(Clone, Copy)]
 pub(crate) struct Cell {
-    /// Where its column begins.
-    pub(crate) left: u32,
+    pub(crate) column: Column,
     /// How many rows are drawn above it.
     pub(crate) place: u32,
 }
 
-/// Where the lifeline of a column is that begins here. The span is half of what the widest label may have.
-pub(crate) fn middle(span: u32, left: u32) -> u64
-    ensures { result ≡ middle span left }
+/// The number of an instance.
+pub(crate) fn number_of(instance: InstanceNo) -> u64
+    ensures { result ≡ instance }
 {
-    u64::from(left) + u64::from(span) + 40
+    instance.number() as u64
 }
 
 /// Where the arrows of a row are that has so many rows above it.
 pub(crate) fn height(place: u32) -> u64
     ensures { result ≡ height place }
 {
-    u64::from(place) * 28 + 92
+    u64::from(place) * 24 + 84
 }
 
 /// Where the cell's event meets its lifeline.
-pub(crate) fn on_line(span: u32, cell: Cell) -> Spot
-    ensures { result ≡ on_line span cell }
+pub(crate) fn on_line(cell: &Cell) -> Spot
+    ensures { result ≡ on_line cell.now }
 {
     Spot {
-        x: middle(span, cell.left),
+        x: u64::from(cell.column.x),
         y: height(cell.place),
     }
 }
 
-/// Where the middle of a label is that stands beside the cell's lifeline: on the right, or else on the left.
-pub(crate) fn beside(span: u32, cell: Cell, right: bool) -> Spot
-    ensures { result ≡ beside span cell right }
+/// Whether the columns are neighbours.
+pub(crate) fn are_near(first: &Column, second: &Column) -> bool
+    ensures { result ≡ are_near first.now second.now }
 {
-    let left = u64::from(cell.left);
-    let x = if right {
-        left + 2 * u64::from(span) + 80
+    first.number.saturating_sub(second.number) == 1
+        || second.number.saturating_sub(first.number) == 1
+}
+
+/// The middle between the rooms of two lines.
+fn amid(left: &Column, right: &Column) -> u64
+    ensures { result ≡ amid left.now right.now }
+{
+    let end = u64::from(right.x.saturating_sub(right.room.left));
+    (u64::from(left.x) + u64::from(left.room.right) + end) / 2
+}
+
+fn between(first: &Column, second: &Column) -> u64
+    ensures { result ≡ between first.now second.now }
+{
+    if first.x < second.x {
+        amid(first, second)
     } else {
-        left
-    };
-    Spot {
-        x,
-        y: u64::from(cell.place) * 28 + 87,
+        amid(second, first)
     }
 }
 
-/// Where the label of a message is that goes from the cell to a column that begins there.
-pub(crate) fn label_spot(span: u32, cell: Cell, other: u32) -> Spot
-    ensures { result ≡ label_spot span cell other }
+/// The middle of a label of this width that stands beside the room of a line, on the side of another.
+fn beside(line: &Column, other: &Column, width: u32) -> u64
+    ensures { result ≡ beside line.now other.now width }
 {
-    beside(span, cell, cell.left < other)
+    let half = u64::from(width / 2);
+    let x = u64::from(line.x);
+    if line.x < other.x {
+        x + u64::from(line.room.right) + half
+    } else {
+        x.saturating_sub(u64::from(line.room.left) + half)
+    }
 }
 
-/// Where the number of the cell's event begins.
-pub(crate) fn number_spot(span: u32, cell: Cell) -> Spot
-    ensures { result ≡ number_spot span cell }
+/// The middle of a label of this width.
+pub(crate) fn label_x(level: bool, from: &Column, to: &Column, width: u32) -> u64
+    ensures { result ≡ label_x level from.now to.now width }
 {
+    if level {
+        between(from, to)
+    } else {
+        beside(from, to, width)
+    }
+}
+
+/// Where the number of the cell's event is.
+pub(crate) fn number_spot(cell: &Cell) -> Spot
+    ensures { result ≡ number_spot cell.now }
+{
+    let line = u64::from(cell.column.x);
+    let x = if cell.column.room.turned {
+        line.saturating_sub(7)
+    } else {
+        line + 7
+    };
     Spot {
-        x: middle(span, cell.left) + 7,
+        x,
         y: height(cell.place) + 11,
     }
 }
 
 /// Where the outer end of the arrow of a message is that is cut.
-pub(crate) fn aside(span: u32, cell: Cell) -> Spot
-    ensures { result ≡ aside span cell }
+pub(crate) fn aside(cell: &Cell) -> Spot
+    ensures { result ≡ aside cell.now }
 {
     Spot {
-        x: middle(span, cell.left) + 24,
+        x: u64::from(cell.column.x) + u64::from(cell.column.room.right) + 17,
         y: height(cell.place),
+    }
+}
+
+/// Where the lower line of a label is in a row that has so many rows above it.
+fn label_height(place: u32) -> u64
+    ensures { result ≡ place * 24 + 80 }
+{
+    u64::from(place) * 24 + 80
+}
+
+/// Where the label of a message begins that is cut.
+pub(crate) fn cut_spot(cell: &Cell) -> Spot
+    ensures { result ≡ cut_spot cell.now }
+{
+    Spot {
+        x: u64::from(cell.column.x) + u64::from(cell.column.room.right) + 21,
+        y: label_height(cell.place),
     }
 }

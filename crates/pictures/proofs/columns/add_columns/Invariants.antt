@@ -5,5 +5,5 @@ use Rattle.pictures.specs.ColumnText.{column_text}
 use Rattle.pictures.proofs.columns.add_columns.Given as goal
 
 -- what came so far was added
-abbrev pub invariant-loop-instance : goal.invariant-loop-instance
-invariant-loop-instance g l = Buffers g.W.Out.sink l.initial.text l.text (flat_map (column_text l.picture) (take l.instance-index l.drawn))
+abbrev pub invariant-loop-column : goal.invariant-loop-column
+invariant-loop-column g l = Buffers g.W.Out.sink l.initial.text l.text (flat_map (column_text l.picture) (take l.column-index l.columns))

@@ -1,17 +1,18 @@
 //! The elements of a picture.
 ghost use Rattle.std.specs.Prelude.{◌≡◌};
-ghost use Rattle.std.specs.List.{flat_map};
 ghost use Rattle.msc_text.specs.Writing.{Adds};
-ghost use Rattle.pictures.specs.Elements.{arrow, ring, label_start, label_end, number_text, solid, dashed, segment};
-ghost use Rattle.pictures.specs.Elements.{dot_start, dot_end, bracket_start, bracket_end, box_start, foot};
+ghost use Rattle.picture_elements.specs.Elements.{arrow, ring, ground};
+ghost use Rattle.picture_elements.specs.Elements.{label_start, label_end, number_text, point_start, group_end, solid, dashed};
+ghost use Rattle.picture_elements.specs.Elements.{segment, dot_start, dot_end, bracket_name, bracket_outline, bracket_end, head_box};
+ghost use Rattle.picture_elements.specs.Elements.{foot};
 
-use crate::spots::Spot;
+use crate::spot::Spot;
 use msc_text::{Out, TextBuffer, WriteError};
 use text_parts::{Piece, add_pieces};
 
 /// Adds an arrow between two spots.
 #[tactic(auto, unfolding(crate::specs::Elements::arrow))]
-pub(crate) fn add_arrow<W: Out>(
+pub fn add_arrow<W: Out>(
     text: &mut TextBuffer<'_, W>,
     from: Spot,
     to: Spot,
@@ -36,13 +37,13 @@ pub(crate) fn add_arrow<W: Out>(
 
 /// Adds a small open circle.
 #[tactic(auto, unfolding(crate::specs::Elements::ring))]
-pub(crate) fn add_ring<W: Out>(text: &mut TextBuffer<'_, W>, at: Spot) -> Result<(), WriteError>
+pub fn add_ring<W: Out>(text: &mut TextBuffer<'_, W>, at: Spot) -> Result<(), WriteError>
     ensures { Adds W.sink text.old text.new result (ring at) }
 {
     add_pieces(
         text,
         &[
-            Piece::Bytes(b"<circle cx='"),
+            Piece::Bytes(b"<circle class='w' cx='"),
             Piece::Number(at.x),
             Piece::Bytes(b"' cy='"),
             Piece::Number(at.y),
@@ -51,18 +52,41 @@ pub(crate) fn add_ring<W: Out>(text: &mut TextBuffer<'_, W>, at: Spot) -> Result
     )
 }
 
-/// Adds the beginning of a label whose middle is at the spot.
-#[tactic(auto, unfolding(crate::specs::Elements::label_start))]
-pub(crate) fn add_label_start<W: Out>(
+/// Adds a ground of the picture's colour.
+#[tactic(auto, unfolding(crate::specs::Elements::ground))]
+pub fn add_ground<W: Out>(
     text: &mut TextBuffer<'_, W>,
     at: Spot,
+    width: u64,
+    tall: u64,
 ) -> Result<(), WriteError>
+    ensures { Adds W.sink text.old text.new result (ground at width tall) }
+{
+    add_pieces(
+        text,
+        &[
+            Piece::Bytes(b"<rect class='g' x='"),
+            Piece::Number(at.x),
+            Piece::Bytes(b"' y='"),
+            Piece::Number(at.y),
+            Piece::Bytes(b"' width='"),
+            Piece::Number(width),
+            Piece::Bytes(b"' height='"),
+            Piece::Number(tall),
+            Piece::Bytes(b"'/>\n"),
+        ],
+    )
+}
+
+/// Adds the beginning of a label that begins at the spot.
+#[tactic(auto, unfolding(crate::specs::Elements::label_start))]
+pub fn add_label_start<W: Out>(text: &mut TextBuffer<'_, W>, at: Spot) -> Result<(), WriteError>
     ensures { Adds W.sink text.old text.new result (label_start at) }
 {
     add_pieces(
         text,
         &[
-            Piece::Bytes(b"<text x='"),
+            Piece::Bytes(b"<text class='s' x='"),
             Piece::Number(at.x),
             Piece::Bytes(b"' y='"),
             Piece::Number(at.y),
@@ -73,25 +97,28 @@ pub(crate) fn add_label_start<W: Out>(
 
 /// Adds the end of a label.
 #[tactic(auto, unfolding(crate::specs::Elements::label_end))]
-pub(crate) fn add_label_end<W: Out>(text: &mut TextBuffer<'_, W>) -> Result<(), WriteError>
+pub fn add_label_end<W: Out>(text: &mut TextBuffer<'_, W>) -> Result<(), WriteError>
     ensures { Adds W.sink text.old text.new result label_end }
 {
     text.add(b"</text>\n")
 }
 
-/// Adds an event's number.
+/// Adds a number of these classes.
 #[tactic(auto, unfolding(crate::specs::Elements::number_text))]
-pub(crate) fn add_number<W: Out>(
+pub fn add_number<W: Out>(
     text: &mut TextBuffer<'_, W>,
+    classes: &[u8],
     at: Spot,
     number: u64,
 ) -> Result<(), WriteError>
-    ensures { Adds W.sink text.old text.new result (number_text at number) }
+    ensures { Adds W.sink text.old text.new result (number_text classes.now at number) }
 {
     add_pieces(
         text,
         &[
-            Piece::Bytes(b"<text class='n' x='"),
+            Piece::Bytes(b"<text class='"),
+            Piece::Bytes(classes),
+            Piece::Bytes(b"' x='"),
             Piece::Number(at.x),
             Piece::Bytes(b"' y='"),
             Piece::Number(at.y),
@@ -100,6 +127,40 @@ pub(crate) fn add_number<W: Out>(
             Piece::Bytes(b"</text>\n"),
         ],
     )
+}
+
+/// Adds the beginning of an event's group, with a point where it is.
+#[tactic(auto, unfolding(crate::specs::Elements::point_start))]
+pub fn add_point_start<W: Out>(
+    text: &mut TextBuffer<'_, W>,
+    instance: u64,
+    index: u64,
+    at: Spot,
+) -> Result<(), WriteError>
+    ensures { Adds W.sink text.old text.new result (point_start instance index at) }
+{
+    add_pieces(
+        text,
+        &[
+            Piece::Bytes(b"<g id='e"),
+            Piece::Number(instance),
+            Piece::Bytes(b"-"),
+            Piece::Number(index),
+            Piece::Bytes(b"'><circle class='p' cx='"),
+            Piece::Number(at.x),
+            Piece::Bytes(b"' cy='"),
+            Piece::Number(at.y),
+            Piece::Bytes(b"' r='4'/>"),
+        ],
+    )
+}
+
+/// Adds the end of a group.
+#[tactic(auto, unfolding(crate::specs::Elements::group_end))]
+pub fn add_group_end<W: Out>(text: &mut TextBuffer<'_, W>) -> Result<(), WriteError>
+    ensures { Adds W.sink text.old text.new result group_end }
+{
+    text.add(b"</g>\n")
 }
 
 /// Adds the solid part of a lifeline between two heights.
@@ -152,7 +213,7 @@ fn add_dashed<W: Out>(
 
 /// Adds the part of a lifeline between two heights, which is in this coregion, or in none.
 #[tactic(auto, unfolding(crate::specs::Elements::segment))]
-pub(crate) fn add_segment<W: Out>(
+pub fn add_segment<W: Out>(
     text: &mut TextBuffer<'_, W>,
     region: u32,
     x: u64,
@@ -168,18 +229,24 @@ pub(crate) fn add_segment<W: Out>(
     }
 }
 
-/// Adds the beginning of a receive's dot, up to its title.
+/// Adds the beginning of a racing receive's group, with its dot, up to the dot's title.
 #[tactic(auto, unfolding(crate::specs::Elements::dot_start))]
-pub(crate) fn add_dot_start<W: Out>(
+pub fn add_dot_start<W: Out>(
     text: &mut TextBuffer<'_, W>,
+    instance: u64,
+    index: u64,
     at: Spot,
 ) -> Result<(), WriteError>
-    ensures { Adds W.sink text.old text.new result (dot_start at) }
+    ensures { Adds W.sink text.old text.new result (dot_start instance index at) }
 {
     add_pieces(
         text,
         &[
-            Piece::Bytes(b"<circle class='r' cx='"),
+            Piece::Bytes(b"<g id='r"),
+            Piece::Number(instance),
+            Piece::Bytes(b"-"),
+            Piece::Number(index),
+            Piece::Bytes(b"'><circle class='r' cx='"),
             Piece::Number(at.x),
             Piece::Bytes(b"' cy='"),
             Piece::Number(at.y),
@@ -190,35 +257,60 @@ pub(crate) fn add_dot_start<W: Out>(
 
 /// Adds the end of a receive's dot.
 #[tactic(auto, unfolding(crate::specs::Elements::dot_end))]
-pub(crate) fn add_dot_end<W: Out>(text: &mut TextBuffer<'_, W>) -> Result<(), WriteError>
+pub fn add_dot_end<W: Out>(text: &mut TextBuffer<'_, W>) -> Result<(), WriteError>
     ensures { Adds W.sink text.old text.new result dot_end }
 {
     text.add(b"</title></circle>\n")
 }
 
-/// Adds the beginning of a bracket, up to the number of its receive.
-#[tactic(auto, unfolding(crate::specs::Elements::bracket_start))]
-pub(crate) fn add_bracket_start<W: Out>(
+/// Adds the beginning of the bracket of a receive for a range that begins with this event.
+#[tactic(auto, unfolding(crate::specs::Elements::bracket_name))]
+pub fn add_bracket_name<W: Out>(
     text: &mut TextBuffer<'_, W>,
-    from: Spot,
-    to: Spot,
-    receive: u64,
+    instance: u64,
+    index: u64,
+    first: u64,
 ) -> Result<(), WriteError>
-    ensures { Adds W.sink text.old text.new result (bracket_start from to receive) }
+    ensures { Adds W.sink text.old text.new result (bracket_name instance index first) }
 {
     add_pieces(
         text,
         &[
-            Piece::Bytes(b"<path class='b' d='M"),
-            Piece::Number(to.x),
+            Piece::Bytes(b"<path id='b"),
+            Piece::Number(instance),
+            Piece::Bytes(b"-"),
+            Piece::Number(index),
+            Piece::Bytes(b"-"),
+            Piece::Number(first),
+            Piece::Bytes(b"' class='b' d='"),
+        ],
+    )
+}
+
+/// Adds the outline of a bracket, and the number of its receive.
+#[tactic(auto, unfolding(crate::specs::Elements::bracket_outline))]
+pub fn add_bracket_outline<W: Out>(
+    text: &mut TextBuffer<'_, W>,
+    upper: Spot,
+    lower: u64,
+    inner: u64,
+    receive: u64,
+) -> Result<(), WriteError>
+    ensures { Adds W.sink text.old text.new result (bracket_outline upper lower inner receive) }
+{
+    add_pieces(
+        text,
+        &[
+            Piece::Bytes(b"M"),
+            Piece::Number(inner),
             Piece::Bytes(b" "),
-            Piece::Number(from.y),
+            Piece::Number(upper.y),
             Piece::Bytes(b"H"),
-            Piece::Number(from.x),
+            Piece::Number(upper.x),
             Piece::Bytes(b"V"),
-            Piece::Number(to.y),
+            Piece::Number(lower),
             Piece::Bytes(b"H"),
-            Piece::Number(to.x),
+            Piece::Number(inner),
             Piece::Bytes(b"'><title>"),
             Piece::Number(receive),
             Piece::Bytes(b" may come before "),
@@ -228,39 +320,36 @@ pub(crate) fn add_bracket_start<W: Out>(
 
 /// Adds the end of a bracket.
 #[tactic(auto, unfolding(crate::specs::Elements::bracket_end))]
-pub(crate) fn add_bracket_end<W: Out>(text: &mut TextBuffer<'_, W>) -> Result<(), WriteError>
+pub fn add_bracket_end<W: Out>(text: &mut TextBuffer<'_, W>) -> Result<(), WriteError>
     ensures { Adds W.sink text.old text.new result bracket_end }
 {
     text.add(b"</title></path>\n")
 }
 
-/// Adds the box of an instance's name, up to the name, whose middle is at x.
-#[tactic(auto, unfolding(crate::specs::Elements::box_start))]
-pub(crate) fn add_box_start<W: Out>(
+/// Adds the box of an instance's name.
+#[tactic(auto, unfolding(crate::specs::Elements::head_box))]
+pub fn add_head_box<W: Out>(
     text: &mut TextBuffer<'_, W>,
     left: u64,
     width: u64,
-    x: u64,
 ) -> Result<(), WriteError>
-    ensures { Adds W.sink text.old text.new result (box_start left width x) }
+    ensures { Adds W.sink text.old text.new result (head_box left width) }
 {
     add_pieces(
         text,
         &[
             Piece::Bytes(b"<rect x='"),
             Piece::Number(left),
-            Piece::Bytes(b"' y='36' width='"),
+            Piece::Bytes(b"' y='24' width='"),
             Piece::Number(width),
-            Piece::Bytes(b"' height='24'/><text x='"),
-            Piece::Number(x),
-            Piece::Bytes(b"' y='52'>"),
+            Piece::Bytes(b"' height='28'/>\n"),
         ],
     )
 }
 
 /// Adds the end of a lifeline, which begins here.
 #[tactic(auto, unfolding(crate::specs::Elements::foot))]
-pub(crate) fn add_foot<W: Out>(text: &mut TextBuffer<'_, W>, from: Spot) -> Result<(), WriteError>
+pub fn add_foot<W: Out>(text: &mut TextBuffer<'_, W>, from: Spot) -> Result<(), WriteError>
     ensures { Adds W.sink text.old text.new result (foot from) }
 {
     add_pieces(

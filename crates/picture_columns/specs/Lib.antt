@@ -1,0 +1,4 @@
+pub mod Choices
+pub mod Placing
+pub mod Rooms
+pub mod Widths
