@@ -1,0 +1,40 @@
+-- A page as text (this project's profile; the elements are those of HTML).
+use Rattle.std.specs.Prelude.{ℕ, List, ◌++◌, length, decimal}
+use Rattle.std.specs.List.{flat_map}
+use Rattle.text_parts.specs.Pieces.{escaped}
+use Rattle.page_text.specs.declared.fixed.TheConstants.{POLICY, STYLE, CONTROLS, SCRIPT}
+use Rattle.page_text.specs.declared.page.Page.{Page}
+use Rattle.page_text.specs.declared.word.Word.TheVariants as words
+use Rattle.page_text.specs.RaceText.{race_text}
+use Rattle.page_text.specs.Words.{word_text}
+
+-- what the page may do
+unfoldable pub policy : List ℕ
+policy = POLICY.now
+
+unfoldable pub style : List ℕ
+style = STYLE.now
+
+unfoldable pub controls : List ℕ
+controls = CONTROLS.now
+
+unfoldable pub script : List ℕ
+script = SCRIPT.now
+
+-- what stands before the body
+unfoldable pub head_text : List ℕ → List ℕ
+head_text title = word_text words.PageStart ++ (policy ++ (escaped title ++ (word_text words.StyleStart ++ style)))
+
+-- how many races there are, and how many are told in full
+unfoldable pub counts_text : ℕ → ℕ → List ℕ
+counts_text races told = word_text words.CountStart ++ (decimal races ++ (word_text words.ToldStart ++ (decimal told ++ controls)))
+
+-- the title, and the picture
+unfoldable pub top_text : Page → List ℕ
+top_text page = word_text words.HeadStart ++ (escaped page.title.now ++ (counts_text (length page.races.now) page.told
+    ++ (word_text words.PictureStart ++ (page.picture.now ++ word_text words.RacesStart))))
+
+-- all of it
+unfoldable pub page_text : Page → List ℕ
+page_text page = head_text page.title.now ++ (top_text page ++ (flat_map race_text page.races.now
+    ++ (word_text words.ScriptStart ++ (script ++ word_text words.PageEnd))))

@@ -1,0 +1,122 @@
+//! A page, as HTML text.
+ghost use Rattle.std.specs.Prelude.{◌≡◌};
+ghost use Rattle.std.specs.List.{flat_map};
+ghost use Rattle.msc_text.specs.Writing.{Adds, Wrote};
+ghost use Rattle.page_text.specs.PageText.{policy, style, controls, script, head_text, counts_text, top_text, page_text};
+ghost use Rattle.page_text.specs.RaceText.{race_text};
+
+use crate::excerpt::add_any;
+use crate::fixed::{CONTROLS, POLICY, SCRIPT, STYLE};
+use crate::race::{Race, add_race};
+use crate::word::{Word, add_word};
+use msc_text::{Out, TextBuffer, WriteError};
+
+/// What a page is of.
+#[derive(Clone, Copy)]
+pub struct Page<'a> {
+    /// Any bytes.
+    pub title: &'a [u8],
+    /// An SVG text, which the page has as it is.
+    pub picture: &'a [u8],
+    pub races: &'a [Race],
+    /// How many of the races are told in full.
+    pub told: u64,
+}
+
+/// Adds what the page may do: show itself, and run its own script.
+#[tactic(auto, unfolding(crate::specs::PageText::policy))]
+fn add_policy<W: Out>(text: &mut TextBuffer<'_, W>) -> Result<(), WriteError>
+    ensures { Adds W.sink text.old text.new result policy }
+{
+    text.add(POLICY)
+}
+
+#[tactic(auto, unfolding(crate::specs::PageText::style))]
+fn add_style<W: Out>(text: &mut TextBuffer<'_, W>) -> Result<(), WriteError>
+    ensures { Adds W.sink text.old text.new result style }
+{
+    text.add(STYLE)
+}
+
+#[tactic(auto, unfolding(crate::specs::PageText::controls))]
+fn add_controls<W: Out>(text: &mut TextBuffer<'_, W>) -> Result<(), WriteError>
+    ensures { Adds W.sink text.old text.new result controls }
+{
+    text.add(CONTROLS)
+}
+
+#[tactic(auto, unfolding(crate::specs::PageText::script))]
+fn add_script<W: Out>(text: &mut TextBuffer<'_, W>) -> Result<(), WriteError>
+    ensures { Adds W.sink text.old text.new result script }
+{
+    text.add(SCRIPT)
+}
+
+/// Adds what stands before the body.
+#[tactic(auto, using(msc_text::proofs::Writes::joining), unfolding(crate::specs::PageText::head_text))]
+fn add_head<W: Out>(text: &mut TextBuffer<'_, W>, title: &[u8]) -> Result<(), WriteError>
+    ensures { Adds W.sink text.old text.new result (head_text title.now) }
+{
+    add_word(text, Word::PageStart)?;
+    add_policy(text)?;
+    add_any(text, title)?;
+    add_word(text, Word::StyleStart)?;
+    add_style(text)
+}
+
+/// Adds how many races the page has, and how many of them are told in full.
+#[tactic(auto, using(msc_text::proofs::Writes::joining), unfolding(crate::specs::PageText::counts_text))]
+fn add_counts<W: Out>(text: &mut TextBuffer<'_, W>, races: u64, told: u64) -> Result<(), WriteError>
+    ensures { Adds W.sink text.old text.new result (counts_text races told) }
+{
+    add_word(text, Word::CountStart)?;
+    text.add_number(races)?;
+    add_word(text, Word::ToldStart)?;
+    text.add_number(told)?;
+    add_controls(text)
+}
+
+/// Adds the head of the page.
+#[tactic(auto, using(msc_text::proofs::Writes::joining), unfolding(crate::specs::PageText::top_text))]
+fn add_top<W: Out>(text: &mut TextBuffer<'_, W>, page: &Page<'_>) -> Result<(), WriteError>
+    ensures { Adds W.sink text.old text.new result (top_text page.now) }
+{
+    add_word(text, Word::HeadStart)?;
+    add_any(text, page.title)?;
+    add_counts(text, page.races.len() as u64, page.told)?;
+    add_word(text, Word::PictureStart)?;
+    text.add(page.picture)?;
+    add_word(text, Word::RacesStart)
+}
+
+fn add_races<W: Out>(text: &mut TextBuffer<'_, W>, races: &[Race]) -> Result<(), WriteError>
+    ensures { Adds W.sink text.old text.new result (flat_map race_text races.now) }
+{
+    for race in races {
+        add_race(text, race)?;
+    }
+    Ok(())
+}
+
+#[tactic(auto, using(msc_text::proofs::Writes::joining), unfolding(crate::specs::PageText::page_text))]
+fn add_page<W: Out>(text: &mut TextBuffer<'_, W>, page: &Page<'_>) -> Result<(), WriteError>
+    ensures { Adds W.sink text.old text.new result (page_text page.now) }
+{
+    add_head(text, page.title)?;
+    add_top(text, page)?;
+    add_races(text, page.races)?;
+    add_word(text, Word::ScriptStart)?;
+    add_script(text)?;
+    add_word(text, Word::PageEnd)
+}
+
+/// Writes a page. It takes no memory. Where a put fails (F24), a beginning of the text was written, and no other put is
+/// tried.
+#[tactic(auto, using(msc_text::proofs::Writes::joining))]
+pub fn write_page<W: Out>(page: &Page<'_>, out: &mut W) -> Result<(), WriteError>
+    ensures { Wrote W.sink out.old out.new result (page_text page.now) }
+{
+    let mut text = TextBuffer::new(out);
+    add_page(&mut text, page)?;
+    text.finish()
+}

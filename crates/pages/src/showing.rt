@@ -1,0 +1,128 @@
+//! The page of a file.
+ghost use Rattle.std.specs.Prelude.{◌≡◌, length, IfOk};
+ghost use Rattle.chart.specs.Charts.{chart_lines, IsPossible};
+ghost use Rattle.files.specs.Answers.{Answers};
+ghost use Rattle.pages.specs.Showing.{IsAskedOf, IsDrawn, Shows, ShowsText, page_said};
+
+use crate::races::races_of;
+use chart::{Chart, Names};
+use closure::Closure;
+use files::{ProgramError, Source, Text, answered, closure_of};
+use formats::{Events, Wanted, draw};
+use msc_text::Out;
+use page_answers::Collected;
+use page_marks::{pairs_of, told_of};
+use page_text::{Page, write_page};
+use std::alloc::{AllocError, Global};
+
+/// The whole picture with this title.
+fn wanted_of(title: &[u8]) -> Wanted<'_>
+    ensures { IsAskedOf title.now result }
+{
+    Wanted {
+        title,
+        only: None,
+        events: Events::ALL,
+        rows: Events::ALL,
+        numbers: false,
+    }
+}
+
+/// The picture of a file with this title: what `draw` writes.
+fn picture_of(alloc: Global, bytes: &[u8], title: &[u8]) -> Result<Vec<u8>, AllocError>
+    ensures { IfOk result (λ picture. IsDrawn bytes.now title.now picture.items) }
+{
+    let wanted = wanted_of(title);
+    let mut out = Collected::new(alloc);
+    let mut err = Collected::new(alloc);
+    let status = draw(alloc, bytes, &wanted, &mut out, &mut err);
+    if status == 0 {
+        Ok(out.into_bytes())
+    } else {
+        Err(AllocError)
+    }
+}
+
+/// Writes the page of a possible chart. All memory is taken before the first byte is written.
+fn show_closure<W: Out>(
+    alloc: Global,
+    bytes: &[u8],
+    title: &[u8],
+    names: &Names,
+    closure: &Closure<'_>,
+    out: &mut W,
+) -> Result<(), ProgramError>
+    requires { IsPossible (length closure.now) (chart_lines closure.now) }
+    ensures { Shows W.sink out.old out.new result bytes.now title.now (names.now, closure.now) }
+{
+    let Ok(reports) = closure.races() else {
+        return Err(ProgramError::Memory);
+    };
+    let Ok(pairs) = pairs_of(alloc, reports.as_slice()) else {
+        return Err(ProgramError::Memory);
+    };
+    let told = told_of(bytes.len(), pairs.len());
+    let Ok(races) = races_of(alloc, bytes, names, closure, pairs.as_slice(), told) else {
+        return Err(ProgramError::Memory);
+    };
+    let Ok(picture) = picture_of(alloc, bytes, title) else {
+        return Err(ProgramError::Memory);
+    };
+    let page = Page {
+        title,
+        picture: picture.as_slice(),
+        races: races.as_slice(),
+        told,
+    };
+    match write_page(&page, out) {
+        Ok(()) => Ok(()),
+        Err(_) => Err(ProgramError::Write),
+    }
+}
+
+/// Writes the page of a chart. F16, F17 or F18 refuses one that isn't possible.
+fn show_chart<W: Out>(
+    alloc: Global,
+    bytes: &[u8],
+    title: &[u8],
+    names: &Names,
+    chart: &Chart,
+    out: &mut W,
+) -> Result<(), ProgramError>
+    requires { length names.now ≡ length chart.now }
+    ensures { Shows W.sink out.old out.new result bytes.now title.now (names.now, chart.now) }
+{
+    let closure = closure_of(alloc, names, chart)?;
+    show_closure(alloc, bytes, title, names, &closure, out)
+}
+
+/// Writes the page of what the file says.
+fn show_text<W: Out>(
+    alloc: Global,
+    bytes: &[u8],
+    title: &[u8],
+    out: &mut W,
+) -> Result<(), ProgramError>
+    ensures { ShowsText W.sink out.old out.new title.now bytes.now result }
+{
+    let text = Text::read(alloc, bytes)?;
+    let source = Source::of(alloc, &text)?;
+    show_chart(alloc, bytes, title, source.names(), source.chart(), out)
+}
+
+/// Writes the page of the chart that the bytes of a file say, or of what the schedule comes to that they say: its
+/// picture, its races, and what `why`, `witness` and `mend` say of those that are told in full. Writes the line of a
+/// refusal to `err`. Answers the exit status: 0 where it was written, 2 after a refusal. The text's faults are refused
+/// first, then F16, F17 or F18. Nothing is written to `out` before a refusal, but where writing to it failed (F24). A
+/// failed write to `err` changes nothing.
+pub fn write_page_of<W: Out, V: Out>(
+    alloc: Global,
+    bytes: &[u8],
+    title: &[u8],
+    out: &mut W,
+    err: &mut V,
+) -> u8
+    ensures { Answers (ShowsText W.sink out.old out.new title.now bytes.now) page_said V.sink err.old err.new result }
+{
+    answered(&show_text(alloc, bytes, title, out), err)
+}
