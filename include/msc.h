@@ -153,9 +153,13 @@ int32_t msc_send_all_(msc_post *post, uint32_t to, const uint8_t *bytes, size_t 
                       size_t count, uint32_t *event);
 int32_t msc_receive_(msc_post *post, uint32_t from, msc_arrival *arrival);
 int32_t msc_any_(msc_post *post, msc_arrival *arrival);
+int32_t msc_receive_up_to_(msc_post *post, uint32_t from, msc_arrival *arrivals, size_t most, size_t *count);
 int32_t msc_name_(msc_post *post, uint8_t *buffer, size_t room, size_t *length);
 int32_t msc_body_(msc_post *post, uint8_t *buffer, size_t room, size_t *length);
 int32_t msc_races_(msc_post *post, uint32_t *buffer, size_t room, size_t *count);
+int32_t msc_name_of_(msc_post *post, size_t which, uint8_t *buffer, size_t room, size_t *length);
+int32_t msc_body_of_(msc_post *post, size_t which, uint8_t *buffer, size_t room, size_t *length);
+int32_t msc_races_of_(msc_post *post, size_t which, uint32_t *buffer, size_t room, size_t *count);
 int32_t msc_close_(msc_post *post, uint32_t to);
 int32_t msc_open_coregion_(msc_post *post);
 int32_t msc_close_coregion_(msc_post *post);
@@ -230,9 +234,25 @@ static inline int msc_any(msc_post *post, msc_arrival *arrival) {
     return msc_any_(post, arrival);
 }
 
+/* Receives the first messages that wait on the lane from the instance FROM, at most MOST of them, and tells of them in
+ * ARRIVALS, which has room for MOST: their order is that in which they were sent. *COUNT is how many came, 0 too where
+ * none did or the call is refused. The answer is why no more came: MSC_DONE where MOST came; MSC_NOTHING where fewer
+ * waited, or none; MSC_ENDED where none waited and the lane is closed; or what refused the next message, which is still
+ * the first of its lane (MSC_LINE_FULL, MSC_NO_MEMORY), also behind some that came. MSC_MISUSE where MOST is 0.
+ *
+ * All messages that came stay in the post until the next call that gets one or more: msc_name_of, msc_body_of and
+ * msc_races_of ask for each. Their slots are free at once. One allocation for the list of them, and it grows as theirs
+ * do. It never waits. */
+static inline int msc_receive_up_to(msc_post *post, uint32_t from, msc_arrival *arrivals, size_t most, size_t *count) {
+    if (count != NULL) *count = 0;
+    if (post == NULL || arrivals == NULL || count == NULL) return MSC_MISUSE;
+    return msc_receive_up_to_(post, from, arrivals, most, count);
+}
+
 /* Copies the name, the body or the races of the last message into BUFFER, as much as its ROOM allows (in bytes, for
  * races in numbers). The whole length goes to *LENGTH, *COUNT. A race is the number of the earlier event among those of
- * this instance, from 1. MSC_MISUSE where no message has come yet. */
+ * this instance, from 1. After msc_receive_up_to the last message is the last one of its array. MSC_MISUSE where no
+ * message has come yet. */
 static inline int msc_name(msc_post *post, char *buffer, size_t room, size_t *length) {
     if (post == NULL || length == NULL || (buffer == NULL && room != 0)) return MSC_MISUSE;
     return msc_name_(post, buffer == NULL ? (uint8_t *)&msc_no_bytes_ : (uint8_t *)buffer, room, length);
@@ -246,6 +266,23 @@ static inline int msc_body(msc_post *post, void *buffer, size_t room, size_t *le
 static inline int msc_races(msc_post *post, uint32_t *buffer, size_t room, size_t *count) {
     if (post == NULL || count == NULL || (buffer == NULL && room != 0)) return MSC_MISUSE;
     return msc_races_(post, buffer == NULL ? (uint32_t *)&msc_no_bytes_ : buffer, room, count);
+}
+
+/* The same of the message that ARRIVALS[WHICH] of the last msc_receive_up_to tells of. After a receive of one message,
+ * WHICH is 0. MSC_MISUSE where fewer came. */
+static inline int msc_name_of(msc_post *post, size_t which, char *buffer, size_t room, size_t *length) {
+    if (post == NULL || length == NULL || (buffer == NULL && room != 0)) return MSC_MISUSE;
+    return msc_name_of_(post, which, buffer == NULL ? (uint8_t *)&msc_no_bytes_ : (uint8_t *)buffer, room, length);
+}
+
+static inline int msc_body_of(msc_post *post, size_t which, void *buffer, size_t room, size_t *length) {
+    if (post == NULL || length == NULL || (buffer == NULL && room != 0)) return MSC_MISUSE;
+    return msc_body_of_(post, which, buffer == NULL ? (uint8_t *)&msc_no_bytes_ : (uint8_t *)buffer, room, length);
+}
+
+static inline int msc_races_of(msc_post *post, size_t which, uint32_t *buffer, size_t room, size_t *count) {
+    if (post == NULL || count == NULL || (buffer == NULL && room != 0)) return MSC_MISUSE;
+    return msc_races_of_(post, which, buffer == NULL ? (uint32_t *)&msc_no_bytes_ : buffer, room, count);
 }
 
 /* Receives as msc_receive does, and copies name and body at once: one call in place of three. What doesn't fit is cut,
@@ -456,6 +493,69 @@ struct msc_block {
 struct msc_block rattle_alloc(size_t size, size_t align);
 struct msc_block rattle_realloc(void *at, size_t used, size_t size, size_t align);
 void rattle_dealloc(void *at);
+
+/* The bytes of a word or of a text, where they are; the library's own. */
+typedef struct {
+    const uint8_t *at_;
+    size_t length_;
+} msc_bytes_;
+
+/* The export of the library. Call the function below instead. */
+int32_t msc_view_(const msc_bytes_ *words, size_t count, const msc_bytes_ *texts, size_t many, uint8_t *out,
+                  size_t out_room, uint8_t *err, size_t err_room, msc_lengths *lengths);
+
+/* Does what the program mscview does for a command line, whose files are in memory. WORDS are its COUNT words, C strings,
+ * without the program's name: {"races", "--json", "run.msc"}. TEXTS is how many files they read, text[i] are the bytes of
+ * the i-th of them, in the order in which the words name them, and length[i] is how many. A file's word may be any: it is
+ * not opened, and stands where the program writes a file's name. Where standard input is read, since no file is named or
+ * it is `-`, it is one of the texts. They are not copied.
+ *
+ * What the program writes to standard output goes to OUT and what it writes to standard error to ERR, as much of each as
+ * its room allows; their whole lengths go to *OUT_LENGTH and *ERR_LENGTH. Answers the program's exit status: 0, 1 where
+ * there is a race or another finding, 2 where a word or a text is refused, or where memory is; then ERR has a line that
+ * says why (docs/FORMATS.md). MSC_MISUSE also where the words read another number of files than TEXTS; then nothing is
+ * written. It uses no post, and any thread may call. */
+static inline int msc_view(int count, const char *const *words, size_t texts, const char *const *text,
+                           const size_t *length, char *out, size_t out_room, size_t *out_length, char *err,
+                           size_t err_room, size_t *err_length) {
+    static const char refused[] = "refused: F6 Memory\n";
+    msc_lengths lengths = {0, sizeof refused - 1};
+    struct msc_block block;
+    msc_bytes_ *all;
+    size_t many, i;
+    int answer;
+    if (count < 0 || (words == NULL && count != 0) || ((text == NULL || length == NULL) && texts != 0) ||
+        (out == NULL && out_room != 0) || (err == NULL && err_room != 0) || out_length == NULL || err_length == NULL ||
+        texts > SIZE_MAX / sizeof(msc_bytes_) / 2)
+        return MSC_MISUSE;
+    many = (size_t)count;
+    for (i = 0; i < many; i++)
+        if (words[i] == NULL) return MSC_MISUSE;
+    for (i = 0; i < texts; i++)
+        if (text[i] == NULL && length[i] != 0) return MSC_MISUSE;
+    block = rattle_alloc((many + texts + 1) * sizeof(msc_bytes_), sizeof(void *));
+    if (!block.ok) {
+        for (i = 0; i < sizeof refused - 1 && i < err_room; i++) err[i] = refused[i];
+        answer = 2;
+    } else {
+        all = (msc_bytes_ *)block.at;
+        for (i = 0; i < many; i++) {
+            all[i].at_ = (const uint8_t *)words[i];
+            all[i].length_ = strlen(words[i]);
+        }
+        for (i = 0; i < texts; i++) {
+            all[many + i].at_ = text[i] == NULL ? (const uint8_t *)&msc_no_bytes_ : (const uint8_t *)text[i];
+            all[many + i].length_ = length[i];
+        }
+        answer = msc_view_(all, many, all + many, texts, out == NULL ? (uint8_t *)&msc_no_bytes_ : (uint8_t *)out, out_room,
+                           err == NULL ? (uint8_t *)&msc_no_bytes_ : (uint8_t *)err, err_room, &lengths);
+        rattle_dealloc(block.at);
+    }
+    if (answer < 0) return answer;
+    *out_length = lengths.out;
+    *err_length = lengths.err;
+    return answer;
+}
 
 #ifdef __cplusplus
 }

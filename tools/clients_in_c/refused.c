@@ -45,10 +45,29 @@ static int failures, met;
         }                                  \
     } while (0)
 
+/* Takes the next messages by calls of several, as many as are wanted: none is lost or comes twice, whatever is refused. */
+static void take_several(msc_post *post, uint32_t from, size_t wanted) {
+    msc_arrival came[8];
+    size_t all = 0, count, length, i;
+    int answer;
+    char body;
+    while (all < wanted) {
+        answer = msc_receive_up_to(post, from, came, wanted - all, &count);
+        if (answer == MSC_NO_MEMORY) met++;
+        else if (answer != MSC_DONE || count == 0) {
+            printf("several: %d, %zu messages\n", answer, count);
+            failures++;
+            return;
+        }
+        for (i = 0; i < count; i++, all++)
+            if (msc_body_of(post, i, &body, 1, &length) != MSC_DONE || length != 1 || body != (char)('a' + all)) failures++;
+    }
+}
+
 static void round_trip(void) {
     static const char *const names[] = {"client", "server", "logger"};
     static char text[4096];
-    static const msc_message one[] = {{4, 3}};
+    static const msc_message one[] = {{4, 3}}, four[] = {{1, 1}, {1, 1}, {1, 1}, {1, 1}};
     size_t carried[3];
     msc_post posts[3] = {MSC_POST_INIT};
     msc_board board = MSC_BOARD_INIT;
@@ -68,6 +87,8 @@ static void round_trip(void) {
         AGAIN(msc_send(&posts[2], 1, "back", NULL, 0, NULL));
         AGAIN(msc_receive(&posts[0], 3, &came));
     }
+    AGAIN(msc_send_all(&posts[0], 3, "manbmcnd", 8, four, 4, NULL));
+    take_several(&posts[2], 1, 4);
     AGAIN(msc_close(&posts[0], 3));
     AGAIN(msc_reserve(&posts[0], 64));
     AGAIN(msc_meet(posts, 3));

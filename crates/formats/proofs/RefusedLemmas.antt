@@ -11,9 +11,9 @@ use Rattle.formats.specs.Columns.{AreColumns}
 use Rattle.formats.specs.Drawing.{only_of, Draws}
 use Rattle.formats.specs.Exporting.{Exports}
 
-module _ {S : Type 0} (sink : S → Sink) (old : S) (named : Named) where
+module _ {S : Type 0} (sink : S → Sink) (old : S) (turns : List ℕ) (named : Named) where
   module _ (wanted : Wanted) (columns : List ℕ) (are : AreColumns named.0 (only_of wanted) columns) where
-    pub not_drawn : (error : ProgramError) → (error ≡ Memory) ⊎ IsRefused error named → Draws sink old old (Err (Program error)) wanted named
+    pub not_drawn : (error : ProgramError) → (error ≡ Memory) ⊎ IsRefused error named → Draws sink old old (Err (Program error)) wanted turns named
     not_drawn Memory why = refl
     not_drawn Usage (inl is) = cc
     not_drawn Usage (inr refused) = absurd refused
@@ -31,7 +31,7 @@ module _ {S : Type 0} (sink : S → Sink) (old : S) (named : Named) where
     not_drawn Write (inr refused) = absurd refused
 
   module _ (target : Target) where
-    pub not_exported : (error : ProgramError) → (error ≡ Memory) ⊎ IsRefused error named → Exports sink old old (Err (Program error)) target named
+    pub not_exported : (error : ProgramError) → (error ≡ Memory) ⊎ IsRefused error named → Exports sink old old (Err (Program error)) target turns named
     not_exported Memory why = refl
     not_exported Usage (inl is) = cc
     not_exported Usage (inr refused) = absurd refused

@@ -1,5 +1,5 @@
 -- What is drawn of a file.
-use Rattle.std.specs.Prelude.{◌≡◌, ℕ, ◌⊎◌, List, length, Option, option_map, Result, Ok, Err}
+use Rattle.std.specs.Prelude.{◌≡◌, ℕ, ◌-◌, ◌⊎◌, List, length, Option, option_map, Result, Ok, Err}
 use Rattle.chart.specs.declared.instance.EventNo.{EventNo}
 use Rattle.chart.specs.Charts.{chart_lines, IsPossible}
 use Rattle.chart.specs.Reports.{ReportView, AreReports}
@@ -16,40 +16,46 @@ use Rattle.formats.specs.declared.drawing.Wanted.{Wanted}
 use Rattle.formats.specs.declared.error.FormatError.{FormatError}
 use Rattle.formats.specs.declared.error.FormatError.TheVariants.{Program, NoSuchName}
 use Rattle.formats.specs.Columns.{AreColumns}
-use Rattle.formats.specs.Preparing.{IsPrepared}
+use Rattle.formats.specs.Preparing.{turns_in, IsPrepared}
 
 -- the bytes that name the columns, if there are some
 abbrev pub only_of : Wanted → Option (List ℕ)
 only_of wanted = option_map (λ bytes. bytes.now) wanted.only
 
 -- the picture is that of what is wanted of the chart, which is possible
-pub record IsWanted (wanted : Wanted) (named : Named) (picture : PictureView) : Type 0 where
+pub record IsWanted (wanted : Wanted) (turns : List ℕ) (named : Named) (picture : PictureView) : Type 0 where
   pub columns : List ℕ
   pub rows : List Row
   pub ends : List (List (Option EventNo))
   pub reports : List ReportView
   pub named_so : AreColumns named.0 (only_of wanted) columns
   pub possible : IsPossible (length named.1) (chart_lines named.1)
-  pub prepared : IsPrepared named.1 rows ends
+  pub prepared : IsPrepared named.1 turns rows ends
   pub races : AreReports named.1 reports
-  pub drawn : IsPictureOf wanted.file.now named.0 named.1 rows reports ends columns wanted.events.first
-      wanted.events.last wanted.numbers picture
+  pub drawn : IsPictureOf wanted.title.now named.0 named.1 rows reports ends (record {
+    drawn = columns;
+    first = wanted.events.first;
+    last = wanted.events.last;
+    top = wanted.rows.first - 1;
+    bottom = wanted.rows.last - 1;
+    numbers = wanted.numbers;
+  }) picture
 
 module _ {S : Type 0} (sink : S → Sink) where
   -- the picture was written; or a beginning of it, where a put failed; or nothing, where there are no such columns,
   -- where the chart is not possible, or where memory ran out
-  abbrev pub Draws : S → S → Result (Unit {0}) FormatError → Wanted → Named → Type 0
-  Draws old new (Ok done) wanted named = (picture : PictureView) × IsWanted wanted named picture
+  abbrev pub Draws : S → S → Result (Unit {0}) FormatError → Wanted → List ℕ → Named → Type 0
+  Draws old new (Ok done) wanted turns named = (picture : PictureView) × IsWanted wanted turns named picture
       × Puts sink old new (picture_text picture)
-  Draws old new (Err NoSuchName) wanted named =
+  Draws old new (Err NoSuchName) wanted turns named =
       ((columns : List ℕ) → AreColumns named.0 (only_of wanted) columns → ⊥) × (new ≡ old)
-  Draws old new (Err (Program errors.Memory)) wanted named = new ≡ old
-  Draws old new (Err (Program errors.Write)) wanted named = (picture : PictureView) × IsWanted wanted named picture
+  Draws old new (Err (Program errors.Memory)) wanted turns named = new ≡ old
+  Draws old new (Err (Program errors.Write)) wanted turns named = (picture : PictureView) × IsWanted wanted turns named picture
       × Breaks sink old new (picture_text picture)
-  Draws old new (Err (Program error)) wanted named = (columns : List ℕ) × AreColumns named.0 (only_of wanted) columns
+  Draws old new (Err (Program error)) wanted turns named = (columns : List ℕ) × AreColumns named.0 (only_of wanted) columns
       × IsRefused error named × (new ≡ old)
 
   -- the same for the chart that the bytes say; or nothing was written, where the bytes have a fault
   abbrev pub DrawsText : S → S → Wanted → List ℕ → Result (Unit {0}) FormatError → Type 0
   DrawsText old new wanted bytes =
-      OfFile Program (λ source done. Draws old new done wanted (named_of source)) old new bytes
+      OfFile Program (λ source done. Draws old new done wanted (turns_in source) (named_of source)) old new bytes

@@ -27,7 +27,7 @@ use Rattle.formats.specs.declared.exporting.Told.{Told}
 use Rattle.formats.specs.declared.target.Target.{Target}
 use Rattle.formats.specs.declared.target.Target.TheVariants.{Diagram, ShiViz}
 use Rattle.formats.specs.Answers.{error_said}
-use Rattle.formats.specs.Preparing.{IsPrepared}
+use Rattle.formats.specs.Preparing.{turns_in, IsPrepared}
 
 -- the tool that an export is for; a log is the same for each
 abbrev pub tool_of : Target → Tool
@@ -66,12 +66,12 @@ abbrev pub told_text : Told → Option (List ℕ)
 told_text told = if told.parted || told.regions then Some (both_text told) else None
 
 -- the export is that of the chart, which is possible
-pub record IsExported (target : Target) (named : Named) (v : ExportView) : Type 0 where
+pub record IsExported (target : Target) (turns : List ℕ) (named : Named) (v : ExportView) : Type 0 where
   pub rows : List Row
   pub ends : List (List (Option EventNo))
   pub reports : List ReportView
   pub possible : IsPossible (length named.1) (chart_lines named.1)
-  pub prepared : IsPrepared named.1 rows ends
+  pub prepared : IsPrepared named.1 turns rows ends
   pub races : AreReports named.1 reports
   pub is : IsExportOf (tool_of target) named.0 named.1 rows reports ends v
 
@@ -86,19 +86,19 @@ module _ {S : Type 0} (sink : S → Sink) where
 
   -- the text was written; or a beginning of it, where a put failed; or nothing, where the chart is not possible or
   -- memory ran out
-  abbrev pub Exports : S → S → Result Told FormatError → Target → Named → Type 0
-  Exports old new (Ok told) target named = (v : ExportView) × IsExported target named v × (told ≡ told_of target v)
+  abbrev pub Exports : S → S → Result Told FormatError → Target → List ℕ → Named → Type 0
+  Exports old new (Ok told) target turns named = (v : ExportView) × IsExported target turns named v × (told ≡ told_of target v)
       × Puts sink old new (text_of target v)
-  Exports old new (Err NoSuchName) target named = ⊥
-  Exports old new (Err (Program errors.Memory)) target named = new ≡ old
-  Exports old new (Err (Program errors.Write)) target named = (v : ExportView) × IsExported target named v
+  Exports old new (Err NoSuchName) target turns named = ⊥
+  Exports old new (Err (Program errors.Memory)) target turns named = new ≡ old
+  Exports old new (Err (Program errors.Write)) target turns named = (v : ExportView) × IsExported target turns named v
       × Breaks sink old new (text_of target v)
-  Exports old new (Err (Program error)) target named = IsRefused error named × (new ≡ old)
+  Exports old new (Err (Program error)) target turns named = IsRefused error named × (new ≡ old)
 
   -- the same for the chart that the bytes say; or nothing was written, where the bytes have a fault
   abbrev pub ExportsText : S → S → Target → List ℕ → Result Told FormatError → Type 0
   ExportsText old new target bytes =
-      OfFile Program (λ source done. Exports old new done target (named_of source)) old new bytes
+      OfFile Program (λ source done. Exports old new done target (turns_in source) (named_of source)) old new bytes
 
 -- what is said of what was exported
 abbrev pub told_said : Told → Said

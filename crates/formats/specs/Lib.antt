@@ -5,3 +5,4 @@ pub mod Exporting
 pub mod Preparing
 pub mod Spans
 pub mod Targets
+pub mod Titles

@@ -1,19 +1,20 @@
 //! What `mscview draw` does with the bytes of a file.
-ghost use Rattle.std.specs.Prelude.{◌≡◌, ◌≤◌, length};
+ghost use Rattle.std.specs.Prelude.{◌≡◌, ◌≤◌, ◌-◌, length};
 ghost use Rattle.chart.specs.declared.instance.TheConstants.{MAX_INSTANCES};
 ghost use Rattle.chart.specs.Charts.{chart_lines, IsPossible};
 ghost use Rattle.chart.specs.Reports.{AreReports};
 ghost use Rattle.files.specs.Answers.{Answers};
-ghost use Rattle.files.specs.Texts.{named_of};
+ghost use Rattle.files.specs.Texts.{named_of, ComesFrom};
 ghost use Rattle.formats.specs.Answers.{drawn_said};
 ghost use Rattle.formats.specs.Columns.{AreColumns};
 ghost use Rattle.formats.specs.Drawing.{only_of, Draws, DrawsText};
+ghost use Rattle.formats.specs.Preparing.{turns_in};
 
 use crate::columns::columns_in;
 use crate::error::FormatError;
 use crate::events::Events;
 use crate::preparing::{Reports, prepare};
-use chart::{InstanceNo, Names, Report};
+use chart::{InstanceNo, Report};
 use closure::Closure;
 use files::{ProgramError, Source, Text, answered, closure_of};
 use msc_text::Out;
@@ -23,19 +24,29 @@ use std::alloc::Global;
 /// What of a file is to be drawn, and how.
 #[derive(Clone, Copy, Debug)]
 pub struct Wanted<'a> {
-    /// The name of the file, which the picture has as its title: any bytes.
-    pub file: &'a [u8],
+    /// What stands above the picture: any bytes.
+    pub title: &'a [u8],
     /// The names of the instances that have a column, joined by commas. Without it all have one.
     pub only: Option<&'a [u8]>,
+    /// The numbers of each line's events that are chosen.
     pub events: Events,
+    /// The numbers of the rows whose events are chosen, from 1.
+    pub rows: Events,
     /// Whether each event has its number beside it.
     pub numbers: bool,
+}
+
+/// The place of a row among all, from 0, by its number.
+fn place_of(row: u32) -> usize
+    ensures { result ≡ row - 1 }
+{
+    row.saturating_sub(1) as usize
 }
 
 /// Draws these columns of a possible chart. All memory is taken before the first byte is written.
 fn draw_columns<W: Out>(
     alloc: Global,
-    names: &Names,
+    source: &Source<'_>,
     closure: &Closure<'_>,
     reports: &[Report],
     columns: &[InstanceNo],
@@ -43,26 +54,33 @@ fn draw_columns<W: Out>(
     out: &mut W,
 ) -> Result<(), FormatError>
     requires limit { length columns.now ≤ MAX_INSTANCES }
-    requires columns { AreColumns names.now (only_of wanted.now) columns.now }
+    requires source { ComesFrom source.now }
+    requires columns { AreColumns (named_of source.now).0 (only_of wanted.now) columns.now }
     requires reports { AreReports closure.now reports.now }
     requires possible { IsPossible (length closure.now) (chart_lines closure.now) }
-    ensures { Draws W.sink out.old out.new result wanted.now (names.now, closure.now) }
+    ensures { Draws W.sink out.old out.new result wanted.now (turns_in source.now)
+        ((named_of source.now).0, closure.now) }
 {
-    let Ok(prepared) = prepare(alloc, closure) else {
+    let names = source.names();
+    let Ok(prepared) = prepare(alloc, source, closure) else {
         return Err(FormatError::Program(ProgramError::Memory));
     };
     let drawn = pictures::Source {
-        file: wanted.file,
+        title: wanted.title,
         names,
         closure,
         layout: &prepared.layout,
         ends: &prepared.ends,
         reports,
     };
+    let top = place_of(wanted.rows.first);
+    let bottom = place_of(wanted.rows.last);
     let part = Part {
         drawn: columns,
         first: wanted.events.first,
         last: wanted.events.last,
+        top,
+        bottom,
         numbers: wanted.numbers,
     };
     let Ok(picture) = Picture::of(alloc, drawn, part) else {
@@ -82,7 +100,8 @@ fn draw_source<W: Out>(
     wanted: &Wanted<'_>,
     out: &mut W,
 ) -> Result<(), FormatError>
-    ensures { Draws W.sink out.old out.new result wanted.now (named_of source.now) }
+    requires { ComesFrom source.now }
+    ensures { Draws W.sink out.old out.new result wanted.now (turns_in source.now) (named_of source.now) }
 {
     let names = source.names();
     let columns = columns_in(alloc, names, wanted.only)?;
@@ -92,7 +111,7 @@ fn draw_source<W: Out>(
     };
     draw_columns(
         alloc,
-        names,
+        source,
         &closure,
         reports.as_slice(),
         columns.as_slice(),

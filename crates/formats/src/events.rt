@@ -6,7 +6,7 @@ ghost use Rattle.formats.specs.Spans.{AreEvents};
 
 use files::number_in;
 
-/// The numbers of the first and of the last event of each line that is drawn, from 1.
+/// The numbers of the first and of the last of some events, rows or lines, from 1.
 #[derive(Clone, Copy, Debug, PartialEq, Eq)]
 pub struct Events {
     pub first: u32,

@@ -5,8 +5,9 @@ ghost use Rattle.chart.specs.Charts.{chart_lines, IsPossible};
 ghost use Rattle.chart.specs.Reports.{AreReports};
 ghost use Rattle.msc_text.specs.Writing.{Wrote, Adds};
 ghost use Rattle.files.specs.Answers.{Answers};
-ghost use Rattle.files.specs.Texts.{named_of};
+ghost use Rattle.files.specs.Texts.{named_of, ComesFrom};
 ghost use Rattle.formats.specs.Exporting.{tool_of, text_of, has_region, has_parted_in, parted_text, regions_text};
+ghost use Rattle.formats.specs.Preparing.{turns_in};
 ghost use Rattle.formats.specs.Exporting.{both_text, told_said, export_said, Writes, Exports, ExportsText};
 
 use crate::error::FormatError;
@@ -84,16 +85,18 @@ fn write_text<W: Out>(
 fn export_closure<W: Out>(
     alloc: Global,
     names: &Names,
+    source: &Source<'_>,
     closure: &Closure<'_>,
     reports: &[Report],
     target: Target,
     out: &mut W,
 ) -> Result<Told, FormatError>
+    requires source { ComesFrom source.now }
     requires reports { AreReports closure.now reports.now }
     requires possible { IsPossible (length closure.now) (chart_lines closure.now) }
-    ensures { Exports W.sink out.old out.new result target (names.now, closure.now) }
+    ensures { Exports W.sink out.old out.new result target (turns_in source.now) (names.now, closure.now) }
 {
-    let Ok(prepared) = prepare(alloc, closure) else {
+    let Ok(prepared) = prepare(alloc, source, closure) else {
         return Err(FormatError::Program(ProgramError::Memory));
     };
     let drawn = Drawn {
@@ -120,14 +123,23 @@ fn export_source<W: Out>(
     target: Target,
     out: &mut W,
 ) -> Result<Told, FormatError>
-    ensures { Exports W.sink out.old out.new result target (named_of source.now) }
+    requires { ComesFrom source.now }
+    ensures { Exports W.sink out.old out.new result target (turns_in source.now) (named_of source.now) }
 {
     let names = source.names();
     let closure = closure_of(alloc, names, source.chart())?;
     let Ok(reports) = Reports::of(source, &closure) else {
         return Err(FormatError::Program(ProgramError::Memory));
     };
-    export_closure(alloc, names, &closure, reports.as_slice(), target, out)
+    export_closure(
+        alloc,
+        names,
+        source,
+        &closure,
+        reports.as_slice(),
+        target,
+        out,
+    )
 }
 
 /// Exports what the file says.

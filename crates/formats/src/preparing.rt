@@ -1,13 +1,18 @@
 //! What a picture or an export is drawn from, beside the chart itself.
 ghost use Rattle.std.specs.Prelude.{◌≡◌, IfOk};
 ghost use Rattle.chart.specs.Reports.{AreReports};
-ghost use Rattle.files.specs.Texts.{named_of};
-ghost use Rattle.formats.specs.Preparing.{reports_in, IsPrepared};
+ghost use Rattle.files.specs.Texts.{named_of, ComesFrom};
+ghost use Rattle.outcomes.specs.Outcomes.{IsOutcome};
+ghost use Rattle.run_turns.specs.Turns.{turns_of};
+ghost use Rattle.formats.specs.Preparing.{reports_in, turns_in, IsPrepared};
 
-use chart::Report;
+use chart::{InstanceNo, Report};
 use closure::Closure;
 use files::Source;
 use layout::{Ends, Layout, layout};
+use outcomes::Outcome;
+use run_turns::turns_of;
+use schedule::Schedule;
 use std::alloc::{AllocError, Global};
 
 /// The reports of a chart's receives.
@@ -54,11 +59,41 @@ pub(crate) struct Prepared {
     pub(crate) ends: Ends,
 }
 
-/// What a picture of the chart is drawn from, beside its reports. F6: it fails only where there is no memory.
-pub(crate) fn prepare(alloc: Global, closure: &Closure<'_>) -> Result<Prepared, AllocError>
-    ensures { IfOk result (λ p. IsPrepared closure.now p.layout p.ends) }
+/// Whose turn it was in the run of a schedule. F6: it fails only where there is no memory.
+fn turns_of_run(
+    alloc: Global,
+    schedule: &Schedule,
+    outcome: &Outcome<'_>,
+) -> Result<Vec<InstanceNo>, AllocError>
+    requires { IsOutcome schedule.now outcome.now }
+    ensures { IfOk result (λ turns. turns.items ≡ turns_of schedule.now.commands outcome.now.notes) }
 {
-    let layout = layout(alloc, closure)?;
+    turns_of(alloc, schedule.commands(), outcome.notes())
+}
+
+/// Whose turn it was in the run that the source's chart comes from. A chart's own text has no run. F6: it fails only
+/// where there is no memory.
+fn turns_in(alloc: Global, source: &Source<'_>) -> Result<Vec<InstanceNo>, AllocError>
+    requires { ComesFrom source.now }
+    ensures { IfOk result (λ turns. turns.items ≡ turns_in source.now) }
+{
+    match source {
+        Source::Run(schedule, outcome) => turns_of_run(alloc, *schedule, outcome),
+        Source::Drawn(_) => Ok(Vec::new(alloc)),
+    }
+}
+
+/// What a picture of the source's chart is drawn from, beside its reports. F6: it fails only where there is no memory.
+pub(crate) fn prepare(
+    alloc: Global,
+    source: &Source<'_>,
+    closure: &Closure<'_>,
+) -> Result<Prepared, AllocError>
+    requires { ComesFrom source.now }
+    ensures { IfOk result (λ p. IsPrepared closure.now (turns_in source.now) p.layout p.ends) }
+{
+    let turns = turns_in(alloc, source)?;
+    let layout = layout(alloc, closure, turns.as_slice())?;
     let ends = Ends::of(alloc, closure)?;
     Ok(Prepared { layout, ends })
 }

@@ -16,7 +16,8 @@ use Rattle.chart.specs.Messages.{Content}
 use Rattle.handles.specs.Receiving.{HandleTakes, HandleTakesAny}
 use Rattle.handles.specs.Closing.{HandleCloses}
 use Rattle.handles.specs.Copying as races
-use Rattle.handles.specs.Copying.{CopiesOut, arrival_in}
+use Rattle.handles.specs.Copying.{CopiesOut, picked_in}
+use Rattle.handles.specs.declared.came.Which.{Which}
 use Rattle.handles.specs.Opening.{Opens}
 use Rattle.handles.specs.declared.found.Told.{Told}
 use Rattle.handles.specs.Regions.{HandleOpens, HandleShuts}
@@ -29,7 +30,6 @@ use Rattle.handles.specs.Gathering.{Gathers}
 use Rattle.handles.specs.Meeting.{Meets}
 use Rattle.handles.specs.Carrying.{CarriesAll}
 use Rattle.handles.specs.Telling.{HandleTells}
-use Rattle.msc.specs.declared.answers.MscArrival.{MscArrival}
 use Rattle.msc.specs.declared.answers.MscEvent.{MscEvent}
 use Rattle.msc.specs.declared.answers.MscLeft.{MscLeft}
 use Rattle.msc.specs.declared.answers.MscPlace.{MscPlace}
@@ -51,19 +51,9 @@ found_code (Ok Nothing) = pos 1
 found_code (Ok Ended) = pos 2
 found_code (Err refusal) = code_of refusal
 
--- what is told of a message, field by field
-abbrev pub arrival_from : Arrived → MscArrival
-arrival_from arrived = record {
-  from = arrived.from;
-  event = arrived.event;
-  name_length = arrived.name;
-  body_length = arrived.body;
-  races = arrived.races;
-}
-
 -- what is told after a receive: of the message that came, and else what was told before
-abbrev pub told_after : MscArrival → Result Found Refusal → MscArrival
-told_after before (Ok (Message arrived)) = arrival_from arrived
+abbrev pub told_after : Arrived → Result Found Refusal → Arrived
+told_after before (Ok (Message arrived)) = arrived
 told_after before (Ok Nothing) = before
 told_after before (Ok Ended) = before
 told_after before (Err refusal) = before
@@ -87,11 +77,11 @@ abbrev pub SendsAll : Option Kept → ℕ → List Content → ℤ → ℕ → �
 SendsAll old to all code before event new = (answer : Result ℕ Refusal)
     × HandleSendsAll old to all answer new × (code ≡ done_code answer) × (event ≡ number_after before answer)
 
-abbrev pub Takes : Option Kept → ℕ → ℤ → MscArrival → MscArrival → Option Kept → Type 0
+abbrev pub Takes : Option Kept → ℕ → ℤ → Arrived → Arrived → Option Kept → Type 0
 Takes old from code before told new = (answer : Result Found Refusal)
     × HandleTakes old from answer new × (code ≡ found_code answer) × (told ≡ told_after before answer)
 
-abbrev pub TakesAny : Option Kept → ℤ → MscArrival → MscArrival → Option Kept → Type 0
+abbrev pub TakesAny : Option Kept → ℤ → Arrived → Arrived → Option Kept → Type 0
 TakesAny old code before told new = (answer : Result Found Refusal)
     × HandleTakesAny old answer new × (code ≡ found_code answer) × (told ≡ told_after before answer)
 
@@ -102,14 +92,15 @@ Closes old to code new = (answer : Result (Unit {0}) Refusal) × HandleCloses ol
 abbrev pub OpensAll : ℕ → List (Option Kept) → ℤ → List (Option Kept) → Type 0
 OpensAll k old code new = (answer : Result (Unit {0}) Refusal) × Opens k old answer new × (code ≡ done_code answer)
 
--- what is copied out, and how much of it there is
-abbrev pub Copies : (Arrival → List ℕ) → Option Kept → List ℕ → ℤ → ℕ → ℕ → List ℕ → Type 0
-Copies what old room code before count out = (answer : Result ℕ Refusal)
-    × CopiesOut what (arrival_in old) room answer out × (code ≡ done_code answer) × (count ≡ number_after before answer)
+-- what is copied out of this one of the messages that came last, and how much of it there is
+abbrev pub Copies : (Arrival → List ℕ) → Which → Option Kept → List ℕ → ℤ → ℕ → ℕ → List ℕ → Type 0
+Copies what which old room code before count out = (answer : Result ℕ Refusal)
+    × CopiesOut what (picked_in which old) room answer out × (code ≡ done_code answer)
+    × (count ≡ number_after before answer)
 
-abbrev pub CopiesRaces : Option Kept → List ℕ → ℤ → ℕ → ℕ → List ℕ → Type 0
-CopiesRaces old room code before count out = (answer : Result ℕ Refusal)
-    × races.CopiesRaces (arrival_in old) room answer out × (code ≡ done_code answer)
+abbrev pub CopiesRaces : Which → Option Kept → List ℕ → ℤ → ℕ → ℕ → List ℕ → Type 0
+CopiesRaces which old room code before count out = (answer : Result ℕ Refusal)
+    × races.CopiesRaces (picked_in which old) room answer out × (code ≡ done_code answer)
     × (count ≡ number_after before answer)
 
 abbrev pub OpensRegion : Option Kept → ℤ → Option Kept → Type 0

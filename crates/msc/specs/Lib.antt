@@ -1,2 +1,4 @@
 pub mod Answers
 pub mod Performing
+pub mod Viewing
+pub mod Several

@@ -1,16 +1,5 @@
 //! What C gets.
 
-/// What is told of a message that was received.
-#[repr(C)]
-#[derive(Clone, Copy)]
-pub struct MscArrival {
-    pub from: u32,
-    pub event: u32,
-    pub name_length: usize,
-    pub body_length: usize,
-    pub races: usize,
-}
-
 /// What is told of an event of a post's line.
 #[repr(C)]
 #[derive(Clone, Copy)]

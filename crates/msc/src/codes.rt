@@ -1,10 +1,10 @@
 //! Answers as numbers.
 ghost use Rattle.std.specs.Prelude.{◌≡◌};
-ghost use Rattle.msc.specs.Answers.{code_of, done_code, found_code, arrival_from, told_after, number_after};
+ghost use Rattle.msc.specs.Answers.{code_of, done_code, found_code, told_after, number_after};
 ghost use Rattle.msc.specs.Answers.{event_from, told_event, report_from, told_report, left_from, waiting_code};
 ghost use Rattle.msc.specs.Answers.{told_left};
 
-use crate::answers::{MscArrival, MscEvent, MscLeft, MscReport};
+use crate::answers::{MscEvent, MscLeft, MscReport};
 use board_handles::{Reported, Waiting};
 use handles::{Arrived, Found, Refusal, Told};
 
@@ -15,27 +15,14 @@ pub(crate) fn code_of(refusal: Refusal) -> i32
     -(refusal.number() as i32)
 }
 
-/// What is told of a message, as C reads it.
-fn arrival_from(arrived: Arrived) -> MscArrival
-    ensures { result ≡ arrival_from arrived }
-{
-    MscArrival {
-        from: arrived.from,
-        event: arrived.event,
-        name_length: arrived.name,
-        body_length: arrived.body,
-        races: arrived.races,
-    }
-}
-
 /// The number of what a receive answers; of a message that came it tells.
-pub(crate) fn found_code(answer: Result<Found, Refusal>, told: &mut MscArrival) -> i32
+pub(crate) fn found_code(answer: Result<Found, Refusal>, told: &mut Arrived) -> i32
     ensures code { result ≡ found_code answer }
     ensures told { told.new ≡ told_after told.old answer }
 {
     match answer {
         Ok(Found::Message(arrived)) => {
-            *told = arrival_from(arrived);
+            *told = arrived;
             0
         }
         Ok(Found::Nothing) => 1,

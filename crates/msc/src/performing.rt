@@ -16,7 +16,7 @@ pub struct MscLengths {
 }
 
 /// The exit status of what was done, or the number of a refusal, and how long its texts are.
-fn performed_code(answer: Result<Performed, Refusal>, lengths: &mut MscLengths) -> i32
+pub(crate) fn performed_code(answer: Result<Performed, Refusal>, lengths: &mut MscLengths) -> i32
     ensures code { result ≡ performed_code answer }
     ensures lengths { lengths.new ≡ lengths_after lengths.old answer }
 {

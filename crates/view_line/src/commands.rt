@@ -87,6 +87,8 @@ fn draw_command<'a>(alloc: Global) -> Result<Command<'a>, AllocError> {
         .disable_help_flag(true)
         .arg(option(alloc, "only"))?
         .arg(option(alloc, "events"))?
+        .arg(option(alloc, "rows"))?
+        .arg(option(alloc, "title"))?
         .arg(flag(alloc, "numbers"))?
         .arg(file(alloc))
 }
@@ -143,6 +145,7 @@ pub(crate) fn command_line<'a>(alloc: Global) -> Result<Command<'a>, AllocError>
         .subcommand(pair_command(alloc, "witness")?)?
         .subcommand(pair_command(alloc, "why")?)?
         .subcommand(draw_command(alloc)?)?
+        .subcommand(file_command(alloc, "page")?)?
         .subcommand(export_command(alloc)?)?
         .subcommand(import_command(alloc)?)?
         .subcommand(compare_command(alloc)?)?

@@ -34,6 +34,8 @@ fn draw_of<'a>(words: &ArgMatches<'a>) -> Option<Request<'a>> {
     Some(Request::Draw(Draw {
         only: words.get_str("only"),
         events: words.get_str("events"),
+        rows: words.get_str("rows"),
+        title: words.get_str("title"),
         numbers: words.get_flag("numbers"),
         file: words.get_str("FILE"),
     }))
@@ -220,6 +222,7 @@ fn other_of<'a>(command: &str, words: &ArgMatches<'a>) -> Option<Request<'a>> {
         "export" => export_of(words),
         "compare" => compare_of(words),
         "mend" => mend_of(words),
+        "page" => Some(Request::Page(words.get_str("FILE"))),
         "tidy" => Some(Request::Tidy(words.get_str("FILE"))),
         "explain" => Some(Request::Explain(words.get_str("FILE"))),
         _ => pair_of(question_of(command)?, words),

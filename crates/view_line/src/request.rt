@@ -26,6 +26,10 @@ pub struct Draw<'a> {
     pub only: Option<&'a str>,
     /// The numbers behind `--events`, joined by two dots.
     pub events: Option<&'a str>,
+    /// The numbers behind `--rows`, joined by two dots.
+    pub rows: Option<&'a str>,
+    /// The words behind `--title`.
+    pub title: Option<&'a str>,
     /// Whether `--numbers` is given.
     pub numbers: bool,
     /// Without it, and where it is `-`, standard input is read.
@@ -151,8 +155,10 @@ pub enum Mend<'a> {
 pub enum Request<'a> {
     /// `why` and `witness`, which ask about two events.
     Pair(Pair<'a>),
-    /// `draw [--only NAME,NAME..] [--events A..B] [--numbers] [FILE]`.
+    /// `draw [--only NAME,NAME..] [--events A..B] [--rows A..B] [--numbers] [--title TEXT] [FILE]`.
     Draw(Draw<'a>),
+    /// `page [FILE]`: without the file, and where it is `-`, standard input is read.
+    Page(Option<&'a str>),
     /// `export --to TOOL [FILE]`.
     Export(Export<'a>),
     /// `import [--from TOOL] [--strict] [--skip A..B].. [--join NAME=NAME,NAME..].. [FILE]`.

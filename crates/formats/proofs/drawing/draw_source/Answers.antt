@@ -4,6 +4,7 @@ use Rattle.chart.specs.Charts.{LineView}
 use Rattle.files.specs.declared.error.ProgramError.TheVariants.{Memory}
 use Rattle.files.specs.Files.{IsRefused}
 use Rattle.files.specs.Texts.{named_of}
+use Rattle.formats.specs.Preparing.{turns_in}
 use Rattle.formats.specs.Columns.{AreColumns}
 use Rattle.formats.specs.Drawing.{only_of, Draws}
 use Rattle.formats.proofs.RefusedLemmas.{not_drawn}
@@ -14,11 +15,11 @@ returns-in_err-closure g c =
     let p = err_from_is_err_and c.from_residual-in_err-closure.result c.from_residual-in_err-closure.ensures.1 in
     let error = c.in_err-closure.field-0.0 in
     let named = named_of c.args.source.now in
-    rw (p.1, p.2) (not_drawn g.W.Out.sink c.args.out.now named c.args.wanted.now c.in_ok-columns.columns.items
+    rw (p.1, p.2) (not_drawn g.W.Out.sink c.args.out.now (turns_in c.args.source.now) named c.args.wanted.now c.in_ok-columns.columns.items
     (subst (λ (ns : List (List ℕ)). AreColumns ns (only_of c.args.wanted.now) c.in_ok-columns.columns.items) c.names-names.ensures c.in_ok-columns.ensures.ok)
     error
     (subst₂ (λ (ns : List (List ℕ)) (ls : List LineView). (error ≡ Memory) ⊎ IsRefused error (ns, ls)) c.names-names.ensures c.chart.ensures.value c.in_err-closure.ensures.refused))
 
 pub returns : goal.returns
 returns g c =
-    subst₂ (λ (ns : List (List ℕ)) (ls : List LineView). Draws g.W.Out.sink c.args.out.now c.draw_columns.new.out c.draw_columns.result c.args.wanted.now (ns, ls)) c.names-names.ensures (c.in_ok-closure.ensures.closure ∙ c.chart.ensures.value) c.draw_columns.ensures
+    subst (λ (ls : List LineView). Draws g.W.Out.sink c.args.out.now c.draw_columns.new.out c.draw_columns.result c.args.wanted.now (turns_in c.args.source.now) ((named_of c.args.source.now).0, ls)) (c.in_ok-closure.ensures.closure ∙ c.chart.ensures.value) c.draw_columns.ensures

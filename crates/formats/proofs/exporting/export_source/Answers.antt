@@ -1,9 +1,10 @@
-use Rattle.std.proofs.Common.{◌≡◌, ◌⊎◌, ℕ, List, ◌∙◌, subst, subst₂}
+use Rattle.std.proofs.Common.{◌≡◌, ◌⊎◌, ℕ, List, ◌∙◌, subst₂}
 use Rattle.std.proofs.lemmas.Result.{err_from_is_err_and}
 use Rattle.chart.specs.Charts.{LineView}
 use Rattle.files.specs.declared.error.ProgramError.TheVariants.{Memory}
 use Rattle.files.specs.Files.{IsRefused}
 use Rattle.files.specs.Texts.{named_of}
+use Rattle.formats.specs.Preparing.{turns_in}
 use Rattle.formats.specs.Exporting.{Exports}
 use Rattle.formats.proofs.RefusedLemmas.{not_exported}
 use Rattle.formats.proofs.exporting.export_source.Goals as goal
@@ -13,9 +14,9 @@ returns-in_err-closure g c =
     let p = err_from_is_err_and c.from_residual.result c.from_residual.ensures.1 in
     let error = c.in_err-closure.field-0.0 in
     let named = named_of c.args.source.now in
-    rw (p.1, p.2) (not_exported g.W.Out.sink c.args.out.now named c.args.target error
+    rw (p.1, p.2) (not_exported g.W.Out.sink c.args.out.now (turns_in c.args.source.now) named c.args.target error
     (subst₂ (λ (ns : List (List ℕ)) (ls : List LineView). (error ≡ Memory) ⊎ IsRefused error (ns, ls)) c.names-names.ensures c.chart.ensures.value c.in_err-closure.ensures.refused))
 
 pub returns : goal.returns
 returns g c =
-    subst₂ (λ (ns : List (List ℕ)) (ls : List LineView). Exports g.W.Out.sink c.args.out.now c.export_closure.new.out c.export_closure.result c.args.target (ns, ls)) c.names-names.ensures (c.in_ok-closure.ensures.closure ∙ c.chart.ensures.value) c.export_closure.ensures
+    subst₂ (λ (ns : List (List ℕ)) (ls : List LineView). Exports g.W.Out.sink c.args.out.now c.export_closure.new.out c.export_closure.result c.args.target (turns_in c.args.source.now) (ns, ls)) c.names-names.ensures (c.in_ok-closure.ensures.closure ∙ c.chart.ensures.value) c.export_closure.ensures

@@ -1,0 +1,39 @@
+-- What a receive of several messages answers, as a number (this project's profile): 0 as many came as there was room to
+-- tell of, 1 no more wait, 2 the lane has ended, and the number of a refusal, below 0.
+use Rattle.std.specs.Prelude.{◌≡◌, ℕ, List, Option, Result, Ok, Err}
+use lib.IntN.{ℤ, pos}
+use Rattle.board.specs.declared.answer.Stop.{Stop}
+use Rattle.board.specs.declared.answer.Stop.TheVariants.{Asked, NoMore, Refused}
+use Rattle.handles.specs.declared.found.Arrived.{Arrived}
+use Rattle.handles.specs.declared.found.FoundMany.{FoundMany}
+use Rattle.handles.specs.declared.found.FoundMany.TheVariants.{Messages, Nothing, Ended}
+use Rattle.handles.specs.declared.kept.Kept.{Kept}
+use Rattle.handles.specs.declared.refusal.Refusal.{Refusal}
+use Rattle.handles.specs.declared.refusal.Refusal.TheVariants as why
+use Rattle.handles.specs.ReceivingMany.{HandleTakesMany}
+use Rattle.msc.specs.Answers.{code_of}
+
+-- why no more came
+abbrev pub stop_code : Stop → ℤ
+stop_code Asked = pos 0
+stop_code NoMore = pos 1
+stop_code (Refused error) = code_of (why.Taking error)
+
+-- or why none came
+abbrev pub many_code : Result FoundMany Refusal → ℤ
+many_code (Ok (Messages count stop)) = stop_code stop
+many_code (Ok Nothing) = pos 1
+many_code (Ok Ended) = pos 2
+many_code (Err refusal) = code_of refusal
+
+-- how many came
+abbrev pub many_of : Result FoundMany Refusal → ℕ
+many_of (Ok (Messages count stop)) = count
+many_of (Ok Nothing) = 0
+many_of (Ok Ended) = 0
+many_of (Err refusal) = 0
+
+-- some answer of the handle's call has this code, and tells of these messages, so many
+abbrev pub TakesUpTo : Option Kept → ℕ → List Arrived → ℤ → List Arrived → ℕ → Option Kept → Type 0
+TakesUpTo old from room code told many new = (answer : Result FoundMany Refusal)
+    × HandleTakesMany old from room answer new told × (code ≡ many_code answer) × (many ≡ many_of answer)

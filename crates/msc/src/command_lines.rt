@@ -1,0 +1,20 @@
+//! What `mscview` does for a command line whose files are in memory.
+ghost use Rattle.msc.specs.Viewing.{ViewsTexts};
+
+use crate::performing::{MscLengths, performed_code};
+use offline::{Bytes, view_into};
+use std::alloc::Global;
+
+#[unsafe(no_mangle)]
+pub extern "C" fn msc_view_(
+    alloc: Global,
+    words: &[Bytes<'_>],
+    texts: &[Bytes<'_>],
+    out: &mut [u8],
+    err: &mut [u8],
+    lengths: &mut MscLengths,
+) -> i32
+    ensures { ViewsTexts texts.now out.old err.old result lengths.old lengths.new out.new err.new }
+{
+    performed_code(view_into(alloc, words, texts, out, err), lengths)
+}

@@ -1,0 +1,111 @@
+//! The exports over the messages that came last.
+ghost use Rattle.std.specs.Prelude.{◌≡◌};
+ghost use Rattle.handles.specs.Copying.{name_in, body_in};
+ghost use Rattle.handles.specs.declared.came.Which.TheVariants.{Last, At};
+ghost use Rattle.msc.specs.Answers.{Copies, CopiesRaces};
+ghost use Rattle.msc.specs.Several.{TakesUpTo};
+
+use crate::codes::count_code;
+use crate::several::many_code;
+use handles::{Arrived, Handle, Which};
+use std::alloc::Global;
+
+#[unsafe(no_mangle)]
+pub extern "C" fn msc_receive_up_to_(
+    alloc: Global,
+    post: &mut Handle,
+    from: u32,
+    arrivals: &mut [Arrived],
+    count: &mut usize,
+) -> i32
+    ensures { TakesUpTo post.old.slot.value from arrivals.old result arrivals.new count.new post.new.slot.value }
+{
+    many_code(post.receive_up_to(alloc, from, arrivals), count)
+}
+
+#[unsafe(no_mangle)]
+pub extern "C" fn msc_name_(
+    alloc: Global,
+    post: &mut Handle,
+    buffer: &mut [u8],
+    length: &mut usize,
+) -> i32
+    ensures same { post.new.slot.value ≡ post.old.slot.value }
+    ensures answer { Copies name_in Last post.old.slot.value buffer.old result length.old length.new
+        buffer.new }
+{
+    count_code(post.copy_name(alloc, Which::Last, buffer), length)
+}
+
+#[unsafe(no_mangle)]
+pub extern "C" fn msc_body_(
+    alloc: Global,
+    post: &mut Handle,
+    buffer: &mut [u8],
+    length: &mut usize,
+) -> i32
+    ensures same { post.new.slot.value ≡ post.old.slot.value }
+    ensures answer { Copies body_in Last post.old.slot.value buffer.old result length.old length.new
+        buffer.new }
+{
+    count_code(post.copy_body(alloc, Which::Last, buffer), length)
+}
+
+#[unsafe(no_mangle)]
+pub extern "C" fn msc_races_(
+    alloc: Global,
+    post: &mut Handle,
+    buffer: &mut [u32],
+    count: &mut usize,
+) -> i32
+    ensures same { post.new.slot.value ≡ post.old.slot.value }
+    ensures answer { CopiesRaces Last post.old.slot.value buffer.old result count.old count.new
+        buffer.new }
+{
+    count_code(post.copy_races(alloc, Which::Last, buffer), count)
+}
+
+#[unsafe(no_mangle)]
+pub extern "C" fn msc_name_of_(
+    alloc: Global,
+    post: &mut Handle,
+    place: usize,
+    buffer: &mut [u8],
+    length: &mut usize,
+) -> i32
+    ensures same { post.new.slot.value ≡ post.old.slot.value }
+    ensures answer { Copies name_in (At place) post.old.slot.value buffer.old result length.old length.new
+        buffer.new }
+{
+    count_code(post.copy_name(alloc, Which::At(place), buffer), length)
+}
+
+#[unsafe(no_mangle)]
+pub extern "C" fn msc_body_of_(
+    alloc: Global,
+    post: &mut Handle,
+    place: usize,
+    buffer: &mut [u8],
+    length: &mut usize,
+) -> i32
+    ensures same { post.new.slot.value ≡ post.old.slot.value }
+    ensures answer { Copies body_in (At place) post.old.slot.value buffer.old result length.old length.new
+        buffer.new }
+{
+    count_code(post.copy_body(alloc, Which::At(place), buffer), length)
+}
+
+#[unsafe(no_mangle)]
+pub extern "C" fn msc_races_of_(
+    alloc: Global,
+    post: &mut Handle,
+    place: usize,
+    buffer: &mut [u32],
+    count: &mut usize,
+) -> i32
+    ensures same { post.new.slot.value ≡ post.old.slot.value }
+    ensures answer { CopiesRaces (At place) post.old.slot.value buffer.old result count.old count.new
+        buffer.new }
+{
+    count_code(post.copy_races(alloc, Which::At(place), buffer), count)
+}

@@ -1,0 +1,121 @@
+//! The exports over posts.
+ghost use Rattle.std.specs.Prelude.{◌≡◌, None};
+ghost use Rattle.handles.specs.Opening.{kept_by};
+ghost use Rattle.msc.specs.Answers.{Sends, Takes, TakesAny, Closes, OpensAll, OpensRegion};
+ghost use Rattle.msc.specs.Answers.{ShutsRegion, TellsEvent, Reserves, SendsAll};
+ghost use Rattle.handles.specs.SendingAll.{contents_in};
+
+use crate::answers::MscEvent;
+use crate::codes::{code_of, done_code, event_code, first_code, found_code};
+use handles::{Arrived, Handle, MessageLengths, open};
+use std::alloc::Global;
+
+#[unsafe(no_mangle)]
+pub extern "C" fn msc_open_(alloc: Global, posts: &mut [Handle], capacity: u32) -> i32
+    ensures { OpensAll capacity (kept_by posts.old) result (kept_by posts.new) }
+{
+    done_code(open(alloc, posts, capacity))
+}
+
+#[unsafe(no_mangle)]
+pub extern "C" fn msc_send_(
+    alloc: Global,
+    post: &mut Handle,
+    to: u32,
+    name: &[u8],
+    body: &[u8],
+    event: &mut u32,
+) -> i32
+    ensures { Sends post.old.slot.value to name.now body.now result event.old event.new post.new.slot.value }
+{
+    match post.send(alloc, to, name, body) {
+        Ok(sent) => {
+            *event = sent.index;
+            0
+        }
+        Err(refusal) => code_of(refusal),
+    }
+}
+
+#[unsafe(no_mangle)]
+pub extern "C" fn msc_send_all_(
+    alloc: Global,
+    post: &mut Handle,
+    to: u32,
+    bytes: &[u8],
+    lengths: &[MessageLengths],
+    event: &mut u32,
+) -> i32
+    ensures { SendsAll post.old.slot.value to (contents_in bytes.now lengths.now) result event.old event.new
+        post.new.slot.value }
+{
+    first_code(post.send_all(alloc, to, bytes, lengths), event)
+}
+
+#[unsafe(no_mangle)]
+pub extern "C" fn msc_receive_(
+    alloc: Global,
+    post: &mut Handle,
+    from: u32,
+    arrival: &mut Arrived,
+) -> i32
+    ensures { Takes post.old.slot.value from result arrival.old arrival.new post.new.slot.value }
+{
+    found_code(post.receive(alloc, from), arrival)
+}
+
+#[unsafe(no_mangle)]
+pub extern "C" fn msc_any_(alloc: Global, post: &mut Handle, arrival: &mut Arrived) -> i32
+    ensures { TakesAny post.old.slot.value result arrival.old arrival.new post.new.slot.value }
+{
+    found_code(post.any(alloc), arrival)
+}
+
+#[unsafe(no_mangle)]
+pub extern "C" fn msc_close_(alloc: Global, post: &mut Handle, to: u32) -> i32
+    ensures { Closes post.old.slot.value to result post.new.slot.value }
+{
+    done_code(post.close(alloc, to))
+}
+
+#[unsafe(no_mangle)]
+pub extern "C" fn msc_open_coregion_(alloc: Global, post: &mut Handle) -> i32
+    ensures { OpensRegion post.old.slot.value result post.new.slot.value }
+{
+    done_code(post.open_coregion(alloc))
+}
+
+#[unsafe(no_mangle)]
+pub extern "C" fn msc_close_coregion_(alloc: Global, post: &mut Handle) -> i32
+    ensures { ShutsRegion post.old.slot.value result post.new.slot.value }
+{
+    done_code(post.close_coregion(alloc))
+}
+
+#[unsafe(no_mangle)]
+pub extern "C" fn msc_reserve_(alloc: Global, post: &mut Handle, events: u32) -> i32
+    ensures { Reserves post.old.slot.value events result post.new.slot.value }
+{
+    done_code(post.reserve(alloc, events))
+}
+
+#[unsafe(no_mangle)]
+pub extern "C" fn msc_event_(
+    alloc: Global,
+    post: &mut Handle,
+    number: u32,
+    event: &mut MscEvent,
+    buffer: &mut [u8],
+) -> i32
+    ensures same { post.new.slot.value ≡ post.old.slot.value }
+    ensures answer { TellsEvent post.old.slot.value number buffer.old result event.old event.new buffer.new }
+{
+    event_code(post.event(alloc, number, buffer), event)
+}
+
+#[unsafe(no_mangle)]
+pub extern "C" fn msc_free_(alloc: Global, handle: &mut Handle)
+    ensures { handle.new.slot.value ≡ None }
+{
+    handle.free(alloc);
+}

@@ -1,0 +1,7 @@
+pub mod FileBytes
+pub mod Files
+pub mod Given
+pub mod Lines
+pub mod Readings
+pub mod Views
+pub mod Wanted

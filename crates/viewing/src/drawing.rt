@@ -1,0 +1,122 @@
+//! Pictures, and texts for other tools.
+ghost use Rattle.std.specs.Prelude.{◌≡◌, Some, option_map};
+ghost use Rattle.formats.specs.Targets.{target_said};
+ghost use Rattle.option_words.specs.Words.{Says};
+ghost use Rattle.viewing.specs.Views.{ViewsPicture, ViewsExport};
+ghost use Rattle.viewing.specs.Wanted.{IsPicture, IsTitle, IsNameOf, AreDrawn, titled_path};
+
+use crate::giving::{Giver, first_in};
+use files::ProgramError;
+use formats::{Events, Target, Wanted, draw, events_in, export, file_name, target_in};
+use msc_text::Out;
+use std::alloc::Global;
+use view_line::{Draw, Export};
+
+/// The numbers that a word says, or all where there is none. G1: it says none.
+fn numbers_by(word: Option<&str>) -> Result<Events, ProgramError>
+    ensures { Says (AreDrawn (option_map (λ w. w.now) word.entry)) result }
+{
+    match word {
+        None => Ok(Events::ALL),
+        Some(word) => match events_in(word) {
+            Some(events) => Ok(events),
+            None => Err(ProgramError::Usage),
+        },
+    }
+}
+
+/// The path that a title is taken from: standard input has none.
+fn titled_path(file: Option<&str>) -> Option<&str>
+    ensures { option_map (λ w. w.now) result ≡ titled_path (option_map (λ w. w.now) file.entry) }
+{
+    match file {
+        None => None,
+        Some(path) => {
+            if path == "-" || path == "/dev/stdin" {
+                None
+            } else {
+                Some(path)
+            }
+        }
+    }
+}
+
+/// The title that a path gives: the name of the file alone.
+fn name_by(path: Option<&str>) -> &[u8]
+    ensures { IsNameOf (option_map (λ w. w.now) path.entry) result.now }
+{
+    match path {
+        None => b"",
+        Some(path) => file_name(path.as_bytes()),
+    }
+}
+
+/// The title that a file gives: its name alone, and of standard input none.
+pub(crate) fn file_title(file: Option<&str>) -> &[u8]
+    ensures { IsNameOf (titled_path (option_map (λ w. w.now) file.entry)) result.now }
+{
+    name_by(titled_path(file))
+}
+
+/// The title of a picture: the words that are given, or the name of the file alone.
+fn title_by<'a>(draw: &Draw<'a>) -> &'a [u8]
+    ensures { IsTitle draw.now result.now }
+{
+    match draw.title {
+        Some(words) => words.as_bytes(),
+        None => file_title(draw.file),
+    }
+}
+
+/// What is to be drawn. G1: the word for the events or for the rows says none.
+fn wanted_by<'a>(draw: &Draw<'a>) -> Result<Wanted<'a>, ProgramError>
+    ensures { Says (IsPicture draw.now) result }
+{
+    Ok(Wanted {
+        title: title_by(draw),
+        only: draw.only.map(|names| names.as_bytes()),
+        events: numbers_by(draw.events)?,
+        rows: numbers_by(draw.rows)?,
+        numbers: draw.numbers,
+    })
+}
+
+/// Draws a file.
+pub(crate) fn view_picture<G: Giver, W: Out, V: Out>(
+    alloc: Global,
+    picture: &Draw<'_>,
+    giver: &G,
+    out: &mut W,
+    err: &mut V,
+) -> Result<u8, ProgramError>
+    ensures { ViewsPicture (G.gives giver.now) W.sink out.old out.new V.sink err.old err.new picture.now result }
+{
+    let wanted = wanted_by(picture)?;
+    let bytes = first_in(alloc, giver, picture.file)?;
+    Ok(draw(alloc, bytes.as_slice(), &wanted, out, err))
+}
+
+/// What is to be exported to. G1: the word says none.
+fn target_by(word: &str) -> Result<Target, ProgramError>
+    ensures { Says (λ target. target_said word.now ≡ Some target) result }
+{
+    match target_in(word) {
+        Some(target) => Ok(target),
+        None => Err(ProgramError::Usage),
+    }
+}
+
+/// Writes a file as another tool's text.
+pub(crate) fn view_export<G: Giver, W: Out, V: Out>(
+    alloc: Global,
+    exported: &Export<'_>,
+    giver: &G,
+    out: &mut W,
+    err: &mut V,
+) -> Result<u8, ProgramError>
+    ensures { ViewsExport (G.gives giver.now) W.sink out.old out.new V.sink err.old err.new exported.now result }
+{
+    let target = target_by(exported.to)?;
+    let bytes = first_in(alloc, giver, exported.file)?;
+    Ok(export(alloc, bytes.as_slice(), target, out, err))
+}

@@ -1,0 +1,143 @@
+//! Logs: the charts that they say, and the races of these.
+ghost use Rattle.std.specs.Prelude.{◌≡◌, ◌∷◌, [], map, option_map, IfOk, Some};
+ghost use Rattle.viewing.specs.FileBytes.{bytes_of};
+ghost use Rattle.viewing.specs.Given.{file_said, files_said, told_files, AreAnswered};
+ghost use Rattle.viewing.specs.Views.{ViewsLog, ViewsLogRaces};
+ghost use Rattle.viewing.specs.Wanted.{AreJudged};
+
+use crate::file_bytes::FileBytes;
+use crate::giving::{Giver, first_in};
+use crate::log_words::{log_words, options_of, peers_by};
+use crate::racing::wanted_by;
+use files::ProgramError;
+use log_imports::import;
+use log_races::races_of_log;
+use msc_text::Out;
+use race_answers::LuckWanted;
+use std::alloc::{AllocError, Global};
+use view_line::{ImportLog, LogRaces, Showing};
+
+/// The bytes of several files, one after another.
+fn all_in<'a, G: Giver>(
+    alloc: Global,
+    giver: &'a G,
+    files: &[&str],
+) -> Result<Vec<FileBytes<'a>>, ProgramError>
+    ensures { AreAnswered (G.gives giver.now) (map (λ w. Some w.now) files.now) result }
+{
+    let mut texts = Vec::new(alloc);
+    for place in 0..files.len() {
+        let text = giver.bytes_in(alloc, place, Some(files[place]))?;
+        let Ok(()) = texts.push(text) else {
+            return Err(ProgramError::Memory);
+        };
+    }
+    Ok(texts)
+}
+
+/// The bytes of one file, or of standard input where there is none or it is `-`.
+fn one_in<'a, G: Giver>(
+    alloc: Global,
+    giver: &'a G,
+    file: Option<&str>,
+) -> Result<Vec<FileBytes<'a>>, ProgramError>
+    ensures { AreAnswered (G.gives giver.now) (file_said (option_map (λ w. w.now) file.entry) ∷ []) result }
+{
+    let mut texts = Vec::new(alloc);
+    let text = first_in(alloc, giver, file)?;
+    let Ok(()) = texts.push(text) else {
+        return Err(ProgramError::Memory);
+    };
+    Ok(texts)
+}
+
+/// The bytes of the files: of one, or of standard input where there is none or it is `-`, or of several.
+fn texts_in<'a, G: Giver>(
+    alloc: Global,
+    giver: &'a G,
+    files: &[&str],
+) -> Result<Vec<FileBytes<'a>>, ProgramError>
+    ensures { AreAnswered (G.gives giver.now) (files_said (map (λ w. w.now) files.now)) result }
+{
+    if files.len() > 1 {
+        return all_in(alloc, giver, files);
+    }
+    match files.first() {
+        None => one_in(alloc, giver, None),
+        Some(file) => one_in(alloc, giver, Some(*file)),
+    }
+}
+
+/// The names of several files, by which their lines are told; of one none.
+fn told_files<'a>(alloc: Global, files: &[&'a str]) -> Result<Vec<&'a [u8]>, AllocError>
+    ensures { IfOk result (λ names. map (λ w. w.now) names.items ≡ told_files (map (λ w. w.now) files.now)) }
+{
+    if files.len() < 2 {
+        return Ok(Vec::new(alloc));
+    }
+    files.iter().map(|file| file.as_bytes()).collect(alloc)
+}
+
+/// The bytes of texts.
+fn slices_of<'a>(alloc: Global, texts: &'a [FileBytes<'_>]) -> Result<Vec<&'a [u8]>, AllocError>
+    ensures { IfOk result (λ slices. map (λ w. w.now) slices.items ≡ map bytes_of texts.now) }
+{
+    texts.iter().map(|text| text.as_slice()).collect(alloc)
+}
+
+/// Writes the chart of a log.
+pub(crate) fn view_log<G: Giver, W: Out, V: Out>(
+    alloc: Global,
+    imported: &ImportLog<'_>,
+    giver: &G,
+    out: &mut W,
+    err: &mut V,
+) -> Result<u8, ProgramError>
+    ensures { ViewsLog (G.gives giver.now) W.sink out.old out.new V.sink err.old err.new imported.now result }
+{
+    let words = log_words(alloc, imported)?;
+    let peers = peers_by(alloc, &words)?;
+    let texts = texts_in(alloc, giver, &imported.files)?;
+    let Ok(files) = told_files(alloc, &imported.files) else {
+        return Err(ProgramError::Memory);
+    };
+    let Ok(slices) = slices_of(alloc, &texts) else {
+        return Err(ProgramError::Memory);
+    };
+    let options = options_of(&words, &peers);
+    Ok(import(alloc, options, &slices, &files, out, err))
+}
+
+/// Which races of a log are to be shown, and how.
+fn judged_by<'a>(showing: &Showing<'a>) -> LuckWanted<'a>
+    ensures { AreJudged showing.now result }
+{
+    LuckWanted {
+        races: wanted_by(showing),
+        luck: showing.luck,
+    }
+}
+
+/// Shows the races of a log by name.
+pub(crate) fn view_log_races<G: Giver, W: Out, V: Out>(
+    alloc: Global,
+    asked: &LogRaces<'_>,
+    giver: &G,
+    out: &mut W,
+    err: &mut V,
+) -> Result<u8, ProgramError>
+    ensures { ViewsLogRaces (G.gives giver.now) W.sink out.old out.new V.sink err.old err.new asked.now result }
+{
+    let words = log_words(alloc, &asked.log)?;
+    let peers = peers_by(alloc, &words)?;
+    let texts = texts_in(alloc, giver, &asked.log.files)?;
+    let Ok(files) = told_files(alloc, &asked.log.files) else {
+        return Err(ProgramError::Memory);
+    };
+    let Ok(slices) = slices_of(alloc, &texts) else {
+        return Err(ProgramError::Memory);
+    };
+    let options = options_of(&words, &peers);
+    let wanted = judged_by(&asked.showing);
+    Ok(races_of_log(alloc, options, &slices, &files, &wanted, out, err))
+}
