@@ -1,0 +1,420 @@
+/* msc.hpp: message passing between threads that reports message races as they happen, for C++17 and later.
+ *
+ * A board has 2 to 32 instances, each with a post, by which it sends, receives and closes lanes. With each message come
+ * the races of its receive: the earlier events of this instance that came before it by luck alone. All of this is
+ * msc.h's, which says more of it; here boards let go of what they own by themselves, and texts and lists are C++'s.
+ *
+ *     msc::board board(3, 4);                                // three instances, lanes of four slots
+ *     std::thread client([&] { while (!board[1].send(3, "order", "tea")) std::this_thread::yield(); });
+ *     msc::message message;
+ *     while (board[3].any(message) == msc::taken::nothing) std::this_thread::yield();
+ *     client.join();
+ *     std::cout << board.gather().text({"first", "second", "server"});
+ *
+ * VALUES AND EXCEPTIONS. What a loop over lanes meets as it runs is a value: that nothing waits, that a lane has ended,
+ * that it is full. A program looks at these each time, and an exception for them would cost more than the call. What
+ * nobody expects to go on from at the same place is an exception, as in the standard library: that memory is refused,
+ * and each mistake, as a name that is none or an instance that isn't there. So constructors can fail, and no answer is
+ * overlooked (the values are [[nodiscard]]). A program without exceptions uses msc.h.
+ *
+ * THREADS. One thread at a time calls with a post. The posts of one board may be used by different threads at the same
+ * time. A board itself is for one thread, and meet, gather and its end are for when no other thread uses a post of it.
+ */
+#ifndef MSC_HPP
+#define MSC_HPP
+
+#include <msc.h>
+
+#include <cstddef>
+#include <cstdint>
+#include <exception>
+#include <initializer_list>
+#include <optional>
+#include <string>
+#include <string_view>
+#include <utility>
+#include <vector>
+
+namespace msc {
+
+/* Why a call was refused. Then nothing has changed, but that a post may have seen more. */
+class error : public std::exception {
+public:
+    explicit error(int answer) noexcept : answer_(answer) {}
+    /* The answer of msc.h: -N for the refusal FN, MSC_MISUSE for a misuse. */
+    int answer() const noexcept { return answer_; }
+    const char *what() const noexcept override { return msc_refusal_text(answer_); }
+
+private:
+    int answer_;
+};
+
+namespace detail {
+inline void done(int answer) {
+    if (answer < 0) throw error(answer);
+}
+/* A valid address for what has no bytes. */
+inline const std::uint8_t *bytes_of(std::string_view text) {
+    return reinterpret_cast<const std::uint8_t *>(text.data() == nullptr ? "" : text.data());
+}
+} // namespace detail
+
+/* What a look at a lane finds: a message; none, and one may still come; none, and none will come. */
+enum class taken { got, nothing, ended };
+
+/* A message that was received. */
+struct message {
+    std::uint32_t from = 0;           /* the number of its sender, from 1 */
+    std::uint32_t event = 0;          /* the number of its receive among the events of the instance, from 1 */
+    std::string name;                 /* 1 to 32 letters, digits and _, a letter first */
+    std::string body;                 /* at most 4096 bytes of any kind */
+    std::vector<std::uint32_t> races; /* the earlier events of the instance that came before it by luck alone */
+};
+
+/* An event of an instance. */
+struct event {
+    std::uint32_t number;  /* among the events of its instance, from 1 */
+    bool receives;         /* or else it sends */
+    std::uint32_t partner; /* the number of the instance at the other end of the message */
+    std::uint32_t region;  /* the coregion that it is in, from 1, or 0 outside of one */
+    std::string name;      /* of the message */
+};
+
+/* The races of a receive. */
+struct report {
+    std::uint32_t instance;           /* the number of the instance that received, from 1 */
+    std::uint32_t event;              /* the number of the receive among its events, from 1 */
+    std::vector<std::uint32_t> races; /* the earlier events of the instance that came before it by luck alone */
+};
+
+/* A message that still waits on a gathered board. */
+struct left {
+    std::uint32_t from;
+    std::uint32_t to;
+    std::string name;
+    std::string body;
+};
+
+/* The post of an instance, which its board has. */
+class post {
+public:
+    post(const post &) = delete;
+    post &operator=(const post &) = delete;
+    post(post &&) = default;
+    post &operator=(post &&) = delete;
+
+    /* The number of its instance, from 1. */
+    std::uint32_t number() const noexcept { return number_; }
+
+    /* Sends a message to the instance TO. The number of the send among the events of this instance, or nothing where
+     * the lane is full: try again later. */
+    [[nodiscard]] std::optional<std::uint32_t> send(std::uint32_t to, std::string_view name,
+                                                    std::string_view body = {}) {
+        std::uint32_t event = 0;
+        int answer = msc_send_(handle_, to, detail::bytes_of(name), name.size(), detail::bytes_of(body), body.size(),
+                               &event);
+        return sent(answer, event);
+    }
+
+    /* Sends these messages, each a name and a body, to the instance TO by one store, or none of them. The number of the
+     * first send, 0 where there is none, or nothing where fewer slots are free. */
+    [[nodiscard]] std::optional<std::uint32_t>
+    send_all(std::uint32_t to, const std::vector<std::pair<std::string_view, std::string_view>> &messages) {
+        std::string bytes;
+        std::vector<msc_message> lengths;
+        std::uint32_t event = 0;
+        for (const auto &[name, body] : messages) {
+            bytes.append(name).append(body);
+            lengths.push_back({name.size(), body.size()});
+        }
+        int answer = msc_send_all(handle_, to, bytes.data(), bytes.size(), lengths.data(), lengths.size(), &event);
+        return sent(answer, event);
+    }
+
+    /* Receives the first message that waits on the lane from the instance FROM. Where none does, INTO stays as it is.
+     * The memory of INTO is used again. */
+    [[nodiscard]] taken receive(std::uint32_t from, message &into) {
+        msc_arrival arrival;
+        return took(msc_receive(handle_, from, &arrival), arrival, into);
+    }
+
+    /* Receives the first message that it finds on the lanes from all other instances, which it looks at in turn. It has
+     * ended where all of them have. */
+    [[nodiscard]] taken any(message &into) {
+        msc_arrival arrival;
+        return took(msc_any(handle_, &arrival), arrival, into);
+    }
+
+    /* Receives the first messages that wait on the lane from the instance FROM, by one call: at most MOST of them, and at
+     * least one where they are got. A refusal behind some that came is told by the next call. */
+    [[nodiscard]] taken receive_up_to(std::uint32_t from, std::size_t most, std::vector<message> &into) {
+        // (a line has no more events)
+        std::vector<msc_arrival> arrivals(most < 4096 ? most : 4096);
+        std::size_t count = 0;
+        int answer = msc_receive_up_to(handle_, from, arrivals.data(), arrivals.size(), &count);
+        if (count == 0) {
+            detail::done(answer);
+            return answer == MSC_ENDED ? taken::ended : taken::nothing;
+        }
+        into.resize(count);
+        for (std::size_t which = 0; which < count; which++) copy(which, arrivals[which], into[which]);
+        return taken::got;
+    }
+
+    /* Closes the lane to the instance TO: what waits on it can still be received, and then it has ended. */
+    void close(std::uint32_t to) { detail::done(msc_close(handle_, to)); }
+
+    /* Opens and closes a coregion: the order of the receives in it isn't claimed, and is no race. */
+    void open_coregion() { detail::done(msc_open_coregion(handle_)); }
+    void close_coregion() { detail::done(msc_close_coregion(handle_)); }
+
+    /* Makes room for so many events. */
+    void reserve(std::uint32_t events) { detail::done(msc_reserve(handle_, events)); }
+
+    /* The event of this number, from 1, of what this post has sent and received, where there is one. */
+    std::optional<msc::event> event(std::uint32_t number) const {
+        msc_event told;
+        char name[32];
+        int answer = msc_line_event(handle_, number, &told, name, sizeof name);
+        if (answer == MSC_NO_SUCH_EVENT) return std::nullopt;
+        detail::done(answer);
+        return msc::event{number, told.receives == 1, told.partner, told.region, std::string(name, told.name_length)};
+    }
+
+    /* All that this post has sent and received so far. */
+    std::vector<msc::event> events() const {
+        std::vector<msc::event> all;
+        while (auto next = event(static_cast<std::uint32_t>(all.size() + 1))) all.push_back(std::move(*next));
+        return all;
+    }
+
+private:
+    friend class board;
+    post(msc_post *handle, std::uint32_t number) noexcept : handle_(handle), number_(number) {}
+
+    static std::optional<std::uint32_t> sent(int answer, std::uint32_t event) {
+        if (answer == MSC_FULL) return std::nullopt;
+        detail::done(answer);
+        return event;
+    }
+
+    taken took(int answer, const msc_arrival &arrival, message &into) {
+        detail::done(answer);
+        if (answer != MSC_DONE) return answer == MSC_ENDED ? taken::ended : taken::nothing;
+        copy(0, arrival, into);
+        return taken::got;
+    }
+
+    /* Copies one of the messages that the post holds since the last call that received. */
+    void copy(std::size_t which, const msc_arrival &arrival, message &into) {
+        std::size_t length;
+        into.from = arrival.from;
+        into.event = arrival.event;
+        into.name.resize(arrival.name_length);
+        into.body.resize(arrival.body_length);
+        into.races.resize(arrival.races);
+        detail::done(msc_name_of(handle_, which, into.name.data(), into.name.size(), &length));
+        detail::done(msc_body_of(handle_, which, into.body.data(), into.body.size(), &length));
+        detail::done(msc_races_of(handle_, which, into.races.data(), into.races.size(), &length));
+    }
+
+    msc_post *handle_;
+    std::uint32_t number_;
+};
+
+class board;
+
+/* What a whole board came to: its chart, the races of each receive, and what still waits. */
+class gathered {
+public:
+    gathered(gathered &&other) noexcept
+        : handle_(std::exchange(other.handle_, msc_board MSC_BOARD_INIT)), size_(other.size_),
+          capacity_(other.capacity_) {}
+    gathered &operator=(gathered &&other) noexcept {
+        std::swap(handle_, other.handle_);
+        std::swap(size_, other.size_);
+        std::swap(capacity_, other.capacity_);
+        return *this;
+    }
+    ~gathered() { msc_board_free(&handle_); }
+
+    /* The text of its chart, with these names of its instances. mscrun check and mscview read it, and check below. */
+    std::string text(const std::vector<std::string> &names) const {
+        std::vector<const char *> words;
+        std::string text;
+        std::size_t length = 0;
+        for (const auto &name : names) words.push_back(name.c_str());
+        // (a vector of none may have no address)
+        if (words.empty()) throw error(MSC_MISUSE);
+        do {
+            text.resize(length);
+            detail::done(msc_board_text(&handle_, words.data(), words.size(), text.data(), text.size(), &length));
+        } while (length > text.size());
+        return text;
+    }
+
+    /* The report of each receive, in order of the instances and of their events. */
+    std::vector<report> reports() const {
+        std::vector<report> all;
+        msc_report told;
+        for (std::size_t number = 1; msc_board_report(&handle_, number, &told, nullptr, 0) == MSC_DONE; number++) {
+            std::vector<std::uint32_t> races(told.races);
+            detail::done(msc_board_report(&handle_, number, &told, races.data(), races.size()));
+            all.push_back({told.instance, told.event, std::move(races)});
+        }
+        return all;
+    }
+
+    /* The messages that still wait, lane by lane, in the order in which they were sent. */
+    std::vector<msc::left> left() const {
+        std::vector<msc::left> all;
+        for (std::uint32_t from = 1; from <= size_; from++)
+            for (std::uint32_t to = 1; to <= size_; to++) add_left(from, to, all);
+        return all;
+    }
+
+    /* Opens the next board of a run whose lines are full, with as many instances and lanes of at least as many slots (0
+     * for as many), and carries over to it what still waits here; and tells how many sends each instance carried. They
+     * are the first events of its line there. Leave races out whose earlier event is one of them: the earlier board may
+     * have had them in order. */
+    inline std::pair<board, std::vector<std::size_t>> carry_over(std::uint32_t capacity = 0);
+
+private:
+    friend class board;
+    gathered(std::size_t size, std::uint32_t capacity) noexcept : size_(size), capacity_(capacity) {}
+
+    void add_left(std::uint32_t from, std::uint32_t to, std::vector<msc::left> &all) const {
+        msc_left told;
+        std::size_t number = 1;
+        while (msc_board_left(&handle_, from, to, number, &told, nullptr, 0, nullptr, 0) == MSC_DONE) {
+            msc::left next{from, to, std::string(told.name_length, '\0'), std::string(told.body_length, '\0')};
+            detail::done(msc_board_left(&handle_, from, to, number, &told, next.name.data(), next.name.size(),
+                                        next.body.data(), next.body.size()));
+            all.push_back(std::move(next));
+            number++;
+        }
+    }
+
+    // (the calls that only tell want a pointer too that may write)
+    mutable msc_board handle_ = MSC_BOARD_INIT;
+    std::size_t size_;
+    std::uint32_t capacity_;
+};
+
+/* A board, and the posts of its instances. */
+class board {
+public:
+    /* Opens a board of 2 to 32 instances whose lanes have 1 to 64 slots. */
+    board(std::size_t instances, std::uint32_t capacity)
+        : handles_(instances, msc_post MSC_POST_INIT), capacity_(capacity) {
+        if (instances < 2) throw error(MSC_BAD_SIZE);
+        posts_.reserve(instances);
+        detail::done(msc_open(handles_.data(), instances, capacity));
+        for (auto &handle : handles_) posts_.push_back(post(&handle, static_cast<std::uint32_t>(posts_.size() + 1)));
+    }
+    board(board &&) noexcept = default;
+    board &operator=(board &&other) noexcept {
+        std::swap(handles_, other.handles_);
+        std::swap(posts_, other.posts_);
+        std::swap(capacity_, other.capacity_);
+        return *this;
+    }
+    ~board() {
+        for (auto &handle : handles_) msc_free(&handle);
+    }
+
+    std::size_t size() const noexcept { return posts_.size(); }
+    std::uint32_t capacity() const noexcept { return capacity_; }
+
+    /* The post of the instance of this number, from 1. */
+    post &operator[](std::uint32_t number) {
+        if (number < 1 || number > posts_.size()) throw error(MSC_NO_SUCH_INSTANCE);
+        return posts_[number - 1];
+    }
+
+    /* All posts meet: from then on each has seen all that any of them did. It takes no race away. */
+    void meet() { detail::done(msc_meet(handles_.data(), handles_.size())); }
+
+    /* Gathers the board: what it came to. Its posts are empty then. Where memory is refused all is as it was. */
+    msc::gathered gather() {
+        msc::gathered all(handles_.size(), capacity_);
+        detail::done(msc_gather(handles_.data(), handles_.size(), &all.handle_));
+        return all;
+    }
+
+private:
+    friend class msc::gathered;
+    std::vector<msc_post> handles_;
+    std::vector<post> posts_;
+    std::uint32_t capacity_;
+};
+
+inline std::pair<board, std::vector<std::size_t>> gathered::carry_over(std::uint32_t capacity) {
+    if (capacity == 0) capacity = capacity_;
+    if (capacity < capacity_) throw error(MSC_MISUSE);
+    std::pair<board, std::vector<std::size_t>> next(board(size_, capacity), std::vector<std::size_t>(size_));
+    detail::done(msc_carry_over(&handle_, next.first.handles_.data(), size_, next.second.data()));
+    return next;
+}
+
+/* What a program answers of a text: its exit status, 0, 1 where there are races, 2 where it refuses the text; and what
+ * it writes to standard output and standard error. */
+struct answer {
+    int status;
+    std::string out;
+    std::string err;
+};
+
+namespace detail {
+/* The whole answer of a call that writes as much as there is room for: where that was too little it is made again. */
+template <typename Call> answer whole(std::size_t length, Call call) {
+    answer all{0, std::string(4096 + 4 * length, '\0'), std::string(4096, '\0')};
+    for (;;) {
+        std::size_t out = 0, err = 0;
+        all.status = call(all.out.data(), all.out.size(), &out, all.err.data(), all.err.size(), &err);
+        done(all.status);
+        bool fits = out <= all.out.size() && err <= all.err.size();
+        all.out.resize(out);
+        all.err.resize(err);
+        if (fits) return all;
+    }
+}
+inline answer perform(int task, std::uint64_t seed, std::string_view text) {
+    return whole(text.size(), [&](char *out, std::size_t out_room, std::size_t *out_length, char *err,
+                                  std::size_t err_room, std::size_t *err_length) {
+        return msc_perform(task, seed, text.data(), text.size(), out, out_room, out_length, err, err_room, err_length);
+    });
+}
+} // namespace detail
+
+/* Checks a chart, as mscrun check does: a line for each of its races. */
+inline answer check(std::string_view chart) { return detail::perform(MSC_CHECK, 0, chart); }
+
+/* Replays a schedule, as mscrun replay does, or in the order that the seed draws, as mscrun random does. */
+inline answer replay(std::string_view schedule) { return detail::perform(MSC_REPLAY, 0, schedule); }
+inline answer random(std::string_view schedule, std::uint64_t seed) {
+    return detail::perform(MSC_RANDOM, seed, schedule);
+}
+
+/* Does what mscview does for these words of a command line, whose files are in memory: the texts are what the words read,
+ * in the order in which they name them. An exception where they read another number of texts. */
+inline answer view(const std::vector<std::string> &words, const std::vector<std::string_view> &texts) {
+    std::vector<const char *> names, at;
+    std::vector<std::size_t> lengths;
+    std::size_t length = 0;
+    for (const auto &word : words) names.push_back(word.c_str());
+    for (const auto &text : texts) {
+        at.push_back(text.data());
+        lengths.push_back(text.size());
+        length += text.size();
+    }
+    return detail::whole(length, [&](char *out, std::size_t out_room, std::size_t *out_length, char *err,
+                                     std::size_t err_room, std::size_t *err_length) {
+        return msc_view(static_cast<int>(names.size()), names.data(), at.size(), at.data(), lengths.data(), out,
+                        out_room, out_length, err, err_room, err_length);
+    });
+}
+
+} // namespace msc
+
+#endif
