@@ -1,0 +1,19 @@
+// The program out of a page: its module, and the script that calls it, as they stand in the page.
+import {readFileSync} from "node:fs";
+import {gunzipSync} from "node:zlib";
+import vm from "node:vm";
+
+// What stands in the page's element of this id.
+const element = (page, id) => new RegExp(`<script type="[^"]*" id="${id}">([^]*?)</script>`).exec(page)[1];
+
+export function moduleOf(file) {
+  const page = readFileSync(file, "utf8");
+  const bytes = gunzipSync(Buffer.from(element(page, "module"), "base64"));
+  const module = new WebAssembly.Module(bytes);
+  const Engine = vm.runInThisContext(`((self) => {${element(page, "worker")}\nreturn Engine;})({})`);
+  return {module, Engine, bytes, page};
+}
+
+export const file = (name, bytes = readFileSync(name)) => ({name, bytes: typeof bytes === "string" ? Buffer.from(bytes) : bytes});
+
+export const text = (bytes) => Buffer.from(bytes).toString("latin1");
