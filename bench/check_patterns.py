@@ -1,59 +1,62 @@
 """Times mscrun's check and mscview's draw of three charts of 32 lines with 4,096 events each, and tells their peak memory:
-a token that is passed round, mixed traffic, and bursts of 64 messages, which chart_bench makes. With the path of another
-mscrun behind it, its check is run in turn with the others, and the ratio of the two times is told. Each time is the median
-of five runs, with what is written thrown away. Where the programs aren't built yet, they are proved and built first."""
+a token that is passed round, mixed traffic, and bursts of 64 messages, which chart_bench makes. A check that is written by
+hand in C (bench/peers/check.c) takes its turns with them, where there is a C compiler: both have to write the same races.
+With the path of another mscrun its check does so too. The ratios of each turn's times are told by their median.
 
+    check_patterns.py FOLDER [MSCRUN]   by the programs that are built in FOLDER
+"""
+
+import hashlib
 import os
-import statistics
+import shutil
 import subprocess
 import sys
 import tempfile
-import time
 
-REPETITIONS = 5
-ROOT = os.path.dirname(os.path.dirname(os.path.abspath(__file__)))
+from timing import ratio, timed_in_turn
+
+HERE = os.path.dirname(os.path.abspath(__file__))
 
 
-def built(crate):
-    """The program of the crate."""
-    folder = os.path.join(ROOT, "crates", crate)
-    program = os.path.join(folder, "out", crate)
-    if not os.access(program, os.X_OK):
-        subprocess.run(["rt", "run"], cwd=folder, stdout=subprocess.DEVNULL, check=True)
+def by_hand(room):
+    """The check that is written by hand in C, compiled into a folder, or None where there is no compiler."""
+    compiler = shutil.which("cc")
+    if compiler is None:
+        print("there is no C compiler, so the check by hand is left out")
+        return None
+    program = os.path.join(room, "check_by_hand")
+    source = os.path.join(HERE, "peers", "check.c")
+    subprocess.run([compiler, "-O2", "-std=c11", "-o", program, source], check=True)
     return program
 
 
-def run(program, command, chart):
-    """The seconds and the peak megabytes of one run."""
-    began = time.monotonic()
-    with open(os.devnull, "wb") as nowhere:
-        child = subprocess.Popen([program, command, chart], stdout=nowhere, stderr=nowhere)
-        _, _, usage = os.wait4(child.pid, 0)
-    return time.monotonic() - began, usage.ru_maxrss / 1000
+def sum_of_races(*words):
+    """A sum of what a program writes."""
+    return hashlib.sha256(subprocess.run(words, stdout=subprocess.PIPE, check=False).stdout).hexdigest()
 
 
-def main():
-    runs_of = {"check": (built("mscrun"), "check"), "draw": (built("mscview"), "draw")}
-    if len(sys.argv) > 1:
-        runs_of["other check"] = (sys.argv[1], "check")
-    maker = built("chart_bench")
-    with tempfile.TemporaryDirectory() as folder:
+def main(folder, *others):
+    commands = {"check": (os.path.join(folder, "mscrun"), "check"), "draw": (os.path.join(folder, "mscview"), "draw")}
+    if others:
+        commands["other check"] = (others[0], "check")
+    maker = os.path.join(folder, "chart_bench")
+    with tempfile.TemporaryDirectory() as room:
+        program = by_hand(room)
+        if program:
+            commands["check by hand"] = (program,)
+        chart = os.path.join(room, "chart")
         for traffic in ("token", "mixed", "bursts"):
-            chart = os.path.join(folder, "chart")
             with open(chart, "wb") as text:
                 subprocess.run([maker, "make", traffic], stdout=text, check=True)
-            seen = {name: [] for name in runs_of}
-            for _ in range(REPETITIONS):
-                for name, (program, command) in runs_of.items():
-                    seen[name].append(run(program, command, chart))
             print(f"{traffic}, {os.path.getsize(chart) / 1e6:.1f} MB of text:")
-            medians = {}
-            for name, runs in seen.items():
-                medians[name] = statistics.median(seconds for seconds, _ in runs)
-                peak = max(megabytes for _, megabytes in runs)
-                print(f"  {name}: {medians[name]:.3f} s, at most {peak:.0f} MB")
-            if "other check" in medians:
-                print(f"  ratio: {medians['check'] / medians['other check']:.2f}")
+            if program and sum_of_races(*commands["check"], chart) != sum_of_races(program, chart):
+                sys.exit(f"{traffic}: the check by hand writes other races")
+            seen = timed_in_turn({name: (*words, chart) for name, words in commands.items()})
+            for name, its in seen.items():
+                print(f"  {name}: {its.seconds:.3f} s, at most {its.megabytes:.0f} MB")
+            for other in ("check by hand", "other check"):
+                if other in seen:
+                    print(f"  check to {other}: {ratio(seen['check'], seen[other]):.2f}")
 
 
-main()
+main(*sys.argv[1:])

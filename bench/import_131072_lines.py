@@ -7,13 +7,11 @@ in the middle, of four rounds less, the first host begins later than the others:
 Last comes a log for ShiViz of 8,192 lines whose clocks alone tell what is a message."""
 
 import os
-import statistics
-import subprocess
 import sys
 import tempfile
-import time
 
-REPETITIONS = 5
+from timing import timed
+
 HOSTS = 32
 ROUNDS = 2048
 PATTERN = r"^\S+ (?<host>\w+) \w+: (?<dir>sent|received) (?<name>\w+) (?:to|from) (?<peer>\w+), message (?<id>\d+)"
@@ -82,15 +80,6 @@ def by_host(folder, name, rounds, missing):
     return paths
 
 
-def run(words):
-    """The seconds, the peak megabytes and the status of one run."""
-    began = time.monotonic()
-    with open(os.devnull, "wb") as nowhere:
-        child = subprocess.Popen(words, stdout=nowhere, stderr=nowhere)
-        _, status, usage = os.wait4(child.pid, 0)
-    return time.monotonic() - began, usage.ru_maxrss / 1000, os.waitstatus_to_exitcode(status)
-
-
 def main(mscview):
     with tempfile.TemporaryDirectory() as folder:
         logs = {
@@ -102,11 +91,10 @@ def main(mscview):
             "8,192 lines by clocks": (["--from", "shiviz"], in_clocks(folder, "timed", 128)),
         }
         for name, (words, paths) in logs.items():
-            seen = [run([mscview, "import", *words, *paths]) for _ in range(REPETITIONS)]
-            seconds = statistics.median(one[0] for one in seen)
-            peak = max(one[1] for one in seen)
+            seen = timed(mscview, "import", *words, *paths)
             size = sum(map(os.path.getsize, paths)) / 1e6
-            print(f"{name}, {size:.1f} MB: {seconds:.3f} s, at most {peak:.0f} MB, status {seen[0][2]}", flush=True)
+            took = f"{seen.seconds:.3f} s, at most {seen.megabytes:.0f} MB, status {seen.status}"
+            print(f"{name}, {size:.1f} MB: {took}", flush=True)
 
 
 if __name__ == "__main__":

@@ -7,13 +7,11 @@ another one made now and then."""
 
 import os
 import random
-import statistics
 import subprocess
 import sys
 import tempfile
-import time
 
-REPETITIONS = 5
+from timing import timed
 
 
 def chart_text(lines):
@@ -59,14 +57,9 @@ def tokens(instances, events, switch):
         token = receiver
 
 
-def timed(*words):
-    """The median seconds of some runs, the last status, and what was told."""
-    seen = []
-    for _ in range(REPETITIONS):
-        began = time.monotonic()
-        done = subprocess.run(words, stdout=subprocess.DEVNULL, stderr=subprocess.PIPE, check=False)
-        seen.append(time.monotonic() - began)
-    return statistics.median(seen), done.returncode, done.stderr
+def lines_of(words, stream):
+    """How many lines a program writes to standard output or to standard error."""
+    return getattr(subprocess.run(words, capture_output=True, check=False), stream).count(b"\n")
 
 
 def main(mscview):
@@ -75,14 +68,14 @@ def main(mscview):
         text, earlier, receive = ring(32, 2000)
         with open(chart, "w", encoding="ascii") as file:
             file.write(text)
-        seconds, status, _ = timed(mscview, "mend", chart, "n0", str(earlier), str(receive))
-        print(f"mend, {len(text) / 1e6:.1f} MB of text: {seconds:.3f} s, status {status}")
+        seen = timed(mscview, "mend", chart, "n0", str(earlier), str(receive))
+        print(f"mend, {len(text) / 1e6:.1f} MB of text: {seen.seconds:.3f} s, status {seen.status}")
         with open(chart, "w", encoding="ascii") as file:
             file.write(tokens(8, 200, 0.1))
-        ranges = subprocess.run([mscview, "races", chart], capture_output=True, check=False).stdout.count(b"\n")
-        seconds, status, told = timed(mscview, "mend", "--all", chart)
-        messages = told.count(b"\n")
-        print(f"mend --all, {ranges} ranges: {seconds:.3f} s, status {status}, {messages} messages added")
+        ranges = lines_of([mscview, "races", chart], "stdout")
+        messages = lines_of([mscview, "mend", "--all", chart], "stderr")
+        seen = timed(mscview, "mend", "--all", chart)
+        print(f"mend --all, {ranges} ranges: {seen.seconds:.3f} s, status {seen.status}, {messages} messages added")
 
 
 if __name__ == "__main__":
