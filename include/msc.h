@@ -52,7 +52,7 @@ typedef struct {
 
 /* The version of this header: major * 10000 + minor * 100 + patch. A program may compare it with that of the library
  * that it is linked with: msc_version() / 100 == MSC_VERSION / 100 says that both have the same calls. */
-#define MSC_VERSION 900
+#define MSC_VERSION 10000
 
 enum {
     MSC_DONE = 0,

@@ -2,9 +2,9 @@
 ghost use Rattle.std.specs.Prelude.{◌≡◌, ◌+◌, ◌*◌};
 
 /// The parts of the file `VERSION`.
-const MAJOR: u32 = 0;
+const MAJOR: u32 = 1;
 
-const MINOR: u32 = 9;
+const MINOR: u32 = 0;
 
 const PATCH: u32 = 0;
 
