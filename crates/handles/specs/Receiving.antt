@@ -1,8 +1,11 @@
 -- What a receive over a handle answers, and what is told of the message (this project's profile).
-use Rattle.std.specs.Prelude.{◌≡◌, ℕ, ◌-◌, ◌^◌, true, false, [], ◌∷◌, length, min, Option, None, Some, Result, Ok, Err}
+use Rattle.std.specs.Prelude.{◌≡◌, ℕ, ◌-◌, ◌^◌, true, false, List, [], ◌∷◌, length, slice_get, min, Option, None, Some}
+use Rattle.std.specs.Prelude.{Result, Ok, Err}
+use Rattle.chart.specs.declared.event.Event.{Event}
+use Rattle.chart.specs.Events.{name_of}
 use Rattle.board.specs.declared.answer.Arrival.{Arrival}
 use Rattle.board.specs.declared.answer.Taken.TheVariants as taken
-use Rattle.board.specs.Views.{Sound, Stays}
+use Rattle.board.specs.Views.{PostView, Sound, Stays, line_of}
 use Rattle.board.specs.Taking.{IsGot, IsFoundEmpty, IsUntaken}
 use Rattle.mailbox.specs.TakingAny.{TakesAny}
 use Rattle.handles.specs.declared.found.Arrived.{Arrived}
@@ -25,6 +28,11 @@ arrived_of arrival = record {
   body = length arrival.message.body;
   races = min (length arrival.report.earlier) (2 ^ 64 - 1);
 }
+
+-- the last event of the post's line has this name
+abbrev pub IsLastNamed : PostView → List ℕ → Type 0
+IsLastNamed post name = (event : Event) × (slice_get (line_of post) (length (line_of post) - 1) ≡ Some event)
+    × (name_of event ≡ name)
 
 -- the message stays in the handle, which tells of it
 pub record IsTold (arrival : Arrival) (arrived : Arrived) (new : SeatView) : Type 0 where

@@ -1,8 +1,10 @@
 //! The messages that came last.
 ghost use Rattle.std.specs.Prelude.{◌≡◌};
+ghost use Rattle.handles.specs.declared.came.Came.TheVariants.{One};
 ghost use Rattle.handles.specs.Came.{came_list, picked, IsSeen};
 
 use board::Arrival;
+use chart::{InstanceNo, Message, Report};
 use std::slice;
 
 /// The messages of the last call that got some.
@@ -26,6 +28,27 @@ pub enum Which {
 }
 
 impl Came {
+    /// Keeps this message alone. It is put where the one before was, part by part.
+    #[inline(always)]
+    pub(crate) fn keep(&mut self, from: InstanceNo, message: Message, report: Report)
+        ensures { self.new ≡ One (record { from = from; message = message; report = report }) }
+    {
+        match self {
+            Came::One(kept) => {
+                kept.from = from;
+                kept.message = message;
+                kept.report = report;
+            }
+            _ => {
+                *self = Came::One(Arrival {
+                    from,
+                    message,
+                    report,
+                });
+            }
+        }
+    }
+
     /// The messages, in their order.
     pub(crate) fn as_slice(&self) -> &[Arrival]
         ensures { result.now ≡ came_list self.now }

@@ -5,6 +5,7 @@ ghost use Rattle.handles.specs.Chairs.{Fits, IsParted, is_post, seat_with};
 
 use crate::came::Came;
 use crate::kept::Kept;
+use crate::naming::any_name;
 use crate::seat::Seat;
 use board::{BoardTable, Parked};
 use chart::InstanceNo;
@@ -41,6 +42,7 @@ impl Chair {
                     parked,
                     last,
                     came,
+                    known: _,
                 } = seat;
                 let chair = Chair {
                     kept,
@@ -71,6 +73,7 @@ impl Chair {
             parked: post,
             last,
             came,
+            known: any_name(),
         });
         kept
     }

@@ -23,6 +23,7 @@ mod handle;
 mod kept;
 mod loose;
 mod meeting;
+mod naming;
 mod opening;
 mod receiving;
 mod receiving_many;

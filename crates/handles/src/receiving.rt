@@ -1,7 +1,7 @@
 //! Receives over a handle.
 ghost use Rattle.std.specs.Prelude.{◌≡◌, ◌≤◌};
 ghost use Rattle.handles.specs.Receiving.{arrived_of, SeatTakes, SeatTakesAny, KeptTakes, KeptTakesAny};
-ghost use Rattle.handles.specs.Receiving.{HandleTakes, HandleTakesAny};
+ghost use Rattle.handles.specs.Receiving.{HandleTakes, HandleTakesAny, IsLastNamed};
 
 use crate::any::any_after;
 use crate::came::Came;
@@ -10,8 +10,8 @@ use crate::handle::Handle;
 use crate::kept::Kept;
 use crate::refusal::Refusal;
 use crate::seat::Seat;
-use board::{Arrival, Taken};
-use chart::InstanceNo;
+use board::{Arrival, Parked, Taken};
+use chart::{InstanceNo, Message};
 use std::alloc::Global;
 
 /// What is told of a message.
@@ -28,6 +28,24 @@ pub(crate) fn arrived_of(arrival: &Arrival) -> Arrived
     }
 }
 
+/// The message, with the name that the event of its receive has, which is the last of the line.
+///
+/// Both are the same name. Where that of the message isn't read, what moves it through the calls below is left out.
+#[inline(always)]
+fn as_recorded(post: &Parked, message: Message) -> Message
+    requires { IsLastNamed post.now message.name }
+    ensures { result ≡ message }
+{
+    let (_, body) = message.into_parts();
+    let Some(event) = post.line().events().last() else {
+        unreachable!()
+    };
+    let Ok(message) = Message::new(event.name(), body) else {
+        unreachable!()
+    };
+    message
+}
+
 impl Seat {
     /// Receives the first message that waits on the lane from an instance.
     #[inline(always)]
@@ -40,10 +58,18 @@ impl Seat {
         let words = &(*self.table).shared;
         match self.parked.receive(words, from) {
             Ok(Taken::Got(arrival)) => {
-                let arrived = arrived_of(&arrival);
-                self.last = Some(arrival.from);
-                self.came = Came::One(arrival);
-                Ok(Found::Message(arrived))
+                let Arrival {
+                    from,
+                    message,
+                    report,
+                } = arrival;
+                let message = as_recorded(&self.parked, message);
+                self.last = Some(from);
+                self.came.keep(from, message, report);
+                let Came::One(arrival) = &self.came else {
+                    unreachable!()
+                };
+                Ok(Found::Message(arrived_of(arrival)))
             }
             Ok(Taken::Nothing) => Ok(Found::Nothing),
             Ok(Taken::Ended) => Ok(Found::Ended),

@@ -1,18 +1,19 @@
 //! A post with its board's words.
 use crate::came::Came;
 use board::{BoardTable, Parked};
-use chart::InstanceNo;
+use chart::{InstanceNo, Name};
 use std::marker::Model;
 use std::sync::Arc;
 
-/// A post that keeps its board's words, whom it got a message from last, and the messages of the last call that got
-/// some.
+/// A post that keeps its board's words, whom it got a message from last, the messages of the last call that got some,
+/// and the name that it sent last, or any.
 #[derive(Drop)]
 pub struct Seat {
     pub(crate) table: Arc<BoardTable>,
     pub(crate) parked: Parked,
     pub(crate) last: Option<InstanceNo>,
     pub(crate) came: Came,
+    pub(crate) known: Name,
 }
 
 impl Model for Seat {

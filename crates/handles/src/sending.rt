@@ -5,6 +5,7 @@ ghost use Rattle.handles.specs.Sending.{SeatSends, KeptSends, HandleSends, Makes
 
 use crate::handle::Handle;
 use crate::kept::Kept;
+use crate::naming::know;
 use crate::refusal::Refusal;
 use crate::seat::Seat;
 use chart::{EventNo, InstanceNo, MAX_BODY, Message, Name};
@@ -54,7 +55,18 @@ impl Seat {
         let Some(to) = InstanceNo::new(to as usize) else {
             return Err(Refusal::NoInstance);
         };
-        let message = message_of(alloc, name, body)?;
+        if let Err(error) = know(&mut self.known, name) {
+            return Err(Refusal::Naming(error));
+        }
+        if body.len() > MAX_BODY {
+            return Err(Refusal::BodyTooLong);
+        }
+        let Ok(body) = copied(alloc, body) else {
+            return Err(Refusal::Memory);
+        };
+        let Ok(message) = Message::new(self.known, body) else {
+            unreachable!()
+        };
         let words = &(*self.table).shared;
         match self.parked.send(words, to, message) {
             Ok(sent) => Ok(sent.event),

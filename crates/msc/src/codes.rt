@@ -9,6 +9,7 @@ use board_handles::{Reported, Waiting};
 use handles::{Arrived, Found, Refusal, Told};
 
 /// The number of a refusal, below 0.
+#[inline(never)]
 pub(crate) fn code_of(refusal: Refusal) -> i32
     ensures { result ≡ code_of refusal }
 {
@@ -16,6 +17,7 @@ pub(crate) fn code_of(refusal: Refusal) -> i32
 }
 
 /// The number of what a receive answers; of a message that came it tells.
+#[inline(always)]
 pub(crate) fn found_code(answer: Result<Found, Refusal>, told: &mut Arrived) -> i32
     ensures code { result ≡ found_code answer }
     ensures told { told.new ≡ told_after told.old answer }

@@ -1,6 +1,5 @@
-use Rattle.std.proofs.Common.{◌≡◌, ◌<◌, ◌≤◌, ◌⊎◌, ◌∷◌, ◌++◌, ◌∙◌, map, ℕ, List, length, take, drop, set, get_or, refl, sym, ap, subst, arith}
+use Rattle.std.proofs.Common.{◌≡◌, ◌<◌, ◌++◌, ◌∙◌, map, List, length, take, drop, set, get_or, refl, ap, arith}
 use Rattle.std.proofs.lemmas.List.{length-map}
-use Rattle.board.specs.declared.answer.Arrival.{Arrival}
 use Rattle.handles.specs.declared.found.Arrived.{Arrived}
 use Rattle.handles.specs.Receiving.{arrived_of}
 use Rattle.handles.proofs.Lists.{put_next, drop_mapped, put_min}

@@ -1,4 +1,4 @@
-use Rattle.std.proofs.Common.{◌≡◌, ◌≤◌, ◌++◌, map, take, drop}
+use Rattle.std.proofs.Common.{◌≡◌, ◌++◌, map, take, drop}
 use Rattle.handles.specs.Receiving.{arrived_of}
 use Rattle.handles.proofs.receiving_many.tell_each.Given as goal
 
