@@ -8,7 +8,7 @@ import {tmpdir} from "node:os";
 import {join, resolve} from "node:path";
 import {gunzipSync} from "node:zlib";
 import {Browser} from "../tools/playground/browser.mjs";
-import {file, moduleOf, text} from "../tools/playground/module.mjs";
+import {file, moduleOf, packedIn, text} from "../tools/playground/module.mjs";
 
 const [, , page, chromium] = process.argv;
 const ROUNDS = 9;
@@ -36,7 +36,7 @@ function ring(by) {
 }
 
 const {module, Engine, bytes} = moduleOf(page);
-const packed = Buffer.from(/id="module">([^<]*)</.exec(readFileSync(page, "utf8"))[1], "base64");
+const packed = packedIn(readFileSync(page, "utf8"));
 const ready = Array.from({length: ROUNDS}, () => timed(() => new Engine(new WebAssembly.Module(gunzipSync(packed)))).took);
 console.log(`${readFileSync(page).length} bytes of page, ${bytes.length} of WebAssembly; ready in ${median(ready).toFixed(0)} ms (node, median of ${ROUNDS})`);
 

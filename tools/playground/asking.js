@@ -7,25 +7,25 @@ async function tellRace(row) {
   const number = ++choice;
   by("details").hidden = row === null;
   if (row === null || now === null) return;
-  const {instance, receive, first, last} = row.dataset;
+  const [instance, , first] = races.numbersOf(row), last = +row.dataset.last;
   const events = now.chart.events[instance - 1];
   const earlier = by("earlier");
   earlier.replaceChildren(...Array.from({length: Math.min(last - first + 1, MOST_ROWS)}, (_, at) =>
-    element("option", eventWords(events[+first + at - 1], +first + at), {value: +first + at})));
+    element("option", eventWords(events[first + at - 1], first + at), {value: first + at})));
   by("earlier_label").hidden = first === last;
-  await tellPair(row, +first, () => number === choice);
+  await tellPair(row, first, () => number === choice);
 }
 
 // Why a pair is a race, the other run, and what prevents it.
 async function tellPair(row, earlier, counts) {
-  const it = now, instance = it.chart.names[row.dataset.instance - 1], receive = +row.dataset.receive;
-  const events = it.chart.events[row.dataset.instance - 1];
+  const it = now, [number, receive] = races.numbersOf(row);
+  const instance = it.chart.names[number - 1], events = it.chart.events[number - 1];
   by("race_words").replaceChildren(...breakable("span", `${instance}: ${eventWords(events[receive - 1], receive)} may come before ${eventWords(events[earlier - 1], earlier)}`).childNodes);
   const words = [it.name, instance, String(earlier), String(receive)];
   try {
     const why = await view(["why", ...words], it.file);
     if (!counts()) return;
-    tellWhy(it, row, why, receive);
+    tellWhy(it, row, why);
     const witness = await view(["witness", ...words], it.file);
     const drawn = witness.status === 1 ? await view(["draw", "the other run"], file("the other run", witness.out)) : undefined;
     if (!counts()) return;
@@ -38,21 +38,21 @@ async function tellPair(row, earlier, counts) {
 }
 
 // The sentences of `why`, and its two columns; what comes before the receive is marked in the picture.
-function tellWhy(it, row, why, receive) {
-  const lines = decode(why.out).split("\n");
-  const before = [], marks = [], alone = [], turned = [];
+function tellWhy(it, row, why) {
+  const [instance, receive] = races.numbersOf(row), lines = decode(why.out).split("\n");
+  const before = [], counts = it.chart.names.map(() => 0), alone = [], turned = [];
   for (const line of lines) {
     const [first, name, count] = line.split(" ");
     if (first === "before" && count !== "0") {
       before.push(`the first ${count === "1" ? "event" : `${count} events`} of ${name}`);
-      marks.push(`${it.chart.names.indexOf(name) + 1}:${count}`);
+      counts[it.chart.names.indexOf(name)] = count;
     } else if (first === "and") alone.push(count);
     else if (first === "line") turned.push(line.slice(5).split(" | "));
   }
-  row.dataset.before = marks.join(" ");
-  row.dataset.and = alone.join(" ");
-  races.mark(row);
-  const also = alone.map((event) => `event ${event} of ${it.chart.names[row.dataset.instance - 1]}`);
+  row.dataset.before = counts.join(" ");
+  row.dataset.also = alone.join(" ");
+  races.markChosen();
+  const also = alone.map((event) => `event ${event} of ${it.chart.names[instance - 1]}`);
   by("why_words").textContent = why.status !== 1 ? decode(why.out) || wordsOfRefusal(why)
     : before.length + also.length === 0 ? "Nothing has to come before this receive."
     : `Before this receive come ${[...before, ...also].join(", ")}, and nothing else has to.`;
@@ -280,7 +280,7 @@ function listen() {
   on("open", "change", () => openFile(by("open").files[0], "text"));
   on("open_b", "change", () => openFile(by("open_b").files[0], "text_b"));
   on("stop", "click", () => answers.stop("stopped, and begun anew"));
-  on("earlier", "change", () => (choice++, tellPair(races.row, +by("earlier").value, ((number) => () => number === choice)(choice))));
+  on("earlier", "change", () => (choice++, tellPair(races.chosen, +by("earlier").value, ((number) => () => number === choice)(choice))));
   on("mend", "click", () => take(mended));
   on("mend_all", "click", mendAll);
   on("tidy", "click", tidy);
@@ -305,7 +305,7 @@ async function begin() {
   for (const [at, [title]] of examples.entries()) by("example").append(element("option", title, {value: at}));
   for (const [at, [words]] of KEPT.entries()) by("save_as").append(element("option", words, {value: at}));
   by("kind_b").replaceChildren(...[...by("kind").options].map((it) => it.cloneNode(true)));
-  const packed = bytesOfLetters(by("module").textContent.trim());
+  const packed = unpacked(by("module").textContent);
   const bytes = await through(packed, new DecompressionStream("gzip"), Infinity);
   answers = new Answers(by("worker").textContent, await WebAssembly.compile(bytes));
   performance.mark("ready");

@@ -6,9 +6,14 @@ import vm from "node:vm";
 // What stands in the page's element of this id.
 const element = (page, id) => new RegExp(`<script type="[^"]*" id="${id}">([^]*?)</script>`).exec(page)[1];
 
+const unpacked = vm.runInThisContext(`(() => {${readFileSync(new URL("unpack.js", import.meta.url), "utf8")}\nreturn unpacked;})()`);
+
+// The packed bytes of the module in a page's text.
+export const packedIn = (page) => unpacked(element(page, "module"));
+
 export function moduleOf(file) {
   const page = readFileSync(file, "utf8");
-  const bytes = gunzipSync(Buffer.from(element(page, "module"), "base64"));
+  const bytes = gunzipSync(packedIn(page));
   const module = new WebAssembly.Module(bytes);
   const Engine = vm.runInThisContext(`((self) => {${element(page, "worker")}\nreturn Engine;})({})`);
   return {module, Engine, bytes, page};

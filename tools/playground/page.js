@@ -5,8 +5,14 @@ const usages = {mscview: by("usage_mscview").textContent, mscrun: by("usage_mscr
 const hasCommand = (words) => usages.mscview.includes(`mscview ${words}`);
 const examples = JSON.parse(by("examples").textContent);
 
-const picture = new Picture(by("picture_frame"));
-const races = new Races(picture, by("races").tBodies[0], by("search"), (row) => tellRace(row));
+const races = new Races({
+  frame: by("picture_frame"), picture: () => by("picture").shadowRoot, list: by("races").tBodies[0], search: by("search"),
+  shown: (row, before) => {
+    before?.removeAttribute("aria-selected");
+    row?.setAttribute("aria-selected", "true");
+    tellRace(row);
+  },
+});
 
 let answers;
 let run = 0;       // the number of the look at the text that counts
@@ -102,7 +108,6 @@ function clearAll(words) {
   races.choose(null);
   by("summary").textContent = words;
   by("picture").shadowRoot?.replaceChildren();
-  picture.svg = null;
   by("races").tBodies[0].replaceChildren();
   for (const id of ["more", "what", "chart_text"]) by(id).textContent = "";
   by("told").replaceChildren();
@@ -202,7 +207,7 @@ async function tellRaces(it, counts) {
   for (const id of ["race_bar", "table_frame"]) by(id).hidden = false;
   for (const id of ["save_chart", "save_as"]) by(id).hidden = false;
   by("table_frame").hidden = ranges.length === 0;
-  races.filter();
+  races.find();
 }
 
 // A line of `mscview races`.
@@ -225,8 +230,8 @@ function tellSummary(ranges) {
 
 function rowOf(it, range) {
   const row = document.createElement("tr");
-  const instance = it.chart.names.indexOf(range.instance) + 1;
-  Object.assign(row.dataset, {instance, receive: range.number, first: firstOf(range), last: lastOf(range)});
+  row.id = `r${it.chart.names.indexOf(range.instance) + 1}-${range.number}-${firstOf(range)}`;
+  row.dataset.last = lastOf(range);
   row.append(breakable("td", range.instance), breakable("td", range.receive), breakable("td", range.earlier));
   if (range.why !== undefined) row.append(element("td", range.why));
   return row;
@@ -249,7 +254,7 @@ async function drawPicture(it, counts) {
   by("picture_frame").hidden = by("save_picture").hidden = answer.status === 2;
   if (answer.status === 2) return;
   it.picture = answer.out;
-  const svg = pictureOf(answer.out, by("picture"));
-  picture.show(svg, placesIn(svg, whole));
-  if (races.row !== null) races.mark(races.row);
+  pictureOf(answer.out, by("picture"));
+  races.markChosen();
+  races.find();
 }

@@ -140,56 +140,7 @@ function chartOf(text) {
 const chartPart = (text) => text.slice(0, text.indexOf("\nendmsc;\n") + "\nendmsc;\n".length);
 const isDrawnWhole = (text) => text.length <= MOST_BYTES;
 
-// ---- Where events stand in a picture
-
-// The points of a path that has lines alone, as [x, y]; nothing where it has anything else.
-function pointsOf(way) {
-  const points = [];
-  let [x, y] = [0, 0];
-  for (const [, letter, rest] of way.matchAll(/([a-zA-Z])([^a-zA-Z]*)/g)) {
-    const numbers = (rest.match(/-?[\d.]+/g) ?? []).map(Number);
-    if (letter === "M" || letter === "L") [x, y] = numbers;
-    else if (letter === "H") [x] = numbers;
-    else if (letter === "V") [y] = numbers;
-    else if (letter === "h") x += numbers[0];
-    else if (letter === "v") y += numbers[0];
-    else if (letter === "l" || letter === "m") [x, y] = [x + numbers[0], y + numbers[1]];
-    else return [];
-    if (numbers.length > 2) return [];
-    points.push([x, y]);
-  }
-  return points;
-}
-
-// An event is at the circle of the group that has its numbers. In a picture without such groups the events of a line are the
-// ends of arrows at its lifeline, from the top, if all of them are drawn.
-function placesIn(svg, whole) {
-  const numbered = svg.querySelector("g[id^=e]") !== null;
-  const lines = numbered || !whole ? [] : linesIn(svg);
-  return (instance, event) => {
-    const circle = numbered ? svg.getElementById(`e${instance}-${event}`)?.querySelector("circle") : undefined;
-    return circle ? {x: +circle.getAttribute("cx"), y: +circle.getAttribute("cy")} : lines[instance - 1]?.events[event - 1];
-  };
-}
-
-function linesIn(svg) {
-  const ends = [], columns = new Set();
-  for (const path of svg.querySelectorAll("path")) {
-    if (path.closest("defs, g[transform]") !== null) continue;
-    const points = pointsOf(path.getAttribute("d"));
-    if (points.length !== 2) continue;
-    const [[x1, y1], [x2, y2]] = points;
-    if (x1 === x2 && Math.abs(y2 - y1) > 4) columns.add(x1);
-    else if (path.classList.contains("m")) ends.push([x1, y1], [x2, y2]);
-  }
-  const lines = [...columns].sort((a, b) => a - b).map((x) => ({x, events: []}));
-  for (const [x, y] of ends) {
-    const line = lines.find((it) => Math.abs(it.x - x) <= 6);
-    line?.events.push({x: line.x, y});
-  }
-  for (const line of lines) line.events.sort((a, b) => a.y - b.y);
-  return lines;
-}
+// ---- Pictures
 
 // A picture as elements of their own. Its style is a sheet of the frame's, since no text may bring one into the page.
 function pictureOf(bytes, host) {
@@ -198,7 +149,7 @@ function pictureOf(bytes, host) {
   const svg = document.importNode(new DOMParser().parseFromString(text, "image/svg+xml").documentElement, true);
   const root = host.shadowRoot ?? host.attachShadow({mode: "open"});
   const sheet = new CSSStyleSheet();
-  sheet.replaceSync(`:host{display:block} svg{display:block} ${style}`);
+  sheet.replaceSync(`:host{display:block} svg{display:block} ${style} ${by("marks").textContent}`);
   root.adoptedStyleSheets = [sheet];
   root.replaceChildren(svg);
   fit(svg, host);

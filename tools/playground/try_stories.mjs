@@ -54,7 +54,7 @@ async function settled(page) {
 const rows = (page) => page.ask("[...document.querySelectorAll('#races tbody tr')].map((row) => [...row.cells].map((cell) => cell.textContent).join(' | '))");
 const words = (page, id) => page.ask(`document.getElementById(${quoted(id)}).textContent`);
 const shown = (page, id) => page.ask(`document.getElementById(${quoted(id)}).checkVisibility()`);
-const marks = (page) => page.ask("[...document.getElementById('picture').shadowRoot.querySelectorAll('[data-mark]')].map((mark) => mark.dataset.mark)");
+const marks = (page) => page.ask("['before', 'earlier', 'receive'].flatMap((look) => [...document.getElementById('picture').shadowRoot.querySelectorAll(`g.${look}`)].map((event) => `${look} ${event.id.slice(1).replace('-', ' ')}`))");
 
 async function clickOn(page, selector) {
   await page.ask(`document.querySelector(${quoted(selector)}).scrollIntoView({block: "center"})`);
@@ -108,6 +108,17 @@ await story("a click on a dot", async (page) => {
   await page.click(x, y);
   await settled(page);
   wants((await marks(page)).includes("receive 1 3"), `marked are ${await marks(page)}`);
+});
+await story("a search, and a click that leaves a race", async (page) => {
+  await type(page, text("examples/two_answers.msc"));
+  const find = (word) => page.ask(`(() => { const box = document.getElementById("search"); box.value = ${quoted(word)}; box.dispatchEvent(new Event("input"));
+    return [document.querySelectorAll("#races tbody tr:not([hidden])").length, document.getElementById("picture").shadowRoot.querySelectorAll("text.hit").length]; })()`);
+  const [none, some, all] = [await find("no such message"), await find("ask"), await find("")].map(String);
+  wants(none === "0,0" && some === "1,2" && all === "2,0", `found are ${none}; ${some}; ${all}`);
+  await clickOn(page, "#races tbody td");
+  wants((await marks(page)).includes("receive 1 3") && (await shown(page, "details")), "the race isn't shown");
+  await clickOn(page, "#races tbody td");
+  wants((await marks(page)).length === 0 && !(await shown(page, "details")), "the race isn't left");
 });
 await story("a fault at its place", async (page) => {
   await type(page, text("cases/explain_send_mistyped/input"));

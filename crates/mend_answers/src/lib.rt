@@ -27,5 +27,5 @@ mod told;
 mod word;
 
 pub use error::MendRefusal;
-pub use showing::{Wanted, mend};
+pub use showing::{Wanted, mend, mend_of_source};
 pub use showing_all::mend_all;

@@ -105,6 +105,23 @@ fn mend_text<W: Out>(
     mend_in(alloc, source.names(), source.chart(), wanted, out)
 }
 
+/// Mends a race of a chart that was read: the same as [`mend`] does with the bytes of the file that it comes from.
+pub fn mend_of_source<W: Out, V: Out>(
+    alloc: Global,
+    source: &Source<'_>,
+    wanted: &Wanted<'_>,
+    out: &mut W,
+    err: &mut V,
+) -> u8
+    ensures { Answers (λ done. Shows W.sink out.old out.new done wanted.now (named_of source.now)) mend_said
+        V.sink err.old err.new result }
+{
+    answered(
+        &mend_in(alloc, source.names(), source.chart(), wanted, out),
+        err,
+    )
+}
+
 /// Writes to `out` the chart that the bytes of a file say, or that their schedule comes to, with one message more by
 /// which the race that is asked about is gone. Tells on `err` where the message is, and which races go, in the old
 /// chart's numbers, and stay and come, in the new one's. Where no message from the race's instance to its receive's

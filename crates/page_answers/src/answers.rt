@@ -1,10 +1,12 @@
 //! What a page tells of a race: why it is one, another order, and a message by which it goes.
 ghost use Rattle.std.specs.Prelude.{◌≡◌, ◌++◌, IfOk};
+ghost use Rattle.files.specs.Texts.{IsSaid};
 ghost use Rattle.page_answers.specs.Answering.{plus, texts, IsWhyExcerpt, IsWitnessExcerpt, IsMendExcerpt, AreAnswers};
 
 use crate::left::{Left, mend_left, why_left, witness_left};
 use crate::rows::row_in;
 use chart::{Event, InstanceNo, Names};
+use files::Source;
 use page_text::{Answers, Excerpt};
 use std::alloc::{AllocError, Global};
 use views::Asked;
@@ -14,6 +16,8 @@ use views::Asked;
 pub struct Subject<'a> {
     /// The file's.
     pub bytes: &'a [u8],
+    /// Where its chart comes from.
+    pub source: &'a Source<'a>,
     pub names: &'a Names,
     pub instance: InstanceNo,
     /// The events of the instance's line.
@@ -41,9 +45,10 @@ fn texts(left: Left) -> Result<Vec<u8>, AllocError>
 
 /// Of why it is a race: what has to come before the receive, and the line's rows round the two events.
 fn why_of(alloc: Global, subject: &Subject<'_>) -> Result<Excerpt, AllocError>
+    requires { IsSaid subject.now.bytes.now subject.now.source.now }
     ensures { IfOk result (IsWhyExcerpt subject.now) }
 {
-    let left = why_left(alloc, subject.bytes, &subject.asked)?;
+    let left = why_left(alloc, subject.source, &subject.asked)?;
     let text = texts(left)?;
     Ok(Excerpt {
         text,
@@ -55,9 +60,10 @@ fn why_of(alloc: Global, subject: &Subject<'_>) -> Result<Excerpt, AllocError>
 
 /// Of the other order: the instances, the capacity, and the commands round the two events.
 fn witness_of(alloc: Global, subject: &Subject<'_>) -> Result<Excerpt, AllocError>
+    requires { IsSaid subject.now.bytes.now subject.now.source.now }
     ensures { IfOk result (IsWitnessExcerpt subject.now) }
 {
-    let left = witness_left(alloc, subject.bytes, &subject.asked)?;
+    let left = witness_left(alloc, subject.source, &subject.asked)?;
     let text = texts(left)?;
     let earlier = row_in(
         alloc,
@@ -85,9 +91,10 @@ fn witness_of(alloc: Global, subject: &Subject<'_>) -> Result<Excerpt, AllocErro
 
 /// Of the message by which it goes: the first lines of what is told.
 fn mend_of(alloc: Global, subject: &Subject<'_>) -> Result<Excerpt, AllocError>
+    requires { IsSaid subject.now.bytes.now subject.now.source.now }
     ensures { IfOk result (IsMendExcerpt subject.now) }
 {
-    let left = mend_left(alloc, subject.bytes, &subject.asked)?;
+    let left = mend_left(alloc, subject.source, &subject.asked)?;
     let Left {
         out: _,
         err,
@@ -101,8 +108,9 @@ fn mend_of(alloc: Global, subject: &Subject<'_>) -> Result<Excerpt, AllocError>
     })
 }
 
-/// All of it.
+/// All of it. The file is read once for all of its races: the source is what its bytes say.
 pub fn answers_of(alloc: Global, subject: &Subject<'_>) -> Result<Answers, AllocError>
+    requires { IsSaid subject.now.bytes.now subject.now.source.now }
     ensures { IfOk result (AreAnswers subject.now) }
 {
     Ok(Answers {

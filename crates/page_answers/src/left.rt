@@ -1,11 +1,13 @@
 //! What the commands leave of two events: their output, what they tell, and their status.
-ghost use Rattle.std.specs.Prelude.{IfOk, IsTrue};
+ghost use Rattle.std.specs.Prelude.{ℕ, List, IfOk, IsTrue};
+ghost use Rattle.files.specs.Texts.{ComesFrom, IsSaid};
 ghost use Rattle.page_answers.specs.Leaving.{IsWhole, IsWhy, IsWitness, IsMend};
 
 use crate::collected::Collected;
-use mend_answers::mend;
+use files::Source;
+use mend_answers::mend_of_source;
 use std::alloc::{AllocError, Global};
-use views::{Asked, why, witness};
+use views::{Asked, why_of_source, witness_of_source};
 
 /// What a command left: on standard output, on standard error, and its exit status.
 #[derive(Drop)]
@@ -25,31 +27,17 @@ fn is_all(left: &Left) -> bool
     left.out.is_whole() && left.err.is_whole() && left.err.as_bytes() != OUT_OF_MEMORY
 }
 
-/// What `why` leaves.
-pub(crate) fn why_left(alloc: Global, bytes: &[u8], asked: &Asked<'_>) -> Result<Left, AllocError>
-    ensures { IfOk result (IsWhy bytes.now asked.now) }
-{
-    let mut out = Collected::new(alloc);
-    let mut err = Collected::new(alloc);
-    let status = why(alloc, bytes, asked, &mut out, &mut err);
-    let left = Left { out, err, status };
-    if !is_all(&left) {
-        return Err(AllocError);
-    }
-    Ok(left)
-}
-
-/// What `witness` leaves.
-pub(crate) fn witness_left(
+/// What `why` leaves of the file that a chart comes from.
+pub(crate) fn why_left(
     alloc: Global,
-    bytes: &[u8],
+    source: &Source<'_>,
     asked: &Asked<'_>,
 ) -> Result<Left, AllocError>
-    ensures { IfOk result (IsWitness bytes.now asked.now) }
+    ensures { IfOk result (λ left. (bytes : List ℕ) → IsSaid bytes source.now → IsWhy bytes asked.now left) }
 {
     let mut out = Collected::new(alloc);
     let mut err = Collected::new(alloc);
-    let status = witness(alloc, bytes, asked, &mut out, &mut err);
+    let status = why_of_source(alloc, source, asked, &mut out, &mut err);
     let left = Left { out, err, status };
     if !is_all(&left) {
         return Err(AllocError);
@@ -57,9 +45,32 @@ pub(crate) fn witness_left(
     Ok(left)
 }
 
-/// What `mend` leaves, where it names the message itself.
-pub(crate) fn mend_left(alloc: Global, bytes: &[u8], asked: &Asked<'_>) -> Result<Left, AllocError>
-    ensures { IfOk result (IsMend bytes.now asked.now) }
+/// What `witness` leaves of the file that a chart comes from.
+pub(crate) fn witness_left(
+    alloc: Global,
+    source: &Source<'_>,
+    asked: &Asked<'_>,
+) -> Result<Left, AllocError>
+    requires { ComesFrom source.now }
+    ensures { IfOk result (λ left. (bytes : List ℕ) → IsSaid bytes source.now → IsWitness bytes asked.now left) }
+{
+    let mut out = Collected::new(alloc);
+    let mut err = Collected::new(alloc);
+    let status = witness_of_source(alloc, source, asked, &mut out, &mut err);
+    let left = Left { out, err, status };
+    if !is_all(&left) {
+        return Err(AllocError);
+    }
+    Ok(left)
+}
+
+/// What `mend` leaves of the file that a chart comes from, where it names the message itself.
+pub(crate) fn mend_left(
+    alloc: Global,
+    source: &Source<'_>,
+    asked: &Asked<'_>,
+) -> Result<Left, AllocError>
+    ensures { IfOk result (λ left. (bytes : List ℕ) → IsSaid bytes source.now → IsMend bytes asked.now left) }
 {
     let wanted = mend_answers::Wanted {
         asked: *asked,
@@ -67,7 +78,7 @@ pub(crate) fn mend_left(alloc: Global, bytes: &[u8], asked: &Asked<'_>) -> Resul
     };
     let mut out = Collected::new(alloc);
     let mut err = Collected::new(alloc);
-    let status = mend(alloc, bytes, &wanted, &mut out, &mut err);
+    let status = mend_of_source(alloc, source, &wanted, &mut out, &mut err);
     let left = Left { out, err, status };
     if !is_all(&left) {
         return Err(AllocError);

@@ -2,12 +2,24 @@
 
 /// What the page may do: show itself, and run the script with this digest.
 pub(crate) const POLICY: &[u8] =
-    b"<meta http-equiv=\"Content-Security-Policy\" content=\"default-src 'none'; script-src 'sha256-DQ1V9cm1NPAtiuHncPcLl4kJ+f2ph07U+vMHdUEGKJI='; style-src 'unsafe-inline'; base-uri 'none'; form-action 'none'\">
+    b"<meta http-equiv=\"Content-Security-Policy\" content=\"default-src 'none'; script-src 'sha256-IaXcELQ+VLTfeSufaEZI9DdqUKa5Ki7WsXZxZnsQm6s='; style-src 'unsafe-inline'; base-uri 'none'; form-action 'none'\">
 <meta name=\"viewport\" content=\"width=device-width,initial-scale=1\">
 <title>";
 
 /// How it looks.
-pub(crate) const STYLE: &[u8] = b"body{margin:0;font:15px/1.4 sans-serif;color:#111;background:#fff}
+pub(crate) const STYLE: &[u8] = b"svg .p{pointer-events:all;cursor:pointer}
+svg g.before .p{fill:#035b9c}
+svg g.earlier .p{fill:#a34700;stroke:#a34700;stroke-width:4}
+svg g.receive .p{fill:#c00000;stroke:#c00000;stroke-width:4}
+svg .bracket{stroke-width:4}
+svg text.hit{fill:#6a00a8;font-weight:bold;text-decoration:underline}
+@media(prefers-color-scheme:dark){
+svg g.before .p{fill:#7cc4ff}
+svg g.earlier .p{fill:#ffb36b;stroke:#ffb36b}
+svg g.receive .p{fill:#ff8a8a;stroke:#ff8a8a}
+svg text.hit{fill:#d7a6ff}
+}
+body{margin:0;font:15px/1.4 sans-serif;color:#111;background:#fff}
 header{padding:8px 16px;border-bottom:1px solid #999}
 h1{font-size:18px;margin:0;overflow-wrap:anywhere}
 h2{font-size:15px;margin:8px 0 0}
@@ -30,12 +42,6 @@ header p{margin:4px 0}
 mark{background:#fe9;font-weight:bold}
 mark.receive{background:#fbb}
 mark.before{background:#bdf}
-#picture .p{pointer-events:all;cursor:pointer}
-#picture g.before .p{fill:#035b9c}
-#picture g.earlier .p{fill:#a34700;stroke:#a34700;stroke-width:4}
-#picture g.receive .p{fill:#c00000;stroke:#c00000;stroke-width:4}
-#picture .bracket{stroke-width:4}
-#picture text.hit{fill:#6a00a8;font-weight:bold;text-decoration:underline}
 @media(max-width:800px){.scripted{display:block;height:auto}.scripted #picture,.scripted #list{max-height:60vh}}
 @media(prefers-color-scheme:dark){
 body{color:#eee;background:#111}
@@ -43,10 +49,6 @@ body{color:#eee;background:#111}
 .chosen>details>summary,.chosen>p,mark{background:#554400;color:#fff}
 mark.receive{background:#700}
 mark.before{background:#035}
-#picture g.before .p{fill:#7cc4ff}
-#picture g.earlier .p{fill:#ffb36b;stroke:#ffb36b}
-#picture g.receive .p{fill:#ff8a8a;stroke:#ff8a8a}
-#picture text.hit{fill:#d7a6ff}
 }
 @media print{header,#list{display:none}.scripted{display:block;height:auto}#picture{overflow:visible;padding:0}#picture svg{max-width:100%}}
 ";
@@ -59,58 +61,170 @@ pub(crate) const CONTROLS: &[u8] = b".</p>
 
 /// What it does.
 pub(crate) const SCRIPT: &[u8] = b"'use strict';
-// Shows and hides what the page has, and marks events of its picture. It reads numbers alone out of the page, makes no
-// markup, and asks for nothing.
-(() => {
-  const byId = (id) => document.getElementById(id);
-  const races = Array.from(document.querySelectorAll('#races > li'));
-  const picture = byId('picture');
-  const search = byId('search');
-  const rows = byId('rows');
-  const told = byId('told');
-  let chosen = null;
-  let marked = [];
-  let hits = [];
-  let lastHit = -1;
+// What a page of races does with what is in it: it shows a race at a time, and marks its events in a picture. It reads numbers
+// alone out of the page, makes no markup, and asks for nothing.
+//
+// A race is an element of a list, with the id rI-R-F: the number of its instance, that of its receive, and that of the first
+// of its earlier events. data-last has the last of these, data-before of each line how many first events have to come before
+// the receive, and data-also the others of its own line that have to.
+class Races {
+  // frame: the element that the picture scrolls in. picture: gives the element that has the picture. list: the element whose
+  // children are the races. search: the box for what is looked for. shown: is told the race that is shown now, or null, and
+  // the one before.
+  constructor({ frame, picture, list, search, shown }) {
+    Object.assign(this, { frame, picture, list, search, shown, chosen: null, marked: [], hits: [], lastHit: -1 });
+    list.addEventListener('click', (event) => this.chooseListed(event));
+    frame.addEventListener('click', (event) => this.chooseDrawn(event));
+    search.addEventListener('input', () => this.find());
+    search.addEventListener('keydown', (event) => {
+      if (event.key === 'Enter') this.nextHit();
+      if (event.key === 'Escape') search.blur();
+    });
+    document.addEventListener('keydown', (event) => this.press(event));
+  }
+
+  get all() {
+    return Array.from(this.list.children);
+  }
 
   // The numbers in a race's id: its instance, its receive and the first of its earlier events.
-  const numbersOf = (race) => race.id.slice(1).split('-').map(Number);
-  const listOf = (race, name) => (race.dataset[name] || '').split(' ').filter(Boolean).map(Number);
-  const eventOf = (instance, number) => byId('e' + instance + '-' + number);
+  numbersOf(race) {
+    return race.id.slice(1).split('-').map(Number);
+  }
 
-  const mark = (element, how) => {
+  listOf(race, name) {
+    return (race.dataset[name] || '').split(' ').filter(Boolean).map(Number);
+  }
+
+  drawn(id) {
+    const picture = this.picture();
+    return picture && picture.querySelector('#' + id);
+  }
+
+  mark(id, how) {
+    const element = this.drawn(id);
     if (!element) return;
     element.classList.add(how);
-    marked.push([element, how]);
-  };
+    this.marked.push([element, how]);
+  }
 
-  const unmark = () => {
-    for (const [element, how] of marked) element.classList.remove(how);
-    marked = [];
-  };
+  unmark() {
+    for (const [element, how] of this.marked) element.classList.remove(how);
+    this.marked = [];
+  }
 
-  // Marks the receive, the earlier events that it may come before, and all that has to come before it.
-  const markRace = (race) => {
-    const [instance, receive, first] = numbersOf(race);
+  // Marks of the race that is chosen the receive, the earlier events that it may come before, and all that has to come
+  // before it.
+  markChosen() {
+    this.unmark();
+    const race = this.chosen;
+    if (!race) return;
+    const [instance, receive, first] = this.numbersOf(race);
     const last = Number(race.dataset.last);
-    listOf(race, 'before').forEach((count, place) => {
-      for (let number = 1; number <= count; number += 1) mark(eventOf(place + 1, number), 'before');
+    this.listOf(race, 'before').forEach((count, place) => {
+      for (let number = 1; number <= count; number += 1) this.mark('e' + (place + 1) + '-' + number, 'before');
     });
-    for (const number of listOf(race, 'also')) mark(eventOf(instance, number), 'before');
-    for (let number = first; number <= last; number += 1) mark(eventOf(instance, number), 'earlier');
-    mark(eventOf(instance, receive), 'receive');
-    mark(byId('b' + race.id.slice(1)), 'bracket');
-    return eventOf(instance, receive);
-  };
+    for (const number of this.listOf(race, 'also')) this.mark('e' + instance + '-' + number, 'before');
+    for (let number = first; number <= last; number += 1) this.mark('e' + instance + '-' + number, 'earlier');
+    this.mark('e' + instance + '-' + receive, 'receive');
+    this.mark('b' + race.id.slice(1), 'bracket');
+  }
 
   // Puts the middle of an element of the picture into the middle of what is seen of it.
-  const reveal = (element) => {
+  reveal(element) {
     if (!element) return;
     const place = element.getBoundingClientRect();
-    const frame = picture.getBoundingClientRect();
-    picture.scrollTop += place.top + place.height / 2 - frame.top - frame.height / 2;
-    picture.scrollLeft += place.left + place.width / 2 - frame.left - frame.width / 2;
-  };
+    const seen = this.frame.getBoundingClientRect();
+    this.frame.scrollTop += place.top + place.height / 2 - seen.top - seen.height / 2;
+    this.frame.scrollLeft += place.left + place.width / 2 - seen.left - seen.width / 2;
+  }
+
+  // Shows a race, or none.
+  choose(race) {
+    if (this.chosen === race) return;
+    const before = this.chosen;
+    this.chosen = race;
+    this.markChosen();
+    this.shown(race, before);
+    if (!race) return;
+    const [instance, receive] = this.numbersOf(race);
+    this.reveal(this.drawn('e' + instance + '-' + receive));
+    race.scrollIntoView({ block: 'nearest' });
+  }
+
+  chooseListed(event) {
+    if (!event.target.closest('summary, p, td')) return;
+    const race = this.all.find((one) => one.contains(event.target));
+    if (!race) return;
+    event.preventDefault();
+    this.choose(this.chosen === race ? null : race);
+  }
+
+  chooseDrawn(event) {
+    const element = event.composedPath()[0].closest('g[id^=e], g[id^=r], path[id^=b]');
+    if (!element) return;
+    const [instance, number] = element.id.slice(1).split('-').map(Number);
+    const race = this.all.find((one) => one.id === 'r' + element.id.slice(1));
+    if (race) this.choose(race);
+    else this.chooseEvent(instance, number);
+  }
+
+  // The races of an event, one after another: those of which it is the receive, or else those that it is an earlier event of.
+  chooseEvent(instance, number) {
+    const own = this.all.map((race) => [race, this.numbersOf(race)]).filter(([, numbers]) => numbers[0] === instance);
+    const received = own.filter(([, numbers]) => numbers[1] === number);
+    const passed = own.filter(([race, numbers]) => numbers[2] <= number && number <= Number(race.dataset.last));
+    const those = (received.length > 0 ? received : passed).map(([race]) => race);
+    if (those.length > 0) this.choose(those[(those.indexOf(this.chosen) + 1) % those.length]);
+  }
+
+  // Goes to the next race that is listed, or to the one before, round the ends.
+  step(by) {
+    const listed = this.all.filter((race) => !race.hidden);
+    if (listed.length === 0) return;
+    const place = listed.indexOf(this.chosen);
+    const start = place < 0 && by < 0 ? 0 : place;
+    this.choose(listed[(start + by + listed.length) % listed.length]);
+  }
+
+  // Lists the races whose words have the text, and marks the labels of the picture that have it.
+  find() {
+    const text = this.search.value.trim().toLowerCase();
+    for (const label of this.hits) label.classList.remove('hit');
+    for (const race of this.all) {
+      const words = (race.querySelector('summary, p') || race).textContent.toLowerCase();
+      race.hidden = text !== '' && !words.includes(text);
+    }
+    const picture = this.picture();
+    const labels = text === '' || !picture ? [] : Array.from(picture.querySelectorAll('text'));
+    this.hits = labels.filter((label) => label.textContent.toLowerCase().includes(text));
+    for (const label of this.hits) label.classList.add('hit');
+    this.lastHit = -1;
+    if (this.chosen && this.chosen.hidden) this.choose(null);
+  }
+
+  nextHit() {
+    if (this.hits.length === 0) return;
+    this.lastHit = (this.lastHit + 1) % this.hits.length;
+    this.reveal(this.hits[this.lastHit]);
+  }
+
+  press(event) {
+    if (event.ctrlKey || event.altKey || event.metaKey) return;
+    if (event.target.closest && event.target.closest('input, textarea, select')) return;
+    if (event.key === 'n' || event.key === 'j') this.step(1);
+    else if (event.key === 'p' || event.key === 'k') this.step(-1);
+    else if (event.key === 'Escape') this.choose(null);
+    else if (event.key === '/') this.search.focus();
+    else return;
+    event.preventDefault();
+  }
+}
+// The page of `mscview page`: what it has besides the races, whose number is told.
+(() => {
+  const byId = (id) => document.getElementById(id);
+  const picture = byId('picture');
+  const rows = byId('rows');
 
   const open = (race, isOpen) => {
     const details = race.querySelector('details');
@@ -118,101 +232,33 @@ pub(crate) const SCRIPT: &[u8] = b"'use strict';
     race.classList.toggle('chosen', isOpen);
   };
 
-  const choose = (race) => {
-    if (chosen === race) return;
-    if (chosen) open(chosen, false);
-    unmark();
-    chosen = race;
-    told.textContent = race ? races.indexOf(race) + 1 + ' of ' + races.length : '';
-    if (!race) return;
-    open(race, true);
-    reveal(markRace(race));
-    race.scrollIntoView({ block: 'nearest' });
-  };
-
-  // The next race that is listed, or the one before, round the ends.
-  const step = (by) => {
-    const listed = races.filter((race) => !race.hidden);
-    if (listed.length === 0) return;
-    const place = listed.indexOf(chosen);
-    const start = place < 0 && by < 0 ? 0 : place;
-    choose(listed[(start + by + listed.length) % listed.length]);
-  };
-
-  // The races of an event, one after another: those of which it is the receive, or else those that it is an earlier event of.
-  const chooseEvent = (instance, number) => {
-    const own = races.map((race) => [race, numbersOf(race)]).filter(([, numbers]) => numbers[0] === instance);
-    const received = own.filter(([, numbers]) => numbers[1] === number);
-    const passed = own.filter(([race, numbers]) => numbers[2] <= number && number <= Number(race.dataset.last));
-    const those = (received.length > 0 ? received : passed).map(([race]) => race);
-    if (those.length > 0) choose(those[(those.indexOf(chosen) + 1) % those.length]);
-  };
-
-  // Lists the races whose words have the text, and marks the labels of the picture that have it.
-  const find = () => {
-    const text = search.value.trim().toLowerCase();
-    for (const label of hits) label.classList.remove('hit');
-    for (const race of races) {
-      const words = race.querySelector('summary, p').textContent.toLowerCase();
-      race.hidden = text !== '' && !words.includes(text);
-    }
-    const labels = text === '' ? [] : Array.from(picture.querySelectorAll('text'));
-    hits = labels.filter((label) => label.textContent.toLowerCase().includes(text));
-    for (const label of hits) label.classList.add('hit');
-    lastHit = -1;
-  };
-
-  const nextHit = () => {
-    if (hits.length === 0) return;
-    lastHit = (lastHit + 1) % hits.length;
-    reveal(hits[lastHit]);
-  };
+  const races = new Races({
+    frame: picture,
+    picture: () => picture,
+    list: byId('races'),
+    search: byId('search'),
+    shown: (race, before) => {
+      if (before) open(before, false);
+      byId('told').textContent = race ? races.all.indexOf(race) + 1 + ' of ' + races.all.length : '';
+      if (race) open(race, true);
+    },
+  });
 
   const room = () => picture.scrollHeight - picture.clientHeight;
 
   const chooseByAddress = () => {
-    const race = races.find((one) => '#' + one.id === location.hash);
-    if (race) choose(race);
+    const race = races.all.find((one) => '#' + one.id === location.hash);
+    if (race) races.choose(race);
   };
 
-  for (const race of races) {
-    const summary = race.querySelector('summary, p');
-    summary.addEventListener('click', (event) => {
-      event.preventDefault();
-      choose(chosen === race ? null : race);
-    });
-  }
-  picture.addEventListener('click', (event) => {
-    const element = event.target.closest('g[id^=e], g[id^=r], path[id^=b]');
-    if (!element) return;
-    const [instance, number, first] = element.id.slice(1).split('-').map(Number);
-    const race = first && byId('r' + element.id.slice(1));
-    if (race) choose(race);
-    else chooseEvent(instance, number);
-  });
-  search.addEventListener('input', find);
-  search.addEventListener('keydown', (event) => {
-    if (event.key === 'Enter') nextHit();
-    if (event.key === 'Escape') search.blur();
-    event.stopPropagation();
-  });
   rows.addEventListener('input', () => {
     picture.scrollTop = (room() * Number(rows.value)) / 1000;
   });
   picture.addEventListener('scroll', () => {
     if (room() > 0) rows.value = String(Math.round((picture.scrollTop * 1000) / room()));
   });
-  byId('next').addEventListener('click', () => step(1));
-  byId('previous').addEventListener('click', () => step(-1));
-  document.addEventListener('keydown', (event) => {
-    if (event.ctrlKey || event.altKey || event.metaKey || event.target === rows) return;
-    if (event.key === 'n' || event.key === 'j') step(1);
-    else if (event.key === 'p' || event.key === 'k') step(-1);
-    else if (event.key === 'Escape') choose(null);
-    else if (event.key === '/') search.focus();
-    else return;
-    event.preventDefault();
-  });
+  byId('next').addEventListener('click', () => races.step(1));
+  byId('previous').addEventListener('click', () => races.step(-1));
   window.addEventListener('hashchange', chooseByAddress);
 
   byId('controls').hidden = false;

@@ -14,4 +14,4 @@ mod races;
 mod showing;
 
 pub use page_marks::{MOST_BYTES, MOST_TOLD};
-pub use showing::write_page_of;
+pub use showing::{show_text, write_page_of};

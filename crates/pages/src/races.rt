@@ -1,6 +1,7 @@
 //! The races of a page.
 ghost use Rattle.std.specs.Prelude.{◌≡◌, length, All, IfOk};
 ghost use Rattle.chart.specs.Ranges.{IsRange};
+ghost use Rattle.files.specs.Texts.{IsSaid};
 ghost use Rattle.msc_text.specs.ChartText.{name_at};
 ghost use Rattle.msc_text.specs.Writing.{Wrote, Adds};
 ghost use Rattle.page_answers.specs.Answering.{plus};
@@ -9,6 +10,7 @@ ghost use Rattle.pages.specs.Races.{title_text, IsAnswered, HasAnswers, IsRace, 
 
 use chart::{Event, Names};
 use closure::Closure;
+use files::Source;
 use msc_text::{MemoryOut, Out, TextBuffer, WriteError};
 use page_answers::{Subject, answers_of, name_bytes};
 use page_marks::{Marks, RaceRange, line_of, marks_of};
@@ -16,6 +18,13 @@ use page_text::{Answers, Race};
 use std::alloc::{AllocError, Global};
 use told_races::{Word, add_event_at, add_name, add_range, add_word, event_at, last_of};
 use views::Asked;
+
+/// A file that was read: its bytes, and where the chart comes from that they say.
+#[derive(Clone, Copy)]
+pub(crate) struct ReadFile<'a> {
+    pub bytes: &'a [u8],
+    pub source: &'a Source<'a>,
+}
 
 /// Adds a race by the names of its messages.
 #[tactic(auto, using(msc_text::proofs::Writes::joining), unfolding(crate::specs::Races::title_text))]
@@ -71,20 +80,22 @@ fn title_of(
 /// What is told of a race in full, of an instance of this name.
 fn named_answers<'a>(
     alloc: Global,
-    bytes: &'a [u8],
+    file: ReadFile<'a>,
     names: &'a Names,
     events: &'a [Event],
     name: &'a [u8],
     race: &RaceRange,
     above: u64,
 ) -> Result<Answers, AllocError>
-    requires { name.now ≡ name_at names.now race.now.receive.instance }
-    ensures { IfOk result (IsAnswered bytes.now names.now events.now race.now above) }
+    requires said { IsSaid file.bytes.now file.source.now }
+    requires name { name.now ≡ name_at names.now race.now.receive.instance }
+    ensures { IfOk result (IsAnswered file.entry.bytes.now names.now events.now race.now above) }
 {
     let earlier = race.earlier.first.index;
     let receive = race.receive.index;
     let subject = Subject {
-        bytes,
+        bytes: file.bytes,
+        source: file.source,
         names,
         instance: race.receive.instance,
         events,
@@ -111,32 +122,34 @@ fn above_rows(marks: &Marks) -> u64
 /// What is told of a race in full.
 fn full_answers(
     alloc: Global,
-    bytes: &[u8],
+    file: ReadFile<'_>,
     names: &Names,
     events: &[Event],
     race: &RaceRange,
     above: u64,
 ) -> Result<Answers, AllocError>
-    ensures { IfOk result (IsAnswered bytes.now names.now events.now race.now above) }
+    requires { IsSaid file.bytes.now file.source.now }
+    ensures { IfOk result (IsAnswered file.entry.bytes.now names.now events.now race.now above) }
 {
     let name = name_bytes(alloc, names, race.receive.instance)?;
-    named_answers(alloc, bytes, names, events, name.as_slice(), race, above)
+    named_answers(alloc, file, names, events, name.as_slice(), race, above)
 }
 
 /// What is told of a race, if it is told in full.
 fn answers_if(
     alloc: Global,
-    bytes: &[u8],
+    file: ReadFile<'_>,
     names: &Names,
     events: &[Event],
     race: &RaceRange,
     above: u64,
     is_told: bool,
 ) -> Result<Option<Answers>, AllocError>
-    ensures { IfOk result (HasAnswers is_told bytes.now names.now events.now race.now above) }
+    requires { IsSaid file.bytes.now file.source.now }
+    ensures { IfOk result (HasAnswers is_told file.entry.bytes.now names.now events.now race.now above) }
 {
     if is_told {
-        let answers = full_answers(alloc, bytes, names, events, race, above)?;
+        let answers = full_answers(alloc, file, names, events, race, above)?;
         Ok(Some(answers))
     } else {
         Ok(None)
@@ -146,20 +159,21 @@ fn answers_if(
 /// A race of a page.
 fn race_of(
     alloc: Global,
-    bytes: &[u8],
+    file: ReadFile<'_>,
     names: &Names,
     closure: &Closure<'_>,
     race: &RaceRange,
     is_told: bool,
 ) -> Result<Race, AllocError>
-    requires { IsRange race.now.earlier }
-    ensures { IfOk result (IsRace is_told bytes.now (names.now, closure.now) race.now) }
+    requires said { IsSaid file.bytes.now file.source.now }
+    requires range { IsRange race.now.earlier }
+    ensures { IfOk result (IsRace is_told file.entry.bytes.now (names.now, closure.now) race.now) }
 {
     let events = line_of(closure, race.receive.instance);
     let marks = marks_of(alloc, closure, &race.receive)?;
     let line = title_of(alloc, names, events, race)?;
     let above = above_rows(&marks);
-    let answers = answers_if(alloc, bytes, names, events, race, above, is_told)?;
+    let answers = answers_if(alloc, file, names, events, race, above, is_told)?;
     let Marks { before, also } = marks;
     Ok(Race {
         receive: race.receive,
@@ -175,20 +189,21 @@ fn race_of(
 /// The races of a page, of which so many are told in full.
 pub(crate) fn races_of(
     alloc: Global,
-    bytes: &[u8],
+    file: ReadFile<'_>,
     names: &Names,
     closure: &Closure<'_>,
     pairs: &[RaceRange],
     told: u64,
 ) -> Result<Vec<Race>, AllocError>
-    requires { All HasRange pairs.now }
-    ensures { IfOk result (λ races. AreRaces bytes.now (names.now, closure.now) told pairs.now races.items) }
+    requires said { IsSaid file.bytes.now file.source.now }
+    requires ranges { All HasRange pairs.now }
+    ensures { IfOk result (λ races. AreRaces file.entry.bytes.now (names.now, closure.now) told pairs.now races.items) }
 {
     let mut races = Vec::new(alloc);
     for place in 0..pairs.len() {
         let race = race_of(
             alloc,
-            bytes,
+            file,
             names,
             closure,
             &pairs[place],

@@ -2,9 +2,10 @@
 ghost use Rattle.std.specs.Prelude.{◌≡◌, length, IfOk};
 ghost use Rattle.chart.specs.Charts.{chart_lines, IsPossible};
 ghost use Rattle.files.specs.Answers.{Answers};
+ghost use Rattle.files.specs.Texts.{IsSaid};
 ghost use Rattle.pages.specs.Showing.{IsAskedOf, IsDrawn, Shows, ShowsText, page_said};
 
-use crate::races::races_of;
+use crate::races::{ReadFile, races_of};
 use chart::{Chart, Names};
 use closure::Closure;
 use files::{ProgramError, Source, Text, answered, closure_of};
@@ -46,14 +47,15 @@ fn picture_of(alloc: Global, bytes: &[u8], title: &[u8]) -> Result<Vec<u8>, Allo
 /// Writes the page of a possible chart. All memory is taken before the first byte is written.
 fn show_closure<W: Out>(
     alloc: Global,
-    bytes: &[u8],
+    file: ReadFile<'_>,
     title: &[u8],
     names: &Names,
     closure: &Closure<'_>,
     out: &mut W,
 ) -> Result<(), ProgramError>
-    requires { IsPossible (length closure.now) (chart_lines closure.now) }
-    ensures { Shows W.sink out.old out.new result bytes.now title.now (names.now, closure.now) }
+    requires said { IsSaid file.bytes.now file.source.now }
+    requires possible { IsPossible (length closure.now) (chart_lines closure.now) }
+    ensures { Shows W.sink out.old out.new result file.entry.bytes.now title.now (names.now, closure.now) }
 {
     let Ok(reports) = closure.races() else {
         return Err(ProgramError::Memory);
@@ -61,11 +63,11 @@ fn show_closure<W: Out>(
     let Ok(pairs) = pairs_of(alloc, reports.as_slice()) else {
         return Err(ProgramError::Memory);
     };
-    let told = told_of(bytes.len(), pairs.len());
-    let Ok(races) = races_of(alloc, bytes, names, closure, pairs.as_slice(), told) else {
+    let told = told_of(file.bytes.len(), pairs.len());
+    let Ok(races) = races_of(alloc, file, names, closure, pairs.as_slice(), told) else {
         return Err(ProgramError::Memory);
     };
-    let Ok(picture) = picture_of(alloc, bytes, title) else {
+    let Ok(picture) = picture_of(alloc, file.bytes, title) else {
         return Err(ProgramError::Memory);
     };
     let page = Page {
@@ -83,21 +85,23 @@ fn show_closure<W: Out>(
 /// Writes the page of a chart. F16, F17 or F18 refuses one that isn't possible.
 fn show_chart<W: Out>(
     alloc: Global,
-    bytes: &[u8],
+    file: ReadFile<'_>,
     title: &[u8],
     names: &Names,
     chart: &Chart,
     out: &mut W,
 ) -> Result<(), ProgramError>
-    requires { length names.now ≡ length chart.now }
-    ensures { Shows W.sink out.old out.new result bytes.now title.now (names.now, chart.now) }
+    requires said { IsSaid file.bytes.now file.source.now }
+    requires named { length names.now ≡ length chart.now }
+    ensures { Shows W.sink out.old out.new result file.entry.bytes.now title.now (names.now, chart.now) }
 {
     let closure = closure_of(alloc, names, chart)?;
-    show_closure(alloc, bytes, title, names, &closure, out)
+    show_closure(alloc, file, title, names, &closure, out)
 }
 
-/// Writes the page of what the file says.
-fn show_text<W: Out>(
+/// Writes the page of what the file says. It is read once for all that is told of its races. The refusals are those of
+/// [`write_page_of`].
+pub fn show_text<W: Out>(
     alloc: Global,
     bytes: &[u8],
     title: &[u8],
@@ -107,7 +111,11 @@ fn show_text<W: Out>(
 {
     let text = Text::read(alloc, bytes)?;
     let source = Source::of(alloc, &text)?;
-    show_chart(alloc, bytes, title, source.names(), source.chart(), out)
+    let file = ReadFile {
+        bytes,
+        source: &source,
+    };
+    show_chart(alloc, file, title, source.names(), source.chart(), out)
 }
 
 /// Writes the page of the chart that the bytes of a file say, or of what the schedule comes to that they say: its

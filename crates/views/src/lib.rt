@@ -36,5 +36,5 @@ pub use error::ViewError;
 pub use explained::one_explanation_law;
 pub use pair::{Asked, Pair, events_of, pair_in};
 pub use saying::write_chain;
-pub use view::why;
-pub use witnessing::witness;
+pub use view::{why, why_of_source};
+pub use witnessing::{witness, witness_of_source};

@@ -1,6 +1,8 @@
 //! What the program explains of the bytes of a file.
 ghost use Rattle.files.specs.Answers.{Answers};
+ghost use Rattle.files.specs.Texts.{named_of};
 ghost use Rattle.views.specs.Answers.{why_said};
+ghost use Rattle.views.specs.Explaining.{Explains};
 ghost use Rattle.views.specs.Views.{Whys};
 
 use crate::error::ViewError;
@@ -23,6 +25,23 @@ fn why_text<W: Out>(
     let text = Text::read(alloc, bytes)?;
     let source = Source::of(alloc, &text)?;
     why_in(alloc, source.names(), source.chart(), asked, out)
+}
+
+/// Explains two events of a chart that was read: the same as [`why`] does with the bytes of the file that it comes from.
+pub fn why_of_source<W: Out, V: Out>(
+    alloc: Global,
+    source: &Source<'_>,
+    asked: &Asked<'_>,
+    out: &mut W,
+    err: &mut V,
+) -> u8
+    ensures { Answers (λ done. Explains W.sink out.old out.new done (named_of source.now) asked.now) why_said
+        V.sink err.old err.new result }
+{
+    answered(
+        &why_in(alloc, source.names(), source.chart(), asked, out),
+        err,
+    )
 }
 
 /// Explains two events of the chart that the bytes of a file say, or of what the schedule comes to that they say:

@@ -106,6 +106,21 @@ fn witness_of<W: Out>(
     }
 }
 
+/// Writes a witness for two events of a chart that was read: the same as [`witness`] does with the bytes of the file that
+/// it comes from.
+pub fn witness_of_source<W: Out, V: Out>(
+    alloc: Global,
+    source: &Source<'_>,
+    asked: &Asked<'_>,
+    out: &mut W,
+    err: &mut V,
+) -> u8
+    requires { ComesFrom source.now }
+    ensures { Answers (FindsIn W.sink out.old out.new asked.now source.now) witness_said V.sink err.old err.new result }
+{
+    answered(&witness_of(alloc, source, asked, out), err)
+}
+
 /// Writes a witness for two events of what the file says.
 fn witness_text<W: Out>(
     alloc: Global,
