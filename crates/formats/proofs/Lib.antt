@@ -1,3 +1,4 @@
 pub mod ColumnLemmas
 pub mod RefusedLemmas
 pub mod SpanLemmas
+pub mod WindowLemmas

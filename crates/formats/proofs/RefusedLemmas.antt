@@ -1,19 +1,33 @@
--- What is written of a chart that no run has: nothing.
+-- What is written of a chart that no run has, or where no columns are: nothing.
 use Rattle.std.proofs.Common.{◌≡◌, ℕ, ◌⊎◌, inl, inr, List, Err, refl}
 use Rattle.files.specs.declared.error.ProgramError.{ProgramError}
 use Rattle.files.specs.declared.error.ProgramError.TheVariants.{Usage, File, Memory, Text, ReceiveWithoutSend, NameMismatch, Cyclic, Write}
 use Rattle.files.specs.Files.{Named, IsRefused}
 use Rattle.msc_text.specs.Outs.{Sink}
 use Rattle.formats.specs.declared.drawing.Wanted.{Wanted}
-use Rattle.formats.specs.declared.error.FormatError.TheVariants.{Program}
+use Rattle.formats.specs.declared.error.DrawError.TheVariants.{Format}
+use Rattle.formats.specs.declared.error.FormatError.{FormatError}
+use Rattle.formats.specs.declared.error.FormatError.TheVariants.{Program, NoSuchName}
 use Rattle.formats.specs.declared.target.Target.{Target}
-use Rattle.formats.specs.Columns.{AreColumns}
+use Rattle.formats.specs.Columns.{AreColumns, RefusesColumns}
 use Rattle.formats.specs.Drawing.{only_of, Draws}
 use Rattle.formats.specs.Exporting.{Exports}
 
 module _ {S : Type 0} (sink : S → Sink) (old : S) (turns : List ℕ) (named : Named) where
+  -- there are no such columns
+  pub no_columns : (wanted : Wanted) (error : FormatError) → RefusesColumns named.0 (only_of wanted) error → Draws sink old old (Err (Format error)) wanted turns named
+  no_columns wanted NoSuchName none = (none, refl)
+  no_columns wanted (Program Memory) why = refl
+  no_columns wanted (Program Usage) why = absurd why
+  no_columns wanted (Program File) why = absurd why
+  no_columns wanted (Program (Text fault)) why = absurd why
+  no_columns wanted (Program (ReceiveWithoutSend p index)) why = absurd why
+  no_columns wanted (Program (NameMismatch p index)) why = absurd why
+  no_columns wanted (Program Cyclic) why = absurd why
+  no_columns wanted (Program Write) why = absurd why
+
   module _ (wanted : Wanted) (columns : List ℕ) (are : AreColumns named.0 (only_of wanted) columns) where
-    pub not_drawn : (error : ProgramError) → (error ≡ Memory) ⊎ IsRefused error named → Draws sink old old (Err (Program error)) wanted turns named
+    pub not_drawn : (error : ProgramError) → (error ≡ Memory) ⊎ IsRefused error named → Draws sink old old (Err (Format (Program error))) wanted turns named
     not_drawn Memory why = refl
     not_drawn Usage (inl is) = cc
     not_drawn Usage (inr refused) = absurd refused

@@ -1,5 +1,5 @@
 -- What is drawn of a file.
-use Rattle.std.specs.Prelude.{◌≡◌, ℕ, ◌-◌, ◌⊎◌, List, length, Option, option_map, Result, Ok, Err}
+use Rattle.std.specs.Prelude.{◌≡◌, ℕ, ◌⊎◌, List, length, Option, option_map, Result, Ok, Err}
 use Rattle.chart.specs.declared.instance.EventNo.{EventNo}
 use Rattle.chart.specs.Charts.{chart_lines, IsPossible}
 use Rattle.chart.specs.Reports.{ReportView, AreReports}
@@ -13,9 +13,12 @@ use Rattle.files.specs.declared.error.ProgramError.TheVariants as errors
 use Rattle.files.specs.Texts.{OfFile, named_of}
 use Rattle.files.specs.Files.{Named, IsRefused}
 use Rattle.formats.specs.declared.drawing.Wanted.{Wanted}
-use Rattle.formats.specs.declared.error.FormatError.{FormatError}
+use Rattle.formats.specs.declared.error.DrawError.{DrawError}
+use Rattle.formats.specs.declared.error.DrawError.TheVariants.{Format, NoSuchEvent}
 use Rattle.formats.specs.declared.error.FormatError.TheVariants.{Program, NoSuchName}
+use Rattle.formats.specs.declared.windows.Window.{Window}
 use Rattle.formats.specs.Columns.{AreColumns}
+use Rattle.formats.specs.Windows.{IsWindow, HasNoWindow}
 use Rattle.formats.specs.Preparing.{turns_in, IsPrepared}
 
 -- the bytes that name the columns, if there are some
@@ -28,34 +31,38 @@ pub record IsWanted (wanted : Wanted) (turns : List ℕ) (named : Named) (pictur
   pub rows : List Row
   pub ends : List (List (Option EventNo))
   pub reports : List ReportView
+  pub window : Window
   pub named_so : AreColumns named.0 (only_of wanted) columns
   pub possible : IsPossible (length named.1) (chart_lines named.1)
   pub prepared : IsPrepared named.1 turns rows ends
   pub races : AreReports named.1 reports
+  pub chosen : IsWindow named rows wanted.rows window
   pub drawn : IsPictureOf wanted.title.now named.0 named.1 rows reports ends (record {
     drawn = columns;
     first = wanted.events.first;
     last = wanted.events.last;
-    top = wanted.rows.first - 1;
-    bottom = wanted.rows.last - 1;
+    top = window.top;
+    bottom = window.bottom;
     numbers = wanted.numbers;
   }) picture
 
 module _ {S : Type 0} (sink : S → Sink) where
   -- the picture was written; or a beginning of it, where a put failed; or nothing, where there are no such columns,
-  -- where the chart is not possible, or where memory ran out
-  abbrev pub Draws : S → S → Result (Unit {0}) FormatError → Wanted → List ℕ → Named → Type 0
+  -- where the chart is not possible, where its rows stand round an event that it doesn't have, or where memory ran out
+  abbrev pub Draws : S → S → Result (Unit {0}) DrawError → Wanted → List ℕ → Named → Type 0
   Draws old new (Ok done) wanted turns named = (picture : PictureView) × IsWanted wanted turns named picture
       × Puts sink old new (picture_text picture)
-  Draws old new (Err NoSuchName) wanted turns named =
+  Draws old new (Err (Format NoSuchName)) wanted turns named =
       ((columns : List ℕ) → AreColumns named.0 (only_of wanted) columns → ⊥) × (new ≡ old)
-  Draws old new (Err (Program errors.Memory)) wanted turns named = new ≡ old
-  Draws old new (Err (Program errors.Write)) wanted turns named = (picture : PictureView) × IsWanted wanted turns named picture
-      × Breaks sink old new (picture_text picture)
-  Draws old new (Err (Program error)) wanted turns named = (columns : List ℕ) × AreColumns named.0 (only_of wanted) columns
-      × IsRefused error named × (new ≡ old)
+  Draws old new (Err (Format (Program errors.Memory))) wanted turns named = new ≡ old
+  Draws old new (Err (Format (Program errors.Write))) wanted turns named = (picture : PictureView)
+      × IsWanted wanted turns named picture × Breaks sink old new (picture_text picture)
+  Draws old new (Err (Format (Program error))) wanted turns named = (columns : List ℕ)
+      × AreColumns named.0 (only_of wanted) columns × IsRefused error named × (new ≡ old)
+  Draws old new (Err NoSuchEvent) wanted turns named = (columns : List ℕ) × AreColumns named.0 (only_of wanted) columns
+      × IsPossible (length named.1) (chart_lines named.1) × HasNoWindow named wanted.rows × (new ≡ old)
 
   -- the same for the chart that the bytes say; or nothing was written, where the bytes have a fault
-  abbrev pub DrawsText : S → S → Wanted → List ℕ → Result (Unit {0}) FormatError → Type 0
+  abbrev pub DrawsText : S → S → Wanted → List ℕ → Result (Unit {0}) DrawError → Type 0
   DrawsText old new wanted bytes =
-      OfFile Program (λ source done. Draws old new done wanted (turns_in source) (named_of source)) old new bytes
+      OfFile (λ error. Format (Program error)) (λ source done. Draws old new done wanted (turns_in source) (named_of source)) old new bytes

@@ -6,3 +6,4 @@ pub mod Preparing
 pub mod Spans
 pub mod Targets
 pub mod Titles
+pub mod Windows

@@ -34,7 +34,7 @@ fn next_name(bytes: &[u8]) -> (&[u8], Option<&[u8]>)
 }
 
 /// The instance that has these bytes as its name.
-fn instance_said(names: &Names, name: &[u8]) -> Option<InstanceNo>
+pub(crate) fn instance_said(names: &Names, name: &[u8]) -> Option<InstanceNo>
     ensures { result ≡ instance_said names.now name.now }
 {
     match name_in(name) {

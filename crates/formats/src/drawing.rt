@@ -1,5 +1,5 @@
 //! What `mscview draw` does with the bytes of a file.
-ghost use Rattle.std.specs.Prelude.{◌≡◌, ◌≤◌, ◌-◌, length};
+ghost use Rattle.std.specs.Prelude.{◌≡◌, ◌≤◌, length, []};
 ghost use Rattle.chart.specs.declared.instance.TheConstants.{MAX_INSTANCES};
 ghost use Rattle.chart.specs.Charts.{chart_lines, IsPossible};
 ghost use Rattle.chart.specs.Reports.{AreReports};
@@ -11,10 +11,11 @@ ghost use Rattle.formats.specs.Drawing.{only_of, Draws, DrawsText};
 ghost use Rattle.formats.specs.Preparing.{turns_in};
 
 use crate::columns::columns_in;
-use crate::error::FormatError;
+use crate::error::{DrawError, FormatError};
 use crate::events::Events;
-use crate::preparing::{Reports, prepare};
-use chart::{InstanceNo, Report};
+use crate::preparing::{Reports, prepare_by, turns_in};
+use crate::windows::{Rows, window_in};
+use chart::{Chart, InstanceNo, Names, Report};
 use closure::Closure;
 use files::{ProgramError, Source, Text, answered, closure_of};
 use msc_text::Out;
@@ -30,40 +31,45 @@ pub struct Wanted<'a> {
     pub only: Option<&'a [u8]>,
     /// The numbers of each line's events that are chosen.
     pub events: Events,
-    /// The numbers of the rows whose events are chosen, from 1.
-    pub rows: Events,
+    /// The rows whose events are chosen.
+    pub rows: Rows<'a>,
     /// Whether each event has its number beside it.
     pub numbers: bool,
 }
 
-/// The place of a row among all, from 0, by its number.
-fn place_of(row: u32) -> usize
-    ensures { result ≡ row - 1 }
-{
-    row.saturating_sub(1) as usize
+/// A chart that is drawn.
+#[derive(Clone, Copy)]
+struct Subject<'a> {
+    names: &'a Names,
+    closure: &'a Closure<'a>,
+    /// Whose turn it was in the run that the chart comes from, one event after another. A chart without a run has none.
+    turns: &'a [InstanceNo],
+    /// The reports of its receives.
+    reports: &'a [Report],
 }
 
-/// Draws these columns of a possible chart. All memory is taken before the first byte is written.
+/// Draws these columns of a possible chart. F31: its rows stand round an event that it doesn't have. All memory is taken
+/// before the first byte is written.
 fn draw_columns<W: Out>(
     alloc: Global,
-    source: &Source<'_>,
-    closure: &Closure<'_>,
-    reports: &[Report],
+    subject: &Subject<'_>,
     columns: &[InstanceNo],
     wanted: &Wanted<'_>,
     out: &mut W,
-) -> Result<(), FormatError>
+) -> Result<(), DrawError>
     requires limit { length columns.now ≤ MAX_INSTANCES }
-    requires source { ComesFrom source.now }
-    requires columns { AreColumns (named_of source.now).0 (only_of wanted.now) columns.now }
-    requires reports { AreReports closure.now reports.now }
-    requires possible { IsPossible (length closure.now) (chart_lines closure.now) }
-    ensures { Draws W.sink out.old out.new result wanted.now (turns_in source.now)
-        ((named_of source.now).0, closure.now) }
+    requires columns { AreColumns subject.now.names.now (only_of wanted.now) columns.now }
+    requires reports { AreReports subject.now.closure.now subject.now.reports.now }
+    requires possible { IsPossible (length subject.now.closure.now) (chart_lines subject.now.closure.now) }
+    ensures { Draws W.sink out.old out.new result wanted.now subject.now.turns.now
+        (subject.now.names.now, subject.now.closure.now) }
 {
-    let names = source.names();
-    let Ok(prepared) = prepare(alloc, source, closure) else {
-        return Err(FormatError::Program(ProgramError::Memory));
+    let (names, closure) = (subject.names, subject.closure);
+    let Ok(prepared) = prepare_by(alloc, closure, subject.turns) else {
+        return Err(DrawError::Format(FormatError::Program(ProgramError::Memory)));
+    };
+    let Some(window) = window_in(names, closure.lines(), &prepared.layout, &wanted.rows) else {
+        return Err(DrawError::NoSuchEvent);
     };
     let drawn = pictures::Source {
         title: wanted.title,
@@ -71,35 +77,33 @@ fn draw_columns<W: Out>(
         closure,
         layout: &prepared.layout,
         ends: &prepared.ends,
-        reports,
+        reports: subject.reports,
     };
-    let top = place_of(wanted.rows.first);
-    let bottom = place_of(wanted.rows.last);
     let part = Part {
         drawn: columns,
         first: wanted.events.first,
         last: wanted.events.last,
-        top,
-        bottom,
+        top: window.top,
+        bottom: window.bottom,
         numbers: wanted.numbers,
     };
     let Ok(picture) = Picture::of(alloc, drawn, part) else {
-        return Err(FormatError::Program(ProgramError::Memory));
+        return Err(DrawError::Format(FormatError::Program(ProgramError::Memory)));
     };
     match write_picture(&picture, out) {
         Ok(()) => Ok(()),
-        Err(_) => Err(FormatError::Program(ProgramError::Write)),
+        Err(_) => Err(DrawError::Format(FormatError::Program(ProgramError::Write))),
     }
 }
 
-/// Draws what is wanted of the chart. F34: a name of `--only` is none of the chart's, or is there twice. Then F16, F17
-/// or F18 refuses a chart that isn't possible.
+/// Draws what is wanted of the chart that a source has. F34: a name of `--only` is none of the chart's, or is there
+/// twice. Then F16, F17 or F18 refuses a chart that isn't possible, and then F31 an event that it doesn't have.
 fn draw_source<W: Out>(
     alloc: Global,
     source: &Source<'_>,
     wanted: &Wanted<'_>,
     out: &mut W,
-) -> Result<(), FormatError>
+) -> Result<(), DrawError>
     requires { ComesFrom source.now }
     ensures { Draws W.sink out.old out.new result wanted.now (turns_in source.now) (named_of source.now) }
 {
@@ -107,17 +111,45 @@ fn draw_source<W: Out>(
     let columns = columns_in(alloc, names, wanted.only)?;
     let closure = closure_of(alloc, names, source.chart())?;
     let Ok(reports) = Reports::of(source, &closure) else {
-        return Err(FormatError::Program(ProgramError::Memory));
+        return Err(DrawError::Format(FormatError::Program(ProgramError::Memory)));
     };
-    draw_columns(
-        alloc,
-        source,
-        &closure,
-        reports.as_slice(),
-        columns.as_slice(),
-        wanted,
-        out,
-    )
+    let Ok(turns) = turns_in(alloc, source) else {
+        return Err(DrawError::Format(FormatError::Program(ProgramError::Memory)));
+    };
+    let subject = Subject {
+        names,
+        closure: &closure,
+        turns: turns.as_slice(),
+        reports: reports.as_slice(),
+    };
+    draw_columns(alloc, &subject, columns.as_slice(), wanted, out)
+}
+
+/// Draws what is wanted of a chart that comes from no run, which has a line for each name. F34: a name of `--only` is
+/// none of the chart's, or is there twice. Then F16, F17 or F18 refuses a chart that isn't possible, and then F31 an
+/// event that it doesn't have. Nothing is written before a refusal, but where writing failed (F24).
+pub fn draw_chart<W: Out>(
+    alloc: Global,
+    names: &Names,
+    chart: &Chart,
+    wanted: &Wanted<'_>,
+    out: &mut W,
+) -> Result<(), DrawError>
+    requires { length names.now ≡ length chart.now }
+    ensures { Draws W.sink out.old out.new result wanted.now [] (names.now, chart.now) }
+{
+    let columns = columns_in(alloc, names, wanted.only)?;
+    let closure = closure_of(alloc, names, chart)?;
+    let Ok(reports) = closure.races() else {
+        return Err(DrawError::Format(FormatError::Program(ProgramError::Memory)));
+    };
+    let subject = Subject {
+        names,
+        closure: &closure,
+        turns: &[],
+        reports: reports.as_slice(),
+    };
+    draw_columns(alloc, &subject, columns.as_slice(), wanted, out)
 }
 
 /// Draws what the file says.
@@ -126,7 +158,7 @@ fn draw_text<W: Out>(
     bytes: &[u8],
     wanted: &Wanted<'_>,
     out: &mut W,
-) -> Result<(), FormatError>
+) -> Result<(), DrawError>
     ensures { DrawsText W.sink out.old out.new wanted.now bytes.now result }
 {
     let text = Text::read(alloc, bytes)?;
@@ -136,7 +168,7 @@ fn draw_text<W: Out>(
 
 /// Writes a picture, as SVG text, of the chart that the bytes of a file say, or of what the schedule comes to that they
 /// say: its columns, its rows, the marks of its races. Writes the line of a refusal to `err`. Answers the exit status:
-/// 0 where it was drawn, 2 after a refusal. The text's faults are refused first, then F34, then F16, F17 or F18.
+/// 0 where it was drawn, 2 after a refusal. The text's faults are refused first, then F34, then F16, F17 or F18,
 /// Nothing is written to `out` before a refusal, but where writing to it failed (F24). A failed write to `err` changes
 /// nothing.
 pub fn draw<W: Out, V: Out>(

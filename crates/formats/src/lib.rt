@@ -25,12 +25,14 @@ mod exporting;
 mod preparing;
 mod target;
 mod title;
+mod windows;
 
-pub use answering::refused;
+pub use answering::{refused, refused_picture};
 pub use columns::columns_in;
-pub use drawing::{Wanted, draw};
-pub use error::FormatError;
+pub use drawing::{Wanted, draw, draw_chart};
+pub use error::{DrawError, FormatError};
 pub use events::{Events, events_in};
 pub use exporting::export;
 pub use target::{Target, target_in, tool_in};
 pub use title::file_name;
+pub use windows::{Around, Rows};

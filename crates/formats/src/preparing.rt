@@ -73,7 +73,7 @@ fn turns_of_run(
 
 /// Whose turn it was in the run that the source's chart comes from. A chart's own text has no run. F6: it fails only
 /// where there is no memory.
-fn turns_in(alloc: Global, source: &Source<'_>) -> Result<Vec<InstanceNo>, AllocError>
+pub(crate) fn turns_in(alloc: Global, source: &Source<'_>) -> Result<Vec<InstanceNo>, AllocError>
     requires { ComesFrom source.now }
     ensures { IfOk result (λ turns. turns.items ≡ turns_in source.now) }
 {
@@ -83,7 +83,21 @@ fn turns_in(alloc: Global, source: &Source<'_>) -> Result<Vec<InstanceNo>, Alloc
     }
 }
 
-/// What a picture of the source's chart is drawn from, beside its reports. F6: it fails only where there is no memory.
+/// What a picture of a possible chart is drawn from, beside its reports, by whose turn it was in its run. F6: it fails only
+/// where there is no memory.
+pub(crate) fn prepare_by(
+    alloc: Global,
+    closure: &Closure<'_>,
+    turns: &[InstanceNo],
+) -> Result<Prepared, AllocError>
+    ensures { IfOk result (λ p. IsPrepared closure.now turns.now p.layout p.ends) }
+{
+    let layout = layout(alloc, closure, turns)?;
+    let ends = Ends::of(alloc, closure)?;
+    Ok(Prepared { layout, ends })
+}
+
+/// What an export of the source's chart is written from, beside its reports. F6: it fails only where there is no memory.
 pub(crate) fn prepare(
     alloc: Global,
     source: &Source<'_>,
@@ -93,7 +107,5 @@ pub(crate) fn prepare(
     ensures { IfOk result (λ p. IsPrepared closure.now (turns_in source.now) p.layout p.ends) }
 {
     let turns = turns_in(alloc, source)?;
-    let layout = layout(alloc, closure, turns.as_slice())?;
-    let ends = Ends::of(alloc, closure)?;
-    Ok(Prepared { layout, ends })
+    prepare_by(alloc, closure, turns.as_slice())
 }

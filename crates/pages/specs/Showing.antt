@@ -9,6 +9,7 @@ use Rattle.files.specs.declared.error.ProgramError.{ProgramError}
 use Rattle.files.specs.declared.error.ProgramError.TheVariants as errors
 use Rattle.formats.specs.Drawing.{DrawsText}
 use Rattle.formats.specs.declared.drawing.Wanted.{Wanted}
+use Rattle.formats.specs.declared.windows.Rows.TheVariants.{Between}
 use Rattle.msc_text.specs.Outs.{Sink, Stored}
 use Rattle.msc_text.specs.Writing.{Puts, Breaks}
 use Rattle.page_text.specs.PageText.{page_text}
@@ -23,8 +24,7 @@ pub record IsAskedOf (file : List ℕ) (wanted : Wanted) : Type 0 where
   pub only : wanted.only ≡ None
   pub first : wanted.events.first ≡ 1
   pub last : wanted.events.last ≡ 2 ^ 32 - 1
-  pub top : wanted.rows.first ≡ 1
-  pub bottom : wanted.rows.last ≡ 2 ^ 32 - 1
+  pub rows : wanted.rows ≡ Between (record { first = 1; last = 2 ^ 32 - 1 })
   pub numbers : wanted.numbers ≡ false
 
 -- the picture is what `draw` writes of the bytes

@@ -9,7 +9,7 @@ use crate::races::{ReadFile, races_of};
 use chart::{Chart, Names};
 use closure::Closure;
 use files::{ProgramError, Source, Text, answered, closure_of};
-use formats::{Events, Wanted, draw};
+use formats::{Events, Rows, Wanted, draw};
 use msc_text::Out;
 use page_answers::Collected;
 use page_marks::{pairs_of, told_of};
@@ -24,7 +24,7 @@ fn wanted_of(title: &[u8]) -> Wanted<'_>
         title,
         only: None,
         events: Events::ALL,
-        rows: Events::ALL,
+        rows: Rows::Between(Events::ALL),
         numbers: false,
     }
 }

@@ -83,14 +83,15 @@ fn races_command<'a>(alloc: Global) -> Result<Command<'a>, AllocError> {
 
 /// The command that draws a file.
 fn draw_command<'a>(alloc: Global) -> Result<Command<'a>, AllocError> {
-    Command::new(alloc, "draw")
+    let command = Command::new(alloc, "draw")
         .disable_help_flag(true)
         .arg(option(alloc, "only"))?
         .arg(option(alloc, "events"))?
         .arg(option(alloc, "rows"))?
+        .arg(option(alloc, "around").num_args(2))?
         .arg(option(alloc, "title"))?
-        .arg(flag(alloc, "numbers"))?
-        .arg(file(alloc))
+        .arg(flag(alloc, "numbers"))?;
+    reads_tools(alloc, command)?.arg(file(alloc))
 }
 
 /// The command that writes a file for another tool.

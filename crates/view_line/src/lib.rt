@@ -11,5 +11,5 @@ pub use command_line::CommandLineError;
 pub use reading::requested;
 pub use request::{
     Compare, Draw, Export, Import, ImportLog, LogForm, LogRaces, Mend, Pair, Question, Races,
-    Reading, Request, Showing,
+    Reading, Request, Rows, Showing,
 };

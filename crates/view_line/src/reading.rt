@@ -2,7 +2,7 @@
 use crate::commands::command_line;
 use crate::request::{
     Compare, Draw, Export, Import, ImportLog, LogForm, LogRaces, Mend, Pair, Question, Races,
-    Reading, Request, Showing,
+    Reading, Request, Rows, Showing,
 };
 use clap::ArgMatches;
 use command_line::CommandLineError;
@@ -29,14 +29,33 @@ fn pair_of<'a>(question: Question, words: &ArgMatches<'a>) -> Option<Request<'a>
     }))
 }
 
+/// The event that the words behind `--around` say.
+fn around_of<'a>(words: &[&'a str]) -> Option<Rows<'a>> {
+    Some(Rows::Around {
+        instance: *words.first()?,
+        event: *words.get(1)?,
+    })
+}
+
+/// The rows that the words of `draw` ask for: not both those of two numbers and those round an event.
+fn rows_of<'a>(words: &ArgMatches<'a>) -> Option<Rows<'a>> {
+    match (words.get_str("rows"), words.get_strs("around")) {
+        (None, None) => Some(Rows::All),
+        (Some(rows), None) => Some(Rows::Between(rows)),
+        (None, Some(around)) => around_of(around),
+        (Some(_), Some(_)) => None,
+    }
+}
+
 /// What the words of `draw` ask for.
-fn draw_of<'a>(words: &ArgMatches<'a>) -> Option<Request<'a>> {
-    Some(Request::Draw(Draw {
+fn draw_of<'a>(alloc: Global, words: &ArgMatches<'a>) -> Result<Request<'a>, CommandLineError> {
+    Ok(Request::Draw(Draw {
         only: words.get_str("only"),
         events: words.get_str("events"),
-        rows: words.get_str("rows"),
+        rows: rows_of(words).ok_or(CommandLineError::Usage)?,
         title: words.get_str("title"),
         numbers: words.get_flag("numbers"),
+        reading: other_reading(alloc, words)?,
         file: words.get_str("FILE"),
     }))
 }
@@ -136,8 +155,8 @@ fn import_of<'a>(alloc: Global, words: &ArgMatches<'a>) -> Result<Request<'a>, C
     }
 }
 
-/// How the file of `races` is read, if it is another tool's text. G1: without `--from` there is an option of `import`.
-fn races_reading<'a>(
+/// How a command's file is read, if it is another tool's text. G1: without `--from` there is an option of `import`.
+fn other_reading<'a>(
     alloc: Global,
     words: &ArgMatches<'a>,
 ) -> Result<Option<Reading<'a>>, CommandLineError> {
@@ -179,7 +198,7 @@ fn file_races_of<'a>(
     let file = one_file(alloc, words)?;
     Ok(Request::Races(Races {
         showing: showing_of(words),
-        reading: races_reading(alloc, words)?,
+        reading: other_reading(alloc, words)?,
         file,
     }))
 }
@@ -218,7 +237,6 @@ fn mend_of<'a>(words: &ArgMatches<'a>) -> Option<Request<'a>> {
 /// What the words of another command ask for.
 fn other_of<'a>(command: &str, words: &ArgMatches<'a>) -> Option<Request<'a>> {
     match command {
-        "draw" => draw_of(words),
         "export" => export_of(words),
         "compare" => compare_of(words),
         "mend" => mend_of(words),
@@ -236,6 +254,7 @@ fn request_of<'a>(
     words: &ArgMatches<'a>,
 ) -> Result<Request<'a>, CommandLineError> {
     match command {
+        "draw" => draw_of(alloc, words),
         "import" => import_of(alloc, words),
         "races" => races_of(alloc, words),
         _ => other_of(command, words).ok_or(CommandLineError::Usage),

@@ -19,19 +19,30 @@ pub struct Pair<'a> {
     pub receive: &'a str,
 }
 
-/// What is to be drawn, and how. The names and the numbers are words still.
+/// Which rows are to be drawn. The numbers are words still.
 #[derive(Clone, Copy, Debug, PartialEq, Eq)]
+pub enum Rows<'a> {
+    All,
+    /// The numbers behind `--rows`, joined by two dots.
+    Between(&'a str),
+    /// Those round the event behind `--around`: the name of its instance, and its number.
+    Around { instance: &'a str, event: &'a str },
+}
+
+/// What is to be drawn, and how. The names and the numbers are words still.
+#[derive(Debug, Drop)]
 pub struct Draw<'a> {
     /// The names behind `--only`, joined by commas.
     pub only: Option<&'a str>,
     /// The numbers behind `--events`, joined by two dots.
     pub events: Option<&'a str>,
-    /// The numbers behind `--rows`, joined by two dots.
-    pub rows: Option<&'a str>,
+    pub rows: Rows<'a>,
     /// The words behind `--title`.
     pub title: Option<&'a str>,
     /// Whether `--numbers` is given.
     pub numbers: bool,
+    /// With `--from`: how the file is read, which is another tool's text then.
+    pub reading: Option<Reading<'a>>,
     /// Without it, and where it is `-`, standard input is read.
     pub file: Option<&'a str>,
 }
@@ -155,7 +166,8 @@ pub enum Mend<'a> {
 pub enum Request<'a> {
     /// `why` and `witness`, which ask about two events.
     Pair(Pair<'a>),
-    /// `draw [--only NAME,NAME..] [--events A..B] [--rows A..B] [--numbers] [--title TEXT] [FILE]`.
+    /// `draw [--only NAME,NAME..] [--events A..B] [--rows A..B | --around INSTANCE N] [--numbers] [--title TEXT] [FILE]`,
+    /// and with `--from TOOL` the options of `import`.
     Draw(Draw<'a>),
     /// `page [FILE]`: without the file, and where it is `-`, standard input is read.
     Page(Option<&'a str>),

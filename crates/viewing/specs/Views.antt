@@ -13,6 +13,7 @@ use Rattle.formats.specs.Drawing.{DrawsText}
 use Rattle.formats.specs.Exporting.{ExportsText, export_said}
 use Rattle.formats.specs.Targets.{target_said}
 use Rattle.import_answers.specs.Importing as diagram_answers
+use Rattle.import_pictures.specs.Drawing as diagram_pictures
 use Rattle.import_races.specs.Showing as diagram_races
 use Rattle.log_imports.specs.Importing as log_answers
 use Rattle.log_imports.specs.Options as logs
@@ -52,7 +53,7 @@ use Rattle.views.specs.Witnessing.{Witnesses}
 use Rattle.views.specs.declared.pair.Asked.{Asked}
 use Rattle.viewing.specs.Given.{named_so, file_said, files_said, told_files, AreGiven, IsNotGiven}
 use Rattle.viewing.specs.Lines.{RefusesWords}
-use Rattle.viewing.specs.Wanted.{IsAsked, IsMend, IsPicture, IsNameOf, titled_path, comparison_form, AreRaces, AreJudged, IsReading, IsLog}
+use Rattle.viewing.specs.Wanted.{IsAsked, IsMend, IsPicture, IsPictureOf, IsNameOf, titled_path, comparison_form, AreRaces, AreJudged, IsReading, IsLog}
 
 -- What commands do, by what is known of standard output and of standard error, with what they were before and are afterwards.
 module _ {S V : Type 0} (sink : S → Sink) (old new : S) (told : V → Sink) (before after : V) where
@@ -119,10 +120,25 @@ module _ {S V : Type 0} (gives : ℕ → Option (List ℕ) → Result (List ℕ)
   ViewsPair pair = OfFile (IsAsked pair.instance.now pair.earlier.now pair.receive.now)
       (SayNothing (IsAsked pair.instance.now pair.earlier.now pair.receive.now)) (named_so pair.file.now) (DoesPair sink old new told before after pair.question)
 
-  -- a file was drawn
-  abbrev pub ViewsPicture : Draw → Result ℕ ProgramError → Type 0
-  ViewsPicture draw = OfFile (IsPicture draw) (SayNothing (IsPicture draw)) (file_said (option_map (λ word. word.now) draw.file))
+  -- a chart or a schedule was drawn
+  abbrev pub ViewsFilePicture : Draw → Result ℕ ProgramError → Type 0
+  ViewsFilePicture draw = OfFile (IsPicture draw) (SayNothing (IsPicture draw)) (file_said (option_map (λ word. word.now) draw.file))
       (λ wanted text status. Answers (DrawsText sink old new wanted text) drawn_said told before after status)
+
+  -- another tool's text was drawn
+  abbrev pub ViewsPictureOf : Draw → Reading → Result ℕ ProgramError → Type 0
+  ViewsPictureOf draw reading = OfFile (IsPictureOf draw reading) (AreNotRead (IsPictureOf draw reading))
+      (file_said (option_map (λ word. word.now) draw.file))
+      (λ asked text status. Answers (diagram_pictures.DrawsDrawing sink old new asked.1.0 text asked.1.1 asked.0)
+      diagram_pictures.picture_said told before after status)
+
+  -- by whether another tool's text is read
+  abbrev pub ViewsPictureBy : Option Reading → Draw → Result ℕ ProgramError → Type 0
+  ViewsPictureBy None draw result = ViewsFilePicture draw result
+  ViewsPictureBy (Some reading) draw result = ViewsPictureOf draw reading result
+
+  abbrev pub ViewsPicture : Draw → Result ℕ ProgramError → Type 0
+  ViewsPicture draw result = ViewsPictureBy draw.reading draw result
 
   -- a file was written for another tool
   abbrev pub ViewsExport : Export → Result ℕ ProgramError → Type 0

@@ -11,6 +11,8 @@ use Rattle.formats.specs.Targets.{tool_said}
 use Rattle.formats.specs.Titles.{IsFileName}
 use Rattle.formats.specs.declared.drawing.Wanted as pictures
 use Rattle.formats.specs.declared.events.Events.{Events}
+use Rattle.formats.specs.declared.windows.Rows as drawn_rows
+use Rattle.formats.specs.declared.windows.Rows.TheVariants as row_kinds
 use Rattle.log_imports.specs.Options as logs
 use Rattle.log_imports.specs.Options.FormView.{Plain, Pattern, ShiViz}
 use Rattle.log_lines.specs.declared.range.LineRange.{LineRange}
@@ -28,6 +30,8 @@ use Rattle.view_line.specs.declared.request.ImportLog.{ImportLog}
 use Rattle.view_line.specs.declared.request.LogForm.{LogForm}
 use Rattle.view_line.specs.declared.request.LogForm.TheVariants as forms
 use Rattle.view_line.specs.declared.request.Reading.{Reading}
+use Rattle.view_line.specs.declared.request.Rows as lines
+use Rattle.view_line.specs.declared.request.Rows.TheVariants as row_words
 use Rattle.view_line.specs.declared.request.Showing.{Showing}
 use Rattle.views.specs.declared.pair.Asked.{Asked}
 
@@ -50,6 +54,16 @@ pub record IsMend (name : Option (List ℕ)) (instance earlier receive : List �
 abbrev pub AreDrawn : Option (List ℕ) → Events → Type 0
 AreDrawn None events = events ≡ record { first = 1; last = 4294967295 }
 AreDrawn (Some word) events = AreEvents word events
+
+-- the rows that are drawn: all, those that a word says, or those round an event
+abbrev pub AreRows : lines.Rows → drawn_rows.Rows → Type 0
+AreRows row_words.All (row_kinds.Between rows) = AreDrawn None rows
+AreRows row_words.All (row_kinds.Around around) = ⊥
+AreRows (row_words.Between word) (row_kinds.Between rows) = AreDrawn (Some word.now) rows
+AreRows (row_words.Between word) (row_kinds.Around around) = ⊥
+AreRows (row_words.Around instance event) (row_kinds.Between rows) = ⊥
+AreRows (row_words.Around instance event) (row_kinds.Around around) =
+    (around.instance.now ≡ instance.now) × IsNumberIn event.now around.event
 
 -- the path that a title is taken from: standard input has none
 abbrev pub titled_path : Option (List ℕ) → Option (List ℕ)
@@ -75,7 +89,7 @@ pub record IsPicture (draw : Draw) (wanted : pictures.Wanted) : Type 0 where
   pub title : IsTitle draw wanted.title.now
   pub only : option_map (λ bytes. bytes.now) wanted.only ≡ option_map (λ word. word.now) draw.only
   pub events : AreDrawn (option_map (λ word. word.now) draw.events) wanted.events
-  pub rows : AreDrawn (option_map (λ word. word.now) draw.rows) wanted.rows
+  pub rows : AreRows draw.rows wanted.rows
   pub numbers : wanted.numbers ≡ draw.numbers
 
 -- the form of a comparison, and that of races
@@ -142,3 +156,7 @@ pub record IsLog (log : ImportLog) (options : logs.OptionsView) : Type 0 where
   pub range : AreLines (option_map (λ word. word.now) log.from_line) (option_map (λ word. word.now) log.to_line) options.range
   pub hosts : AreFirst (option_map (λ word. word.now) log.hosts) options.hosts
   pub peers : AreSaid IsPeer (map (λ word. word.now) log.peers.items) options.peers
+
+-- the picture that is wanted of another tool's text, and how that is read
+abbrev pub IsPictureOf : Draw → Reading → pictures.Wanted × (Option Tool × diagrams.OptionsView) → Type 0
+IsPictureOf draw reading asked = IsPicture draw asked.0 × IsReading reading asked.1

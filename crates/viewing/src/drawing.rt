@@ -2,15 +2,19 @@
 ghost use Rattle.std.specs.Prelude.{◌≡◌, Some, option_map};
 ghost use Rattle.formats.specs.Targets.{target_said};
 ghost use Rattle.option_words.specs.Words.{Says};
-ghost use Rattle.viewing.specs.Views.{ViewsPicture, ViewsExport};
-ghost use Rattle.viewing.specs.Wanted.{IsPicture, IsTitle, IsNameOf, AreDrawn, titled_path};
+ghost use Rattle.viewing.specs.Views.{ViewsPicture, ViewsFilePicture, ViewsExport};
+ghost use Rattle.viewing.specs.Wanted.{IsPicture, IsTitle, IsNameOf, AreDrawn, AreRows, titled_path};
 
+use crate::asking::number_by;
 use crate::giving::{Giver, first_in};
+use crate::importing::view_picture_of;
 use files::ProgramError;
-use formats::{Events, Target, Wanted, draw, events_in, export, file_name, target_in};
+use formats::{
+    Around, Events, Rows, Target, Wanted, draw, events_in, export, file_name, target_in,
+};
 use msc_text::Out;
 use std::alloc::Global;
-use view_line::{Draw, Export};
+use view_line::{Draw, Export, Rows as RowWords};
 
 /// The numbers that a word says, or all where there is none. G1: it says none.
 fn numbers_by(word: Option<&str>) -> Result<Events, ProgramError>
@@ -68,20 +72,49 @@ fn title_by<'a>(draw: &Draw<'a>) -> &'a [u8]
     }
 }
 
-/// What is to be drawn. G1: the word for the events or for the rows says none.
-fn wanted_by<'a>(draw: &Draw<'a>) -> Result<Wanted<'a>, ProgramError>
+/// The rows that words say, or all. G1: they say none.
+fn rows_by<'a>(words: &RowWords<'a>) -> Result<Rows<'a>, ProgramError>
+    ensures { Says (AreRows words.now) result }
+{
+    match words {
+        RowWords::All => Ok(Rows::Between(Events::ALL)),
+        RowWords::Between(word) => Ok(Rows::Between(numbers_by(Some(*word))?)),
+        RowWords::Around { instance, event } => Ok(Rows::Around(Around {
+            event: number_by(*event)?,
+            instance: instance.as_bytes(),
+        })),
+    }
+}
+
+/// What is to be drawn. G1: the word for the events or those for the rows say none.
+pub(crate) fn picture_by<'a>(draw: &Draw<'a>) -> Result<Wanted<'a>, ProgramError>
     ensures { Says (IsPicture draw.now) result }
 {
     Ok(Wanted {
         title: title_by(draw),
         only: draw.only.map(|names| names.as_bytes()),
         events: numbers_by(draw.events)?,
-        rows: numbers_by(draw.rows)?,
+        rows: rows_by(&draw.rows)?,
         numbers: draw.numbers,
     })
 }
 
-/// Draws a file.
+/// Draws a chart or a schedule.
+fn view_file_picture<G: Giver, W: Out, V: Out>(
+    alloc: Global,
+    picture: &Draw<'_>,
+    giver: &G,
+    out: &mut W,
+    err: &mut V,
+) -> Result<u8, ProgramError>
+    ensures { ViewsFilePicture (G.gives giver.now) W.sink out.old out.new V.sink err.old err.new picture.now result }
+{
+    let wanted = picture_by(picture)?;
+    let bytes = first_in(alloc, giver, picture.file)?;
+    Ok(draw(alloc, bytes.as_slice(), &wanted, out, err))
+}
+
+/// Draws a file, which may be another tool's text.
 pub(crate) fn view_picture<G: Giver, W: Out, V: Out>(
     alloc: Global,
     picture: &Draw<'_>,
@@ -91,9 +124,10 @@ pub(crate) fn view_picture<G: Giver, W: Out, V: Out>(
 ) -> Result<u8, ProgramError>
     ensures { ViewsPicture (G.gives giver.now) W.sink out.old out.new V.sink err.old err.new picture.now result }
 {
-    let wanted = wanted_by(picture)?;
-    let bytes = first_in(alloc, giver, picture.file)?;
-    Ok(draw(alloc, bytes.as_slice(), &wanted, out, err))
+    match &picture.reading {
+        Some(reading) => view_picture_of(alloc, picture, reading, giver, out, err),
+        None => view_file_picture(alloc, picture, giver, out, err),
+    }
 }
 
 /// What is to be exported to. G1: the word says none.

@@ -1,26 +1,28 @@
-//! Texts of other tools: their charts, and the races of these.
+//! Texts of other tools: their charts, and the pictures and races of these.
 ghost use Rattle.std.specs.Prelude.{◌≡◌, map, option_map, MatchResult};
 ghost use Rattle.files.specs.declared.error.ProgramError.TheVariants.{Memory};
 ghost use Rattle.joined_diagrams.specs.Joins.{join_view};
 ghost use Rattle.diagram_imports.specs.Importing.{options_view};
 ghost use Rattle.viewing.specs.Readings.{read_view, skips_of};
 ghost use Rattle.option_words.specs.Words.{AreSaid, Says, Reads};
-ghost use Rattle.viewing.specs.Views.{ViewsImport, ViewsRacesOf};
+ghost use Rattle.viewing.specs.Views.{ViewsImport, ViewsPictureOf, ViewsRacesOf};
 ghost use Rattle.viewing.specs.Wanted.{IsTool, IsSkip, IsReading};
 
+use crate::drawing::picture_by;
 use crate::giving::{Giver, first_in};
 use crate::racing::wanted_by;
 use diagram_imports::{Options, Skip};
 use files::ProgramError;
 use formats::{events_in, tool_in};
 use import_answers::import;
+use import_pictures::draw_of;
 use import_races::races_of;
 use joined_diagrams::Join;
 use msc_text::Out;
 use option_words::{JoinWord, join_words, joins_of};
 use std::alloc::Global;
 use tool_text::Tool;
-use view_line::{Import, Races, Reading};
+use view_line::{Draw, Import, Races, Reading};
 
 /// What the words say of how a text is read.
 #[derive(Drop)]
@@ -120,6 +122,34 @@ pub(crate) fn view_import<G: Giver, W: Out, V: Out>(
     let bytes = first_in(alloc, giver, imported.file)?;
     let options = options_of(&read, &joins);
     Ok(import(alloc, read.tool, bytes.as_slice(), options, out, err))
+}
+
+/// Draws another tool's text.
+pub(crate) fn view_picture_of<G: Giver, W: Out, V: Out>(
+    alloc: Global,
+    picture: &Draw<'_>,
+    reading: &Reading<'_>,
+    giver: &G,
+    out: &mut W,
+    err: &mut V,
+) -> Result<u8, ProgramError>
+    ensures { ViewsPictureOf (G.gives giver.now) W.sink out.old out.new V.sink err.old err.new picture.now reading.now
+        result }
+{
+    let wanted = picture_by(picture)?;
+    let read = read_by(alloc, reading)?;
+    let joins = joins_by(alloc, &read)?;
+    let bytes = first_in(alloc, giver, picture.file)?;
+    let options = options_of(&read, &joins);
+    Ok(draw_of(
+        alloc,
+        read.tool,
+        bytes.as_slice(),
+        options,
+        &wanted,
+        out,
+        err,
+    ))
 }
 
 /// Shows the races of another tool's text by name. G1: luck is asked for, of which such a text tells nothing.

@@ -1,60 +1,58 @@
-use Rattle.std.proofs.Common.{ℕ, ◌-◌, List, subst}
-use Rattle.files.specs.Texts.{named_of}
+use Rattle.std.proofs.Common.{◌≡◌, ℕ, List, length, subst}
+use Rattle.std.specs.Prelude.{Option}
+use Rattle.chart.specs.declared.instance.EventNo.{EventNo}
+use Rattle.chart.specs.Charts.{LineView, chart_lines, IsPossible}
+use Rattle.chart.specs.Reports.{ReportView, AreReports}
+use Rattle.files.specs.Files.{Named}
+use Rattle.layout.specs.declared.row.Row.{Row}
+use Rattle.pictures.specs.Pictures.{PictureView}
 use Rattle.pictures.specs.Preparing.{IsPictureOf}
+use Rattle.formats.specs.declared.drawing.Wanted.{Wanted}
+use Rattle.formats.specs.declared.windows.Window.{Window}
+use Rattle.formats.specs.Columns.{AreColumns}
+use Rattle.formats.specs.Drawing.{only_of, IsWanted}
+use Rattle.formats.specs.Preparing.{IsPrepared}
+use Rattle.formats.specs.Windows.{IsWindow}
 use Rattle.formats.proofs.drawing.draw_columns.Goals as goal
+
+-- the picture of a window of a possible chart
+is_wanted : (wanted : Wanted) (turns : List ℕ) (names : List (List ℕ)) (lines lines' : List LineView) (columns : List ℕ) (rows : List Row) (ends : List (List (Option EventNo))) (reports : List ReportView) (window : Window) (picture : PictureView)
+    → AreColumns names (only_of wanted) columns → IsPossible (length lines) (chart_lines lines) → IsPrepared lines turns rows ends → AreReports lines reports
+    → lines' ≡ lines → IsWindow (names, lines') rows wanted.rows window
+    → IsPictureOf wanted.title.now names lines rows reports ends (record {
+      drawn = columns;
+      first = wanted.events.first;
+      last = wanted.events.last;
+      top = window.top;
+      bottom = window.bottom;
+      numbers = wanted.numbers;
+    }) picture → IsWanted wanted turns (names, lines) picture
+is_wanted wanted turns names lines lines' columns rows ends reports window picture are possible prepared races same chosen drawn = record {
+  columns = columns;
+  rows = rows;
+  ends = ends;
+  reports = reports;
+  window = window;
+  named_so = are;
+  possible = possible;
+  prepared = prepared;
+  races = races;
+  chosen = subst (λ (ls : List LineView). IsWindow (names, ls) rows wanted.rows window) same chosen;
+  drawn = drawn;
+}
 
 pub returns-in-Ok-write_picture : goal.returns-in-Ok-write_picture
 returns-in-Ok-write_picture g c = (
   c.in-Ok-of.picture,
-  record {
-    columns = c.args.columns.now;
-    rows = c.in-Ok.prepared.layout;
-    ends = c.in-Ok.prepared.ends;
-    reports = c.args.reports.now;
-    named_so = c.requires.columns;
-    possible = c.requires.possible;
-    prepared = c.in-Ok.ensures;
-    races = c.requires.reports;
-    drawn =
-        let is = λ (ns : List (List ℕ)) (top bottom : ℕ). IsPictureOf c.args.wanted.now.title.now ns c.args.closure.now c.in-Ok.prepared.layout c.args.reports.now c.in-Ok.prepared.ends (record {
-          drawn = c.args.columns.now;
-          first = c.args.wanted.now.events.first;
-          last = c.args.wanted.now.events.last;
-          top = top;
-          bottom = bottom;
-          numbers = c.args.wanted.now.numbers;
-        }) c.in-Ok-of.picture in
-        let names_so = subst (λ (ns : List (List ℕ)). is ns c.place_of-top.result c.place_of-bottom.result) c.names-names.ensures c.in-Ok-of.ensures in
-        let top_so = subst (λ (top : ℕ). is (named_of c.args.source.now).0 top c.place_of-bottom.result) c.place_of-top.ensures names_so in
-        subst (λ (bottom : ℕ). is (named_of c.args.source.now).0 (c.args.wanted.now.rows.first - 1) bottom) c.place_of-bottom.ensures top_so;
-  },
+  is_wanted c.args.wanted.now c.args.subject.now.turns.now c.args.subject.now.names.now c.args.subject.now.closure.now c.lines.result.now c.args.columns.now c.in-Ok.prepared.layout c.in-Ok.prepared.ends c.args.subject.now.reports.now c.in-Some.window c.in-Ok-of.picture
+      c.requires.columns c.requires.possible c.in-Ok.ensures c.requires.reports c.lines.ensures c.in-Some.ensures c.in-Ok-of.ensures,
   c.in-Ok-write_picture.ensures,
 )
 
 pub returns : goal.returns
 returns g c = (
   c.in-Ok-of.picture,
-  record {
-    columns = c.args.columns.now;
-    rows = c.in-Ok.prepared.layout;
-    ends = c.in-Ok.prepared.ends;
-    reports = c.args.reports.now;
-    named_so = c.requires.columns;
-    possible = c.requires.possible;
-    prepared = c.in-Ok.ensures;
-    races = c.requires.reports;
-    drawn =
-        let is = λ (ns : List (List ℕ)) (top bottom : ℕ). IsPictureOf c.args.wanted.now.title.now ns c.args.closure.now c.in-Ok.prepared.layout c.args.reports.now c.in-Ok.prepared.ends (record {
-          drawn = c.args.columns.now;
-          first = c.args.wanted.now.events.first;
-          last = c.args.wanted.now.events.last;
-          top = top;
-          bottom = bottom;
-          numbers = c.args.wanted.now.numbers;
-        }) c.in-Ok-of.picture in
-        let names_so = subst (λ (ns : List (List ℕ)). is ns c.place_of-top.result c.place_of-bottom.result) c.names-names.ensures c.in-Ok-of.ensures in
-        let top_so = subst (λ (top : ℕ). is (named_of c.args.source.now).0 top c.place_of-bottom.result) c.place_of-top.ensures names_so in
-        subst (λ (bottom : ℕ). is (named_of c.args.source.now).0 (c.args.wanted.now.rows.first - 1) bottom) c.place_of-bottom.ensures top_so;
-  },
+  is_wanted c.args.wanted.now c.args.subject.now.turns.now c.args.subject.now.names.now c.args.subject.now.closure.now c.lines.result.now c.args.columns.now c.in-Ok.prepared.layout c.in-Ok.prepared.ends c.args.subject.now.reports.now c.in-Some.window c.in-Ok-of.picture
+      c.requires.columns c.requires.possible c.in-Ok.ensures c.requires.reports c.lines.ensures c.in-Some.ensures c.in-Ok-of.ensures,
   c.in-Err.ensures,
 )

@@ -5,10 +5,17 @@ use Rattle.files.specs.declared.error.ProgramError.TheVariants.{Memory}
 use Rattle.files.specs.Files.{IsRefused}
 use Rattle.files.specs.Texts.{named_of}
 use Rattle.formats.specs.Preparing.{turns_in}
-use Rattle.formats.specs.Columns.{AreColumns}
+use Rattle.formats.specs.Columns.{AreColumns, RefusesColumns}
 use Rattle.formats.specs.Drawing.{only_of, Draws}
-use Rattle.formats.proofs.RefusedLemmas.{not_drawn}
+use Rattle.formats.proofs.RefusedLemmas.{no_columns, not_drawn}
 use Rattle.formats.proofs.drawing.draw_source.Goals as goal
+
+pub returns-in_err-columns : goal.returns-in_err-columns
+returns-in_err-columns g c =
+    let p = err_from_is_err_and c.from_residual.result c.from_residual.ensures.1 in
+    let error = c.in_err-columns.field-0.0 in
+    rw (p.1, p.2) (no_columns g.W.Out.sink c.args.out.now (turns_in c.args.source.now) (named_of c.args.source.now) c.args.wanted.now error
+    (subst (λ (ns : List (List ℕ)). RefusesColumns ns (only_of c.args.wanted.now) error) c.names-names.ensures c.in_err-columns.ensures.err))
 
 pub returns-in_err-closure : goal.returns-in_err-closure
 returns-in_err-closure g c =
@@ -22,4 +29,6 @@ returns-in_err-closure g c =
 
 pub returns : goal.returns
 returns g c =
-    subst (λ (ls : List LineView). Draws g.W.Out.sink c.args.out.now c.draw_columns.new.out c.draw_columns.result c.args.wanted.now (turns_in c.args.source.now) ((named_of c.args.source.now).0, ls)) (c.in_ok-closure.ensures.closure ∙ c.chart.ensures.value) c.draw_columns.ensures
+    let draws = λ (turns : List ℕ) (ns : List (List ℕ)) (ls : List LineView). Draws g.W.Out.sink c.args.out.now c.draw_columns.new.out c.draw_columns.result c.args.wanted.now turns (ns, ls) in
+    let turned = subst (λ (turns : List ℕ). draws turns c.names-names.result.now c.in_ok-closure.closure) (c.as_slice.ensures.value ∙ c.in-Ok-turns_in.ensures) c.draw_columns.ensures in
+    subst₂ (λ (ns : List (List ℕ)) (ls : List LineView). draws (turns_in c.args.source.now) ns ls) c.names-names.ensures (c.in_ok-closure.ensures.closure ∙ c.chart.ensures.value) turned

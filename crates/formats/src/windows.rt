@@ -1,0 +1,130 @@
+//! Which rows of a picture are chosen.
+ghost use Rattle.std.specs.Prelude.{◌≡◌, ◌≤◌, ◌-◌, length, MatchOption};
+ghost use Rattle.chart.specs.declared.line.TheConstants.{MAX_EVENTS};
+ghost use Rattle.chart.specs.Charts.{chart_lines};
+ghost use Rattle.formats.specs.Windows.{has_event, event_on, event_said, round, IsWindow, HasNoWindow};
+ghost use Rattle.formats.specs.declared.windows.Rows.TheVariants as rows;
+ghost use Rattle.layout.specs.Layouts.{IsDrawing};
+
+use crate::columns::instance_said;
+use crate::events::Events;
+use chart::{Event, EventNo, InstanceNo, Line, Names};
+use layout::Layout;
+
+/// An event: the name of its instance, and its number on the line, from 1.
+#[derive(Clone, Copy, Debug)]
+pub struct Around<'a> {
+    pub instance: &'a [u8],
+    pub event: u64,
+}
+
+/// Which rows of a picture are chosen.
+#[derive(Clone, Copy, Debug)]
+pub enum Rows<'a> {
+    /// Those of these numbers, from 1.
+    Between(Events),
+    /// The row of an event, and up to twelve above it and below it.
+    Around(Around<'a>),
+}
+
+/// The numbers of the first and of the last row that are chosen, from 0.
+#[derive(Clone, Copy)]
+pub(crate) struct Window {
+    pub(crate) top: usize,
+    pub(crate) bottom: usize,
+}
+
+/// The place of a row among all, from 0, by its number.
+fn place_of(row: u32) -> usize
+    ensures { result ≡ row - 1 }
+{
+    row.saturating_sub(1) as usize
+}
+
+/// The events of an instance's line.
+fn events_of(lines: &[Line], instance: InstanceNo) -> &[Event]
+    ensures events { result.now ≡ chart_lines lines.now instance }
+    ensures short { length result.now ≤ MAX_EVENTS }
+{
+    match lines.get(instance.place()) {
+        Some(line) => line.events(),
+        None => &[],
+    }
+}
+
+fn has_event(events: &[Event], number: u64) -> bool
+    ensures { result ≡ has_event events.now number }
+{
+    1 <= number && number <= events.len() as u64
+}
+
+/// The event of this number, if the instance's line has it.
+fn event_on(instance: InstanceNo, events: &[Event], number: u64) -> Option<EventNo>
+    requires { length events.now ≤ MAX_EVENTS }
+    ensures { result ≡ event_on instance events.now number }
+{
+    if !has_event(events, number) {
+        return None;
+    }
+    Some(EventNo {
+        instance,
+        index: number as u32,
+    })
+}
+
+/// The event that is named, if the chart has it.
+fn event_said(names: &Names, lines: &[Line], around: &Around<'_>) -> Option<EventNo>
+    ensures { result ≡ event_said (names.now, lines.now) around.now }
+{
+    match instance_said(names, around.instance) {
+        None => None,
+        Some(instance) => event_on(instance, events_of(lines, instance), around.event),
+    }
+}
+
+/// The rows up to twelve above a row and up to twelve below it.
+fn round(row: usize) -> Window
+    ensures { result ≡ round row }
+{
+    Window {
+        top: row.saturating_sub(12),
+        bottom: row.saturating_add(12),
+    }
+}
+
+/// The rows round an event, if the chart has it.
+fn window_round(
+    names: &Names,
+    lines: &[Line],
+    layout: &Layout,
+    around: &Around<'_>,
+) -> Option<Window>
+    requires { IsDrawing lines.now layout.now }
+    ensures { MatchOption result (event_said (names.now, lines.now) around.now ≡ None)
+        (IsWindow (names.now, lines.now) layout.now (rows.Around around.now)) }
+{
+    let event = event_said(names, lines, around)?;
+    let row = layout.row_of(&event)?;
+    Some(round(row))
+}
+
+/// The rows that are chosen of a chart's layout. There are none exactly where they stand round an event that the chart
+/// doesn't have.
+pub(crate) fn window_in(
+    names: &Names,
+    lines: &[Line],
+    layout: &Layout,
+    rows: &Rows<'_>,
+) -> Option<Window>
+    requires { IsDrawing lines.now layout.now }
+    ensures { MatchOption result (HasNoWindow (names.now, lines.now) rows.now)
+        (IsWindow (names.now, lines.now) layout.now rows.now) }
+{
+    match rows {
+        Rows::Between(rows) => Some(Window {
+            top: place_of(rows.first),
+            bottom: place_of(rows.last),
+        }),
+        Rows::Around(around) => window_round(names, lines, layout, around),
+    }
+}
