@@ -108,6 +108,13 @@ fn import_command<'a>(alloc: Global) -> Result<Command<'a>, AllocError> {
     command.arg(files(alloc))
 }
 
+/// The command that writes a page of a file, which may be another tool's text or a log.
+fn page_command<'a>(alloc: Global) -> Result<Command<'a>, AllocError> {
+    let command = Command::new(alloc, "page").disable_help_flag(true);
+    let command = reads_logs(alloc, reads_tools(alloc, command)?)?;
+    command.arg(files(alloc))
+}
+
 /// The command that compares two files.
 fn compare_command<'a>(alloc: Global) -> Result<Command<'a>, AllocError> {
     Command::new(alloc, "compare")
@@ -145,7 +152,7 @@ pub(crate) fn command_line<'a>(alloc: Global) -> Result<Command<'a>, AllocError>
         .subcommand(pair_command(alloc, "witness")?)?
         .subcommand(pair_command(alloc, "why")?)?
         .subcommand(draw_command(alloc)?)?
-        .subcommand(file_command(alloc, "page")?)?
+        .subcommand(page_command(alloc)?)?
         .subcommand(export_command(alloc)?)?
         .subcommand(import_command(alloc)?)?
         .subcommand(compare_command(alloc)?)?

@@ -136,8 +136,9 @@ fn import_of<'a>(alloc: Global, words: &ArgMatches<'a>) -> Result<Request<'a>, C
     }
 }
 
-/// How the file of `races` is read, if it is another tool's text. G1: without `--from` there is an option of `import`.
-fn races_reading<'a>(
+/// How the file of `races` or `page` is read, if it is another tool's text. G1: without `--from` there is an option of
+/// `import`.
+fn reading_from<'a>(
     alloc: Global,
     words: &ArgMatches<'a>,
 ) -> Result<Option<Reading<'a>>, CommandLineError> {
@@ -179,7 +180,7 @@ fn file_races_of<'a>(
     let file = one_file(alloc, words)?;
     Ok(Request::Races(Races {
         showing: showing_of(words),
-        reading: races_reading(alloc, words)?,
+        reading: reading_from(alloc, words)?,
         file,
     }))
 }
@@ -192,6 +193,26 @@ fn races_of<'a>(alloc: Global, words: &ArgMatches<'a>) -> Result<Request<'a>, Co
             log: log_of(alloc, form, words)?,
         })),
         None => file_races_of(alloc, words),
+    }
+}
+
+/// The page of a file that the words of `page` ask for.
+fn file_page_of<'a>(
+    alloc: Global,
+    words: &ArgMatches<'a>,
+) -> Result<Request<'a>, CommandLineError> {
+    let file = one_file(alloc, words)?;
+    Ok(match reading_from(alloc, words)? {
+        Some(reading) => Request::ToolPage(Import { reading, file }),
+        None => Request::Page(file),
+    })
+}
+
+/// What the words of `page` ask for.
+fn page_of<'a>(alloc: Global, words: &ArgMatches<'a>) -> Result<Request<'a>, CommandLineError> {
+    match log_form(words) {
+        Some(form) => Ok(Request::LogPage(log_of(alloc, form, words)?)),
+        None => file_page_of(alloc, words),
     }
 }
 
@@ -222,7 +243,6 @@ fn other_of<'a>(command: &str, words: &ArgMatches<'a>) -> Option<Request<'a>> {
         "export" => export_of(words),
         "compare" => compare_of(words),
         "mend" => mend_of(words),
-        "page" => Some(Request::Page(words.get_str("FILE"))),
         "tidy" => Some(Request::Tidy(words.get_str("FILE"))),
         "explain" => Some(Request::Explain(words.get_str("FILE"))),
         _ => pair_of(question_of(command)?, words),
@@ -238,6 +258,7 @@ fn request_of<'a>(
     match command {
         "import" => import_of(alloc, words),
         "races" => races_of(alloc, words),
+        "page" => page_of(alloc, words),
         _ => other_of(command, words).ok_or(CommandLineError::Usage),
     }
 }

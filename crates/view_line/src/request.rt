@@ -159,6 +159,10 @@ pub enum Request<'a> {
     Draw(Draw<'a>),
     /// `page [FILE]`: without the file, and where it is `-`, standard input is read.
     Page(Option<&'a str>),
+    /// `page --from TOOL` with the options of `import`, and `[FILE]`.
+    ToolPage(Import<'a>),
+    /// `page --from log|shiviz` with the options of `import`, and `[FILE..]`.
+    LogPage(ImportLog<'a>),
     /// `export --to TOOL [FILE]`.
     Export(Export<'a>),
     /// `import [--from TOOL] [--strict] [--skip A..B].. [--join NAME=NAME,NAME..].. [FILE]`.

@@ -13,6 +13,8 @@ abbrev pub files_read : Request → ℕ
 files_read (requests.Pair pair) = 1
 files_read (requests.Draw draw) = 1
 files_read (requests.Page file) = 1
+files_read (requests.ToolPage wanted) = 1
+files_read (requests.LogPage log) = at_least_one (length log.files.items)
 files_read (requests.Export wanted) = 1
 files_read (requests.Import wanted) = 1
 files_read (requests.ImportLog log) = at_least_one (length log.files.items)

@@ -13,6 +13,8 @@ use Rattle.formats.specs.Drawing.{DrawsText}
 use Rattle.formats.specs.Exporting.{ExportsText, export_said}
 use Rattle.formats.specs.Targets.{target_said}
 use Rattle.import_answers.specs.Importing as diagram_answers
+use Rattle.import_pages.specs.Drawings as diagram_pages
+use Rattle.import_pages.specs.Logs as log_pages
 use Rattle.import_races.specs.Showing as diagram_races
 use Rattle.log_imports.specs.Importing as log_answers
 use Rattle.log_imports.specs.Options as logs
@@ -52,7 +54,7 @@ use Rattle.views.specs.Witnessing.{Witnesses}
 use Rattle.views.specs.declared.pair.Asked.{Asked}
 use Rattle.viewing.specs.Given.{named_so, file_said, files_said, told_files, AreGiven, IsNotGiven}
 use Rattle.viewing.specs.Lines.{RefusesWords}
-use Rattle.viewing.specs.Wanted.{IsAsked, IsMend, IsPicture, IsNameOf, titled_path, comparison_form, AreRaces, AreJudged, IsReading, IsLog}
+use Rattle.viewing.specs.Wanted.{IsAsked, IsMend, IsPicture, IsNameOf, titled_path, first_path, comparison_form, AreRaces, AreJudged, IsReading, IsLog}
 
 -- What commands do, by what is known of standard output and of standard error, with what they were before and are afterwards.
 module _ {S V : Type 0} (sink : S → Sink) (old new : S) (told : V → Sink) (before after : V) where
@@ -86,6 +88,18 @@ module _ {S V : Type 0} (sink : S → Sink) (old new : S) (told : V → Sink) (b
   abbrev pub DoesPage : Option (List ℕ) → List ℕ → ℕ → Type 0
   DoesPage file text status = (title : List ℕ) × IsNameOf (titled_path file) title
       × Answers (pages.ShowsText sink old new title text) page_said told before after status
+
+  -- the page of another tool's text was written, called as a picture of the file is
+  abbrev pub DoesToolPage : Option (List ℕ) → Option Tool × diagrams.OptionsView → List ℕ → ℕ → Type 0
+  DoesToolPage file reading text status = (title : List ℕ) × IsNameOf (titled_path file) title
+      × Answers (diagram_pages.ShowsDrawing sink old new reading.0 text reading.1 title) diagram_pages.page_said told before after status
+
+  -- the page of a log was written, called as a picture of its first file is
+  abbrev pub DoesLogPage : ImportLog → logs.OptionsView → List (List ℕ) → ℕ → Type 0
+  DoesLogPage log options texts status = (title : List ℕ) × (names : List (List ℕ))
+      × IsNameOf (titled_path (first_path (map (λ word. word.now) log.files.items))) title
+      × (names ≡ told_files (map (λ word. word.now) log.files.items))
+      × Answers (log_pages.ShowsLog sink old new options texts title) (log_pages.log_page_said names) told before after status
 
   -- a message was added by which a race goes
   abbrev pub DoesMend : mend_wanted.Wanted → List ℕ → ℕ → Type 0
@@ -187,6 +201,15 @@ module _ {S V : Type 0} (gives : ℕ → Option (List ℕ) → Result (List ℕ)
   abbrev pub ViewsPage : Option (List ℕ) → Result ℕ ProgramError → Type 0
   ViewsPage file = OfFileAlone (file_said file) (DoesPage sink old new told before after file)
 
+  -- the page of another tool's text was written
+  abbrev pub ViewsToolPage : Import → Result ℕ ProgramError → Type 0
+  ViewsToolPage wanted = OfFile (IsReading wanted.reading) (AreNotRead (IsReading wanted.reading)) (file_said (option_map (λ word. word.now) wanted.file))
+      (DoesToolPage sink old new told before after (option_map (λ word. word.now) wanted.file))
+
+  -- the page of a log was written
+  abbrev pub ViewsLogPage : ImportLog → Result ℕ ProgramError → Type 0
+  ViewsLogPage log = OfFiles (IsLog log) (files_said (map (λ word. word.now) log.files.items)) (DoesLogPage sink old new told before after log)
+
   -- the exact text of what is typed in a file was written
   abbrev pub ViewsTidy : Option (List ℕ) → Result ℕ ProgramError → Type 0
   ViewsTidy file = OfFileAlone (file_said file) (λ text status. Answers (Tidies sink old new text) tidy_said told before after status)
@@ -200,6 +223,8 @@ module _ {S V : Type 0} (gives : ℕ → Option (List ℕ) → Result (List ℕ)
   Comes (requests.Pair pair) result = ViewsPair pair result
   Comes (requests.Draw draw) result = ViewsPicture draw result
   Comes (requests.Page file) result = ViewsPage (option_map (λ word. word.now) file) result
+  Comes (requests.ToolPage wanted) result = ViewsToolPage wanted result
+  Comes (requests.LogPage log) result = ViewsLogPage log result
   Comes (requests.Export wanted) result = ViewsExport wanted result
   Comes (requests.Import wanted) result = ViewsImport wanted result
   Comes (requests.ImportLog log) result = ViewsLog log result

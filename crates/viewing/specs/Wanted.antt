@@ -1,5 +1,5 @@
 -- What the words of a command line want of a command (this project's profile).
-use Rattle.std.specs.Prelude.{◌≡◌, ℕ, ◌≤◌, List, [], map, bytes_eq, codes, Bool, true, false, Option, None, Some, option_map}
+use Rattle.std.specs.Prelude.{◌≡◌, ℕ, ◌≤◌, List, [], ◌∷◌, map, bytes_eq, codes, Bool, true, false, Option, None, Some, option_map}
 use Rattle.std.specs.Prelude.{if◌then◌else◌}
 use Rattle.comparisons.specs.declared.comparison_text.Form as comparison
 use Rattle.comparisons.specs.declared.comparison_text.Form.TheVariants as comparisons
@@ -56,6 +56,11 @@ abbrev pub titled_path : Option (List ℕ) → Option (List ℕ)
 titled_path None = None
 titled_path (Some path) =
     if bytes_eq path (codes "-") then None else if bytes_eq path (codes "/dev/stdin") then None else Some path
+
+-- the path of the first file, where one is named
+abbrev pub first_path : List (List ℕ) → Option (List ℕ)
+first_path [] = None
+first_path (file ∷ files) = Some file
 
 -- the title that a path gives: the name of the file alone
 abbrev pub IsNameOf : Option (List ℕ) → List ℕ → Type 0

@@ -5,15 +5,17 @@ ghost use Rattle.joined_diagrams.specs.Joins.{join_view};
 ghost use Rattle.diagram_imports.specs.Importing.{options_view};
 ghost use Rattle.viewing.specs.Readings.{read_view, skips_of};
 ghost use Rattle.option_words.specs.Words.{AreSaid, Says, Reads};
-ghost use Rattle.viewing.specs.Views.{ViewsImport, ViewsRacesOf};
+ghost use Rattle.viewing.specs.Views.{ViewsImport, ViewsRacesOf, ViewsToolPage};
 ghost use Rattle.viewing.specs.Wanted.{IsTool, IsSkip, IsReading};
 
+use crate::drawing::file_title;
 use crate::giving::{Giver, first_in};
 use crate::racing::wanted_by;
 use diagram_imports::{Options, Skip};
 use files::ProgramError;
 use formats::{events_in, tool_in};
 use import_answers::import;
+use import_pages::page_of_drawing;
 use import_races::races_of;
 use joined_diagrams::Join;
 use msc_text::Out;
@@ -120,6 +122,24 @@ pub(crate) fn view_import<G: Giver, W: Out, V: Out>(
     let bytes = first_in(alloc, giver, imported.file)?;
     let options = options_of(&read, &joins);
     Ok(import(alloc, read.tool, bytes.as_slice(), options, out, err))
+}
+
+/// Writes the page of another tool's text, called as a picture of the file is.
+pub(crate) fn view_tool_page<G: Giver, W: Out, V: Out>(
+    alloc: Global,
+    wanted: &Import<'_>,
+    giver: &G,
+    out: &mut W,
+    err: &mut V,
+) -> Result<u8, ProgramError>
+    ensures { ViewsToolPage (G.gives giver.now) W.sink out.old out.new V.sink err.old err.new wanted.now result }
+{
+    let read = read_by(alloc, &wanted.reading)?;
+    let joins = joins_by(alloc, &read)?;
+    let bytes = first_in(alloc, giver, wanted.file)?;
+    let options = options_of(&read, &joins);
+    let title = file_title(wanted.file);
+    Ok(page_of_drawing(alloc, read.tool, bytes.as_slice(), options, title, out, err))
 }
 
 /// Shows the races of another tool's text by name. G1: luck is asked for, of which such a text tells nothing.
