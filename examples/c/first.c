@@ -12,6 +12,6 @@ int main(void) {
     msc_any(&posts[2], &came);
     msc_any(&posts[2], &came);                        /* the second order */
     msc_races(&posts[2], races, 4, &count);
-    printf("race server %u %u\n", races[0], came.event);
+    if (count > 0) printf("race server %u %u\n", races[0], came.event);
     for (int i = 0; i < 3; i++) msc_free(&posts[i]);
 }

@@ -21,18 +21,12 @@ class Races {
     document.addEventListener('keydown', (event) => this.press(event));
   }
 
-  get all() {
-    return Array.from(this.list.children);
-  }
+  get all() { return Array.from(this.list.children); }
 
   // The numbers in a race's id: its instance, its receive and the first of its earlier events.
-  numbersOf(race) {
-    return race.id.slice(1).split('-').map(Number);
-  }
+  numbersOf(race) { return race.id.slice(1).split('-').map(Number); }
 
-  listOf(race, name) {
-    return (race.dataset[name] || '').split(' ').filter(Boolean).map(Number);
-  }
+  listOf(race, name) { return (race.dataset[name] || '').split(' ').filter(Boolean).map(Number); }
 
   drawn(id) {
     const picture = this.picture();
@@ -46,15 +40,11 @@ class Races {
     this.marked.push([element, how]);
   }
 
-  unmark() {
-    for (const [element, how] of this.marked) element.classList.remove(how);
-    this.marked = [];
-  }
-
   // Marks of the race that is chosen the receive, the earlier events that it may come before, and all that has to come
   // before it.
   markChosen() {
-    this.unmark();
+    for (const [element, how] of this.marked) element.classList.remove(how);
+    this.marked = [];
     const race = this.chosen;
     if (!race) return;
     const [instance, receive, first] = this.numbersOf(race);

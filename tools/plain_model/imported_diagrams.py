@@ -11,6 +11,7 @@ from diagram_charts import chart_of, named, refuse_full_lines, refuse_impossible
 from diagram_lines import Line
 from diagram_messages import Collector, Message
 from diagram_readings import NotRead, Reading, Told, Unfinished
+from drawn_rows import Stand, stands_of
 from given_names import GivenNames, printable, shown
 from joined import Join, joined, joined_instances
 from names import Refused
@@ -36,6 +37,10 @@ PLURALS = {
 }
 
 
+# What is read of those that have more than one run.
+READINGS = {"frame": ": one run is read, of par each branch in turn, of others the first branch, once"}
+
+
 class Options(NamedTuple):
     is_strict: bool = False
     skipped: tuple[tuple[int, int], ...] = ()
@@ -53,12 +58,13 @@ class Answer(NamedTuple):
 class Drawn(NamedTuple):
     """
     A chart, and what is told of it: names with the labels that they aren't, and messages that overtake, each with the
-    one that it overtakes.
+    one that it overtakes; and the chart's events as they stand in the diagram, from the top on.
     """
 
     chart: Chart
     names: list[tuple[bytes, bytes]]
     overtaking: list[tuple[Message, Message]]
+    stands: list[Stand]
 
 
 def not_read(text: bytes, line: Line) -> Refused:
@@ -120,6 +126,7 @@ def draw(reading: Reading, joins: list[Join]) -> Drawn:
         chart_of(instances.names, messages, instances.of_lines, labels),
         [(name, label) for name, label in pairs if name != label.replace(b" ", b"_")],
         parts.overtaking,
+        stands_of(messages, instances.of_lines),
     )
 
 
@@ -129,9 +136,9 @@ def told(reading: Reading, drawn: Drawn) -> bytes:
     for kind, line in sorted(reading.told.first.items(), key=lambda told: (told[1].number, told[1].column)):
         count = reading.told.counts[kind]
         if count == 1:
-            said.append(f"1 {kind} is left out, in line {line.number}")
+            said.append(f"1 {kind} is left out, in line {line.number}{READINGS.get(kind, '')}")
         else:
-            said.append(f"{count} {PLURALS.get(kind, kind + 's')} are left out, the first in line {line.number}")
+            said.append(f"{count} {PLURALS.get(kind, kind + 's')} are left out, the first in line {line.number}{READINGS.get(kind, '')}")
     for message, other in drawn.overtaking:
         line, above = message.place.number, other.place.number
         said.append(f"the message in line {line} overtakes the one in line {above}, and is left out")
@@ -143,6 +150,12 @@ def first_left_out(reading: Reading, drawn: Drawn) -> Line | None:
     """The place of the first thing that is left out."""
     places = [*reading.told.first.values(), *(message.place for message, _ in drawn.overtaking)]
     return min(places, key=lambda place: (place.number, place.column), default=None)
+
+
+def stands(tool: str | None, text: bytes, options: Options) -> list[Stand]:
+    """The events of a diagram that is read, as they stand in it, from the top on."""
+    text = without_skipped(text, options.skipped).removeprefix(BYTE_ORDER_MARK)
+    return draw(read(tool, text), list(options.joins)).stands
 
 
 def imported(tool: str | None, text: bytes, options: Options) -> Answer:

@@ -58,6 +58,8 @@ class File(NamedTuple):
 def read_file(log: Log, file: File, files: int, options: Options) -> list[Clocked]:
     """Adds what a file says, and answers its events with clocks."""
     lines = file.text.decode("utf-8", "surrogateescape").split("\n")
+    count = len(lines) if lines[-1] else len(lines) - 1
+    log.line_count += max(0, min(count, options.last) - (options.first - 1))
 
     def place(number: int) -> str:
         return place_in(files, file.name, number)

@@ -1,10 +1,11 @@
 """
 Draws diagrams from a seed on, and compares what `mscview import` answers to each with what the plain reader does.
 
-`judge_diagrams.py TOOL COUNT SEED [--broken] [--joined] [PROGRAM]`: TOOL is `mscgen`, `plantuml` or `mermaid`; some
-diagrams have to tell it themselves. Broken ones have up to four faults. Joined ones have some of their lines joined.
-Without PROGRAM the plain reader alone answers. In any case each chart has to be a possible one, which reads back as it
-is. At the end it prints how often each answer came, and a digest of all texts and answers.
+`judge_diagrams.py TOOL COUNT SEED [--broken] [--joined] [--pictures] [PROGRAM]`: TOOL is `mscgen`, `plantuml` or
+`mermaid`; some diagrams have to tell it themselves. Broken ones have up to four faults. Joined ones have some of their
+lines joined. With `--pictures` the rows of `mscview draw --from` have to be those of the diagram too. Without PROGRAM
+the plain reader alone answers. In any case each chart has to be a possible one, which reads back as it is. At the end it
+prints how often each answer came, and a digest of all texts and answers.
 """
 
 import hashlib
@@ -13,6 +14,8 @@ import subprocess
 import sys
 import tempfile
 from collections import Counter
+from typing import NamedTuple
+from xml.etree import ElementTree
 
 from broken_diagrams import broken
 from chart_texts import chart_text, read_chart
@@ -20,9 +23,17 @@ from charts import events_before
 from drawn_mermaid import drawn_mermaid
 from drawn_mscgen import drawn_mscgen
 from drawn_plantuml import drawn_plantuml
-from imported_diagrams import Answer, Options, imported
+from drawn_rows import has_rows
+from imported_diagrams import Answer, Options, imported, stands
 from joined import Join
 from made_schedules import Draw
+
+
+class Flags(NamedTuple):
+    are_broken: bool
+    are_joined: bool
+    have_pictures: bool
+
 
 DRAWN = {"mscgen": drawn_mscgen, "plantuml": drawn_plantuml, "mermaid": drawn_mermaid}
 
@@ -68,6 +79,14 @@ def answer_of(program: str, tool: str | None, options: Options, text: bytes, pat
     return Answer(ran.returncode, ran.stdout, ran.stderr)
 
 
+def has_picture(program: str, tool: str, options: Options, text: bytes, path: str) -> bool:
+    """Whether the picture of a diagram that is read is well-formed, and has the diagram's rows."""
+    words = ["draw", "--from", tool, *words_of(None, options, path)[1:]]
+    ran = subprocess.run([program, *words], capture_output=True, stdin=subprocess.DEVNULL)
+    ElementTree.fromstring(ran.stdout)
+    return ran.returncode == 0 and has_rows(ran.stdout, stands(tool, text, options))
+
+
 def is_sound(answer: Answer) -> bool:
     """Whether a chart is a possible one, and its text that of a chart."""
     if answer.status != 0:
@@ -81,7 +100,7 @@ def kind_of(answer: Answer) -> str:
     return "read" if answer.status == 0 else answer.said.split(b" ")[1].decode()
 
 
-def judge(tool: str, count: int, seed: int, is_broken: bool, is_joined: bool, program: str | None) -> int:
+def judge(tool: str, count: int, seed: int, flags: Flags, program: str | None) -> int:
     """How many of so many diagrams are answered otherwise, or unsoundly."""
     seen: Counter[str] = Counter()
     digest = hashlib.sha256()
@@ -90,9 +109,9 @@ def judge(tool: str, count: int, seed: int, is_broken: bool, is_joined: bool, pr
         for number in range(seed, seed + count):
             text = DRAWN[tool](number)
             draw = Draw(number)
-            if is_broken:
+            if flags.are_broken:
                 text = broken(draw, tool, text)
-            options = options_of(draw, text, tool, is_joined)
+            options = options_of(draw, text, tool, flags.are_joined)
             named = None if draw.below(8) == 0 else tool
             wanted = imported(named, text, options)
             answered = wanted
@@ -101,6 +120,12 @@ def judge(tool: str, count: int, seed: int, is_broken: bool, is_joined: bool, pr
             if answered != wanted or not is_sound(wanted):
                 failed += 1
                 print("FAILED", number, words_of(named, options, "FILE"), text, answered, wanted, flush=True)
+            elif flags.have_pictures and program is not None and wanted.status == 0:
+                path = os.path.join(room, "diagram")
+                if not has_picture(program, tool, options, text, path):
+                    failed += 1
+                    print("FAILED", number, "picture", words_of(named, options, "FILE"), text, flush=True)
+                seen["drawn"] += 1
             seen[kind_of(wanted)] += 1
             digest.update(b"%d %d " % (len(text), wanted.status) + text + wanted.written + wanted.said)
     print(" ".join(f"{kind} {times}" for kind, times in sorted(seen.items())), "sha256", digest.hexdigest())
@@ -109,7 +134,8 @@ def judge(tool: str, count: int, seed: int, is_broken: bool, is_joined: bool, pr
 
 def main(tool: str, count: str, seed: str, *words: str) -> int:
     program = next((word for word in words if not word.startswith("--")), None)
-    failed = judge(tool, int(count), int(seed), "--broken" in words, "--joined" in words, program)
+    flags = Flags("--broken" in words, "--joined" in words, "--pictures" in words)
+    failed = judge(tool, int(count), int(seed), flags, program)
     print(f"{count} diagrams, {failed} answered otherwise than by the model", file=sys.stderr)
     return int(failed > 0)
 

@@ -132,12 +132,14 @@ def text_of(lines: list[str], ends: bool = True) -> bytes:
     return ("\n".join(lines) + ("\n" if ends and lines else "")).encode()
 
 
-def told_others(places: list[str]) -> bytes:
-    """What is told of lines that say nothing."""
+def told_others(places: list[str], files: list[File]) -> bytes:
+    """What is told of lines that say nothing, of all lines of these files."""
     if not places:
         return b""
-    one = f"1 line doesn't match, {places[0]}\n"
-    return (one if len(places) == 1 else f"{len(places)} lines don't match, the first is {places[0]}\n").encode()
+    lines = sum(file.text.count(b"\n") + (not file.text.endswith(b"\n")) for file in files if file.text)
+    one = f"1 of {lines} lines doesn't match, {places[0]}\n"
+    several = f"{len(places)} of {lines} lines don't match, the first is {places[0]}\n"
+    return (one if len(places) == 1 else several).encode()
 
 
 def scheduled_charts(count: int, seed: int) -> Iterator[tuple[Random, Chart]]:
@@ -164,7 +166,7 @@ def judge_recorded(judge: Judge, count: int, seed: int) -> None:
             order = draw.sample(sorted(mixed), len(mixed))
             places = [f"host{host}.log:{other}" for host in order for other in mixed[host][1]]
             files = [File(f"host{host}.log", text_of(mixed[host][0])) for host in order]
-        judge.comes_back("application's logs", files, Options(), chart, told_others(places))
+        judge.comes_back("application's logs", files, Options(), chart, told_others(places, files))
 
 
 def judge_captured(judge: Judge, count: int, seed: int) -> None:
@@ -187,8 +189,8 @@ def judge_clocked(judge: Judge, count: int, seed: int) -> None:
         exported = judge.programs.exported(chart_text(chart))
         if exported is not None:
             judge.comes_back("exported logs", [File("log", exported)], options, chart, b"")
-            parser = told_others(["line 1"])
-            judge.comes_back("exported logs by a pattern", [File("log", exported)], Options(pattern=CLOCKS), chart, parser)
+            files = [File("log", exported)]
+            judge.comes_back("exported logs by a pattern", files, Options(pattern=CLOCKS), chart, told_others(["line 1"], files))
 
 
 def judge_timed(judge: Judge, count: int, seed: int) -> None:

@@ -114,10 +114,10 @@ def said_words(made: LogChart) -> dict[tuple[int, int, int], str]:
         kind, e = made.lines[p][i]
         r = made.lines[p][j][1]
         ahead = [made.lines[q][k] for q, k in numbers if before[p, j] >> numbers[q, k] & 1]
-        if kind == "out":
-            word = "the earlier is a send"
-        elif r.send is None or any(side == "out" and m.send is None for side, m in ahead):
+        if (kind == "out" and e.send is None) or r.send is None or any(side == "out" and m.send is None for side, m in ahead):
             word = "begun in the middle"
+        elif kind == "out":
+            word = "the earlier is a send"
         elif (e.receive.number, r.send.number) in order:
             word = "ordered by what is left out"
         elif not is_named(e, r):

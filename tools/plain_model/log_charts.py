@@ -189,10 +189,18 @@ def counted(places: list[str], one: str, several: str) -> list[str]:
     return [f"1 {one}, {places[0]}"] if len(places) == 1 else [f"{len(places)} {several}, the first is {places[0]}"]
 
 
+def unmatched_told(places: list[str], lines: int) -> list[str]:
+    """What is told of lines that don't match, among so many."""
+    if not places:
+        return []
+    first = f"1 of {lines} lines doesn't match, " if len(places) == 1 else f"{len(places)} of {lines} lines don't match, the first is "
+    return [first + places[0]]
+
+
 def told(made: LogChart) -> list[str]:
     """What was done to come to the chart."""
     own = [entry.place for entry in made.log.entries if entry.kind != "arrive" and entry.host == entry.peer]
-    lines = counted(made.log.unmatched, "line doesn't match", "lines don't match")
+    lines = unmatched_told(made.log.unmatched, made.log.line_count)
     lines += counted(own, "event of a message to oneself is left out", "events of messages to oneself are left out")
     lines += ["only the order at the tap is known"] if made.log.is_captured else []
     lines += ["a receive at which no entry of the clock grew isn't seen"] if made.log.is_timed else []

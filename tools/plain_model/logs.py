@@ -83,12 +83,13 @@ class Said(NamedTuple):
 @dataclass
 class Log:
     """
-    The lines that match, in order, the places of those that didn't, hosts that come first, the hosts that words of the
-    log stand for, whether messages were captured, and whether clocks told of some.
+    The lines that match, in order, the places of those that didn't, how many lines there are, hosts that come first, the
+    hosts that words of the log stand for, whether messages were captured, and whether clocks told of some.
     """
 
     entries: list[Entry] = field(default_factory=list)
     unmatched: list[str] = field(default_factory=list)
+    line_count: int = 0
     hosts: list[str] = field(default_factory=list)
     peers: dict[str, str] = field(default_factory=dict)
     is_captured: bool = False
@@ -151,6 +152,7 @@ def read_logs(files: list[str]) -> Log:
     for name in files:
         with open(name, encoding="utf-8", errors="surrogateescape", newline="\n") as file:
             for number, line in enumerate(file, 1):
+                log.line_count += 1
                 log.add(line, place_in(len(files), name, number))
     return log
 

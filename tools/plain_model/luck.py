@@ -78,10 +78,10 @@ class Words:
         p, e, r = race
         kind, earlier = self.made.lines[p][e]
         message = self.made.lines[p][r][1]
+        if self.made.is_invented((p, e)) or message.send is None or self.before[p, r] & self.invented:
+            return "begun in the middle"
         if kind == "out":
             return "the earlier is a send"
-        if message.send is None or self.before[p, r] & self.invented:
-            return "begun in the middle"
         if earlier.receive.number in self.log.before(message.send.number):
             return "ordered by what is left out"
         if not fits(earlier, message):

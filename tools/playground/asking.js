@@ -183,22 +183,15 @@ async function runCommand(event) {
 
 // ---- The text in the address: z and a deflated JSON text in the letters that an address may have
 
-async function through(bytes, stream, most = MOST_OF_A_LINK) {
+async function through(bytes, stream) {
   const read = new Blob([bytes]).stream().pipeThrough(stream).getReader(), parts = [];
   for (let many = 0; ;) {
     const {done, value} = await read.read();
     if (done) return new Uint8Array(await new Blob(parts).arrayBuffer());
     many += value.length;
-    if (many > most) throw new Error("the text in this address is too long");
+    if (many > MOST_OF_A_LINK) throw new Error("the text in this address is too long");
     parts.push(value);
   }
-}
-
-// The bytes that letters stand for, in base64.
-function bytesOfLetters(letters) {
-  const each = atob(letters), bytes = new Uint8Array(each.length);
-  for (let at = 0; at < each.length; at++) bytes[at] = each.charCodeAt(at);
-  return bytes;
 }
 
 async function addressOf(state) {
@@ -305,13 +298,13 @@ async function begin() {
   for (const [at, [title]] of examples.entries()) by("example").append(element("option", title, {value: at}));
   for (const [at, [words]] of KEPT.entries()) by("save_as").append(element("option", words, {value: at}));
   by("kind_b").replaceChildren(...[...by("kind").options].map((it) => it.cloneNode(true)));
-  const packed = unpacked(by("module").textContent);
-  const bytes = await through(packed, new DecompressionStream("gzip"), Infinity);
+  const bytes = unpacked(by("module").textContent, by("unpacker").textContent);
   answers = new Answers(by("worker").textContent, await WebAssembly.compile(bytes));
   performance.mark("ready");
   listen();
   if (!(await readAddress())) await setText(...examples[0].slice(1));
+  performance.mark("shown");
   document.documentElement.dataset.ready = "";
 }
 
-begin().catch((error) => (by("summary").textContent = `This browser can't run the page: ${error.message}`));
+begin().catch((error) => (by("summary").textContent = `This page can't run here: ${error.message}`));

@@ -1,6 +1,5 @@
 // The program out of a page: its module, and the script that calls it, as they stand in the page.
 import {readFileSync} from "node:fs";
-import {gunzipSync} from "node:zlib";
 import vm from "node:vm";
 
 // What stands in the page's element of this id.
@@ -8,12 +7,12 @@ const element = (page, id) => new RegExp(`<script type="[^"]*" id="${id}">([^]*?
 
 const unpacked = vm.runInThisContext(`(() => {${readFileSync(new URL("unpack.js", import.meta.url), "utf8")}\nreturn unpacked;})()`);
 
-// The packed bytes of the module in a page's text.
-export const packedIn = (page) => unpacked(element(page, "module"));
+// The module's bytes in a page's text.
+export const bytesIn = (page) => unpacked(element(page, "module"), element(page, "unpacker"));
 
 export function moduleOf(file) {
   const page = readFileSync(file, "utf8");
-  const bytes = gunzipSync(packedIn(page));
+  const bytes = bytesIn(page);
   const module = new WebAssembly.Module(bytes);
   const Engine = vm.runInThisContext(`((self) => {${element(page, "worker")}\nreturn Engine;})({})`);
   return {module, Engine, bytes, page};

@@ -4,7 +4,7 @@
 import {existsSync, readFileSync, readdirSync} from "node:fs";
 import {file, moduleOf, text} from "./module.mjs";
 
-const {module, Engine} = moduleOf(process.argv[2]);
+const {module, Engine, page} = moduleOf(process.argv[2]);
 const engine = new Engine(module);
 const lines = (name) => readFileSync(name, "utf8").split("\n").filter((line) => line !== "");
 const failed = [];
@@ -58,3 +58,7 @@ for (const folder of ["logs", "erlang", "mpi"]) {
   }
 }
 tell("examples");
+
+const chart = "examples/two_answers.msc", script = readFileSync("tools/page/races.js", "utf8").trimEnd();
+const isShared = [page, text(engine.answer("mscview", ["page", chart], [file(chart)]).out)].every((it) => it.includes(script));
+console.log(`${isShared ? "held" : "FAILED"} in a page: what marks races there is the script of mscview page`);

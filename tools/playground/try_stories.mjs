@@ -19,11 +19,11 @@ const wants = (holds, what) => {
 };
 
 // Opens a page of its own, does something there, and sees that its console and the network are silent.
-async function story(name, tell, {at = address, ...look} = {}) {
+async function story(name, tell, {at = address, shows = "document.documentElement.dataset.ready === ''", ...look} = {}) {
   const page = await browser.page(look);
   try {
     await page.goto(at);
-    await page.until("document.documentElement.dataset.ready === ''");
+    await page.until(shows);
     await tell(page);
     await page.until("document.getElementById('working').textContent !== 'working ..'");
     wants(page.faults.length === 0, `the console says: ${page.faults[0]}`);
@@ -188,6 +188,13 @@ await story("a link opens with its text", async (page) => {
 await story("a link that is broken", async (page) => {
   wants((await words(page, "summary")).startsWith("The text in this address can't be read"), await words(page, "summary"));
 }, {at: `${address}#zAAAA`});
+
+// A page of which one character of its programs was changed.
+const damaged = join(room, "damaged.html");
+writeFileSync(damaged, text(pageFile).replace(/(id="module">\d+ \d+ [^]{100000})([^])/, (_, before, changed) => before + (changed === "a" ? "b" : "a")));
+await story("a page that is damaged", async (page) => {
+  wants((await words(page, "summary")) === "This page can't run here: its programs are damaged", await words(page, "summary"));
+}, {at: `file://${damaged}`, shows: "document.getElementById('summary').textContent !== ''"});
 
 // A page whose limit is a millisecond: what takes longer is stopped, and told.
 const hasty = join(room, "hasty.html");

@@ -1,24 +1,21 @@
-// The bytes that a text stands for, as tools/playground/pack writes them: their number, a blank, and characters. One below 128
-// has seven of the bits. One above has fourteen: seven of a kind that can't stand in a page as they are, and seven more.
+// The bytes that a text stands for, as tools/playground/pack writes it: their number, their sum, and characters. A module of
+// its own, compiled of unpack.c, makes them of it.
 "use strict";
 
-const UNSAFE = [0, 10, 13, 60];
-
-function unpacked(text) {
-  const begin = text.indexOf(" ") + 1, bytes = new Uint8Array(+text.slice(0, begin));
-  let at = 0, held = 0, many = 0;
-  const take = (bits) => {
-    held = (held << 7) | bits;
-    many += 7;
-    if (many < 8) return;
-    many -= 8;
-    bytes[at++] = held >> many;
-    held &= (1 << many) - 1;
-  };
-  for (let place = begin; place < text.length; place++) {
-    const code = text.charCodeAt(place);
-    if (code < 128) take(code);
-    else take(UNSAFE[(code >> 7) - 1]), take(code & 127);
-  }
+// The bytes that letters stand for, in base64.
+function bytesOfLetters(letters) {
+  const each = atob(letters), bytes = new Uint8Array(each.length);
+  for (let at = 0; at < each.length; at++) bytes[at] = each.charCodeAt(at);
   return bytes;
+}
+
+function unpacked(text, unpacker) {
+  const [length, sum] = text.split(" ", 2).map(Number);
+  const packed = new TextEncoder().encode(text.slice(`${length} ${sum} `.length));
+  const {memory, unpack, __heap_base: {value: at}} = new WebAssembly.Instance(new WebAssembly.Module(bytesOfLetters(unpacker))).exports;
+  const made = at + packed.length;
+  memory.grow(Math.ceil((made + length) / 65536));
+  new Uint8Array(memory.buffer).set(packed, at);
+  if (!unpack(at, packed.length, made, length, sum)) throw new Error("its programs are damaged");
+  return new Uint8Array(memory.buffer, made, length);
 }

@@ -6,6 +6,7 @@ use Rattle.chart.specs.Messages.{Content}
 use Rattle.chart.specs.Reports.{ReportView}
 use Rattle.board.specs.declared.gathering.Left.{Left}
 use Rattle.board_handles.specs.declared.reports.Reported.{Reported}
+use Rattle.board_handles.specs.declared.left.Place.{Place}
 use Rattle.board_handles.specs.declared.left.Waiting.{Waiting}
 use Rattle.handles.specs.declared.kept.Kept.{Kept}
 use Rattle.handles.specs.declared.kept.Kept.TheVariants.{Post, Board, Away}
@@ -50,22 +51,32 @@ messages_on (left ∷ more) q p = if is_on left q p then left.messages.items els
 abbrev pub waiting_of : Content → Waiting
 waiting_of message = record { name = length message.name; body = length message.body }
 
+-- bytes for the name of a message, and for its body
+pub record NameAndBody : Type 0 where
+  pub name : List ℕ
+  pub body : List ℕ
+
+-- nothing is copied out
+abbrev pub AreKept : NameAndBody → NameAndBody → Type 0
+AreKept room out = (out.name ≡ room.name) × (out.body ≡ room.body)
+
 -- there is no such message, or it is told, and its name and its body are copied out
-abbrev pub TellsWaiting : Option Content → List ℕ → List ℕ → Option Waiting → List ℕ → List ℕ → Type 0
-TellsWaiting None names bodies result name body = (result ≡ None) × (name ≡ names) × (body ≡ bodies)
-TellsWaiting (Some message) names bodies result name body = (result ≡ Some (waiting_of message))
-    × (name ≡ put_over message.name names) × (body ≡ put_over message.body bodies)
+abbrev pub TellsWaiting : Option Content → NameAndBody → Option Waiting → NameAndBody → Type 0
+TellsWaiting None room result out = (result ≡ None) × AreKept room out
+TellsWaiting (Some message) room result out = (result ≡ Some (waiting_of message))
+    × (out.name ≡ put_over message.name room.name) × (out.body ≡ put_over message.body room.body)
 
--- the message of this number, from 1, on the lane from q to p of the board that is kept
-abbrev pub KeptWaits : Kept → ℕ → ℕ → ℕ → List ℕ → List ℕ → Result (Option Waiting) Refusal → List ℕ → List ℕ → Type 0
-KeptWaits (Board it) q p number names bodies result name body = (told : Option Waiting) × (result ≡ Ok told)
-    × TellsWaiting (ith (messages_on it.left.items q p) number) names bodies told name body
-KeptWaits (Post seat) q p number names bodies result name body = (result ≡ Err why.Misuse) × (name ≡ names)
-    × (body ≡ bodies)
-KeptWaits Away q p number names bodies result name body = (result ≡ Err why.Misuse) × (name ≡ names) × (body ≡ bodies)
+-- the message at the place among those that these lanes left
+abbrev pub message_at : List Left → Place → Option Content
+message_at left place = ith (messages_on left place.from place.to) place.number
 
-abbrev pub HandleWaits : Option Kept → ℕ → ℕ → ℕ → List ℕ → List ℕ → Result (Option Waiting) Refusal → List ℕ
-    → List ℕ → Type 0
-HandleWaits None q p number names bodies result name body = (result ≡ Err why.Misuse) × (name ≡ names) × (body ≡ bodies)
-HandleWaits (Some kept) q p number names bodies result name body =
-    KeptWaits kept q p number names bodies result name body
+-- the message at the place, of the board that is kept
+abbrev pub KeptWaits : Kept → Place → NameAndBody → Result (Option Waiting) Refusal → NameAndBody → Type 0
+KeptWaits (Board it) place room result out = (told : Option Waiting) × (result ≡ Ok told)
+    × TellsWaiting (message_at it.left.items place) room told out
+KeptWaits (Post seat) place room result out = (result ≡ Err why.Misuse) × AreKept room out
+KeptWaits Away place room result out = (result ≡ Err why.Misuse) × AreKept room out
+
+abbrev pub HandleWaits : Option Kept → Place → NameAndBody → Result (Option Waiting) Refusal → NameAndBody → Type 0
+HandleWaits None place room result out = (result ≡ Err why.Misuse) × AreKept room out
+HandleWaits (Some kept) place room result out = KeptWaits kept place room result out

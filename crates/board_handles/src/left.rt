@@ -1,15 +1,26 @@
 //! What a gathered board left, message by message.
 ghost use Rattle.std.specs.Prelude.{◌≡◌, IfSome, IfNone, slice_get, Some, [], ℕ};
-ghost use Rattle.chart.specs.Events.{ith};
 ghost use Rattle.board.specs.declared.gathering.Left.{Left};
 ghost use Rattle.handles.specs.Copying.{put_over};
 ghost use Rattle.board_handles.specs.BoardTelling.{messages_on, is_on, waiting_of, TellsWaiting, KeptWaits};
-ghost use Rattle.board_handles.specs.BoardTelling.{HandleWaits};
+ghost use Rattle.board_handles.specs.BoardTelling.{HandleWaits, message_at};
 
 use board::Left;
 use chart::Message;
 use handles::{Handle, Kept, Refusal, copy_out};
 use std::alloc::Global;
+
+/// Where a message waits on a gathered board.
+#[repr(C)]
+#[derive(Clone, Copy)]
+pub struct Place {
+    /// Its lane's sender.
+    pub from: u32,
+    /// Its lane's receiver.
+    pub to: u32,
+    /// Its number there, from 1.
+    pub number: usize,
+}
 
 /// What is told of a message that waits on a lane of a gathered board.
 #[derive(Clone, Copy)]
@@ -54,62 +65,55 @@ fn tell_message(message: &Message, name: &mut [u8], body: &mut [u8]) -> Waiting
     }
 }
 
-/// Tells of the message of this number, from 1, on the lane with these ends.
-fn tell_nth(
-    left: &[Left],
-    from: u32,
-    to: u32,
-    number: usize,
-    name: &mut [u8],
-    body: &mut [u8],
-) -> Option<Waiting>
-    ensures { TellsWaiting (ith (messages_on left.now from to) number) name.old body.old result name.new body.new }
+/// Tells of the message at the place, if one waits there.
+fn tell_nth(left: &[Left], place: &Place, name: &mut [u8], body: &mut [u8]) -> Option<Waiting>
+    ensures { TellsWaiting (message_at left.now place.now) (record { name = name.old; body = body.old }) result
+        (record { name = name.new; body = body.new }) }
 {
-    let Some(place) = place_of_lane(left, from, to) else {
+    let Some(lane) = place_of_lane(left, place.from, place.to) else {
         return None;
     };
-    let messages = left[place].messages.as_slice();
+    let messages = left[lane].messages.as_slice();
+    let number = place.number;
     if number == 0 || number > messages.len() {
         return None;
     }
     Some(tell_message(&messages[number - 1], name, body))
 }
 
-/// Tells of the message of this number, from 1, on the lane with these ends, where a board is kept.
+/// The same where a board is kept.
 fn tell_kept(
     kept: &Kept,
-    from: u32,
-    to: u32,
-    number: usize,
+    place: &Place,
     name: &mut [u8],
     body: &mut [u8],
 ) -> Result<Option<Waiting>, Refusal>
-    ensures { KeptWaits kept.now from to number name.old body.old result name.new body.new }
+    ensures { KeptWaits kept.now place.now (record { name = name.old; body = body.old }) result
+        (record { name = name.new; body = body.new }) }
 {
     match kept {
-        Kept::Board(it) => Ok(tell_nth(it.left.as_slice(), from, to, number, name, body)),
+        Kept::Board(it) => Ok(tell_nth(it.left.as_slice(), place, name, body)),
         _ => Err(Refusal::Misuse),
     }
 }
 
-/// Tells of the message of this number, from 1, that waits on the lane from an instance to another one, if so many do,
-/// and copies its name and its body out, as much as there is room for.
+/// Tells of the message at the place, if one waits there. Its name and its body are copied out, as much as there is room
+/// for.
 pub fn tell_waiting(
     alloc: Global,
     board: &mut Handle,
-    from: u32,
-    to: u32,
-    number: usize,
+    place: &Place,
     name: &mut [u8],
     body: &mut [u8],
 ) -> Result<Option<Waiting>, Refusal>
     ensures same { board.new.slot.value ≡ board.old.slot.value }
-    ensures answer { HandleWaits board.old.slot.value from to number name.old body.old result name.new body.new }
+    ensures answer { HandleWaits board.old.slot.value place.now (record { name = name.old; body = body.old }) result
+        (record { name = name.new; body = body.new }) }
 {
     let Some(kept) = board.take(alloc) else {
         return Err(Refusal::Misuse);
     };
-    let result = tell_kept(&*kept, from, to, number, name, body);
+    let result = tell_kept(&*kept, place, name, body);
     board.put(kept);
     result
 }

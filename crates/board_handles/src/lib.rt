@@ -10,6 +10,6 @@ mod naming;
 mod reports;
 mod text;
 
-pub use left::{Waiting, tell_waiting};
+pub use left::{Place, Waiting, tell_waiting};
 pub use reports::{Reported, tell_report};
 pub use text::copy_text;

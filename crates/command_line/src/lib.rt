@@ -5,6 +5,8 @@
 
 mod error;
 mod request;
+mod words;
 
 pub use error::CommandLineError;
 pub use request::{Request, requested};
+pub use words::{Word, program_of};

@@ -1,7 +1,8 @@
 //! What a command line asks for.
 use crate::error::CommandLineError;
-use clap::{Arg, ArgAction, ArgMatches, Command};
-use std::alloc::{AllocError, Global};
+use crate::words::{Word, program_of};
+use clap::ArgMatches;
+use std::alloc::Global;
 use std::convert::AsStr;
 
 /// What a command line asks for.
@@ -17,44 +18,16 @@ pub enum Request<'a> {
     Threads { file: &'a str, turns: &'a str },
 }
 
-/// The word for the file that a command reads.
-fn file_word<'a>(alloc: Global) -> Arg<'a> {
-    Arg::new(alloc, "FILE")
-        .required(true)
-        .action(ArgAction::Set)
-}
+/// The file that a command reads.
+const FILE: &[Word] = &[Word::Needed("FILE")];
 
-/// A command with a FILE and nothing else.
-fn file_command<'a>(alloc: Global, name: &'static str) -> Result<Command<'a>, AllocError> {
-    Command::new(alloc, name)
-        .disable_help_flag(true)
-        .arg(file_word(alloc))
-}
-
-/// A command with a FILE and an option, whose word must be given too.
-fn option_command<'a>(
-    alloc: Global,
-    name: &'static str,
-    option: &'static str,
-) -> Result<Command<'a>, AllocError> {
-    let word = Arg::new(alloc, option)
-        .long(option)
-        .required(true)
-        .action(ArgAction::Set);
-    file_command(alloc, name)?.arg(word)
-}
-
-/// The command line that the program understands. Help, the version, no command and an unknown one are all mistakes.
-fn command_line<'a>(alloc: Global) -> Result<Command<'a>, AllocError> {
-    Command::new(alloc, "mscrun")
-        .disable_help_flag(true)
-        .disable_help_subcommand(true)
-        .subcommand_required(true)
-        .subcommand(file_command(alloc, "replay")?)?
-        .subcommand(option_command(alloc, "random", "seed")?)?
-        .subcommand(file_command(alloc, "check")?)?
-        .subcommand(option_command(alloc, "threads", "turns")?)
-}
+/// The commands and their words.
+const COMMANDS: [(&str, &[&[Word]]); 4] = [
+    ("replay", &[FILE]),
+    ("random", &[FILE, &[Word::NeededOption("seed")]]),
+    ("check", &[FILE]),
+    ("threads", &[FILE, &[Word::NeededOption("turns")]]),
+];
 
 /// What a command's words ask for.
 fn request_of<'a>(command: &str, words: &ArgMatches<'a>) -> Option<Request<'a>> {
@@ -81,7 +54,7 @@ pub fn requested<'a, S: AsStr>(
     alloc: Global,
     words: &'a [S],
 ) -> Result<Request<'a>, CommandLineError> {
-    let matches = command_line(alloc)?.try_get_matches_from(words)?;
+    let matches = program_of(alloc, "mscrun", &COMMANDS)?.try_get_matches_from(words)?;
     let (command, words) = matches.subcommand().ok_or(CommandLineError::Usage)?;
     request_of(command, words).ok_or(CommandLineError::Usage)
 }

@@ -1,1 +1,5 @@
 pub mod TellingLemmas
+pub mod DifferenceLemmas
+pub mod MatchLemmas
+pub mod PairLemmas
+pub mod VerdictLemmas

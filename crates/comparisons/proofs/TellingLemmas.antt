@@ -3,8 +3,8 @@ use Rattle.std.proofs.Common.{◌≡◌, ℕ, List, length, refl, ap, ◌∙◌,
 use Rattle.std.specs.List.{flat_map, list_any}
 use Rattle.chart.specs.Charts.{LineView, chart_lines}
 use Rattle.files.specs.Files.{Named}
-use Rattle.comparing.specs.declared.comparison.LineComparison.{LineComparison}
-use Rattle.comparing.specs.Comparing.{AreCounterparts, AreCompared}
+use Rattle.comparisons.specs.declared.comparison.LineComparison.{LineComparison}
+use Rattle.comparisons.specs.Comparing.{AreCounterparts, AreCompared}
 use Rattle.comparisons.specs.declared.comparison_text.Form.{Form}
 use Rattle.comparisons.specs.declared.showing.Found.{Found}
 use Rattle.comparisons.specs.Comparisons.{line_text, has_difference, found_in, IsTold}

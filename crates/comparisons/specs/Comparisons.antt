@@ -8,9 +8,9 @@ use Rattle.msc_text.specs.Writing.{Puts, Breaks}
 use Rattle.files.specs.declared.error.ProgramError.TheVariants as errors
 use Rattle.files.specs.Files.{Named, IsRefused}
 use Rattle.files.specs.Texts.{OfFile, named_of}
-use Rattle.comparing.specs.declared.comparison.LineComparison.{LineComparison}
-use Rattle.comparing.specs.declared.pairs.Difference.{Difference}
-use Rattle.comparing.specs.Comparing.{AreCounterparts, HasNoCounterpart, AreCompared}
+use Rattle.comparisons.specs.declared.comparison.LineComparison.{LineComparison}
+use Rattle.comparisons.specs.declared.pairs.Difference.{Difference}
+use Rattle.comparisons.specs.Comparing.{AreCounterparts, HasNoCounterpart, AreCompared}
 use Rattle.comparisons.specs.declared.error.CompareError.{CompareError}
 use Rattle.comparisons.specs.declared.error.CompareError.TheVariants.{Program, OtherInstances}
 use Rattle.comparisons.specs.declared.comparison_text.Form.{Form}

@@ -3,3 +3,8 @@ pub mod Comparisons
 pub mod JsonText
 pub mod PlainText
 pub mod Words
+pub mod Comparing
+pub mod Ends
+pub mod Matches
+pub mod Pairs
+pub mod Verdicts

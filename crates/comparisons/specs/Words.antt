@@ -2,8 +2,8 @@
 use Rattle.std.specs.Prelude.{ℕ, List, [], Option, None, Some, codes, decimal}
 use Rattle.chart.specs.declared.event.Event.{Event}
 use Rattle.chart.specs.Events.{name_of}
-use Rattle.comparing.specs.declared.verdict.Verdict.{Verdict}
-use Rattle.comparing.specs.declared.verdict.Verdict.TheVariants as verdicts
+use Rattle.comparisons.specs.declared.verdict.Verdict.{Verdict}
+use Rattle.comparisons.specs.declared.verdict.Verdict.TheVariants as verdicts
 use Rattle.comparisons.specs.declared.word.Word.{Word}
 use Rattle.comparisons.specs.declared.word.Word.TheVariants as words
 use Rattle.comparisons.specs.declared.part.Part.{Part}

@@ -5,12 +5,13 @@ ghost use Rattle.msc_text.specs.Writing.{Adds};
 ghost use Rattle.comparisons.specs.JsonText.{numbers_text, earlier_text, later_text, verdicts_object};
 ghost use Rattle.comparisons.specs.JsonText.{json_difference, json_only};
 
+use crate::pairs::Difference;
 use crate::part::{
     Part, add_parts, add_word_and_message, add_word_and_name, message_part, name_part,
 };
+use crate::verdict::event_at;
 use crate::word::{Word, verdict_word};
 use chart::{Event, InstanceNo, Names};
-use comparing::{Difference, event_at};
 use msc_text::{Out, TextBuffer, WriteError};
 
 /// An event's number in the first recording behind one word, and that in the second behind another.

@@ -5,10 +5,11 @@ ghost use Rattle.msc_text.specs.Writing.{Adds};
 ghost use Rattle.comparisons.specs.PlainText.{side_text, place_front, place_text, there_text, both_text, events_text, verdicts_text};
 ghost use Rattle.comparisons.specs.PlainText.{plain_difference, plain_only};
 
+use crate::pairs::Difference;
 use crate::part::{Part, add_name_and, add_parts, add_word, add_word_and_name, message_part};
+use crate::verdict::event_at;
 use crate::word::{Word, verdict_word};
 use chart::{Event, InstanceNo, Names};
-use comparing::{Difference, event_at};
 use msc_text::{Out, TextBuffer, WriteError};
 
 /// `, to NAME` or `, from NAME`.

@@ -7,11 +7,13 @@ ghost use Rattle.comparisons.specs.declared.error.CompareError.TheVariants.{Prog
 ghost use Rattle.comparisons.specs.Answers.{compare_said};
 ghost use Rattle.comparisons.specs.Comparisons.{has_difference, some_difference, found_in, Compares, ComparesFiles};
 
+use crate::comparison::{LineComparison, Recordings, compared};
 pub use crate::comparison_text::Form;
 use crate::comparison_text::{Recording, write_lines};
 use crate::error::CompareError;
+use crate::naming::counterparts;
+use crate::pairs::Difference;
 use chart::{Chart, Names};
-use comparing::{Difference, LineComparison, Recordings, compared, counterparts};
 use files::{ProgramError, Source, Text, answered, closure_of};
 use msc_text::Out;
 use std::alloc::Global;

@@ -2,7 +2,7 @@
 ghost use Rattle.std.specs.Prelude.{◌≡◌};
 ghost use Rattle.comparisons.specs.Words.{word_text, verdict_word};
 
-use comparing::Verdict;
+use crate::verdict::Verdict;
 
 /// What stands between names and numbers.
 #[derive(Clone, Copy)]

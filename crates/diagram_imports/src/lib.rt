@@ -3,15 +3,18 @@
 //! What is promised, unless an allocation is refused ([`import_text`]): the chart, what is left out and what is told of
 //! names are a function of the text's bytes and of the options (`specs/Importing`), and any other text gets its first
 //! refusal. Lines that are skipped are blanks before anything is read. Where nothing may be left out, the first thing
-//! that would be is refused.
+//! that would be is refused. What a text says before any chart is drawn is a function of them too ([`diagram_of_text`],
+//! `specs/Reading`).
 #![tactic(auto)]
 
+mod diagram;
 mod error;
 mod importing;
 mod places;
 mod reading;
 mod skipping;
 
+pub use diagram::diagram_of_text;
 pub use error::ImportError;
 pub use importing::{Options, import_text};
 pub use skipping::Skip;

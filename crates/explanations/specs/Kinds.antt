@@ -11,7 +11,7 @@ use Rattle.told_tools.specs.Telling.{told_tool}
 use Rattle.told_tools.specs.declared.telling.Untold.{Untold}
 use Rattle.tool_text.specs.declared.Tool.{Tool}
 use Rattle.tool_text.specs.declared.Tool.TheVariants as tools
-use Rattle.typed_texts.specs.Typing.{exact_text}
+use Rattle.tidying.specs.Typing.{exact_text}
 
 abbrev pub has_brace : List ℕ → Bool
 has_brace text = list_any (λ b. b == 123) text

@@ -6,10 +6,10 @@ use Rattle.explanations.specs.Words.{kind_words, start_of, what_label, what_word
 use Rattle.explanations.specs.declared.finding.Finding.{Finding}
 use Rattle.explanations.specs.declared.finding.What.{What}
 use Rattle.explanations.specs.declared.saying.Saying.{Saying}
-use Rattle.explanations.specs.declared.saying.Saying.TheVariants.{Kind, Read, Cyclic, Tidy}
+use Rattle.explanations.specs.declared.saying.Saying.TheVariants.{Kind, Read, Cyclic, Tidy, Log}
 use Rattle.explanations.specs.declared.saying.Saying.TheVariants as sayings
 use Rattle.schedule_notes.specs.declared.notes.Noted.{Noted}
-use Rattle.told_circles.specs.Telling.{step_text}
+use Rattle.fault_places.specs.ToldCircles.{step_text}
 use Rattle.fault_places.specs.declared.want.Want.{Want}
 use Rattle.import_answers.specs.Telling.{left_out_line, overtaking_line}
 use Rattle.mscgen_text.specs.Faults.{printable}
@@ -80,10 +80,14 @@ unfoldable pub shown_text : ℕ → List ℕ → ℕ → List ℕ
 shown_text line bytes place = at_text line (place + 1)
     ++ (bar_text line ++ (quote_text line (before bytes place) (behind bytes place) ++ caret_text line (before bytes place)))
 
--- what is wrong, with its place
-unfoldable pub finding_text : List ℕ → Finding → List ℕ
-finding_text file f = head_text f.what
-    ++ (shown_text f.line (line_of file f.line) (min f.place (length (line_of file f.line))) ++ want_text f.line f.want)
+-- what is wrong, with its place, where the line is told by this number
+unfoldable pub numbered_text : List ℕ → ℕ → Finding → List ℕ
+numbered_text file number f = head_text f.what
+    ++ (shown_text number (line_of file f.line) (min f.place (length (line_of file f.line))) ++ want_text number f.want)
+
+-- the same by its own number
+abbrev pub finding_text : List ℕ → Finding → List ℕ
+finding_text file f = numbered_text file f.line f
 
 unfoldable pub sent_text : ℕ → List ℕ
 sent_text line = codes " = the message is sent later, in line " ++ (decimal line ++ codes "\n")
@@ -106,14 +110,19 @@ cyclic_text = codes "\nerror: F18 Cyclic: events come before each other, in a ci
 unfoldable pub tidy_text : List ℕ
 tidy_text = codes "\nhelp: mscview tidy writes the exact text of this file, which has no fault\n"
 
+unfoldable pub log_text : List ℕ
+log_text = codes "\nhelp: of a log, mscview races --from log tells the races: of lines HOST send PEER NAME and HOST recv PEER NAME, or as --pattern reads its lines\n"
+
 -- what is told
 unfoldable pub saying_text : List ℕ → Saying → List ℕ
 saying_text file (Kind kind) = kind_words kind
 saying_text file Read = read_text
 saying_text file (sayings.Finding finding) = finding_text file finding
+saying_text file (sayings.Typed finding number) = numbered_text file number finding
 saying_text file (sayings.Note noted) = noted_text file noted
 saying_text file (sayings.LeftOut left_out) = left_out_line left_out
 saying_text file (sayings.Overtaking message) = overtaking_line message
 saying_text file Cyclic = cyclic_text
 saying_text file (sayings.Step step) = step_text step
 saying_text file Tidy = tidy_text
+saying_text file Log = log_text

@@ -22,7 +22,7 @@ use Rattle.msc_reader.specs.Reading.{chart_of}
 use Rattle.schedule.specs.Plans.{Plan}
 use Rattle.schedule.specs.Reading.{schedule_of}
 use Rattle.schedule_notes.specs.Notes.{AreNotesOf}
-use Rattle.told_circles.specs.Telling.{AreStepsOf}
+use Rattle.fault_places.specs.ToldCircles.{AreStepsOf}
 
 -- the exit status: 1 where a fault is told
 abbrev pub status_of : Verdict → ℕ

@@ -1,46 +1,75 @@
 //! What a file is, and what is wrong with it.
 ghost use Rattle.std.specs.Prelude.{◌≡◌, ◌++◌, map, IfOk, IfErr, OnOk};
-ghost use Rattle.explanations.specs.Explaining.{is_read, is_tidied, first_told, more_told, sayings_of, explanation_of, explained_said, Explains};
+ghost use Rattle.explanations.specs.Explaining.{text_fault, exact_told, exactly_of, first_told, typed_number, told_first, more_told, told_last, subject_of, sayings_of, exactly_in, explanation_of, explained_said, Explains};
 ghost use Rattle.explanations.specs.Kinds.{kind_of};
 ghost use Rattle.explanations.specs.Verdicts.{IsVerdict};
 ghost use Rattle.explanations.specs.declared.saying.Saying.TheVariants as sayings_told;
 ghost use Rattle.files.specs.Answers.{Answers};
-ghost use Rattle.typed_texts.specs.Typing.{exact_text};
+ghost use Rattle.tidying.specs.Typing.{exact_text};
 
 use crate::finding::{behind_finding, fault_finding, no_send, other_name, unread_finding};
 use crate::judging::judge;
 use crate::kind::{Kind, kind_by, shown};
 use crate::saying::{Saying, write_sayings};
-use crate::verdict::Verdict;
+use crate::verdict::{Exactly, Verdict};
 use diagrams::LeftOut;
+use fault_places::{Step, count_of_lines};
 use files::{ProgramError, Text, answered};
 use joined_diagrams::Overtaking;
-use msc_text::Out;
+use msc_text::{Fault, Out};
 use schedule_notes::Noted;
 use std::alloc::{AllocError, Global};
-use told_circles::Step;
-use typed_texts::exact_text;
+use tidying::{ExactText, exact_text, typed_line};
 
-/// Whether a text has no fault as a text.
-fn is_read(alloc: Global, text: &[u8]) -> Result<bool, ProgramError>
-    ensures read { IfOk result (λ read. read ≡ is_read text.now) }
+/// The fault of a text as a text, if it has one.
+fn text_fault(alloc: Global, text: &[u8]) -> Result<Option<Fault>, ProgramError>
+    ensures fault { IfOk result (λ fault. fault ≡ text_fault text.now) }
     ensures memory { IfErr result (λ e. e ≡ ProgramError.Memory) }
 {
     match Text::read(alloc, text) {
-        Ok(_) => Ok(true),
-        Err(ProgramError::Text(_)) => Ok(false),
+        Ok(_) => Ok(None),
+        Err(ProgramError::Text(fault)) => Ok(Some(fault)),
         Err(_) => Err(ProgramError::Memory),
     }
 }
 
-/// Whether a file has a fault that its exact text hasn't.
-fn is_tidied(alloc: Global, verdict: &Verdict, exact: &[u8]) -> Result<bool, ProgramError>
-    ensures tidied { IfOk result (λ tidied. tidied ≡ is_tidied verdict.now exact.now) }
+/// What is told of an exact text by its fault.
+fn exact_told(has_comments: bool, fault: Option<Fault>) -> Exactly
+    ensures { result ≡ exact_told has_comments fault }
+{
+    match fault {
+        None => Exactly::Read,
+        Some(fault) if has_comments => Exactly::Refused(fault),
+        Some(_) => Exactly::Unasked,
+    }
+}
+
+/// What comes of a file's exact text, where the file is refused as a text.
+fn exactly_of(
+    alloc: Global,
+    verdict: &Verdict,
+    has_comments: bool,
+    exact: &[u8],
+) -> Result<Exactly, ProgramError>
+    ensures exactly { IfOk result (λ exactly. exactly ≡ exactly_of verdict.now has_comments exact.now) }
     ensures memory { IfErr result (λ e. e ≡ ProgramError.Memory) }
 {
     match verdict {
-        Verdict::Refused(_) => is_read(alloc, exact),
-        _ => Ok(false),
+        Verdict::Refused(_) => {
+            let fault = text_fault(alloc, exact)?;
+            Ok(exact_told(has_comments, fault))
+        }
+        _ => Ok(Exactly::Unasked),
+    }
+}
+
+/// The number of the line of a fault of the exact text, as it is typed.
+fn typed_number(text: &[u8], lines: &[u64], fault: Fault) -> u64
+    ensures { result ≡ typed_number text.now lines.now fault }
+{
+    match fault {
+        Fault::Line(number, _) => typed_line(lines, number),
+        Fault::Unfinished => count_of_lines(text) + 1,
     }
 }
 
@@ -99,6 +128,25 @@ fn first_told(kind: Kind, text: &[u8], verdict: &Verdict) -> Saying
     }
 }
 
+/// The same, by what comes of its exact text, whose lines are typed in lines with these numbers.
+fn told_first(
+    kind: Kind,
+    text: &[u8],
+    exact: &ExactText,
+    verdict: &Verdict,
+    exactly: Exactly,
+) -> Saying
+    ensures { result ≡ told_first kind text.now exact.now.bytes.items exact.now.lines.items verdict.now exactly }
+{
+    match exactly {
+        Exactly::Refused(fault) => Saying::Typed(
+            fault_finding(kind, &exact.bytes, fault),
+            typed_number(text, &exact.lines, fault),
+        ),
+        Exactly::Unasked | Exactly::Read => first_told(kind, shown(kind, text), verdict),
+    }
+}
+
 /// Adds what is told besides.
 fn add_more(sayings: &mut Vec<Saying>, verdict: &Verdict) -> Result<(), AllocError>
     ensures { OnOk result (sayings.new.items ≡ sayings.old.items ++ more_told verdict.now) }
@@ -114,24 +162,44 @@ fn add_more(sayings: &mut Vec<Saying>, verdict: &Verdict) -> Result<(), AllocErr
     }
 }
 
+/// Adds what helps with it.
+fn add_last(sayings: &mut Vec<Saying>, kind: Kind, exactly: Exactly) -> Result<(), AllocError>
+    ensures { OnOk result (sayings.new.items ≡ sayings.old.items ++ told_last kind exactly) }
+{
+    match (exactly, kind) {
+        (Exactly::Read, _) => sayings.push(Saying::Tidy)?,
+        (_, Kind::Other) => sayings.push(Saying::Log)?,
+        _ => {}
+    }
+    Ok(())
+}
+
 /// All that is told of a file of this kind.
 fn sayings_of(
     alloc: Global,
     kind: Kind,
-    text: &[u8],
+    first: Saying,
     verdict: &Verdict,
-    tidied: bool,
+    exactly: Exactly,
 ) -> Result<Vec<Saying>, AllocError>
-    ensures { IfOk result (λ sayings. sayings.items ≡ sayings_of kind text.now verdict.now tidied) }
+    ensures { IfOk result (λ sayings. sayings.items ≡ sayings_of kind first verdict.now exactly) }
 {
     let mut sayings = Vec::new(alloc);
     sayings.push(Saying::Kind(kind))?;
-    sayings.push(first_told(kind, text, verdict))?;
+    sayings.push(first)?;
     add_more(&mut sayings, verdict)?;
-    if tidied {
-        sayings.push(Saying::Tidy)?;
-    }
+    add_last(&mut sayings, kind, exactly)?;
     Ok(sayings)
+}
+
+/// The text of which lines are shown.
+fn subject_of<'a>(kind: Kind, text: &'a [u8], exact: &'a [u8], exactly: Exactly) -> &'a [u8]
+    ensures { result.now ≡ subject_of kind text.now exact.now exactly }
+{
+    match exactly {
+        Exactly::Refused(_) => exact,
+        Exactly::Unasked | Exactly::Read => shown(kind, text),
+    }
 }
 
 /// What came of reading a file, and what is told of it.
@@ -139,6 +207,8 @@ fn sayings_of(
 struct Explanation {
     kind: Kind,
     verdict: Verdict,
+    exact: ExactText,
+    exactly: Exactly,
     sayings: Vec<Saying>,
 }
 
@@ -146,6 +216,8 @@ struct Explanation {
 fn read_and_tell(alloc: Global, text: &[u8]) -> Result<Explanation, ProgramError>
     ensures kind { IfOk result (λ done. done.kind ≡ kind_of text.now) }
     ensures verdict { IfOk result (λ done. IsVerdict (kind_of text.now) text.now done.verdict) }
+    ensures exact { IfOk result (λ done. done.exact.bytes.items ≡ exact_text text.now) }
+    ensures exactly { IfOk result (λ done. done.exactly ≡ exactly_in text.now done.verdict) }
     ensures sayings { IfOk result (λ done. done.sayings.items ≡ explanation_of text.now done.verdict) }
     ensures memory { IfErr result (λ e. e ≡ ProgramError.Memory) }
 {
@@ -154,11 +226,15 @@ fn read_and_tell(alloc: Global, text: &[u8]) -> Result<Explanation, ProgramError
     };
     let kind = kind_by(text, &exact.bytes);
     let verdict = judge(alloc, kind, text)?;
-    let tidied = is_tidied(alloc, &verdict, &exact.bytes)?;
-    match sayings_of(alloc, kind, shown(kind, text), &verdict, tidied) {
+    let has_comments = !exact.comments.is_empty();
+    let exactly = exactly_of(alloc, &verdict, has_comments, &exact.bytes)?;
+    let first = told_first(kind, text, &exact, &verdict, exactly);
+    match sayings_of(alloc, kind, first, &verdict, exactly) {
         Ok(sayings) => Ok(Explanation {
             kind,
             verdict,
+            exact,
+            exactly,
             sayings,
         }),
         Err(_) => Err(ProgramError::Memory),
@@ -174,7 +250,8 @@ fn write_explanation<W: Out>(
     ensures { Explains W.sink out.old out.new text.now result }
 {
     let done = read_and_tell(alloc, text)?;
-    match write_sayings(shown(done.kind, text), &done.sayings, out) {
+    let subject = subject_of(done.kind, text, &done.exact.bytes, done.exactly);
+    match write_sayings(subject, &done.sayings, out) {
         Ok(()) => Ok(done.verdict),
         Err(_) => Err(ProgramError::Write),
     }

@@ -15,12 +15,12 @@ use crate::verdict::{Unread, Verdict};
 use chart::{Chart, Names};
 use closure::{ChartError, Closure};
 use diagram_imports::{ImportError, Options, import_text};
+use fault_places::steps_of;
 use files::{ProgramError, Text, chart_in, schedule_in};
 use import_answers::in_order;
 use joined_diagrams::JoinedDrawn;
 use schedule_notes::notes_of;
 use std::alloc::Global;
-use told_circles::steps_of;
 
 /// What comes of a schedule's text.
 fn judge_schedule(alloc: Global, text: &[u8]) -> Result<Verdict, ProgramError>

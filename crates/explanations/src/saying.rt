@@ -2,7 +2,7 @@
 ghost use Rattle.std.specs.Prelude.{◌≡◌, ◌≤◌, length, min};
 ghost use Rattle.std.specs.List.{flat_map};
 ghost use Rattle.explanations.specs.Findings.{line_of};
-ghost use Rattle.explanations.specs.Sayings.{before, behind, head_text, at_text, bar_text, quote_text, caret_text, want_text, wanted_text, shown_text, finding_text, sent_text, later_text, noted_text, read_text, cyclic_text, tidy_text, saying_text, bar, arrow, here, stands, caret, end};
+ghost use Rattle.explanations.specs.Sayings.{before, behind, head_text, at_text, bar_text, quote_text, caret_text, want_text, wanted_text, shown_text, numbered_text, finding_text, sent_text, later_text, noted_text, read_text, cyclic_text, tidy_text, log_text, saying_text, bar, arrow, here, stands, caret, end};
 ghost use Rattle.msc_text.specs.Writing.{Wrote, Adds};
 
 use crate::adding::{add_blanks, add_margin, add_shown};
@@ -10,13 +10,12 @@ use crate::finding::{Finding, What, note_finding};
 use crate::kind::Kind;
 use crate::words::{kind_words, start_of, want_words, what_label, what_words};
 use diagrams::LeftOut;
-use fault_places::{Want, line_from, standing_at};
+use fault_places::{Step, Want, add_step, line_from, standing_at};
 use import_answers::{add_left_out, add_overtaking};
 use joined_diagrams::Overtaking;
 use msc_text::{Out, TextBuffer, WriteError};
 use schedule_notes::Noted;
 use text_parts::{Piece, add_pieces};
-use told_circles::{Step, add_step};
 
 /// What is told of a file.
 #[derive(Clone, Copy, Debug)]
@@ -27,6 +26,8 @@ pub(crate) enum Saying {
     Read,
     /// What is wrong, with its place.
     Finding(Finding),
+    /// The same in the exact text, with the number of the line as it is typed.
+    Typed(Finding, u64),
     /// A note that a command leaves.
     Note(Noted),
     /// What a diagram's chart doesn't keep.
@@ -39,6 +40,8 @@ pub(crate) enum Saying {
     Step(Step),
     /// That `mscview tidy` writes it so that it is read.
     Tidy,
+    /// What to do with a log.
+    Log,
 }
 
 /// What is shown of a line before a place.
@@ -222,8 +225,24 @@ fn add_line<W: Out>(
     add_caret(text, line, before)
 }
 
+/// Adds what is wrong, with its place, in a file with these bytes, where the line is told by this number.
+#[tactic(auto, using(msc_text::proofs::Writes::joining), unfolding(crate::specs::Sayings::numbered_text))]
+fn add_numbered<W: Out>(
+    text: &mut TextBuffer<'_, W>,
+    file: &[u8],
+    number: u64,
+    finding: &Finding,
+) -> Result<(), WriteError>
+    ensures { Adds W.sink text.old text.new result (numbered_text file.now number finding.now) }
+{
+    let bytes = line_from(standing_at(file, finding.line).text);
+    let place = finding.place.min(bytes.len());
+    add_head(text, finding.what)?;
+    add_line(text, number, bytes, place)?;
+    add_want(text, number, finding.want)
+}
+
 /// Adds what is wrong, with its place, in a file with these bytes.
-#[tactic(auto, using(msc_text::proofs::Writes::joining), unfolding(crate::specs::Sayings::finding_text))]
 fn add_finding<W: Out>(
     text: &mut TextBuffer<'_, W>,
     file: &[u8],
@@ -231,11 +250,7 @@ fn add_finding<W: Out>(
 ) -> Result<(), WriteError>
     ensures { Adds W.sink text.old text.new result (finding_text file.now finding.now) }
 {
-    let bytes = line_from(standing_at(file, finding.line).text);
-    let place = finding.place.min(bytes.len());
-    add_head(text, finding.what)?;
-    add_line(text, finding.line, bytes, place)?;
-    add_want(text, finding.line, finding.want)
+    add_numbered(text, file, finding.line, finding)
 }
 
 #[tactic(auto, unfolding(crate::specs::Sayings::sent_text))]
@@ -299,6 +314,14 @@ fn tidy_words() -> &'static [u8]
     b"\nhelp: mscview tidy writes the exact text of this file, which has no fault\n"
 }
 
+/// What is told of a file that may be a log.
+#[tactic(auto, unfolding(crate::specs::Sayings::log_text))]
+fn log_words() -> &'static [u8]
+    ensures { result.now ≡ log_text }
+{
+    b"\nhelp: of a log, mscview races --from log tells the races: of lines HOST send PEER NAME and HOST recv PEER NAME, or as --pattern reads its lines\n"
+}
+
 /// Adds what is told of a file with these bytes.
 #[tactic(auto, unfolding(crate::specs::Sayings::saying_text, crate::specs::Sayings::read_text))]
 fn add_saying<W: Out>(
@@ -312,12 +335,14 @@ fn add_saying<W: Out>(
         Saying::Kind(kind) => text.add(kind_words(*kind)),
         Saying::Read => text.add(b"nothing is wrong with it\n"),
         Saying::Finding(finding) => add_finding(text, file, finding),
+        Saying::Typed(finding, number) => add_numbered(text, file, *number, finding),
         Saying::Note(noted) => add_noted(text, file, noted),
         Saying::LeftOut(left_out) => add_left_out(text, left_out),
         Saying::Overtaking(message) => add_overtaking(text, message),
         Saying::Cyclic => text.add(cyclic_words()),
         Saying::Step(step) => add_step(text, step),
         Saying::Tidy => text.add(tidy_words()),
+        Saying::Log => text.add(log_words()),
     }
 }
 

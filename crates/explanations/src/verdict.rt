@@ -4,11 +4,11 @@ ghost use Rattle.explanations.specs.Verdicts.{status_of, verdict_said};
 
 use chart::EventNo;
 use diagrams::{LeftOut, Place};
+use fault_places::Step;
 use files::Answer;
 use joined_diagrams::{JoinError, Overtaking};
 use msc_text::{Fault, Out};
 use schedule_notes::Noted;
-use told_circles::Step;
 
 /// Why another tool's text isn't imported.
 #[derive(Clone, Copy, Debug)]
@@ -46,6 +46,17 @@ pub(crate) enum Verdict {
     OtherName(EventNo),
     /// F18: these events come before each other, in a circle.
     Cyclic(Vec<Step>),
+}
+
+/// What comes of the exact text of a file that is refused as a text.
+#[derive(Clone, Copy, Debug)]
+pub(crate) enum Exactly {
+    /// It isn't asked for: the file isn't refused so, or the fault is told in the file as it stands.
+    Unasked,
+    /// It has no fault.
+    Read,
+    /// It has this fault, and the file has comments, which are left out of it.
+    Refused(Fault),
 }
 
 /// The exit status: 1 where a fault is told.

@@ -1,2 +1,3 @@
 pub mod SpotLemmas
 pub mod StandingLemmas
+pub mod NameLemmas

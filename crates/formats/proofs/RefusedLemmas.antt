@@ -3,6 +3,7 @@ use Rattle.std.proofs.Common.{◌≡◌, ℕ, ◌⊎◌, inl, inr, List, Err, re
 use Rattle.files.specs.declared.error.ProgramError.{ProgramError}
 use Rattle.files.specs.declared.error.ProgramError.TheVariants.{Usage, File, Memory, Text, ReceiveWithoutSend, NameMismatch, Cyclic, Write}
 use Rattle.files.specs.Files.{Named, IsRefused}
+use Rattle.margin_notes.specs.declared.MarginNote.{MarginNote}
 use Rattle.msc_text.specs.Outs.{Sink}
 use Rattle.formats.specs.declared.drawing.Wanted.{Wanted}
 use Rattle.formats.specs.declared.error.DrawError.TheVariants.{Format}
@@ -13,9 +14,9 @@ use Rattle.formats.specs.Columns.{AreColumns, RefusesColumns}
 use Rattle.formats.specs.Drawing.{only_of, Draws}
 use Rattle.formats.specs.Exporting.{Exports}
 
-module _ {S : Type 0} (sink : S → Sink) (old : S) (turns : List ℕ) (named : Named) where
+module _ {S : Type 0} (sink : S → Sink) (old : S) (turns : List ℕ) (notes : List MarginNote) (named : Named) where
   -- there are no such columns
-  pub no_columns : (wanted : Wanted) (error : FormatError) → RefusesColumns named.0 (only_of wanted) error → Draws sink old old (Err (Format error)) wanted turns named
+  pub no_columns : (wanted : Wanted) (error : FormatError) → RefusesColumns named.0 (only_of wanted) error → Draws sink old old (Err (Format error)) wanted turns notes named
   no_columns wanted NoSuchName none = (none, refl)
   no_columns wanted (Program Memory) why = refl
   no_columns wanted (Program Usage) why = absurd why
@@ -27,7 +28,7 @@ module _ {S : Type 0} (sink : S → Sink) (old : S) (turns : List ℕ) (named : 
   no_columns wanted (Program Write) why = absurd why
 
   module _ (wanted : Wanted) (columns : List ℕ) (are : AreColumns named.0 (only_of wanted) columns) where
-    pub not_drawn : (error : ProgramError) → (error ≡ Memory) ⊎ IsRefused error named → Draws sink old old (Err (Format (Program error))) wanted turns named
+    pub not_drawn : (error : ProgramError) → (error ≡ Memory) ⊎ IsRefused error named → Draws sink old old (Err (Format (Program error))) wanted turns notes named
     not_drawn Memory why = refl
     not_drawn Usage (inl is) = cc
     not_drawn Usage (inr refused) = absurd refused
@@ -44,6 +45,7 @@ module _ {S : Type 0} (sink : S → Sink) (old : S) (turns : List ℕ) (named : 
     not_drawn Write (inl is) = cc
     not_drawn Write (inr refused) = absurd refused
 
+module _ {S : Type 0} (sink : S → Sink) (old : S) (turns : List ℕ) (named : Named) where
   module _ (target : Target) where
     pub not_exported : (error : ProgramError) → (error ≡ Memory) ⊎ IsRefused error named → Exports sink old old (Err (Program error)) target turns named
     not_exported Memory why = refl

@@ -1,9 +1,10 @@
 -- What is drawn of a file.
-use Rattle.std.specs.Prelude.{◌≡◌, ℕ, ◌⊎◌, List, length, Option, option_map, Result, Ok, Err}
+use Rattle.std.specs.Prelude.{◌≡◌, ℕ, ◌⊎◌, List, [], length, Option, option_map, Result, Ok, Err}
 use Rattle.chart.specs.declared.instance.EventNo.{EventNo}
 use Rattle.chart.specs.Charts.{chart_lines, IsPossible}
 use Rattle.chart.specs.Reports.{ReportView, AreReports}
 use Rattle.layout.specs.declared.row.Row.{Row}
+use Rattle.margin_notes.specs.declared.MarginNote.{MarginNote}
 use Rattle.msc_text.specs.Outs.{Sink}
 use Rattle.msc_text.specs.Writing.{Puts, Breaks}
 use Rattle.pictures.specs.Pictures.{PictureView}
@@ -25,8 +26,8 @@ use Rattle.formats.specs.Preparing.{turns_in, IsPrepared}
 abbrev pub only_of : Wanted → Option (List ℕ)
 only_of wanted = option_map (λ bytes. bytes.now) wanted.only
 
--- the picture is that of what is wanted of the chart, which is possible
-pub record IsWanted (wanted : Wanted) (turns : List ℕ) (named : Named) (picture : PictureView) : Type 0 where
+-- the picture is that of what is wanted of the chart, which is possible, with these notes in its margin
+pub record IsWanted (wanted : Wanted) (turns : List ℕ) (notes : List MarginNote) (named : Named) (picture : PictureView) : Type 0 where
   pub columns : List ℕ
   pub rows : List Row
   pub ends : List (List (Option EventNo))
@@ -44,25 +45,26 @@ pub record IsWanted (wanted : Wanted) (turns : List ℕ) (named : Named) (pictur
     top = window.top;
     bottom = window.bottom;
     numbers = wanted.numbers;
+    notes = notes;
   }) picture
 
 module _ {S : Type 0} (sink : S → Sink) where
   -- the picture was written; or a beginning of it, where a put failed; or nothing, where there are no such columns,
   -- where the chart is not possible, where its rows stand round an event that it doesn't have, or where memory ran out
-  abbrev pub Draws : S → S → Result (Unit {0}) DrawError → Wanted → List ℕ → Named → Type 0
-  Draws old new (Ok done) wanted turns named = (picture : PictureView) × IsWanted wanted turns named picture
+  abbrev pub Draws : S → S → Result (Unit {0}) DrawError → Wanted → List ℕ → List MarginNote → Named → Type 0
+  Draws old new (Ok done) wanted turns notes named = (picture : PictureView) × IsWanted wanted turns notes named picture
       × Puts sink old new (picture_text picture)
-  Draws old new (Err (Format NoSuchName)) wanted turns named =
+  Draws old new (Err (Format NoSuchName)) wanted turns notes named =
       ((columns : List ℕ) → AreColumns named.0 (only_of wanted) columns → ⊥) × (new ≡ old)
-  Draws old new (Err (Format (Program errors.Memory))) wanted turns named = new ≡ old
-  Draws old new (Err (Format (Program errors.Write))) wanted turns named = (picture : PictureView)
-      × IsWanted wanted turns named picture × Breaks sink old new (picture_text picture)
-  Draws old new (Err (Format (Program error))) wanted turns named = (columns : List ℕ)
+  Draws old new (Err (Format (Program errors.Memory))) wanted turns notes named = new ≡ old
+  Draws old new (Err (Format (Program errors.Write))) wanted turns notes named = (picture : PictureView)
+      × IsWanted wanted turns notes named picture × Breaks sink old new (picture_text picture)
+  Draws old new (Err (Format (Program error))) wanted turns notes named = (columns : List ℕ)
       × AreColumns named.0 (only_of wanted) columns × IsRefused error named × (new ≡ old)
-  Draws old new (Err NoSuchEvent) wanted turns named = (columns : List ℕ) × AreColumns named.0 (only_of wanted) columns
+  Draws old new (Err NoSuchEvent) wanted turns notes named = (columns : List ℕ) × AreColumns named.0 (only_of wanted) columns
       × IsPossible (length named.1) (chart_lines named.1) × HasNoWindow named wanted.rows × (new ≡ old)
 
   -- the same for the chart that the bytes say; or nothing was written, where the bytes have a fault
   abbrev pub DrawsText : S → S → Wanted → List ℕ → Result (Unit {0}) DrawError → Type 0
   DrawsText old new wanted bytes =
-      OfFile (λ error. Format (Program error)) (λ source done. Draws old new done wanted (turns_in source) (named_of source)) old new bytes
+      OfFile (λ error. Format (Program error)) (λ source done. Draws old new done wanted (turns_in source) [] (named_of source)) old new bytes

@@ -1,5 +1,5 @@
 //! What `mscview draw` does with the bytes of a file.
-ghost use Rattle.std.specs.Prelude.{◌≡◌, ◌≤◌, length, []};
+ghost use Rattle.std.specs.Prelude.{◌≡◌, ◌≤◌, [], length};
 ghost use Rattle.chart.specs.declared.instance.TheConstants.{MAX_INSTANCES};
 ghost use Rattle.chart.specs.Charts.{chart_lines, IsPossible};
 ghost use Rattle.chart.specs.Reports.{AreReports};
@@ -18,6 +18,7 @@ use crate::windows::{Rows, window_in};
 use chart::{Chart, InstanceNo, Names, Report};
 use closure::Closure;
 use files::{ProgramError, Source, Text, answered, closure_of};
+use margin_notes::MarginNote;
 use msc_text::Out;
 use pictures::{Part, Picture, write_picture};
 use std::alloc::Global;
@@ -42,8 +43,11 @@ pub struct Wanted<'a> {
 struct Subject<'a> {
     names: &'a Names,
     closure: &'a Closure<'a>,
-    /// Whose turn it was in the run that the chart comes from, one event after another. A chart without a run has none.
+    /// Whose turn it is, one event after another, in the run or the diagram that the chart comes from. A chart's own text
+    /// has none.
     turns: &'a [InstanceNo],
+    /// What stands beside its rows.
+    notes: &'a [MarginNote],
     /// The reports of its receives.
     reports: &'a [Report],
 }
@@ -61,7 +65,7 @@ fn draw_columns<W: Out>(
     requires columns { AreColumns subject.now.names.now (only_of wanted.now) columns.now }
     requires reports { AreReports subject.now.closure.now subject.now.reports.now }
     requires possible { IsPossible (length subject.now.closure.now) (chart_lines subject.now.closure.now) }
-    ensures { Draws W.sink out.old out.new result wanted.now subject.now.turns.now
+    ensures { Draws W.sink out.old out.new result wanted.now subject.now.turns.now subject.now.notes.now
         (subject.now.names.now, subject.now.closure.now) }
 {
     let (names, closure) = (subject.names, subject.closure);
@@ -86,6 +90,7 @@ fn draw_columns<W: Out>(
         top: window.top,
         bottom: window.bottom,
         numbers: wanted.numbers,
+        notes: subject.notes,
     };
     let Ok(picture) = Picture::of(alloc, drawn, part) else {
         return Err(DrawError::Format(FormatError::Program(ProgramError::Memory)));
@@ -105,7 +110,7 @@ fn draw_source<W: Out>(
     out: &mut W,
 ) -> Result<(), DrawError>
     requires { ComesFrom source.now }
-    ensures { Draws W.sink out.old out.new result wanted.now (turns_in source.now) (named_of source.now) }
+    ensures { Draws W.sink out.old out.new result wanted.now (turns_in source.now) [] (named_of source.now) }
 {
     let names = source.names();
     let columns = columns_in(alloc, names, wanted.only)?;
@@ -120,23 +125,27 @@ fn draw_source<W: Out>(
         names,
         closure: &closure,
         turns: turns.as_slice(),
+        notes: &[],
         reports: reports.as_slice(),
     };
     draw_columns(alloc, &subject, columns.as_slice(), wanted, out)
 }
 
-/// Draws what is wanted of a chart that comes from no run, which has a line for each name. F34: a name of `--only` is
-/// none of the chart's, or is there twice. Then F16, F17 or F18 refuses a chart that isn't possible, and then F31 an
-/// event that it doesn't have. Nothing is written before a refusal, but where writing failed (F24).
+/// Draws what is wanted of a chart, which has a line for each name, by whose turn it is, one event after another, with these
+/// notes in its margin. Without turns its rows are those of [`layout::layout`]'s rule. F34: a name of `--only` is none of the chart's, or is there
+/// twice. Then F16, F17 or F18 refuses a chart that isn't possible, and then F31 an event that it doesn't have. Nothing is
+/// written before a refusal, but where writing failed (F24).
 pub fn draw_chart<W: Out>(
     alloc: Global,
     names: &Names,
     chart: &Chart,
+    turns: &[InstanceNo],
+    notes: &[MarginNote],
     wanted: &Wanted<'_>,
     out: &mut W,
 ) -> Result<(), DrawError>
     requires { length names.now ≡ length chart.now }
-    ensures { Draws W.sink out.old out.new result wanted.now [] (names.now, chart.now) }
+    ensures { Draws W.sink out.old out.new result wanted.now turns.now notes.now (names.now, chart.now) }
 {
     let columns = columns_in(alloc, names, wanted.only)?;
     let closure = closure_of(alloc, names, chart)?;
@@ -146,7 +155,8 @@ pub fn draw_chart<W: Out>(
     let subject = Subject {
         names,
         closure: &closure,
-        turns: &[],
+        turns,
+        notes,
         reports: reports.as_slice(),
     };
     draw_columns(alloc, &subject, columns.as_slice(), wanted, out)

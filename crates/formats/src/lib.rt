@@ -33,6 +33,7 @@ pub use drawing::{Wanted, draw, draw_chart};
 pub use error::{DrawError, FormatError};
 pub use events::{Events, events_in};
 pub use exporting::export;
+pub use preparing::{Prepared, Reports, prepare_by, turns_in};
 pub use target::{Target, target_in, tool_in};
 pub use title::file_name;
-pub use windows::{Around, Rows};
+pub use windows::{Around, Rows, Window, window_in};

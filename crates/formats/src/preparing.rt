@@ -17,7 +17,7 @@ use std::alloc::{AllocError, Global};
 
 /// The reports of a chart's receives.
 #[derive(Drop)]
-pub(crate) enum Reports<'a> {
+pub enum Reports<'a> {
     /// Those that the replay of a schedule gave.
     Replayed(&'a [Report]),
     /// Those that were searched for.
@@ -26,10 +26,7 @@ pub(crate) enum Reports<'a> {
 
 impl<'a> Reports<'a> {
     /// Those of the source's chart. F6: it fails only where there is no memory.
-    pub(crate) fn of(
-        source: &'a Source<'_>,
-        closure: &Closure<'_>,
-    ) -> Result<Reports<'a>, AllocError>
+    pub fn of(source: &'a Source<'_>, closure: &Closure<'_>) -> Result<Reports<'a>, AllocError>
         requires { closure.now ≡ (named_of source.now).1 }
         ensures { IfOk result (λ reports. AreReports closure.now (reports_in reports)) }
     {
@@ -42,7 +39,7 @@ impl<'a> Reports<'a> {
         }
     }
 
-    pub(crate) fn as_slice(&self) -> &[Report]
+    pub fn as_slice(&self) -> &[Report]
         ensures { result.now ≡ reports_in self.now }
     {
         match self {
@@ -54,9 +51,9 @@ impl<'a> Reports<'a> {
 
 /// Where a chart's events are drawn, and the other ends of its messages.
 #[derive(Drop)]
-pub(crate) struct Prepared {
-    pub(crate) layout: Layout,
-    pub(crate) ends: Ends,
+pub struct Prepared {
+    pub layout: Layout,
+    pub ends: Ends,
 }
 
 /// Whose turn it was in the run of a schedule. F6: it fails only where there is no memory.
@@ -73,7 +70,7 @@ fn turns_of_run(
 
 /// Whose turn it was in the run that the source's chart comes from. A chart's own text has no run. F6: it fails only
 /// where there is no memory.
-pub(crate) fn turns_in(alloc: Global, source: &Source<'_>) -> Result<Vec<InstanceNo>, AllocError>
+pub fn turns_in(alloc: Global, source: &Source<'_>) -> Result<Vec<InstanceNo>, AllocError>
     requires { ComesFrom source.now }
     ensures { IfOk result (λ turns. turns.items ≡ turns_in source.now) }
 {
@@ -85,7 +82,7 @@ pub(crate) fn turns_in(alloc: Global, source: &Source<'_>) -> Result<Vec<Instanc
 
 /// What a picture of a possible chart is drawn from, beside its reports, by whose turn it was in its run. F6: it fails only
 /// where there is no memory.
-pub(crate) fn prepare_by(
+pub fn prepare_by(
     alloc: Global,
     closure: &Closure<'_>,
     turns: &[InstanceNo],

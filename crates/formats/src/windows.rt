@@ -29,9 +29,9 @@ pub enum Rows<'a> {
 
 /// The numbers of the first and of the last row that are chosen, from 0.
 #[derive(Clone, Copy)]
-pub(crate) struct Window {
-    pub(crate) top: usize,
-    pub(crate) bottom: usize,
+pub struct Window {
+    pub top: usize,
+    pub bottom: usize,
 }
 
 /// The place of a row among all, from 0, by its number.
@@ -110,12 +110,7 @@ fn window_round(
 
 /// The rows that are chosen of a chart's layout. There are none exactly where they stand round an event that the chart
 /// doesn't have.
-pub(crate) fn window_in(
-    names: &Names,
-    lines: &[Line],
-    layout: &Layout,
-    rows: &Rows<'_>,
-) -> Option<Window>
+pub fn window_in(names: &Names, lines: &[Line], layout: &Layout, rows: &Rows<'_>) -> Option<Window>
     requires { IsDrawing lines.now layout.now }
     ensures { MatchOption result (HasNoWindow (names.now, lines.now) rows.now)
         (IsWindow (names.now, lines.now) layout.now rows.now) }

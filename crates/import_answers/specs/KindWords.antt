@@ -44,3 +44,8 @@ kind_words kinds.Participant = codes "participants"
 kind_words kinds.Preprocessor = codes "pre-processor lines"
 kind_words kinds.Reference = codes "references"
 kind_words kinds.Return = codes "returns"
+
+-- what is read of those that have more than one run: of a frame one
+unfoldable pub kind_reading : Kind → List ℕ
+kind_reading kinds.Frame = codes ": one run is read, of par each branch in turn, of others the first branch, once"
+kind_reading _ = codes ""

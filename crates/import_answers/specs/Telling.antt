@@ -5,22 +5,22 @@ use Rattle.diagrams.specs.declared.renaming.Renamed.{Renamed}
 use Rattle.diagrams.specs.declared.left_out.LeftOut.{LeftOut}
 use Rattle.joined_diagrams.specs.declared.moves.Overtaking.{Overtaking}
 use Rattle.mscgen_text.specs.Faults.{printable}
-use Rattle.import_answers.specs.KindWords.{kind_word, kind_words}
+use Rattle.import_answers.specs.KindWords.{kind_word, kind_words, kind_reading}
 
--- that one such thing is left out, with its line
-unfoldable pub one_line : List ℕ → ℕ → List ℕ
-one_line word line = codes "1 " ++ (word ++ (codes " is left out, in line " ++ (decimal line ++ codes "\n")))
+-- that one such thing is left out, with its line, and what is read of it
+unfoldable pub one_line : List ℕ → ℕ → List ℕ → List ℕ
+one_line word line reading = codes "1 " ++ (word ++ (codes " is left out, in line " ++ (decimal line ++ (reading ++ codes "\n"))))
 
 -- that so many are, with the line of the first
-unfoldable pub several_line : ℕ → List ℕ → ℕ → List ℕ
-several_line count words line =
-    decimal count ++ (codes " " ++ (words ++ (codes " are left out, the first in line " ++ (decimal line ++ codes "\n"))))
+unfoldable pub several_line : ℕ → List ℕ → ℕ → List ℕ → List ℕ
+several_line count words line reading =
+    decimal count ++ (codes " " ++ (words ++ (codes " are left out, the first in line " ++ (decimal line ++ (reading ++ codes "\n")))))
 
 -- what is left out of a kind
 abbrev pub left_out_line : LeftOut → List ℕ
 left_out_line l =
-    if l.count == 1 then one_line (kind_word l.kind) l.first.line
-    else several_line l.count (kind_words l.kind) l.first.line
+    if l.count == 1 then one_line (kind_word l.kind) l.first.line (kind_reading l.kind)
+    else several_line l.count (kind_words l.kind) l.first.line (kind_reading l.kind)
 
 -- a message that is left out, and the line of the one that it overtakes
 unfoldable pub overtaking_line : Overtaking → List ℕ

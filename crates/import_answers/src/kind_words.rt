@@ -1,6 +1,6 @@
 //! What kinds of things are called that are left out.
 ghost use Rattle.std.specs.Prelude.{◌≡◌};
-ghost use Rattle.import_answers.specs.KindWords.{kind_word, kind_words};
+ghost use Rattle.import_answers.specs.KindWords.{kind_word, kind_words, kind_reading};
 
 use diagrams::Kind;
 
@@ -55,5 +55,17 @@ pub(crate) fn kind_words(kind: Kind) -> &'static [u8]
         Kind::Preprocessor => b"pre-processor lines",
         Kind::Reference => b"references",
         Kind::Return => b"returns",
+    }
+}
+
+/// What is read of it, where it has more than one run.
+#[tactic(auto, unfolding(crate::specs::KindWords::kind_reading))]
+pub(crate) fn kind_reading(kind: Kind) -> &'static [u8]
+    ensures { result.now ≡ kind_reading kind }
+{
+    match kind {
+        Kind::Frame =>
+            b": one run is read, of par each branch in turn, of others the first branch, once",
+        _ => b"",
     }
 }

@@ -5,17 +5,22 @@ ghost use Rattle.msc_text.specs.Writing.{Wrote, Adds};
 ghost use Rattle.import_answers.specs.Telling.{one_line, several_line, left_out_line, overtaking_line, shown_byte, start, is, end};
 ghost use Rattle.import_answers.specs.Telling.{renamed_line, told_text};
 
-use crate::kind_words::{kind_word, kind_words};
+use crate::kind_words::{kind_reading, kind_word, kind_words};
 use diagrams::{LeftOut, Renamed};
 use joined_diagrams::Overtaking;
 use msc_text::{Out, TextBuffer, WriteError};
 use mscgen_text::printable;
 use text_parts::{Piece, add_pieces};
 
-/// Adds that one such thing is left out, with its line.
+/// Adds that one such thing is left out, with its line, and what is read of it.
 #[tactic(auto, unfolding(crate::specs::Telling::one_line))]
-fn add_one<V: Out>(text: &mut TextBuffer<'_, V>, word: &[u8], line: u64) -> Result<(), WriteError>
-    ensures { Adds V.sink text.old text.new result (one_line word.now line) }
+fn add_one<'x, V: Out>(
+    text: &mut TextBuffer<'_, V>,
+    word: &'x [u8],
+    line: u64,
+    reading: &'x [u8],
+) -> Result<(), WriteError>
+    ensures { Adds V.sink text.old text.new result (one_line word.now line reading.now) }
 {
     add_pieces(
         text,
@@ -24,6 +29,7 @@ fn add_one<V: Out>(text: &mut TextBuffer<'_, V>, word: &[u8], line: u64) -> Resu
             Piece::Bytes(word),
             Piece::Bytes(b" is left out, in line "),
             Piece::Number(line),
+            Piece::Bytes(reading),
             Piece::Bytes(b"\n"),
         ],
     )
@@ -31,13 +37,14 @@ fn add_one<V: Out>(text: &mut TextBuffer<'_, V>, word: &[u8], line: u64) -> Resu
 
 /// Adds that so many are, with the line of the first.
 #[tactic(auto, unfolding(crate::specs::Telling::several_line))]
-fn add_several<V: Out>(
+fn add_several<'x, V: Out>(
     text: &mut TextBuffer<'_, V>,
     count: u64,
-    words: &[u8],
+    words: &'x [u8],
     line: u64,
+    reading: &'x [u8],
 ) -> Result<(), WriteError>
-    ensures { Adds V.sink text.old text.new result (several_line count words.now line) }
+    ensures { Adds V.sink text.old text.new result (several_line count words.now line reading.now) }
 {
     add_pieces(
         text,
@@ -47,6 +54,7 @@ fn add_several<V: Out>(
             Piece::Bytes(words),
             Piece::Bytes(b" are left out, the first in line "),
             Piece::Number(line),
+            Piece::Bytes(reading),
             Piece::Bytes(b"\n"),
         ],
     )
@@ -59,11 +67,13 @@ pub fn add_left_out<V: Out>(
 ) -> Result<(), WriteError>
     ensures { Adds V.sink text.old text.new result (left_out_line left_out.now) }
 {
+    let kind = left_out.kind;
     let line = left_out.first.line;
+    let reading = kind_reading(kind);
     if left_out.count == 1 {
-        add_one(text, kind_word(left_out.kind), line)
+        add_one(text, kind_word(kind), line, reading)
     } else {
-        add_several(text, left_out.count, kind_words(left_out.kind), line)
+        add_several(text, left_out.count, kind_words(kind), line, reading)
     }
 }
 

@@ -1,1 +1,3 @@
 pub mod Drawing
+pub mod Told
+pub mod Turns

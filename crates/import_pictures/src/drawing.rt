@@ -1,14 +1,22 @@
 //! Pictures of other tools' texts.
+ghost use Rattle.std.specs.Prelude.{◌≡◌, IfOk};
 ghost use Rattle.files.specs.Answers.{Answers};
 ghost use Rattle.diagram_imports.specs.Importing.{options_view};
 ghost use Rattle.import_pictures.specs.Drawing.{DrawsDrawing, undrawn_said, picture_said};
+ghost use Rattle.import_pictures.specs.Turns.{turns_of_text};
 
-use diagram_imports::{ImportError, Options};
+use crate::told::{Told, undrawn};
+use chart::InstanceNo;
+use diagram_imports::{ImportError, Options, diagram_of_text, import_text};
+use diagram_notes::notes_of_text;
+use diagram_turns::turns_in;
+use diagrams::Drawn;
 use files::{Answer, answered};
 use formats::{DrawError, Wanted, draw_chart};
-use import_answers::{Told, drawing_in, refused_drawing};
+use import_answers::refused_drawing;
+use joined_diagrams::JoinedDrawn;
 use msc_text::Out;
-use std::alloc::Global;
+use std::alloc::{AllocError, Global};
 use tool_text::Tool;
 
 /// Why no picture was drawn.
@@ -20,7 +28,25 @@ pub enum Undrawn {
     Picture(DrawError),
 }
 
-/// Reads the text and draws what is wanted of its chart. All memory is taken before the first byte is written.
+/// Whose events stand in the diagram that a text says, from the top on. It fails only where there is no memory, or where the
+/// text says no diagram.
+pub fn turns_of_text(
+    alloc: Global,
+    tool: Option<Tool>,
+    text: &[u8],
+    options: &Options<'_>,
+) -> Result<Vec<InstanceNo>, AllocError>
+    ensures { IfOk result (λ turns. turns.items ≡ turns_of_text tool text.now (options_view options.now)) }
+{
+    let Ok(diagram) = diagram_of_text(alloc, tool, text, options) else {
+        return Err(AllocError);
+    };
+    let turns = turns_in(alloc, diagram, options.joins)?;
+    Ok(turns)
+}
+
+/// Reads the text and draws what is wanted of its chart, in the rows of the diagram, with its notes and dividers. All memory
+/// is taken before the first byte is written.
 fn draw_text<W: Out>(
     alloc: Global,
     tool: Option<Tool>,
@@ -31,12 +57,41 @@ fn draw_text<W: Out>(
 ) -> Result<Told, Undrawn>
     ensures { DrawsDrawing W.sink out.old out.new tool text.now (options_view options.entry) wanted.now result }
 {
-    let drawing = match drawing_in(alloc, tool, text, options) {
-        Ok(drawing) => drawing,
+    let imported = match import_text(alloc, tool, text, options) {
+        Ok(imported) => imported,
         Err(error) => return Err(Undrawn::Drawing(error)),
     };
-    match draw_chart(alloc, &drawing.names, &drawing.chart, wanted, out) {
-        Ok(()) => Ok(drawing.told),
+    let Ok(turns) = turns_of_text(alloc, tool, text, &options) else {
+        return Err(Undrawn::Drawing(ImportError::Memory));
+    };
+    let Ok(notes) = notes_of_text(alloc, tool, text, &options) else {
+        return Err(Undrawn::Drawing(ImportError::Memory));
+    };
+    let JoinedDrawn { drawn, overtaking } = imported;
+    let Drawn {
+        names,
+        chart,
+        left_out,
+        renamed,
+    } = drawn;
+    let Ok(left_out) = undrawn(alloc, &left_out) else {
+        return Err(Undrawn::Drawing(ImportError::Memory));
+    };
+    let told = Told {
+        left_out,
+        overtaking,
+        renamed,
+    };
+    match draw_chart(
+        alloc,
+        &names,
+        &chart,
+        turns.as_slice(),
+        notes.as_slice(),
+        wanted,
+        out,
+    ) {
+        Ok(()) => Ok(told),
         Err(error) => Err(Undrawn::Picture(error)),
     }
 }
@@ -59,8 +114,9 @@ impl Answer for Undrawn {
     }
 }
 
-/// Writes a picture, as SVG text, of the chart that a tool's text says, of the tool that is named or that the text tells.
-/// On `err` is told what an import tells of the chart. Writes the line of a refusal to `err`. Answers the exit status: 0
+/// Writes a picture, as SVG text, of the chart that a tool's text says, of the tool that is named or that the text tells:
+/// its events stand in the order of the diagram's rows, and its notes and dividers beside them. On `err` is told what an
+/// import tells of the chart, but of what is drawn. Writes the line of a refusal to `err`. Answers the exit status: 0
 /// where it was drawn, 2 after a refusal. What an import refuses is refused first, then F34, and then F31. Nothing is
 /// written to `out` before a refusal, but where writing to it failed (F24). A failed write to `err` changes nothing.
 pub fn draw_of<W: Out, V: Out>(

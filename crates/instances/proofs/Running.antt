@@ -54,7 +54,8 @@ at-state {I = I} {D = D} at to is meaning a last =
 -- a run of it, in the same way, by a new mailbox
 pub run-at {ℓ} : {I : Type ℓ} {D : I → Type 0} (at to : (y : I) × D y) → at ≡ to
     → (meaning : (p : (y : I) × D y) → Meaning (D p.0)) (most : ℕ) (old : PostView) (trace : List Turn) (end : End)
-    (new : MailboxView) (left : D at.0) → IsRun (meaning at) most at.1 (record { post = old; last = 0 }) trace end left new
+    (new : MailboxView) (left : D at.0)
+    → IsRun (meaning at) most at.1 (record { post = old; last = 0 }) trace end (record { state = left; view = new })
     → IsRunOfPost (meaning to) most to.1 old trace end new.post
 run-at {I = I} {D = D} at to is meaning most old trace end new left run =
     subst (λ (p : (y : I) × D y). IsRunOfPost (meaning p) most p.1 old trace end new.post) is
@@ -88,7 +89,8 @@ module _ {S : Type 0} (m : Meaning S) (state : S) (old : MailboxView) where
 
   pub has-stopped : (most : ℕ) (done : List Turn) (count : ℕ) (now : Moment S) → HasRun m state old done count now
       → count < most → m.act now.state now.last ≡ Stop
-      → IsRun m most state old (done ++ last_turn ∷ []) Stopped (m.after now.state now.last) now.view
+      → IsRun m most state old (done ++ last_turn ∷ []) Stopped
+      (record { state = m.after now.state now.last; view = now.view })
   has-stopped most done count now run before stops = record {
     ends = (
       done,
@@ -107,7 +109,7 @@ module _ {S : Type 0} (m : Meaning S) (state : S) (old : MailboxView) where
   }
 
   pub has-spent : (most : ℕ) (done : List Turn) (many : ℕ) (now : Moment S) → HasRun m state old done many now
-      → many ≡ most → IsRun m most state old done TurnsSpent now.state now.view
+      → many ≡ most → IsRun m most state old done TurnsSpent (record { state = now.state; view = now.view })
   has-spent most done many now run all = record {
     ends = (now, run.count ∙ all, run.leads, refl, refl);
     made = run.leaves.made;
@@ -116,7 +118,7 @@ module _ {S : Type 0} (m : Meaning S) (state : S) (old : MailboxView) where
   }
 
   pub has-failed : (most : ℕ) (done : List Turn) (count : ℕ) (now : Moment S) → HasRun m state old done count now
-      → count < most → IsRun m most state old done Memory now.state now.view
+      → count < most → IsRun m most state old done Memory (record { state = now.state; view = now.view })
   has-failed most done count now run before = record {
     ends = (now, omega (arith, before, run.count), run.leads, refl, refl);
     made = run.leaves.made;

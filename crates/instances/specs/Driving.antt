@@ -39,16 +39,22 @@ Leads m now (turn ∷ turns) end = (answer : Answer) × (view : MailboxView)
     × Allows now.view (m.act now.state now.last) answer view
     × Leads m (record { state = m.after now.state now.last; last = answer; view = view }) turns end
 
+-- what turns leave: the behaviour's state, and the mailbox's view
+pub record Ended (S : Type 0) : Type 0 where
+  pub state : S
+  pub view : MailboxView
+
 -- Why so many turns at most ended with this trace. Stopped: the last turn is that of the act of stopping. Turns spent:
 -- there were all of them, and none was that. Memory: there were fewer, and the behaviour wasn't asked again.
-abbrev pub Ends : {S : Type 0} → Meaning S → ℕ → Moment S → List Turn → End → S → MailboxView → Type 0
-Ends m most start trace Stopped left new = (turns : List Turn) × (now : _)
+abbrev pub Ends : {S : Type 0} → Meaning S → ℕ → Moment S → List Turn → End → Ended S → Type 0
+Ends m most start trace Stopped left = (turns : List Turn) × (now : _)
     × (trace ≡ turns ++ last_turn ∷ []) × (length trace ≤ most) × Leads m start turns now
-    × (m.act now.state now.last ≡ act.Stop) × (left ≡ m.after now.state now.last) × (new ≡ now.view)
-Ends m most start trace TurnsSpent left new = (now : _)
-    × (length trace ≡ most) × Leads m start trace now × (left ≡ now.state) × (new ≡ now.view)
-Ends m most start trace Memory left new = (now : _)
-    × (length trace < most) × Leads m start trace now × (left ≡ now.state) × (new ≡ now.view)
+    × (m.act now.state now.last ≡ act.Stop) × (left.state ≡ m.after now.state now.last)
+    × (left.view ≡ now.view)
+Ends m most start trace TurnsSpent left = (now : _)
+    × (length trace ≡ most) × Leads m start trace now × (left.state ≡ now.state) × (left.view ≡ now.view)
+Ends m most start trace Memory left = (now : _)
+    × (length trace < most) × Leads m start trace now × (left.state ≡ now.state) × (left.view ≡ now.view)
 
 -- What was made is just what these acts made, in their order.
 abbrev pub Made : MailboxView → List BareAct → MailboxView → Type 0
@@ -57,15 +63,16 @@ Made old acts new = (events : List Occurrence) × (new.post.made ≡ events ++ o
 
 -- A run of so many turns at most, from a behaviour's state and a mailbox's view to those that it left.
 pub record IsRun {S : Type 0} (m : Meaning S) (most : ℕ) (state : S) (old : MailboxView)
-    (trace : List Turn) (end : End) (left : S) (new : MailboxView) : Type 0 where
-  pub ends : Ends m most (record { state = state; last = Start; view = old }) trace end left new
-  pub made : Made old (all_accepted trace) new
-  pub same : IsSamePost old.post new.post
-  pub later : Begins old.post.seen new.post.seen
+    (trace : List Turn) (end : End) (left : Ended S) : Type 0 where
+  pub ends : Ends m most (record { state = state; last = Start; view = old }) trace end left
+  pub made : Made old (all_accepted trace) left.view
+  pub same : IsSamePost old.post left.view.post
+  pub later : Begins old.post.seen left.view.post.seen
 
 -- The same from a post to the post that is left, by a new mailbox; the behaviour isn't kept.
 pub record IsRunOfPost {S : Type 0} (m : Meaning S) (most : ℕ) (state : S) (old : PostView)
     (trace : List Turn) (end : End) (new : PostView) : Type 0 where
   pub left : S
   pub last : ℕ
-  pub run : IsRun m most state (record { post = old; last = 0 }) trace end left (record { post = new; last = last })
+  pub run : IsRun m most state (record { post = old; last = 0 }) trace end
+      (record { state = left; view = record { post = new; last = last } })

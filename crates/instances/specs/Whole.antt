@@ -27,9 +27,8 @@ Drives = ℕ → PostView → List Turn → End → PostView → Type 0
 
 -- The behaviour at the place, of these, drives the post: each of them means this and begins in this state, and has so
 -- many turns at most.
-abbrev pub DrivenBy : {B : Type 0} {S : B → Type 0} → ((b : B) → Meaning (S b)) → ((b : B) → S b) → ℕ → List B
-    → ℕ → PostView → List Turn → End → PostView → Type 0
-DrivenBy means state turns behaviours k old trace end new = (b : _) → IsRunOfPost
+abbrev pub DrivenBy : {B : Type 0} {S : B → Type 0} → ((b : B) → Meaning (S b)) → ((b : B) → S b) → ℕ → List B → Drives
+DrivenBy means state turns behaviours = λ k old trace end new. (b : _) → IsRunOfPost
     (means (slice_index_or behaviours k b)) turns (state (slice_index_or behaviours k b)) old trace end new
 
 -- Each post was driven so, to the post that was left, with its trace and its end; and this is what the posts that

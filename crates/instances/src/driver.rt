@@ -24,7 +24,8 @@ pub fn drive<'a, G: Gate>(
 ) -> (Mailbox<'a>, Trace, End)
     ensures { let does = ⟦<dyn Behaviour as Behaviour>⟧ behaviour.old.0 in
         (left : _) × (behaviour.new ≡ (behaviour.old.0, left))
-        × IsRun (meaning does.act does.after) turns behaviour.old.1 mailbox.entry result.1 result.2 left result.0 }
+        × IsRun (meaning does.act does.after) turns behaviour.old.1 mailbox.entry result.1 result.2
+        (record { state = left; view = result.0 }) }
 {
     let mut stretches = Vec::new(alloc);
     let mut last = Answer::Start;

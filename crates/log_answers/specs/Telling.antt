@@ -23,6 +23,23 @@ others_text files one several (Some o) =
     if o.count == 1 then one_line one (spot files o.first)
     else several_line o.count several (spot files o.first)
 
+-- that one line of so many is of a kind
+unfoldable pub one_line_of : ℕ → List ℕ → SpotView → List ℕ
+one_line_of lines words s =
+    codes "1 of " ++ (decimal lines ++ (codes " " ++ (words ++ (codes ", " ++ (s.front ++ (s.separator ++ (decimal s.line ++ codes "\n")))))))
+
+-- that so many lines of so many are
+unfoldable pub several_line_of : ℕ → ℕ → List ℕ → SpotView → List ℕ
+several_line_of count lines words s =
+    decimal count ++ (codes " of " ++ (decimal lines ++ (codes " " ++ (words ++ (codes ", the first is " ++ (s.front ++ (s.separator ++ (decimal s.line ++ codes "\n"))))))))
+
+-- how many lines of so many are of a kind
+abbrev pub others_of_text : List (List ℕ) → ℕ → List ℕ → List ℕ → Option Others → List ℕ
+others_of_text files lines one several None = []
+others_of_text files lines one several (Some o) =
+    if o.count == 1 then one_line_of lines one (spot files o.first)
+    else several_line_of o.count lines several (spot files o.first)
+
 -- a line whose message is lost
 unfoldable pub lost_line : SpotView → List ℕ
 lost_line s = s.front ++ (s.separator ++ (decimal s.line ++ codes " is lost\n"))

@@ -5,13 +5,13 @@ use Rattle.chart.specs.declared.instance.EventNo.{EventNo}
 use Rattle.diagrams.specs.declared.renaming.Renamed.{Renamed}
 use Rattle.import_answers.specs.Telling.{renamed_line}
 use Rattle.log_lines.specs.declared.event.Place.{Place}
-use Rattle.log_answers.specs.Telling.{others_text, lost_text, overtaking_text, freed_text, invented_text}
+use Rattle.log_answers.specs.Telling.{others_text, others_of_text, lost_text, overtaking_text, freed_text, invented_text}
 use Rattle.log_answers.specs.declared.overtaking.Overtaking.{Overtaking}
 use Rattle.log_answers.specs.declared.told.Told.{Told}
 
--- how many lines don't match
+-- how many lines don't match, and of how many
 unfoldable pub unmatched_text : List (List ℕ) → Told → List ℕ
-unmatched_text files t = others_text files (codes "line doesn't match") (codes "lines don't match") t.others
+unmatched_text files t = others_of_text files t.lines (codes "lines doesn't match") (codes "lines don't match") t.others
 
 -- how many events are of messages to oneself
 unfoldable pub own_text : List (List ℕ) → Told → List ℕ

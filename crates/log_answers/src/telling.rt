@@ -3,7 +3,7 @@ ghost use Rattle.std.specs.Prelude.{◌≤◌, length, map, All};
 ghost use Rattle.std.specs.List.{flat_map};
 ghost use Rattle.msc_text.specs.Writing.{Adds};
 ghost use Rattle.log_answers.specs.Spots.{spot_view, spot};
-ghost use Rattle.log_answers.specs.Telling.{one_line, several_line, others_text, lost_line, lost_text, overtaking_line, overtaking_text, freed_line, freed_text, invented_line, invented_text};
+ghost use Rattle.log_answers.specs.Telling.{one_line, several_line, others_text, one_line_of, several_line_of, others_of_text, lost_line, lost_text, overtaking_line, overtaking_text, freed_line, freed_text, invented_line, invented_text};
 
 use crate::overtaking::Overtaking;
 use crate::spot::{Spot, spot_of};
@@ -78,6 +78,84 @@ pub(crate) fn add_others<V: Out>(
                 add_one(text, one, spot)
             } else {
                 add_several(text, others.count, several, spot)
+            }
+        }
+    }
+}
+
+/// Adds that one line of so many is of a kind.
+#[tactic(auto, unfolding(crate::specs::Telling::one_line_of))]
+fn add_one_of<'x, V: Out>(
+    text: &mut TextBuffer<'_, V>,
+    lines: u64,
+    words: &'x [u8],
+    spot: Spot<'x>,
+) -> Result<(), WriteError>
+    ensures { Adds V.sink text.old text.new result (one_line_of lines words.now (spot_view spot.entry)) }
+{
+    add_pieces(
+        text,
+        &[
+            Piece::Bytes(b"1 of "),
+            Piece::Number(lines),
+            Piece::Bytes(b" "),
+            Piece::Bytes(words),
+            Piece::Bytes(b", "),
+            Piece::Bytes(spot.front),
+            Piece::Bytes(spot.separator),
+            Piece::Number(spot.line),
+            Piece::Bytes(b"\n"),
+        ],
+    )
+}
+
+/// Adds that so many lines of so many are, with the first.
+#[tactic(auto, unfolding(crate::specs::Telling::several_line_of))]
+fn add_several_of<'x, V: Out>(
+    text: &mut TextBuffer<'_, V>,
+    count: u64,
+    lines: u64,
+    words: &'x [u8],
+    spot: Spot<'x>,
+) -> Result<(), WriteError>
+    ensures { Adds V.sink text.old text.new result (several_line_of count lines words.now (spot_view spot.entry)) }
+{
+    add_pieces(
+        text,
+        &[
+            Piece::Number(count),
+            Piece::Bytes(b" of "),
+            Piece::Number(lines),
+            Piece::Bytes(b" "),
+            Piece::Bytes(words),
+            Piece::Bytes(b", the first is "),
+            Piece::Bytes(spot.front),
+            Piece::Bytes(spot.separator),
+            Piece::Number(spot.line),
+            Piece::Bytes(b"\n"),
+        ],
+    )
+}
+
+/// Adds how many lines of so many are of a kind, if any are.
+pub(crate) fn add_others_of<V: Out>(
+    text: &mut TextBuffer<'_, V>,
+    files: &[&[u8]],
+    lines: u64,
+    one: &[u8],
+    several: &[u8],
+    others: Option<Others>,
+) -> Result<(), WriteError>
+    ensures { Adds V.sink text.old text.new result (others_of_text (map (λ file. file.now) files.now) lines one.now several.now others) }
+{
+    match others {
+        None => Ok(()),
+        Some(others) => {
+            let spot = spot_of(files, others.first);
+            if others.count == 1 {
+                add_one_of(text, lines, one, spot)
+            } else {
+                add_several_of(text, others.count, lines, several, spot)
             }
         }
     }

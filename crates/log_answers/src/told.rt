@@ -6,7 +6,7 @@ ghost use Rattle.log_answers.specs.Told.{counts_text, left_out_text, made_text, 
 
 use crate::overtaking::Overtaking;
 use crate::telling::{
-    add_all_freed, add_all_invented, add_all_lost, add_all_overtaking, add_others,
+    add_all_freed, add_all_invented, add_all_lost, add_all_overtaking, add_others, add_others_of,
 };
 use chart::{EventNo, Names};
 use diagrams::Renamed;
@@ -17,7 +17,9 @@ use msc_text::{Out, TextBuffer, WriteError};
 /// What is told of a chart that was drawn from a log.
 #[derive(Debug, Drop)]
 pub struct Told {
-    /// Lines that don't match.
+    /// How many lines were read.
+    pub lines: u64,
+    /// Those that don't match.
     pub others: Option<Others>,
     /// Events of messages of a host to itself, which are left out.
     pub own: Option<Others>,
@@ -48,10 +50,11 @@ fn add_unmatched<V: Out>(
 ) -> Result<(), WriteError>
     ensures { Adds V.sink text.old text.new result (unmatched_text (map (λ file. file.now) files.now) told.now) }
 {
-    add_others(
+    add_others_of(
         text,
         files,
-        b"line doesn't match",
+        told.lines,
+        b"lines doesn't match",
         b"lines don't match",
         told.others,
     )

@@ -41,11 +41,12 @@ told_labels l = renamed_from [] l.labels l.names
 
 -- what was read of a log beside its events
 abbrev pub beside : LogView → Beside
-beside log = record { others = log.read.others; is_captured = log.is_captured; is_timed = log.is_timed }
+beside log = record { lines = log.lines; others = log.read.others; is_captured = log.is_captured; is_timed = log.is_timed }
 
 -- this is told of what was read beside a log's events, of its lines by names, of the names of its instances, and of its
 -- chart
 pub record IsToldOf (b : Beside) (n : NamedView) (called : List (List ℕ)) (drawn : Drawn) (told : Told) : Type 0 where
+  pub lines : told.lines ≡ b.lines
   pub others : told.others ≡ b.others
   pub own : told.own ≡ n.own
   pub captured : told.is_captured ≡ b.is_captured

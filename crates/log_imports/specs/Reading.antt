@@ -11,26 +11,29 @@ use Rattle.log_lines.specs.declared.range.LineRange.{LineRange}
 use Rattle.log_patterns.specs.Expressions.{IsExpression}
 use Rattle.log_patterns.specs.PatternReading.{pattern_read}
 use Rattle.log_patterns.specs.declared.expression.Expression.{Expression}
+use Rattle.log_imports.specs.Counting.{lines_read}
 use Rattle.log_imports.specs.Options.{FormView, Plain, Pattern, ShiViz}
 use Rattle.log_imports.specs.declared.error.LogImportError.{LogImportError}
 use Rattle.log_imports.specs.declared.error.LogImportError.TheVariants as errors
 use Rattle.log_imports.specs.declared.reading.ReadLog.{ReadLog}
 
--- what is read, whether messages were captured, and whether clocks tell of some
+-- what is read, of how many lines, whether messages were captured, and whether clocks tell of some
 pub record LogView : Type 0 where
   pub read : ReadView
+  pub lines : ℕ
   pub is_captured : Bool
   pub is_timed : Bool
 
 abbrev pub log_view : ReadLog → LogView
-log_view l = record { read = read_view l.read; is_captured = l.is_captured; is_timed = l.is_timed }
+log_view l = record { read = read_view l.read; lines = l.lines; is_captured = l.is_captured; is_timed = l.is_timed }
 
 abbrev pub plain_log : LineRange → List (List ℕ) → LogView
-plain_log range texts = record { read = plain_read range texts; is_captured = false; is_timed = false }
+plain_log range texts = record { read = plain_read range texts; lines = lines_read range texts; is_captured = false; is_timed = false }
 
 abbrev pub clocked_log : LineRange → List (List ℕ) → LogView
 clocked_log range texts = record {
   read = by_clocks (shiviz_read range texts);
+  lines = lines_read range texts;
   is_captured = false;
   is_timed = is_timed (shiviz_read range texts);
 }
@@ -52,6 +55,7 @@ found e range texts = pattern_read e.groups e.more (regex_pattern e.regex) range
 abbrev pub pattern_log : Expression → LineRange → List (List ℕ) → LogView
 pattern_log e range texts = record {
   read = by_clocks (found e range texts);
+  lines = lines_read range texts;
   is_captured = is_captured None (found e range texts).said;
   is_timed = is_timed (found e range texts);
 }

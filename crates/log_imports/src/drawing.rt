@@ -47,6 +47,8 @@ fn refusal(names: &Names, error: DrawError) -> LogImportError
 /// What was read of a log beside its events.
 #[derive(Clone, Copy, Debug)]
 pub(crate) struct Beside {
+    /// Of how many lines it was read.
+    pub lines: u64,
     pub others: Option<Others>,
     pub is_captured: bool,
     pub is_timed: bool,
@@ -73,6 +75,7 @@ fn with_told(
     Ok(LogDrawing {
         chart,
         told: Told {
+            lines: beside.lines,
             others: beside.others,
             own: named.own,
             is_captured: beside.is_captured,
@@ -143,6 +146,7 @@ pub fn drawing_in(
 {
     let ReadLog {
         read,
+        lines,
         is_captured,
         is_timed,
     } = read_log(alloc, options.form, options.range, texts)?;
@@ -151,6 +155,7 @@ pub fn drawing_in(
     }
     let named = named(alloc, options.hosts, options.peers, &read.said)?;
     let beside = Beside {
+        lines,
         others: read.others,
         is_captured,
         is_timed,

@@ -6,6 +6,7 @@
 //! standard error failed, and nothing went to the output before it, unless a write failed (F24).
 #![tactic(auto)]
 
+mod counting;
 mod drawing;
 mod entries;
 mod error;

@@ -5,6 +5,7 @@ ghost use Rattle.log_patterns.specs.Expressions.{IsExpression, IsBad};
 ghost use Rattle.log_imports.specs.Options.{form_view};
 ghost use Rattle.log_imports.specs.Reading.{log_view, is_of_line, is_captured, plain_log, clocked_log, IsReadBy, Says, IsBadExpression, IsBadForm};
 
+use crate::counting::lines_read;
 use crate::error::LogImportError;
 use crate::options::Form;
 use log_clocks::{Timed, by_clocks};
@@ -16,6 +17,8 @@ use std::alloc::{AllocError, Global};
 #[derive(Drop)]
 pub(crate) struct ReadLog<'a> {
     pub read: Read<'a>,
+    /// Of how many lines it is read.
+    pub lines: u64,
     /// Whether its messages were captured, so that only their order at the tap is known.
     pub is_captured: bool,
     /// Whether clocks tell of messages.
@@ -30,8 +33,10 @@ fn plainly<'a>(
 ) -> Result<ReadLog<'a>, AllocError>
     ensures { IfOk result (λ log. log_view log ≡ plain_log range (map (λ text. text.now) texts.now)) }
 {
+    let lines = lines_read(range, texts)?;
     Ok(ReadLog {
         read: read_plain(alloc, range, texts)?,
+        lines,
         is_captured: false,
         is_timed: false,
     })
@@ -47,8 +52,10 @@ fn with_clocks<'a>(
 {
     let read = read_shiviz(alloc, range, texts)?;
     let Timed { read, is_timed } = by_clocks(alloc, read)?;
+    let lines = lines_read(range, texts)?;
     Ok(ReadLog {
         read,
+        lines,
         is_captured: false,
         is_timed,
     })
@@ -104,8 +111,10 @@ fn by_pattern<'a>(
     let read = read_by(alloc, &expression, range, texts)?;
     let is_captured = is_captured(&read.said);
     let Timed { read, is_timed } = by_clocks(alloc, read)?;
+    let lines = lines_read(range, texts)?;
     Ok(ReadLog {
         read,
+        lines,
         is_captured,
         is_timed,
     })

@@ -164,6 +164,7 @@ pub fn recording_in<'a>(
 {
     let ReadLog {
         read,
+        lines,
         is_captured,
         is_timed,
     } = read_log(alloc, options.form, options.range, texts)?;
@@ -172,6 +173,7 @@ pub fn recording_in<'a>(
     }
     let named = named(alloc, options.hosts, options.peers, &read.said)?;
     let beside = Beside {
+        lines,
         others: read.others,
         is_captured,
         is_timed,

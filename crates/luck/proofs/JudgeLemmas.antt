@@ -1,5 +1,5 @@
 -- The first reason that applies, reason by reason.
-use Rattle.std.proofs.Common.{◌≡◌, ℕ, zero, suc, ◌<◌, ◌↔◌, inl, inr, Bool, true, false, List, Some, length, refl, sym, ap, ◌∙◌, subst, arith}
+use Rattle.std.proofs.Common.{◌≡◌, ℕ, zero, suc, ◌<◌, ◌↔◌, inl, inr, Bool, true, false, List, None, Some, length, refl, sym, ap, ◌∙◌, subst, arith}
 use Rattle.std.specs.Prelude.{IsTrue}
 use Rattle.std.proofs.lemmas.Bool.{cases_lt, false≢true}
 use Rattle.chart.specs.Charts.{Place, LineView, chart_lines}
@@ -15,7 +15,7 @@ use Rattle.luck.specs.Places.{item_at, IsInvented}
 use Rattle.luck.specs.Recorded.{IsNamed}
 use Rattle.luck.specs.Taking.{WouldTake}
 use Rattle.luck.specs.Verdicts.{IsBegunBefore, AreLogged, IsReason, turn_of, IsVerdict, OneVerdictLaw}
-use Rattle.luck.specs.Verdicts.IsBegunBefore.{itself, before}
+use Rattle.luck.specs.Verdicts.IsBegunBefore.{unlogged, itself, before}
 use Rattle.luck.specs.WholeOrder.{IsAhead}
 use Rattle.luck.proofs.TableLemmas.{some_same}
 use Rattle.std.proofs.lemmas.Option.{slice_get_within}
@@ -83,29 +83,29 @@ module _ (rec : RecordingView) (k : ℕ) (own : MessageNo) (s : ℕ) where
       first Luck less its = absurd (omega arith)
 
 module _ (lines : List LineView) (rec : RecordingView) (r e : Place) (receive earlier : Item) (receive_is : item_at rec r ≡ Some receive) (earlier_is : item_at rec e ≡ Some earlier) where
-  pub verdict_send : earlier.sends ≡ true → IsVerdict lines rec r e EarlierIsSend
-  verdict_send sends = record {
-    receive = receive;
-    earlier = earlier;
-    receive_is = receive_is;
-    earlier_is = earlier_is;
-    reason = sends;
-    first = λ other less its. absurd (omega arith);
-  }
-
-  pub verdict_begun : earlier.sends ≡ false → IsBegunBefore lines rec r receive → IsVerdict lines rec r e BegunInTheMiddle
-  verdict_begun no_send begun = record {
+  pub verdict_begun : IsBegunBefore lines rec r receive earlier → IsVerdict lines rec r e BegunInTheMiddle
+  verdict_begun begun = record {
     receive = receive;
     earlier = earlier;
     receive_is = receive_is;
     earlier_is = earlier_is;
     reason = begun;
+    first = λ other less its. absurd (omega arith);
+  }
+
+  pub verdict_send : (IsBegunBefore lines rec r receive earlier → ⊥) → earlier.sends ≡ true → IsVerdict lines rec r e EarlierIsSend
+  verdict_send not_begun sends = record {
+    receive = receive;
+    earlier = earlier;
+    receive_is = receive_is;
+    earlier_is = earlier_is;
+    reason = sends;
     first = first;
   }
     where
       first : (other : Verdict) → turn_of other < 1 → IsReason lines rec r receive earlier other → ⊥
-      first EarlierIsSend less its = false≢true (sym no_send ∙ its)
-      first BegunInTheMiddle less its = absurd (omega arith)
+      first BegunInTheMiddle less its = not_begun its
+      first EarlierIsSend less its = absurd (omega arith)
       first OrderedByLeftOut less its = absurd (omega arith)
       first WouldNotTake less its = absurd (omega arith)
       first PassedOver less its = absurd (omega arith)
@@ -131,7 +131,7 @@ module _ (lines : List LineView) (rec : RecordingView) (r e : Place) (receive ea
     reason_of BehindAnother its = (k, s, both, its)
     reason_of Luck its = tt
 
-    logged_of : (v : Verdict) → (earlier.sends ≡ true → ⊥) → (IsBegunBefore lines rec r receive → ⊥) → IsReason lines rec r receive earlier v → IsLoggedReason rec k earlier.message s v
+    logged_of : (v : Verdict) → (earlier.sends ≡ true → ⊥) → (IsBegunBefore lines rec r receive earlier → ⊥) → IsReason lines rec r receive earlier v → IsLoggedReason rec k earlier.message s v
     logged_of EarlierIsSend no_send not_begun its = no_send its
     logged_of BegunInTheMiddle no_send not_begun its = not_begun its
     logged_of OrderedByLeftOut no_send not_begun its = subst (IsAhead rec.lines k) (same_send its.0 its.1 its.2) (subst (λ j. IsAhead rec.lines j its.1) (same_line its.0 its.1 its.2) its.3)
@@ -142,7 +142,7 @@ module _ (lines : List LineView) (rec : RecordingView) (r e : Place) (receive ea
         subst (IsBehind rec k earlier.message) (same_send its.0 its.1 its.2) (subst (λ j. IsBehind rec j earlier.message its.1) (same_line its.0 its.1 its.2) its.3)
     logged_of Luck no_send not_begun its = tt
 
-    pub verdict_logged : (v : Verdict) → (earlier.sends ≡ true → ⊥) → (IsBegunBefore lines rec r receive → ⊥) → IsLoggedVerdict rec k earlier.message s v → IsVerdict lines rec r e v
+    pub verdict_logged : (v : Verdict) → (earlier.sends ≡ true → ⊥) → (IsBegunBefore lines rec r receive earlier → ⊥) → IsLoggedVerdict rec k earlier.message s v → IsVerdict lines rec r e v
     verdict_logged v no_send not_begun logged = record {
       receive = receive;
       earlier = earlier;
@@ -152,16 +152,17 @@ module _ (lines : List LineView) (rec : RecordingView) (r e : Place) (receive ea
       first = λ other less its. logged.first other less (logged_of other no_send not_begun its);
     }
 
--- of a sent message nothing is begun but what comes before
-pub not_begun : (lines : List LineView) (rec : RecordingView) (r : Place) (receive : Item) (s : ℕ) → receive.message ≡ messages.Sent s
-    → ((e : Place) → IsInvented rec e → Before (chart_lines lines) e r → ⊥) → IsBegunBefore lines rec r receive → ⊥
-not_begun lines rec r receive s send none (itself n is) = absurd (let one : messages.Begun n ≡ messages.Sent s = sym is ∙ send in cc one)
-not_begun lines rec r receive s send none (before e invented is) = none e invented is
+-- of an event of a line and a sent message nothing is begun but what comes before
+pub not_begun : (lines : List LineView) (rec : RecordingView) (r : Place) (receive earlier : Item) (k s : ℕ) → earlier.line ≡ Some k → receive.message ≡ messages.Sent s
+    → ((e : Place) → IsInvented rec e → Before (chart_lines lines) e r → ⊥) → IsBegunBefore lines rec r receive earlier → ⊥
+not_begun lines rec r receive earlier k s line send none (unlogged no_line) = absurd (let one : None ≡ Some k = sym no_line ∙ line in cc one)
+not_begun lines rec r receive earlier k s line send none (itself n is) = absurd (let one : messages.Begun n ≡ messages.Sent s = sym is ∙ send in cc one)
+not_begun lines rec r receive earlier k s line send none (before e invented is) = none e invented is
 
 -- a pair has one verdict
 verdict_at : ℕ → Verdict
-verdict_at zero = EarlierIsSend
-verdict_at (suc zero) = BegunInTheMiddle
+verdict_at zero = BegunInTheMiddle
+verdict_at (suc zero) = EarlierIsSend
 verdict_at (suc (suc zero)) = OrderedByLeftOut
 verdict_at (suc (suc (suc zero))) = WouldNotTake
 verdict_at (suc (suc (suc (suc zero)))) = PassedOver

@@ -1,6 +1,6 @@
 -- Which races of a recording were luck: the program didn't choose, and the later message was the next that the earlier
 -- receive would have had (this project's profile of logs). A race that was none has the first reason that applies.
-use Rattle.std.specs.Prelude.{◌≡◌, ℕ, ◌<◌, true, List, Some}
+use Rattle.std.specs.Prelude.{◌≡◌, ℕ, ◌<◌, true, List, None, Some}
 use Rattle.chart.specs.Charts.{Place, LineView, chart_lines}
 use Rattle.chart.specs.Order.{Before}
 use Rattle.logs.specs.declared.item.Item.{Item}
@@ -14,10 +14,11 @@ use Rattle.recordings.specs.Recordings.{RecordingView}
 use Rattle.recordings.specs.declared.verdict.Verdict.{Verdict}
 use Rattle.recordings.specs.declared.verdict.Verdict.TheVariants.{Luck, EarlierIsSend, BegunInTheMiddle, OrderedByLeftOut, WouldNotTake, PassedOver, BehindAnother}
 
--- the send of the receive r is invented, or an invented send is before r in the chart
-pub data IsBegunBefore (lines : List LineView) (rec : RecordingView) (r : Place) (receive : Item) : Type 0 where
-  itself : (n : ℕ) → receive.message ≡ messages.Begun n → IsBegunBefore lines rec r receive
-  before : (e : Place) → IsInvented rec e → Before (chart_lines lines) e r → IsBegunBefore lines rec r receive
+-- the earlier event is invented, or the send of the receive r is, or an invented send is before r in the chart
+pub data IsBegunBefore (lines : List LineView) (rec : RecordingView) (r : Place) (receive earlier : Item) : Type 0 where
+  unlogged : earlier.line ≡ None → IsBegunBefore lines rec r receive earlier
+  itself : (n : ℕ) → receive.message ≡ messages.Begun n → IsBegunBefore lines rec r receive earlier
+  before : (e : Place) → IsInvented rec e → Before (chart_lines lines) e r → IsBegunBefore lines rec r receive earlier
 
 -- the earlier event is of line k, and line s sends the message of the receive
 pub record AreLogged (earlier receive : Item) (k s : ℕ) : Type 0 where
@@ -26,8 +27,8 @@ pub record AreLogged (earlier receive : Item) (k s : ℕ) : Type 0 where
 
 -- the reason that each verdict gives, of the receive r and an earlier event
 abbrev pub IsReason : List LineView → RecordingView → Place → Item → Item → Verdict → Type 0
+IsReason lines rec r receive earlier BegunInTheMiddle = IsBegunBefore lines rec r receive earlier
 IsReason lines rec r receive earlier EarlierIsSend = earlier.sends ≡ true
-IsReason lines rec r receive earlier BegunInTheMiddle = IsBegunBefore lines rec r receive
 IsReason lines rec r receive earlier OrderedByLeftOut = (k s : ℕ) × AreLogged earlier receive k s × IsAhead rec.lines k s
 IsReason lines rec r receive earlier WouldNotTake = (k s : ℕ) × AreLogged earlier receive k s × (WouldTake rec k s → ⊥)
 IsReason lines rec r receive earlier PassedOver = CameFirst rec receive.message earlier.message
@@ -36,8 +37,8 @@ IsReason lines rec r receive earlier Luck = Unit {0}
 
 -- the order in which reasons count
 abbrev pub turn_of : Verdict → ℕ
-turn_of EarlierIsSend = 0
-turn_of BegunInTheMiddle = 1
+turn_of BegunInTheMiddle = 0
+turn_of EarlierIsSend = 1
 turn_of OrderedByLeftOut = 2
 turn_of WouldNotTake = 3
 turn_of PassedOver = 4

@@ -122,16 +122,16 @@ impl<'a> Judge<'a> {
         let item = item_at(hosts, &receive);
         let before = item_at(hosts, &earlier);
         let Some(line) = before.line else {
-            return Verdict::EarlierIsSend;
+            return Verdict::BegunInTheMiddle;
         };
-        if before.sends {
-            return Verdict::EarlierIsSend;
-        }
         let MessageNo::Sent(send) = item.message else {
             return Verdict::BegunInTheMiddle;
         };
         if self.beginnings.are_before(&receive) {
             return Verdict::BegunInTheMiddle;
+        }
+        if before.sends {
+            return Verdict::EarlierIsSend;
         }
         self.logged_verdict(line, before.message, send)
     }

@@ -5,7 +5,7 @@
 //! promised, unless an allocation is refused ([`Judge::of`]):
 //!
 //! - For each receive and each earlier event of its line the first reason that holds why it was no luck, or that it was
-//!   ([`Judge::verdict`]): the earlier event is a send; the message is begun in the middle; what the chart leaves out puts
+//!   ([`Judge::verdict`]): one of the two is begun in the middle; the earlier event is a send; what the chart leaves out puts
 //!   the earlier event before the message's send; the earlier receive would not take the message; it passed it over; the
 //!   message is behind another.
 //! - That is all by the recording and the chart's enforced order: a pair has one verdict ([`one_verdict_law`]).

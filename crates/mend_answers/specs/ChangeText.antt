@@ -7,8 +7,8 @@ use Rattle.chart.specs.declared.ranges.EventRange.{EventRange}
 use Rattle.chart.specs.Charts.{LineView, chart_lines}
 use Rattle.chart.specs.Ranges.{ranges_of}
 use Rattle.chart.specs.Reports.{ReportView}
-use Rattle.mend_all.specs.declared.best.Addition.{Addition}
-use Rattle.mend_all.specs.declared.pairs.RacePair.{RacePair}
+use Rattle.mending.specs.declared.best.Addition.{Addition}
+use Rattle.mending.specs.declared.pairs.RacePair.{RacePair}
 use Rattle.mending.specs.declared.message.Message.{Message}
 use Rattle.msc_text.specs.ChartText.{name_at}
 use Rattle.told_races.specs.PlainText.{line_text}

@@ -2,7 +2,7 @@
 use Rattle.std.specs.Prelude.{◌≡◌, ℕ, false, List, Option, None, Some, Result, Ok}
 use Rattle.chart.specs.Charts.{LineView}
 use Rattle.label_names.specs.Giving.{is_given}
-use Rattle.mend_all.specs.Naming.{message_names, IsNewName}
+use Rattle.mending.specs.Naming.{message_names, IsNewName}
 use Rattle.msc_text.specs.Lines.{name_or_cause}
 
 -- the name that is asked for, which no message has; or the first of ack, ack_2, .. that none has

@@ -6,8 +6,8 @@ use Rattle.files.specs.declared.error.ProgramError.{ProgramError}
 use Rattle.files.specs.declared.error.ProgramError.TheVariants as errors
 use Rattle.files.specs.Texts.{OfFile, named_of}
 use Rattle.files.specs.Files.{Named, IsRefused}
-use Rattle.mend_all.specs.Best.{IsMendedChart}
-use Rattle.mend_all.specs.declared.adding.MendedChart.{MendedChart}
+use Rattle.mending.specs.Best.{IsMendedChart}
+use Rattle.mending.specs.declared.adding.MendedChart.{MendedChart}
 use Rattle.mending.specs.declared.error.MendError.{MendError}
 use Rattle.mending.specs.declared.error.MendError.TheVariants as fulls
 use Rattle.mending.specs.declared.mending.Mending.{Mending}

@@ -7,7 +7,7 @@ use Rattle.chart.specs.Charts.{LineView, chart_lines, chart_event, IsReceiveFrom
 use Rattle.chart.specs.Reports.{ReportView, AreReports}
 use Rattle.closure.specs.Faults.{place_of}
 use Rattle.files.specs.Files.{Named}
-use Rattle.mend_all.specs.declared.adding.MendedChart.{MendedChart}
+use Rattle.mending.specs.declared.adding.MendedChart.{MendedChart}
 use Rattle.mending.specs.Growing.{message_of}
 use Rattle.mending.specs.declared.message.Message.{Message}
 use Rattle.mending.specs.declared.mending.Mending.{Mending}

@@ -9,8 +9,7 @@ ghost use Rattle.mend_answers.specs.ChangeText.{pair_text, addition_text, additi
 use crate::change::Change;
 use crate::word::{Word, add_word};
 use chart::{Event, EventNo, EventRange, Line, Names, Report};
-use mend_all::{Addition, RacePair};
-use mending::Message;
+use mending::{Addition, Message, RacePair};
 use msc_text::{Out, TextBuffer, WriteError};
 use told_races::{add_line, add_name};
 use views::events_of;

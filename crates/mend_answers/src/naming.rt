@@ -5,7 +5,7 @@ ghost use Rattle.mend_answers.specs.Naming.{IsMessageName};
 
 use chart::{Line, Name};
 use files::ProgramError;
-use mend_all::{free_name, is_taken};
+use mending::{free_name, is_taken};
 use msc_text::name_in;
 use std::alloc::Global;
 

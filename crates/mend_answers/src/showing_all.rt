@@ -23,7 +23,7 @@ fn mend_all_in<W: Out>(
     ensures { ShowsAll W.sink out.old out.new result (names.now, chart.now) }
 {
     let _closure = closure_of(alloc, names, chart)?;
-    let Ok(mended) = mend_all::mend_all(alloc, chart) else {
+    let Ok(mended) = mending::mend_all(alloc, chart) else {
         return Err(ProgramError::Memory);
     };
     let Ok(outcome) = told_additions(alloc, names, &mended) else {

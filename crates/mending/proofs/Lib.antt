@@ -7,3 +7,8 @@ pub mod Moving
 pub mod Paths
 pub mod Possible
 pub mod TellLemmas
+pub mod AckLemmas
+pub mod BestLemmas
+pub mod NameLemmas
+pub mod PairLemmas
+pub mod RepairLemmas

@@ -23,8 +23,9 @@ use Rattle.handles.specs.declared.found.Told.{Told}
 use Rattle.handles.specs.Regions.{HandleOpens, HandleShuts}
 use Rattle.handles.specs.Reserving.{HandleReserves}
 use Rattle.board_handles.specs.declared.reports.Reported.{Reported}
+use Rattle.board_handles.specs.declared.left.Place.{Place}
 use Rattle.board_handles.specs.declared.left.Waiting.{Waiting}
-use Rattle.board_handles.specs.BoardTelling.{HandleReports, HandleWaits}
+use Rattle.board_handles.specs.BoardTelling.{HandleReports, HandleWaits, NameAndBody}
 use Rattle.board_handles.specs.BoardText.{HandleWritesText}
 use Rattle.handles.specs.Gathering.{Gathers}
 use Rattle.handles.specs.Meeting.{Meets}
@@ -32,7 +33,6 @@ use Rattle.handles.specs.Carrying.{CarriesAll}
 use Rattle.handles.specs.Telling.{HandleTells}
 use Rattle.msc.specs.declared.answers.MscEvent.{MscEvent}
 use Rattle.msc.specs.declared.answers.MscLeft.{MscLeft}
-use Rattle.msc.specs.declared.answers.MscPlace.{MscPlace}
 use Rattle.msc.specs.declared.answers.MscReport.{MscReport}
 
 -- a refusal
@@ -68,22 +68,30 @@ abbrev pub number_after : ℕ → Result ℕ Refusal → ℕ
 number_after before (Ok number) = number
 number_after before (Err refusal) = before
 
+-- What C gets of a call: its number, and what is told through a pointer, where something stood before.
+pub record Got (T : Type 0) : Type 0 where
+  pub code : ℤ
+  pub before : T
+  pub told : T
+
 -- what a send, a receive, .. answers: some answer of the handle's call has this code, and tells this
-abbrev pub Sends : Option Kept → ℕ → List ℕ → List ℕ → ℤ → ℕ → ℕ → Option Kept → Type 0
-Sends old to name body code before event new = (answer : Result EventNo Refusal)
-    × HandleSends old to name body answer new × (code ≡ done_code answer) × (event ≡ event_after before answer)
+abbrev pub Sends : Option Kept → ℕ → List ℕ → List ℕ → Got ℕ → Option Kept → Type 0
+Sends old to name body got new = (answer : Result EventNo Refusal)
+    × HandleSends old to name body answer new × (got.code ≡ done_code answer)
+    × (got.told ≡ event_after got.before answer)
 
-abbrev pub SendsAll : Option Kept → ℕ → List Content → ℤ → ℕ → ℕ → Option Kept → Type 0
-SendsAll old to all code before event new = (answer : Result ℕ Refusal)
-    × HandleSendsAll old to all answer new × (code ≡ done_code answer) × (event ≡ number_after before answer)
+abbrev pub SendsAll : Option Kept → ℕ → List Content → Got ℕ → Option Kept → Type 0
+SendsAll old to all got new = (answer : Result ℕ Refusal)
+    × HandleSendsAll old to all answer new × (got.code ≡ done_code answer)
+    × (got.told ≡ number_after got.before answer)
 
-abbrev pub Takes : Option Kept → ℕ → ℤ → Arrived → Arrived → Option Kept → Type 0
-Takes old from code before told new = (answer : Result Found Refusal)
-    × HandleTakes old from answer new × (code ≡ found_code answer) × (told ≡ told_after before answer)
+abbrev pub Takes : Option Kept → ℕ → Got Arrived → Option Kept → Type 0
+Takes old from got new = (answer : Result Found Refusal)
+    × HandleTakes old from answer new × (got.code ≡ found_code answer) × (got.told ≡ told_after got.before answer)
 
-abbrev pub TakesAny : Option Kept → ℤ → Arrived → Arrived → Option Kept → Type 0
-TakesAny old code before told new = (answer : Result Found Refusal)
-    × HandleTakesAny old answer new × (code ≡ found_code answer) × (told ≡ told_after before answer)
+abbrev pub TakesAny : Option Kept → Got Arrived → Option Kept → Type 0
+TakesAny old got new = (answer : Result Found Refusal)
+    × HandleTakesAny old answer new × (got.code ≡ found_code answer) × (got.told ≡ told_after got.before answer)
 
 abbrev pub Closes : Option Kept → ℕ → ℤ → Option Kept → Type 0
 Closes old to code new = (answer : Result (Unit {0}) Refusal) × HandleCloses old to answer new
@@ -93,15 +101,15 @@ abbrev pub OpensAll : ℕ → List (Option Kept) → ℤ → List (Option Kept) 
 OpensAll k old code new = (answer : Result (Unit {0}) Refusal) × Opens k old answer new × (code ≡ done_code answer)
 
 -- what is copied out of this one of the messages that came last, and how much of it there is
-abbrev pub Copies : (Arrival → List ℕ) → Which → Option Kept → List ℕ → ℤ → ℕ → ℕ → List ℕ → Type 0
-Copies what which old room code before count out = (answer : Result ℕ Refusal)
-    × CopiesOut what (picked_in which old) room answer out × (code ≡ done_code answer)
-    × (count ≡ number_after before answer)
+abbrev pub Copies : (Arrival → List ℕ) → Which → Option Kept → List ℕ → Got ℕ → List ℕ → Type 0
+Copies what which old room got out = (answer : Result ℕ Refusal)
+    × CopiesOut what (picked_in which old) room answer out × (got.code ≡ done_code answer)
+    × (got.told ≡ number_after got.before answer)
 
-abbrev pub CopiesRaces : Which → Option Kept → List ℕ → ℤ → ℕ → ℕ → List ℕ → Type 0
-CopiesRaces which old room code before count out = (answer : Result ℕ Refusal)
-    × races.CopiesRaces (picked_in which old) room answer out × (code ≡ done_code answer)
-    × (count ≡ number_after before answer)
+abbrev pub CopiesRaces : Which → Option Kept → List ℕ → Got ℕ → List ℕ → Type 0
+CopiesRaces which old room got out = (answer : Result ℕ Refusal)
+    × races.CopiesRaces (picked_in which old) room answer out × (got.code ≡ done_code answer)
+    × (got.told ≡ number_after got.before answer)
 
 abbrev pub OpensRegion : Option Kept → ℤ → Option Kept → Type 0
 OpensRegion old code new = (answer : Result (Unit {0}) Refusal) × HandleOpens old answer new × (code ≡ done_code answer)
@@ -123,9 +131,9 @@ abbrev pub told_event : MscEvent → Result Told Refusal → MscEvent
 told_event before (Ok told) = event_from told
 told_event before (Err refusal) = before
 
-abbrev pub TellsEvent : Option Kept → ℕ → List ℕ → ℤ → MscEvent → MscEvent → List ℕ → Type 0
-TellsEvent old number room code before event out = (answer : Result Told Refusal)
-    × HandleTells old number room answer out × (code ≡ done_code answer) × (event ≡ told_event before answer)
+abbrev pub TellsEvent : Option Kept → ℕ → List ℕ → Got MscEvent → List ℕ → Type 0
+TellsEvent old number room got out = (answer : Result Told Refusal)
+    × HandleTells old number room answer out × (got.code ≡ done_code answer) × (got.told ≡ told_event got.before answer)
 
 abbrev pub Reserves : Option Kept → ℕ → ℤ → Option Kept → Type 0
 Reserves old events code new = (answer : Result (Unit {0}) Refusal) × HandleReserves old events answer new
@@ -138,14 +146,16 @@ GathersAll old board code new made = (answer : Result (Unit {0}) Refusal) × Gat
 abbrev pub MeetsAll : List (Option Kept) → ℤ → List (Option Kept) → Type 0
 MeetsAll old code new = (answer : Result (Unit {0}) Refusal) × Meets old answer new × (code ≡ done_code answer)
 
-abbrev pub CarriesBoard : Option Kept → List (Option Kept) → List ℕ → ℤ → ℕ → ℕ → Option Kept → List (Option Kept)
+abbrev pub CarriesBoard : Option Kept → List (Option Kept) → List ℕ → Got ℕ → Option Kept → List (Option Kept)
     → List ℕ → Type 0
-CarriesBoard board old room code before count now new out = (answer : Result ℕ Refusal)
-    × CarriesAll board old room answer now new out × (code ≡ done_code answer) × (count ≡ number_after before answer)
+CarriesBoard board old room got now new out = (answer : Result ℕ Refusal)
+    × CarriesAll board old room answer now new out × (got.code ≡ done_code answer)
+    × (got.told ≡ number_after got.before answer)
 
-abbrev pub WritesText : Option Kept → List (List ℕ) → List ℕ → ℤ → ℕ → ℕ → List ℕ → Type 0
-WritesText old names room code before count out = (answer : Result ℕ Refusal)
-    × HandleWritesText old names room answer out × (code ≡ done_code answer) × (count ≡ number_after before answer)
+abbrev pub WritesText : Option Kept → List (List ℕ) → List ℕ → Got ℕ → List ℕ → Type 0
+WritesText old names room got out = (answer : Result ℕ Refusal)
+    × HandleWritesText old names room answer out × (got.code ≡ done_code answer)
+    × (got.told ≡ number_after got.before answer)
 
 -- what is told of a report, field by field, and else what was told before
 abbrev pub report_from : Reported → MscReport
@@ -155,9 +165,10 @@ abbrev pub told_report : MscReport → Result Reported Refusal → MscReport
 told_report before (Ok told) = report_from told
 told_report before (Err refusal) = before
 
-abbrev pub TellsReport : Option Kept → ℕ → List ℕ → ℤ → MscReport → MscReport → List ℕ → Type 0
-TellsReport old number room code before report out = (answer : Result Reported Refusal)
-    × HandleReports old number room answer out × (code ≡ done_code answer) × (report ≡ told_report before answer)
+abbrev pub TellsReport : Option Kept → ℕ → List ℕ → Got MscReport → List ℕ → Type 0
+TellsReport old number room got out = (answer : Result Reported Refusal)
+    × HandleReports old number room answer out × (got.code ≡ done_code answer)
+    × (got.told ≡ told_report got.before answer)
 
 -- what is told of a message that waits, field by field, and else what was told before
 abbrev pub left_from : Waiting → MscLeft
@@ -173,7 +184,7 @@ waiting_code (Ok (Some told)) = pos 0
 waiting_code (Ok None) = pos 1
 waiting_code (Err refusal) = code_of refusal
 
-abbrev pub TellsLeft : Option Kept → MscPlace → List ℕ → List ℕ → ℤ → MscLeft → MscLeft → List ℕ → List ℕ → Type 0
-TellsLeft old place names bodies code before left name body = (answer : Result (Option Waiting) Refusal)
-    × HandleWaits old place.from place.to place.number names bodies answer name body
-    × (code ≡ waiting_code answer) × (left ≡ told_left before answer)
+abbrev pub TellsLeft : Option Kept → Place → NameAndBody → Got MscLeft → NameAndBody → Type 0
+TellsLeft old place room got out = (answer : Result (Option Waiting) Refusal)
+    × HandleWaits old place room answer out × (got.code ≡ waiting_code answer)
+    × (got.told ≡ told_left got.before answer)

@@ -6,7 +6,7 @@ use Rattle.handles.specs.declared.refusal.Refusal.{Refusal}
 use Rattle.offline.specs.declared.performing.Performed.{Performed}
 use Rattle.offline.specs.Performing.{task_in, Performs}
 use Rattle.msc.specs.declared.performing.MscLengths.{MscLengths}
-use Rattle.msc.specs.Answers.{code_of}
+use Rattle.msc.specs.Answers.{code_of, Got}
 
 -- the exit status, or the number of a refusal
 abbrev pub performed_code : Result Performed Refusal → ℤ
@@ -18,8 +18,13 @@ abbrev pub lengths_after : MscLengths → Result Performed Refusal → MscLength
 lengths_after before (Ok performed) = record { out = performed.out; err = performed.err }
 lengths_after before (Err refusal) = before
 
+-- bytes for what is written to standard output, and for what is written to standard error
+pub record Streams : Type 0 where
+  pub out : List ℕ
+  pub err : List ℕ
+
 -- the task of the number is done with the bytes
-abbrev pub PerformsTask : ℕ → ℕ → List ℕ → List ℕ → List ℕ → ℤ → MscLengths → MscLengths → List ℕ → List ℕ → Type 0
-PerformsTask task seed bytes room_out room_err code before lengths out err = (answer : Result Performed Refusal)
-    × Performs (task_in task seed) bytes room_out room_err answer out err
-    × (code ≡ performed_code answer) × (lengths ≡ lengths_after before answer)
+abbrev pub PerformsTask : ℕ → ℕ → List ℕ → Streams → Got MscLengths → Streams → Type 0
+PerformsTask task seed bytes room got written = (answer : Result Performed Refusal)
+    × Performs (task_in task seed) bytes room.out room.err answer written.out written.err
+    × (got.code ≡ performed_code answer) × (got.told ≡ lengths_after got.before answer)

@@ -1,16 +1,16 @@
 -- What C gets of a command line whose files are in memory (this project's profile): the exit status, and how long its texts
 -- are.
-use Rattle.std.specs.Prelude.{◌≡◌, ℕ, List, Result}
-use lib.IntN.{ℤ}
+use Rattle.std.specs.Prelude.{◌≡◌, List, Result}
 use Rattle.handles.specs.declared.refusal.Refusal.{Refusal}
 use Rattle.offline.specs.declared.performing.Performed.{Performed}
 use Rattle.offline.specs.declared.texts.Bytes.{Bytes}
 use Rattle.offline.specs.Viewing.{ViewsSome}
 use Rattle.msc.specs.declared.performing.MscLengths.{MscLengths}
-use Rattle.msc.specs.Performing.{performed_code, lengths_after}
+use Rattle.msc.specs.Answers.{Got}
+use Rattle.msc.specs.Performing.{performed_code, lengths_after, Streams}
 
 -- what some words ask for was done with the texts, or they ask for nothing
-abbrev pub ViewsTexts : List Bytes → List ℕ → List ℕ → ℤ → MscLengths → MscLengths → List ℕ → List ℕ → Type 0
-ViewsTexts texts room_out room_err code before lengths out err = (answer : Result Performed Refusal)
-    × ViewsSome texts room_out room_err answer out err
-    × (code ≡ performed_code answer) × (lengths ≡ lengths_after before answer)
+abbrev pub ViewsTexts : List Bytes → Streams → Got MscLengths → Streams → Type 0
+ViewsTexts texts room got written = (answer : Result Performed Refusal)
+    × ViewsSome texts room.out room.err answer written.out written.err
+    × (got.code ≡ performed_code answer) × (got.told ≡ lengths_after got.before answer)

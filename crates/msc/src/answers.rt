@@ -20,15 +20,6 @@ pub struct MscReport {
     pub races: usize,
 }
 
-/// A message that waits on a gathered board: its lane's sender and receiver, and its number there, from 1.
-#[repr(C)]
-#[derive(Clone, Copy)]
-pub struct MscPlace {
-    pub from: u32,
-    pub to: u32,
-    pub number: usize,
-}
-
 /// What is told of a message that waits on a gathered board.
 #[repr(C)]
 #[derive(Clone, Copy)]

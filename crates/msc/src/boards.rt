@@ -6,9 +6,9 @@ ghost use Rattle.board_handles.specs.Naming.{words_in};
 ghost use Rattle.handles.specs.Opening.{kept_by};
 ghost use Rattle.msc.specs.Answers.{CarriesBoard, GathersAll, MeetsAll, WritesText, TellsReport, TellsLeft};
 
-use crate::answers::{MscLeft, MscPlace, MscReport};
+use crate::answers::{MscLeft, MscReport};
 use crate::codes::{count_code, done_code, report_code, waiting_code};
-use board_handles::{copy_text, tell_report, tell_waiting};
+use board_handles::{Place, copy_text, tell_report, tell_waiting};
 use handles::{Handle, gather, meet};
 use std::alloc::Global;
 
@@ -38,7 +38,8 @@ pub extern "C" fn msc_carry_over_(
 ) -> i32
     requires one { KeepOneBoard (kept_by posts.old) }
     requires may { MayCarryOver board.old.slot.value (kept_by posts.old) }
-    ensures { CarriesBoard board.old.slot.value (kept_by posts.old) carried.old result count.old count.new
+    ensures { CarriesBoard board.old.slot.value (kept_by posts.old) carried.old
+        (record { code = result; before = count.old; told = count.new })
         board.new.slot.value (kept_by posts.new) carried.new }
 {
     count_code(board.carry_over(alloc, posts, carried), count)
@@ -54,8 +55,8 @@ pub extern "C" fn msc_board_text_(
     length: &mut usize,
 ) -> i32
     ensures same { board.new.slot.value ≡ board.old.slot.value }
-    ensures answer { WritesText board.old.slot.value (words_in names.now lengths.now) buffer.old result length.old
-        length.new buffer.new }
+    ensures answer { WritesText board.old.slot.value (words_in names.now lengths.now) buffer.old
+        (record { code = result; before = length.old; told = length.new }) buffer.new }
 {
     count_code(copy_text(alloc, board, names, lengths, buffer), length)
 }
@@ -69,7 +70,8 @@ pub extern "C" fn msc_board_report_(
     buffer: &mut [u32],
 ) -> i32
     ensures same { board.new.slot.value ≡ board.old.slot.value }
-    ensures answer { TellsReport board.old.slot.value number buffer.old result report.old report.new buffer.new }
+    ensures answer { TellsReport board.old.slot.value number buffer.old
+        (record { code = result; before = report.old; told = report.new }) buffer.new }
 {
     report_code(tell_report(alloc, board, number, buffer), report)
 }
@@ -78,15 +80,14 @@ pub extern "C" fn msc_board_report_(
 pub extern "C" fn msc_board_left_(
     alloc: Global,
     board: &mut Handle,
-    place: &MscPlace,
+    place: &Place,
     left: &mut MscLeft,
     name: &mut [u8],
     body: &mut [u8],
 ) -> i32
     ensures same { board.new.slot.value ≡ board.old.slot.value }
-    ensures answer { TellsLeft board.old.slot.value place.now name.old body.old result left.old left.new name.new
-        body.new }
+    ensures answer { TellsLeft board.old.slot.value place.now (record { name = name.old; body = body.old })
+        (record { code = result; before = left.old; told = left.new }) (record { name = name.new; body = body.new }) }
 {
-    let answer = tell_waiting(alloc, board, place.from, place.to, place.number, name, body);
-    waiting_code(answer, left)
+    waiting_code(tell_waiting(alloc, board, place, name, body), left)
 }

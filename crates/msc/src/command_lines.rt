@@ -14,7 +14,8 @@ pub extern "C" fn msc_view_(
     err: &mut [u8],
     lengths: &mut MscLengths,
 ) -> i32
-    ensures { ViewsTexts texts.now out.old err.old result lengths.old lengths.new out.new err.new }
+    ensures { ViewsTexts texts.now (record { out = out.old; err = err.old })
+        (record { code = result; before = lengths.old; told = lengths.new }) (record { out = out.new; err = err.new }) }
 {
     performed_code(view_into(alloc, words, texts, out, err), lengths)
 }

@@ -13,7 +13,7 @@ mod posts;
 mod several;
 mod version;
 
-pub use answers::{MscEvent, MscLeft, MscPlace, MscReport};
+pub use answers::{MscEvent, MscLeft, MscReport};
 pub use boards::{
     msc_board_left_, msc_board_report_, msc_board_text_, msc_carry_over_, msc_gather_, msc_meet_,
 };

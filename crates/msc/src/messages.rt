@@ -31,8 +31,8 @@ pub extern "C" fn msc_name_(
     length: &mut usize,
 ) -> i32
     ensures same { post.new.slot.value ≡ post.old.slot.value }
-    ensures answer { Copies name_in Last post.old.slot.value buffer.old result length.old length.new
-        buffer.new }
+    ensures answer { Copies name_in Last post.old.slot.value buffer.old
+        (record { code = result; before = length.old; told = length.new }) buffer.new }
 {
     count_code(post.copy_name(alloc, Which::Last, buffer), length)
 }
@@ -45,8 +45,8 @@ pub extern "C" fn msc_body_(
     length: &mut usize,
 ) -> i32
     ensures same { post.new.slot.value ≡ post.old.slot.value }
-    ensures answer { Copies body_in Last post.old.slot.value buffer.old result length.old length.new
-        buffer.new }
+    ensures answer { Copies body_in Last post.old.slot.value buffer.old
+        (record { code = result; before = length.old; told = length.new }) buffer.new }
 {
     count_code(post.copy_body(alloc, Which::Last, buffer), length)
 }
@@ -59,8 +59,8 @@ pub extern "C" fn msc_races_(
     count: &mut usize,
 ) -> i32
     ensures same { post.new.slot.value ≡ post.old.slot.value }
-    ensures answer { CopiesRaces Last post.old.slot.value buffer.old result count.old count.new
-        buffer.new }
+    ensures answer { CopiesRaces Last post.old.slot.value buffer.old
+        (record { code = result; before = count.old; told = count.new }) buffer.new }
 {
     count_code(post.copy_races(alloc, Which::Last, buffer), count)
 }
@@ -74,8 +74,8 @@ pub extern "C" fn msc_name_of_(
     length: &mut usize,
 ) -> i32
     ensures same { post.new.slot.value ≡ post.old.slot.value }
-    ensures answer { Copies name_in (At place) post.old.slot.value buffer.old result length.old length.new
-        buffer.new }
+    ensures answer { Copies name_in (At place) post.old.slot.value buffer.old
+        (record { code = result; before = length.old; told = length.new }) buffer.new }
 {
     count_code(post.copy_name(alloc, Which::At(place), buffer), length)
 }
@@ -89,8 +89,8 @@ pub extern "C" fn msc_body_of_(
     length: &mut usize,
 ) -> i32
     ensures same { post.new.slot.value ≡ post.old.slot.value }
-    ensures answer { Copies body_in (At place) post.old.slot.value buffer.old result length.old length.new
-        buffer.new }
+    ensures answer { Copies body_in (At place) post.old.slot.value buffer.old
+        (record { code = result; before = length.old; told = length.new }) buffer.new }
 {
     count_code(post.copy_body(alloc, Which::At(place), buffer), length)
 }
@@ -104,8 +104,8 @@ pub extern "C" fn msc_races_of_(
     count: &mut usize,
 ) -> i32
     ensures same { post.new.slot.value ≡ post.old.slot.value }
-    ensures answer { CopiesRaces (At place) post.old.slot.value buffer.old result count.old count.new
-        buffer.new }
+    ensures answer { CopiesRaces (At place) post.old.slot.value buffer.old
+        (record { code = result; before = count.old; told = count.new }) buffer.new }
 {
     count_code(post.copy_races(alloc, Which::At(place), buffer), count)
 }

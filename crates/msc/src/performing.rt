@@ -42,7 +42,8 @@ pub extern "C" fn msc_perform_(
     err: &mut [u8],
     lengths: &mut MscLengths,
 ) -> i32
-    ensures { PerformsTask task seed text.now out.old err.old result lengths.old lengths.new out.new err.new }
+    ensures { PerformsTask task seed text.now (record { out = out.old; err = err.old })
+        (record { code = result; before = lengths.old; told = lengths.new }) (record { out = out.new; err = err.new }) }
 {
     performed_code(perform_into(alloc, task, seed, text, out, err), lengths)
 }

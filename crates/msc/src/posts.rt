@@ -26,7 +26,8 @@ pub extern "C" fn msc_send_(
     body: &[u8],
     event: &mut u32,
 ) -> i32
-    ensures { Sends post.old.slot.value to name.now body.now result event.old event.new post.new.slot.value }
+    ensures { Sends post.old.slot.value to name.now body.now
+        (record { code = result; before = event.old; told = event.new }) post.new.slot.value }
 {
     match post.send(alloc, to, name, body) {
         Ok(sent) => {
@@ -46,8 +47,8 @@ pub extern "C" fn msc_send_all_(
     lengths: &[MessageLengths],
     event: &mut u32,
 ) -> i32
-    ensures { SendsAll post.old.slot.value to (contents_in bytes.now lengths.now) result event.old event.new
-        post.new.slot.value }
+    ensures { SendsAll post.old.slot.value to (contents_in bytes.now lengths.now)
+        (record { code = result; before = event.old; told = event.new }) post.new.slot.value }
 {
     first_code(post.send_all(alloc, to, bytes, lengths), event)
 }
@@ -59,14 +60,16 @@ pub extern "C" fn msc_receive_(
     from: u32,
     arrival: &mut Arrived,
 ) -> i32
-    ensures { Takes post.old.slot.value from result arrival.old arrival.new post.new.slot.value }
+    ensures { Takes post.old.slot.value from (record { code = result; before = arrival.old; told = arrival.new })
+        post.new.slot.value }
 {
     found_code(post.receive(alloc, from), arrival)
 }
 
 #[unsafe(no_mangle)]
 pub extern "C" fn msc_any_(alloc: Global, post: &mut Handle, arrival: &mut Arrived) -> i32
-    ensures { TakesAny post.old.slot.value result arrival.old arrival.new post.new.slot.value }
+    ensures { TakesAny post.old.slot.value (record { code = result; before = arrival.old; told = arrival.new })
+        post.new.slot.value }
 {
     found_code(post.any(alloc), arrival)
 }
@@ -108,7 +111,8 @@ pub extern "C" fn msc_event_(
     buffer: &mut [u8],
 ) -> i32
     ensures same { post.new.slot.value ≡ post.old.slot.value }
-    ensures answer { TellsEvent post.old.slot.value number buffer.old result event.old event.new buffer.new }
+    ensures answer { TellsEvent post.old.slot.value number buffer.old
+        (record { code = result; before = event.old; told = event.new }) buffer.new }
 {
     event_code(post.event(alloc, number, buffer), event)
 }

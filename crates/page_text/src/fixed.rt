@@ -2,7 +2,7 @@
 
 /// What the page may do: show itself, and run the script with this digest.
 pub(crate) const POLICY: &[u8] =
-    b"<meta http-equiv=\"Content-Security-Policy\" content=\"default-src 'none'; script-src 'sha256-IaXcELQ+VLTfeSufaEZI9DdqUKa5Ki7WsXZxZnsQm6s='; style-src 'unsafe-inline'; base-uri 'none'; form-action 'none'\">
+    b"<meta http-equiv=\"Content-Security-Policy\" content=\"default-src 'none'; script-src 'sha256-vGViFwLYhTh9/zfDd5m7aEl8GEI5RD7IaToG0Vs21eM='; style-src 'unsafe-inline'; base-uri 'none'; form-action 'none'\">
 <meta name=\"viewport\" content=\"width=device-width,initial-scale=1\">
 <title>";
 
@@ -83,18 +83,12 @@ class Races {
     document.addEventListener('keydown', (event) => this.press(event));
   }
 
-  get all() {
-    return Array.from(this.list.children);
-  }
+  get all() { return Array.from(this.list.children); }
 
   // The numbers in a race's id: its instance, its receive and the first of its earlier events.
-  numbersOf(race) {
-    return race.id.slice(1).split('-').map(Number);
-  }
+  numbersOf(race) { return race.id.slice(1).split('-').map(Number); }
 
-  listOf(race, name) {
-    return (race.dataset[name] || '').split(' ').filter(Boolean).map(Number);
-  }
+  listOf(race, name) { return (race.dataset[name] || '').split(' ').filter(Boolean).map(Number); }
 
   drawn(id) {
     const picture = this.picture();
@@ -108,15 +102,11 @@ class Races {
     this.marked.push([element, how]);
   }
 
-  unmark() {
-    for (const [element, how] of this.marked) element.classList.remove(how);
-    this.marked = [];
-  }
-
   // Marks of the race that is chosen the receive, the earlier events that it may come before, and all that has to come
   // before it.
   markChosen() {
-    this.unmark();
+    for (const [element, how] of this.marked) element.classList.remove(how);
+    this.marked = [];
     const race = this.chosen;
     if (!race) return;
     const [instance, receive, first] = this.numbersOf(race);

@@ -8,10 +8,15 @@
 //!   `mscview why`, `mscview witness` and `mscview mend` leave of the receive and the range's first event.
 //! - With status 2 the refusal's line was written, or a beginning of it where standard error failed, and nothing went
 //!   to the output before it, unless a write failed (F24).
+//!
+//! Of [`show_drawn`] the same is promised with the text of a chart in place of the file's bytes. Where a [`Heading`] tells
+//! whose turn it is, the picture is what `mscview draw` writes of the chart in this order.
 #![tactic(auto)]
 
+mod drawn;
 mod races;
 mod showing;
 
+pub use drawn::show_drawn;
 pub use page_marks::{MOST_BYTES, MOST_TOLD};
-pub use showing::{show_text, write_page_of};
+pub use showing::{Heading, show_text, write_page_of};

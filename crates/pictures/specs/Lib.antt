@@ -1,4 +1,5 @@
 pub mod ColumnText
+pub mod Margins
 pub mod MarkText
 pub mod MarksThere
 pub mod PictureText

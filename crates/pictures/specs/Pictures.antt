@@ -1,15 +1,19 @@
 -- What a picture is drawn from, and where its events are on it (this project's own).
-use Rattle.std.specs.Prelude.{ℕ, Bool, List, Option, None, Some, slice_get, if◌then◌else◌}
+use Rattle.std.specs.Prelude.{ℕ, Bool, List, Option, None, Some, option_map, slice_get, if◌then◌else◌}
 use Rattle.chart.specs.declared.event.Event.{Event}
 use Rattle.chart.specs.declared.instance.EventNo.{EventNo}
 use Rattle.chart.specs.Charts.{LineView, at, chart_event, chart_lines}
 use Rattle.chart.specs.Reports.{ReportView}
 use Rattle.closure.specs.Faults.{place_of}
 use Rattle.layout.specs.Layouts.{row_of}
+use Rattle.layout.specs.declared.row.Row.{Row}
+use Rattle.margin_notes.specs.declared.MarginNote.{MarginNote}
 use Rattle.picture_columns.specs.declared.column.Column.{Column}
 use Rattle.picture_columns.specs.Choices as choices
 use Rattle.picture_columns.specs.Choices.{ChoiceView, is_shown}
+use Rattle.picture_elements.specs.declared.spot.Spot.{Spot}
 use Rattle.pictures.specs.declared.spots.Cell.{Cell}
+use Rattle.pictures.specs.Spots.{on_line}
 
 -- what a picture is drawn from
 pub record PictureView : Type 0 where
@@ -23,6 +27,9 @@ pub record PictureView : Type 0 where
   pub choice : ChoiceView
   -- for each row of the layout, how many rows are drawn above it
   pub places : List ℕ
+  -- the rows in which messages are sent, and what stands in the margin
+  pub sends : List Row
+  pub notes : List MarginNote
   -- whether events have their numbers beside them
   pub numbers : Bool
   -- how wide the picture is, in pixels
@@ -52,6 +59,10 @@ cell_from (Some column) (Some place) = Some (record { column = column; place = p
 -- where an event is, if it is drawn
 abbrev pub cell_of : PictureView → EventNo → Option Cell
 cell_of v e = if is_shown v.choice e then cell_from (column_of v e.instance) (place_from v (row_at v e)) else None
+
+-- where an event meets its lifeline, if it is drawn
+abbrev pub spot_of : PictureView → EventNo → Option Spot
+spot_of v e = option_map on_line (cell_of v e)
 
 -- the other end of an event's message, if it has one
 abbrev pub end_of : PictureView → EventNo → Option EventNo

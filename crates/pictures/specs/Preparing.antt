@@ -1,11 +1,13 @@
 -- What a picture is made of (this project's profile).
-use Rattle.std.specs.Prelude.{◌≡◌, Option, ℕ, Bool, List, length}
+use Rattle.std.specs.Prelude.{◌≡◌, Option, ℕ, Bool, List, length, filter}
 use Rattle.chart.specs.declared.instance.EventNo.{EventNo}
 use Rattle.chart.specs.Charts.{LineView}
 use Rattle.chart.specs.Reports.{ReportView}
 use Rattle.layout.specs.declared.row.Row.{Row}
 use Rattle.picture_columns.specs.Choices.{ChoiceView, places_from, count_from}
 use Rattle.picture_columns.specs.Placing.{PlanView, columns_of, width_of}
+use Rattle.margin_notes.specs.declared.MarginNote.{MarginNote}
+use Rattle.pictures.specs.Margins.{has_send, with_margin}
 use Rattle.pictures.specs.Pictures.{PictureView}
 
 -- what of a chart is drawn
@@ -20,6 +22,8 @@ pub record PartView : Type 0 where
   pub bottom : ℕ
   -- whether events have their numbers beside them
   pub numbers : Bool
+  -- what stands in its margin
+  pub notes : List MarginNote
 
 abbrev pub plan_of : List (List ℕ) → List LineView → List ReportView → PartView → PlanView
 plan_of names lines reports part = record {
@@ -49,4 +53,6 @@ pub record IsPictureOf (title : List ℕ) (names : List (List ℕ)) (lines : Lis
   }
   pub places_are : v.places ≡ places_from v.choice 0 rows
   pub count_is : v.count ≡ count_from v.choice 0 rows
-  pub width_is : v.width ≡ width_of (plan_of names lines reports part) v.choice.columns (length title)
+  pub sends_are : v.sends ≡ filter (has_send lines) rows
+  pub notes_are : v.notes ≡ part.notes
+  pub width_is : v.width ≡ with_margin (width_of (plan_of names lines reports part) v.choice.columns (length title)) part.notes

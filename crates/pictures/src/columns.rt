@@ -95,7 +95,7 @@ fn add_life_end<W: Out>(
 }
 
 /// How many rows are drawn above an event that is drawn.
-fn place_drawn(picture: &Picture<'_>, event: &EventNo) -> Option<u32>
+pub(crate) fn place_drawn(picture: &Picture<'_>, event: &EventNo) -> Option<u32>
     ensures { result ≡ place_drawn picture.now event.now }
 {
     match picture.cell_of(event) {

@@ -1,147 +1,51 @@
 //! What stands round the columns and rows of a picture.
 ghost use Rattle.std.specs.Prelude.{◌≡◌};
 ghost use Rattle.msc_text.specs.Writing.{Wrote, Adds};
-ghost use Rattle.pictures.specs.PictureText.{styles, markers, svg_start, title, heading, top, svg_end, bottom};
-ghost use Rattle.pictures.specs.PictureText.{picture_text};
+ghost use Rattle.pictures.specs.PictureText.{top, ground, remarks, bottom, picture_text};
 
 use crate::columns::add_columns;
+use crate::margin::{add_dividing_lines, add_margin};
 use crate::marks::add_marks;
 use crate::picture::Picture;
 use crate::rows::add_rows;
 use crate::spots::height;
 use crate::there::marks_in;
 use msc_text::{Out, TextBuffer, WriteError};
-use picture_elements::{add_legend, legend_tall};
-use text_parts::{Piece, add_pieces};
-
-/// Adds the colours, those on white and those on black, and the kinds of lines and of labels. Nothing is fetched: the
-/// font is whichever the reader's program has.
-#[tactic(auto, unfolding(crate::specs::PictureText::styles))]
-fn add_styles<W: Out>(text: &mut TextBuffer<'_, W>) -> Result<(), WriteError>
-    ensures { Adds W.sink text.old text.new result styles }
-{
-    add_pieces(
-        text,
-        &[
-            Piece::Bytes(b"<style>\n"),
-            Piece::Bytes(b"text{font:11px monospace;fill:#000;text-anchor:middle}\n"),
-            Piece::Bytes(b".s,.n{text-anchor:start}\n"),
-            Piece::Bytes(b".e{text-anchor:end}\n"),
-            Piece::Bytes(b".n,.e,.k{font-size:9px}\n"),
-            Piece::Bytes(b".k{fill:#a80000}\n"),
-            Piece::Bytes(b"path,rect,circle{fill:none;stroke:#808080}\n"),
-            Piece::Bytes(b".m,.w{stroke:#000}\n"),
-            Piece::Bytes(b".m{marker-end:url(#head)}\n"),
-            Piece::Bytes(b".c{stroke-dasharray:4 4;marker-start:url(#end);marker-end:url(#end)}\n"),
-            Piece::Bytes(b".f{stroke-width:4}\n"),
-            Piece::Bytes(b".g{fill:#fff;stroke:none}\n"),
-            Piece::Bytes(b".p{stroke:none}\n"),
-            Piece::Bytes(b".r{fill:#a80000;stroke:none}\n"),
-            Piece::Bytes(b".b{stroke:#a80000;stroke-width:1.5}\n"),
-            Piece::Bytes(b"#head path{fill:#000;stroke:none}\n"),
-            Piece::Bytes(
-                b"@media(prefers-color-scheme:dark){text{fill:#fff}.g{fill:#111}.m,.w{stroke:#fff}#head path{fill:#fff}",
-            ),
-            Piece::Bytes(b".k,.r{fill:#ff9a9a}.b{stroke:#ff9a9a}}\n"),
-            Piece::Bytes(b"</style>\n"),
-        ],
-    )
-}
-
-/// Adds arrow heads, the ends of coregions, and the picture's ground.
-#[tactic(auto, unfolding(crate::specs::PictureText::markers))]
-fn add_markers<W: Out>(text: &mut TextBuffer<'_, W>) -> Result<(), WriteError>
-    ensures { Adds W.sink text.old text.new result markers }
-{
-    add_pieces(
-        text,
-        &[
-            Piece::Bytes(
-                b"<defs><marker id='head' refX='8' refY='4' markerWidth='8' markerHeight='8' orient='auto'>",
-            ),
-            Piece::Bytes(b"<path d='M0 1L8 4L0 7z'/></marker>"),
-            Piece::Bytes(
-                b"<marker id='end' refX='1' refY='5' markerWidth='2' markerHeight='10' orient='auto'>",
-            ),
-            Piece::Bytes(b"<path d='M1 0V10'/></marker></defs>\n"),
-            Piece::Bytes(b"<rect class='g' width='100%' height='100%'/>\n"),
-        ],
-    )
-}
-
-#[tactic(auto, unfolding(crate::specs::PictureText::svg_start))]
-fn add_svg_start<W: Out>(
-    text: &mut TextBuffer<'_, W>,
-    width: u64,
-    height: u64,
-) -> Result<(), WriteError>
-    ensures { Adds W.sink text.old text.new result (svg_start width height) }
-{
-    add_pieces(
-        text,
-        &[
-            Piece::Bytes(b"<svg xmlns='http://www.w3.org/2000/svg' width='"),
-            Piece::Number(width),
-            Piece::Bytes(b"' height='"),
-            Piece::Number(height),
-            Piece::Bytes(b"' viewBox='0 0 "),
-            Piece::Number(width),
-            Piece::Bytes(b" "),
-            Piece::Number(height),
-            Piece::Bytes(b"'>\n"),
-        ],
-    )
-}
-
-#[tactic(auto, unfolding(crate::specs::PictureText::title))]
-fn add_title<W: Out>(text: &mut TextBuffer<'_, W>, words: &[u8]) -> Result<(), WriteError>
-    ensures { Adds W.sink text.old text.new result (title words.now) }
-{
-    add_pieces(
-        text,
-        &[
-            Piece::Bytes(b"<title>"),
-            Piece::Escaped(words),
-            Piece::Bytes(b"</title>\n"),
-        ],
-    )
-}
-
-#[tactic(auto, unfolding(crate::specs::PictureText::heading))]
-fn add_heading<W: Out>(text: &mut TextBuffer<'_, W>, line: &[u8]) -> Result<(), WriteError>
-    ensures { Adds W.sink text.old text.new result (heading line.now) }
-{
-    add_pieces(
-        text,
-        &[
-            Piece::Bytes(b"<text class='s' x='16' y='16'>"),
-            Piece::Escaped(line),
-            Piece::Bytes(b"</text>\n"),
-        ],
-    )
-}
+use picture_elements::{
+    add_heading, add_legend, add_markers, add_styles, add_svg_end, add_svg_start, add_title,
+};
 
 /// Adds what stands above the columns.
 #[tactic(auto, using(msc_text::proofs::Writes::joining), unfolding(crate::specs::PictureText::top))]
 fn add_top<W: Out>(text: &mut TextBuffer<'_, W>, picture: &Picture<'_>) -> Result<(), WriteError>
     ensures { Adds W.sink text.old text.new result (top picture.now) }
 {
-    let width = u64::from(picture.width());
-    let marks = marks_in(picture);
-    let tall = height(picture.count()) + legend_tall(&marks) + 20;
-    add_svg_start(text, width, tall)?;
+    add_svg_start(text, u64::from(picture.width()), picture.tall())?;
     add_title(text, picture.title())?;
     add_styles(text)?;
     add_markers(text)?;
     add_heading(text, picture.title())
 }
 
-/// Adds the end of the picture.
-#[tactic(auto, unfolding(crate::specs::PictureText::svg_end))]
-fn add_svg_end<W: Out>(text: &mut TextBuffer<'_, W>) -> Result<(), WriteError>
-    ensures { Adds W.sink text.old text.new result svg_end }
+/// Adds the columns, and beneath them the lines that part the rows.
+#[tactic(auto, using(msc_text::proofs::Writes::joining), unfolding(crate::specs::PictureText::ground))]
+fn add_ground<W: Out>(text: &mut TextBuffer<'_, W>, picture: &Picture<'_>) -> Result<(), WriteError>
+    ensures { Adds W.sink text.old text.new result (ground picture.now) }
 {
-    text.add(b"</svg>\n")
+    add_dividing_lines(text, picture)?;
+    add_columns(text, picture, picture.columns())
+}
+
+/// Adds the marks of races, and the margin.
+#[tactic(auto, using(msc_text::proofs::Writes::joining), unfolding(crate::specs::PictureText::remarks))]
+fn add_remarks<W: Out>(
+    text: &mut TextBuffer<'_, W>,
+    picture: &Picture<'_>,
+) -> Result<(), WriteError>
+    ensures { Adds W.sink text.old text.new result (remarks picture.now) }
+{
+    add_marks(text, picture, picture.reports())?;
+    add_margin(text, picture)
 }
 
 /// Adds what stands below the columns.
@@ -154,18 +58,18 @@ fn add_bottom<W: Out>(text: &mut TextBuffer<'_, W>, picture: &Picture<'_>) -> Re
     add_svg_end(text)
 }
 
-/// Adds the whole picture.
+/// Adds the whole picture. It takes no memory.
 #[tactic(auto, using(msc_text::proofs::Writes::joining), unfolding(crate::specs::PictureText::picture_text))]
-fn add_picture<W: Out>(
+pub fn add_picture<W: Out>(
     text: &mut TextBuffer<'_, W>,
     picture: &Picture<'_>,
 ) -> Result<(), WriteError>
     ensures { Adds W.sink text.old text.new result (picture_text picture.now) }
 {
     add_top(text, picture)?;
-    add_columns(text, picture, picture.columns())?;
+    add_ground(text, picture)?;
     add_rows(text, picture, picture.rows())?;
-    add_marks(text, picture, picture.reports())?;
+    add_remarks(text, picture)?;
     add_bottom(text, picture)
 }
 

@@ -2,6 +2,7 @@
 use chart::{InstanceNo, Names, Report};
 use closure::Closure;
 use layout::{Ends, Layout};
+use margin_notes::MarginNote;
 
 /// What a picture is of: a chart with its names, a title, its layout and the reports of its receives.
 #[derive(Clone, Copy)]
@@ -30,4 +31,6 @@ pub struct Part<'a> {
     pub bottom: usize,
     /// Whether each event has its number beside it.
     pub numbers: bool,
+    /// What stands beside its rows.
+    pub notes: &'a [MarginNote],
 }

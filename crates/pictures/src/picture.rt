@@ -1,5 +1,5 @@
 //! What a picture is drawn from.
-ghost use Rattle.std.specs.Prelude.{◌≡◌, ◌≤◌, length, slice_get};
+ghost use Rattle.std.specs.Prelude.{◌≡◌, ◌≤◌, ◌-◌, length, slice_get};
 ghost use Rattle.chart.specs.Charts.{chart_lines};
 ghost use Rattle.chart.specs.declared.line.TheConstants.{MAX_EVENTS};
 ghost use Rattle.pictures.specs.Pictures.{column_of, row_at, cell_of, end_of, event_of};
@@ -7,6 +7,7 @@ ghost use Rattle.pictures.specs.Pictures.{column_of, row_at, cell_of, end_of, ev
 use crate::spots::Cell;
 use chart::{Event, EventNo, InstanceNo, Line, Names, Report};
 use layout::{Row, event_in};
+use margin_notes::MarginNote;
 use picture_columns::{Choice, Column};
 use std::marker::Model;
 
@@ -26,6 +27,10 @@ pub struct Picture<'a> {
     pub(crate) count: u32,
     /// How many rows are drawn above each row.
     pub(crate) places: Vec<u32>,
+    /// The rows in which messages are sent.
+    pub(crate) sends: Vec<Row>,
+    /// What stands in the margin.
+    pub(crate) notes: &'a [MarginNote],
 }
 
 impl<'a> Model for Picture<'a> {
@@ -40,6 +45,8 @@ impl<'a> Model for Picture<'a> {
       reports = p.reports.now;
       choice = p.choice;
       places = p.places.items;
+      sends = p.sends.items;
+      notes = p.notes.now;
       numbers = p.numbers;
       width = p.width;
       count = p.count;
@@ -75,12 +82,6 @@ impl<'a> Picture<'a> {
         ensures { result.now ≡ self.now.title }
     {
         self.title
-    }
-
-    pub(crate) fn width(&self) -> u32
-        ensures { result ≡ self.now.width }
-    {
-        self.width
     }
 
     pub(crate) fn first(&self) -> u32
@@ -132,6 +133,26 @@ impl<'a> Picture<'a> {
         ensures { result ≡ slice_get self.now.places row }
     {
         self.places.get(row).copied()
+    }
+
+    /// The row in which the message is sent that has so many above it.
+    pub(crate) fn send_row(&self, above: usize) -> Option<Row>
+        ensures { result ≡ slice_get self.now.sends above }
+    {
+        self.sends.get(above).copied()
+    }
+
+    /// The last row.
+    pub(crate) fn last_row(&self) -> Option<Row>
+        ensures { result ≡ slice_get self.now.choice.rows (length self.now.choice.rows - 1) }
+    {
+        self.rows().last().copied()
+    }
+
+    pub(crate) fn notes(&self) -> &[MarginNote]
+        ensures { result.now ≡ self.now.notes }
+    {
+        self.notes
     }
 
     /// Where an event is drawn.

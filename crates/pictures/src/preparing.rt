@@ -2,6 +2,7 @@
 ghost use Rattle.std.specs.Prelude.{IfOk};
 ghost use Rattle.pictures.specs.Preparing.{IsPictureOf};
 
+use crate::margin::{sends_in, with_margin};
 use crate::part::{Part, Source};
 use crate::picture::Picture;
 use picture_columns::{Choice, Plan, columns_of, places_of, width_of};
@@ -20,6 +21,7 @@ impl<'a> Picture<'a> {
               top = part.entry.top;
               bottom = part.entry.bottom;
               numbers = part.entry.numbers;
+              notes = part.entry.notes.now;
             })) }
     {
         let lines = source.closure.lines();
@@ -31,7 +33,9 @@ impl<'a> Picture<'a> {
             numbers: part.numbers,
         };
         let columns = columns_of(alloc, &plan)?;
-        let width = width_of(&plan, columns.as_slice(), source.title.len());
+        let drawn = width_of(&plan, columns.as_slice(), source.title.len());
+        let width = with_margin(drawn, part.notes);
+        let sends = sends_in(alloc, lines, source.layout.rows())?;
         let choice = Choice {
             layout: source.layout,
             ends: source.ends,
@@ -52,6 +56,8 @@ impl<'a> Picture<'a> {
             width,
             count,
             places,
+            sends,
+            notes: part.notes,
         })
     }
 }

@@ -1,5 +1,6 @@
 //! Tests of replays and of what they stand on, by what is public: that both come to the same, recorders among nine
-//! instances, ranges of races, audits, and writers.
+//! instances, ranges of races, audits, and writers; and of witnesses, against all runs of small schedules, and over worked
+//! schedules.
 //!
 //! They are in a crate of their own, since a crate with tests is proved twice.
 #![tactic(auto)]
@@ -11,8 +12,16 @@ mod audits;
 #[cfg(test)]
 mod calls;
 #[cfg(test)]
+mod every_run;
+#[cfg(test)]
 mod ranges;
 #[cfg(test)]
+mod recorded;
+#[cfg(test)]
 mod recorders;
+#[cfg(test)]
+mod runs;
+#[cfg(test)]
+mod worked;
 #[cfg(test)]
 mod writers;

@@ -6,12 +6,11 @@ use Rattle.behaviour.specs.Bare.{bare_act, with_empty_body, bare_answer}
 use Rattle.behaviour.specs.Scripts.{ScriptView, script_next, script_after}
 use Rattle.behaviour.specs.declared.bare_act.BareAct.{BareAct}
 use Rattle.behaviour.specs.declared.bare_act.BareAct.TheVariants.{Send, Receive, Any, Close, Open, Shut, Stop}
-use Rattle.instances.specs.Driving.{Moment, Leads, Ends}
+use Rattle.instances.specs.Driving.{Moment, Leads, Ended, Ends}
 use Rattle.instances.specs.Traces.{last_turn}
 use Rattle.instances.specs.declared.end.End.{End}
 use Rattle.instances.specs.declared.end.End.TheVariants.{Stopped, TurnsSpent, Memory}
 use Rattle.instances.specs.declared.turn.Turn.{Turn}
-use Rattle.mailbox.specs.Mailboxes.{MailboxView}
 use Rattle.schedule.specs.declared.command.Command.{Command}
 use Rattle.schedule_scripts.specs.InstanceScripts.{acts_of, act_of}
 use Rattle.run_outcomes.specs.Laws.{script_meaning, AreOf, TurnsLaw}
@@ -45,15 +44,15 @@ of-turns rest (turn ∷ turns) now end (answer, view, is, allowed, next) then =
       subst (λ (t : Turn). AreOf acts (length acts) (next_place (length acts) (place-of now) t.answer) (turns ++ rest)) (sym is) rests,
     )
 
-ends-of : (most : ℕ) (start : Moment ScriptView) (trace : List Turn) (end : End) (left : ScriptView) (new : MailboxView)
-    → Ends script_meaning most start trace end left new → AreOfNow start trace
-ends-of most start trace Stopped left new (turns, now, is, within, leads, stops, left-is, new-is) =
+ends-of : (most : ℕ) (start : Moment ScriptView) (trace : List Turn) (end : End) (left : Ended ScriptView)
+    → Ends script_meaning most start trace end left → AreOfNow start trace
+ends-of most start trace Stopped left (turns, now, is, within, leads, stops, left-is, new-is) =
     let stop : Stop ≡ slice_index_or now.state.acts (place-of now) Stop =
     sym (ap bare_act stops) ∙ bare-empty (slice_index_or now.state.acts (place-of now) Stop) in
     subst (AreOfNow start) (sym is) (of-turns (last_turn ∷ []) turns start now leads (stop, tt))
-ends-of most start trace TurnsSpent left new (now, all, leads, left-is, new-is) =
+ends-of most start trace TurnsSpent left (now, all, leads, left-is, new-is) =
     subst (AreOfNow start) (append-nil trace) (of-turns [] trace start now leads tt)
-ends-of most start trace Memory left new (now, fewer, leads, left-is, new-is) =
+ends-of most start trace Memory left (now, fewer, leads, left-is, new-is) =
     subst (AreOfNow start) (append-nil trace) (of-turns [] trace start now leads tt)
 
 as-many : (commands : List Command) (p : ℕ) → length (acts_of commands p) ≡ length (lines_of commands p)
@@ -63,4 +62,4 @@ as-many commands p =
 
 pub turns-law : TurnsLaw
 turns-law commands p most old new trace end left run =
-    subst (λ many. AreOf (acts_of commands p) many 0 trace) (as-many commands p) (ends-of most _ trace end left new run.ends)
+    subst (λ many. AreOf (acts_of commands p) many 0 trace) (as-many commands p) (ends-of most _ trace end (record { state = left; view = new }) run.ends)

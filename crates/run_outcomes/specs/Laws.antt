@@ -33,5 +33,6 @@ AreOf acts many place (turn ∷ turns) =
 -- of the instance's commands have the same places.
 abbrev pub TurnsLaw : Type 0
 TurnsLaw = (commands : List Command) (p most : ℕ) (old new : MailboxView) (trace : List Turn) (end : End)
-    → (left : ScriptView) → IsRun script_meaning most (script_of commands p) old trace end left new
+    → (left : ScriptView)
+    → IsRun script_meaning most (script_of commands p) old trace end (record { state = left; view = new })
     → AreOf (acts_of commands p) (length (lines_of commands p)) 0 trace

@@ -1,0 +1,5 @@
+mod Charts
+mod ExactTexts
+mod Firm
+mod Schedules
+mod Steps

@@ -10,7 +10,7 @@ use Rattle.msc_text.specs.Outs.{Sink}
 use Rattle.msc_text.specs.Writing.{Puts, Breaks}
 use Rattle.msc_text.specs.declared.fault.Fault.{Fault}
 use Rattle.msc_text.specs.declared.fault.Fault.TheVariants.{Line, Unfinished}
-use Rattle.typed_texts.specs.Typing.{exact_text, typed_lines, staying_from, commented_from}
+use Rattle.tidying.specs.Typing.{exact_text, typed_lines, staying_from, commented_from}
 use Rattle.tidying.specs.declared.comments.Comments.{Comments}
 
 -- the number of the typed line for that of a line of the exact text, by the numbers of the lines that stay

@@ -5,13 +5,14 @@ ghost use Rattle.msc_text.specs.Writing.{Wrote};
 ghost use Rattle.tidying.specs.Tidying.{typed_line, typed_fault, tidy_said, Tidies};
 
 use crate::comments::Comments;
+use crate::exact::exact_text;
 use files::{ProgramError, Text, answered};
 use msc_text::{Fault, Out, TextBuffer, WriteError};
 use std::alloc::Global;
-use typed_texts::exact_text;
 
-/// The number of the typed line for that of a line of the exact text.
-fn typed_line(lines: &[u64], number: u64) -> u64
+/// The number of the typed line for that of a line of the exact text, by the numbers of the lines that stay
+/// ([`ExactText::lines`](crate::ExactText)).
+pub fn typed_line(lines: &[u64], number: u64) -> u64
     ensures { result ≡ typed_line lines.now number }
 {
     match lines.get(number.saturating_sub(1) as usize) {

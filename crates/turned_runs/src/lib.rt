@@ -20,6 +20,7 @@ mod running;
 mod scheduling;
 mod showing;
 mod steps;
+mod tries;
 mod turning;
 
 pub use plain_replayer::recorded_run;

@@ -4,6 +4,7 @@ ghost use Rattle.chart.specs.Charts.{chart_lines, IsPossible};
 ghost use Rattle.turned_runs.specs.Runs.{IsRunFound, IsLeastRun};
 
 use crate::going::Going;
+use crate::tries::next_try;
 use chart::{Chart, MAX_EVENTS};
 use std::alloc::{AllocError, Global};
 use witness::Step;
@@ -46,7 +47,7 @@ pub struct LeastRun {
 
 /// The least number of slots, from 1 on, over which a possible chart's lines can be run as drawn, and such a run.
 ///
-/// It makes some twelve runs. F6: it fails only where there is no memory.
+/// It makes two runs where one slot is enough, and some twenty at most. F6: it fails only where there is no memory.
 pub fn least_run(alloc: Global, chart: &Chart) -> Result<LeastRun, AllocError>
     requires { IsPossible (length chart.now) (chart_lines chart.now) }
     ensures { IfOk result (λ run. IsLeastRun (length chart.now) run.slots (chart_lines chart.now) run.steps.items) }
@@ -58,7 +59,7 @@ pub fn least_run(alloc: Global, chart: &Chart) -> Result<LeastRun, AllocError>
     let mut least = 1;
     let mut slots = MAX_EVENTS;
     while least < slots {
-        let middle = (least + slots) / 2;
+        let middle = next_try(1, least, slots);
         match run_within(alloc, chart, middle)? {
             Some(run) => {
                 steps = run;

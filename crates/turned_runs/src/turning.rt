@@ -14,6 +14,7 @@ ghost use Rattle.turned_runs.specs.Turns.{place_of, IsTurned, IsKept};
 
 use crate::running::least_run;
 use crate::steps::step_of;
+use crate::tries::next_try;
 use chart::{Chart, EventNo, MAX_EVENTS};
 use outcomes::ReplayError;
 use plain_replayer::recorded_run;
@@ -36,7 +37,7 @@ pub enum Turned {
 /// of the other step, and such a run; or that none has.
 ///
 /// Only what has to come with the receive is moved: it comes first, and then the other steps, each in the order that
-/// they had. It takes some twelve walks over the steps. F6: it fails only where there is no memory.
+/// they had. It takes two walks over the steps where these slots are enough, and some twenty at most. F6: it fails only where there is no memory.
 pub fn overtake_of_run(
     alloc: Global,
     steps: &[Step],
@@ -61,7 +62,7 @@ pub fn overtake_of_run(
     let mut least = slots;
     let mut most = MAX_EVENTS;
     while least < most {
-        let middle = (least + most) / 2;
+        let middle = next_try(slots, least, most);
         match overtake(alloc, steps, middle, receive, earlier)? {
             Some(found) => {
                 run = found;

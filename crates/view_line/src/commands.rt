@@ -1,157 +1,81 @@
 //! The commands, their options and their words.
-use clap::{Arg, ArgAction, Command};
-use std::alloc::{AllocError, Global};
-
-/// A word that a command needs.
-fn needed<'a>(alloc: Global, name: &'static str) -> Arg<'a> {
-    Arg::new(alloc, name).required(true).action(ArgAction::Set)
-}
-
-/// A word that a command may do without.
-fn word<'a>(alloc: Global, name: &'static str) -> Arg<'a> {
-    Arg::new(alloc, name).action(ArgAction::Set)
-}
+use command_line::Word;
 
 /// The file that a command may do without.
-fn file<'a>(alloc: Global) -> Arg<'a> {
-    word(alloc, "FILE")
-}
+const FILE: &[Word] = &[Word::Free("FILE")];
 
-/// A command with a file and the words of a `race` line.
-fn pair_command<'a>(alloc: Global, name: &'static str) -> Result<Command<'a>, AllocError> {
-    Command::new(alloc, name)
-        .disable_help_flag(true)
-        .arg(needed(alloc, "FILE"))?
-        .arg(needed(alloc, "INSTANCE"))?
-        .arg(needed(alloc, "EARLIER"))?
-        .arg(needed(alloc, "RECEIVE"))
-}
+/// Files, all of which a command may do without.
+const FILES: &[Word] = &[Word::Rest("FILE")];
 
-/// An option that has a word, and may be left out.
-fn option<'a>(alloc: Global, name: &'static str) -> Arg<'a> {
-    Arg::new(alloc, name).long(name).action(ArgAction::Set)
-}
+/// A file and the words of a `race` line.
+const PAIR: &[Word] = &[
+    Word::Needed("FILE"),
+    Word::Needed("INSTANCE"),
+    Word::Needed("EARLIER"),
+    Word::Needed("RECEIVE"),
+];
 
-/// An option that has a word, and may be given several times.
-fn repeated<'a>(alloc: Global, name: &'static str) -> Arg<'a> {
-    Arg::new(alloc, name).long(name).action(ArgAction::Append)
-}
+/// The options of reading another tool's text.
+const TOOLS: &[Word] = &[
+    Word::Option("from", 1),
+    Word::Flag("strict"),
+    Word::Repeated("skip"),
+    Word::Repeated("join"),
+];
 
-/// An option without a word.
-fn flag<'a>(alloc: Global, name: &'static str) -> Arg<'a> {
-    Arg::new(alloc, name).long(name).action(ArgAction::SetTrue)
-}
+/// The options of reading a log.
+const LOGS: &[Word] = &[
+    Word::Option("pattern", 1),
+    Word::Option("hosts", 1),
+    Word::Repeated("peer"),
+    Word::Option("from-line", 1),
+    Word::Option("to-line", 1),
+];
 
-/// Several files, all of which a command may do without.
-fn files<'a>(alloc: Global) -> Arg<'a> {
-    Arg::new(alloc, "FILE")
-        .num_args(0..)
-        .action(ArgAction::Append)
-}
+/// Which races are shown, and how.
+const SHOWING: &[Word] = &[
+    Word::Option("only", 1),
+    Word::Flag("receives"),
+    Word::Flag("run-to-completion"),
+    Word::Flag("luck"),
+    Word::Flag("json"),
+];
 
-/// A command with the options of reading another tool's text.
-fn reads_tools<'a>(alloc: Global, command: Command<'a>) -> Result<Command<'a>, AllocError> {
-    command
-        .arg(option(alloc, "from"))?
-        .arg(flag(alloc, "strict"))?
-        .arg(repeated(alloc, "skip"))?
-        .arg(repeated(alloc, "join"))
-}
+/// What is drawn, and how.
+const DRAWING: &[Word] = &[
+    Word::Option("only", 1),
+    Word::Option("events", 1),
+    Word::Option("rows", 1),
+    Word::Option("around", 2),
+    Word::Option("witness", 3),
+    Word::Option("title", 1),
+    Word::Flag("numbers"),
+];
 
-/// A command with the options of reading a log.
-fn reads_logs<'a>(alloc: Global, command: Command<'a>) -> Result<Command<'a>, AllocError> {
-    command
-        .arg(option(alloc, "pattern"))?
-        .arg(option(alloc, "hosts"))?
-        .arg(repeated(alloc, "peer"))?
-        .arg(option(alloc, "from-line"))?
-        .arg(option(alloc, "to-line"))
-}
+/// Which message is added to a chart, or whether for all races.
+const MENDING: &[Word] = &[
+    Word::Option("name", 1),
+    Word::Flag("all"),
+    Word::Free("FILE"),
+    Word::Free("INSTANCE"),
+    Word::Free("EARLIER"),
+    Word::Free("RECEIVE"),
+];
 
-/// The command that shows the races of a file by name.
-fn races_command<'a>(alloc: Global) -> Result<Command<'a>, AllocError> {
-    let command = Command::new(alloc, "races")
-        .disable_help_flag(true)
-        .arg(option(alloc, "only"))?
-        .arg(flag(alloc, "receives"))?
-        .arg(flag(alloc, "run-to-completion"))?
-        .arg(flag(alloc, "luck"))?
-        .arg(flag(alloc, "json"))?;
-    let command = reads_logs(alloc, reads_tools(alloc, command)?)?;
-    command.arg(files(alloc))
-}
+/// Two files, and how what differs is told.
+const TWO_FILES: &[Word] = &[Word::Flag("json"), Word::Needed("A"), Word::Needed("B")];
 
-/// The command that draws a file.
-fn draw_command<'a>(alloc: Global) -> Result<Command<'a>, AllocError> {
-    let command = Command::new(alloc, "draw")
-        .disable_help_flag(true)
-        .arg(option(alloc, "only"))?
-        .arg(option(alloc, "events"))?
-        .arg(option(alloc, "rows"))?
-        .arg(option(alloc, "around").num_args(2))?
-        .arg(option(alloc, "title"))?
-        .arg(flag(alloc, "numbers"))?;
-    reads_tools(alloc, command)?.arg(file(alloc))
-}
-
-/// The command that writes a file for another tool.
-fn export_command<'a>(alloc: Global) -> Result<Command<'a>, AllocError> {
-    Command::new(alloc, "export")
-        .disable_help_flag(true)
-        .arg(option(alloc, "to").required(true))?
-        .arg(file(alloc))
-}
-
-/// The command that reads a file of another tool, or a log.
-fn import_command<'a>(alloc: Global) -> Result<Command<'a>, AllocError> {
-    let command = Command::new(alloc, "import").disable_help_flag(true);
-    let command = reads_logs(alloc, reads_tools(alloc, command)?)?;
-    command.arg(files(alloc))
-}
-
-/// The command that compares two files.
-fn compare_command<'a>(alloc: Global) -> Result<Command<'a>, AllocError> {
-    Command::new(alloc, "compare")
-        .disable_help_flag(true)
-        .arg(flag(alloc, "json"))?
-        .arg(needed(alloc, "A"))?
-        .arg(needed(alloc, "B"))
-}
-
-/// The command that adds messages by which races go.
-fn mend_command<'a>(alloc: Global) -> Result<Command<'a>, AllocError> {
-    Command::new(alloc, "mend")
-        .disable_help_flag(true)
-        .arg(option(alloc, "name"))?
-        .arg(flag(alloc, "all"))?
-        .arg(file(alloc))?
-        .arg(word(alloc, "INSTANCE"))?
-        .arg(word(alloc, "EARLIER"))?
-        .arg(word(alloc, "RECEIVE"))
-}
-
-/// A command with a file alone, which it may do without.
-fn file_command<'a>(alloc: Global, name: &'static str) -> Result<Command<'a>, AllocError> {
-    Command::new(alloc, name)
-        .disable_help_flag(true)
-        .arg(file(alloc))
-}
-
-/// The command line that the program understands. Help, the version, no command and an unknown one are all mistakes.
-pub(crate) fn command_line<'a>(alloc: Global) -> Result<Command<'a>, AllocError> {
-    Command::new(alloc, "mscview")
-        .disable_help_flag(true)
-        .disable_help_subcommand(true)
-        .subcommand_required(true)
-        .subcommand(pair_command(alloc, "witness")?)?
-        .subcommand(pair_command(alloc, "why")?)?
-        .subcommand(draw_command(alloc)?)?
-        .subcommand(file_command(alloc, "page")?)?
-        .subcommand(export_command(alloc)?)?
-        .subcommand(import_command(alloc)?)?
-        .subcommand(compare_command(alloc)?)?
-        .subcommand(races_command(alloc)?)?
-        .subcommand(mend_command(alloc)?)?
-        .subcommand(file_command(alloc, "tidy")?)?
-        .subcommand(file_command(alloc, "explain")?)
-}
+/// The commands and their words. Help, the version, no command and an unknown one are all mistakes.
+pub(crate) const COMMANDS: [(&str, &[&[Word]]); 11] = [
+    ("witness", &[PAIR]),
+    ("why", &[PAIR]),
+    ("draw", &[DRAWING, TOOLS, FILE]),
+    ("page", &[TOOLS, LOGS, FILES]),
+    ("export", &[&[Word::NeededOption("to")], FILE]),
+    ("import", &[TOOLS, LOGS, FILES]),
+    ("compare", &[TWO_FILES]),
+    ("races", &[SHOWING, TOOLS, LOGS, FILES]),
+    ("mend", &[MENDING]),
+    ("tidy", &[FILE]),
+    ("explain", &[FILE]),
+];

@@ -10,6 +10,6 @@ mod request;
 pub use command_line::CommandLineError;
 pub use reading::requested;
 pub use request::{
-    Compare, Draw, Export, Import, ImportLog, LogForm, LogRaces, Mend, Pair, Question, Races,
-    Reading, Request, Rows, Showing,
+    Compare, Draw, DrawWitness, Export, Import, ImportLog, LogForm, LogRaces, Mend, Pair, Question,
+    Races, Reading, Request, Rows, Showing,
 };

@@ -1,11 +1,11 @@
 //! What the words of a command line ask for.
-use crate::commands::command_line;
+use crate::commands::COMMANDS;
 use crate::request::{
-    Compare, Draw, Export, Import, ImportLog, LogForm, LogRaces, Mend, Pair, Question, Races,
-    Reading, Request, Rows, Showing,
+    Compare, Draw, DrawWitness, Export, Import, ImportLog, LogForm, LogRaces, Mend, Pair, Question,
+    Races, Reading, Request, Rows, Showing,
 };
 use clap::ArgMatches;
-use command_line::CommandLineError;
+use command_line::{CommandLineError, program_of};
 use std::alloc::{AllocError, Global};
 use std::convert::AsStr;
 
@@ -47,8 +47,32 @@ fn rows_of<'a>(words: &ArgMatches<'a>) -> Option<Rows<'a>> {
     }
 }
 
-/// What the words of `draw` ask for.
-fn draw_of<'a>(alloc: Global, words: &ArgMatches<'a>) -> Result<Request<'a>, CommandLineError> {
+/// The chart beside its witness that the words of `draw` ask for, by those behind `--witness`.
+fn witness_of<'a>(pair: &[&'a str], words: &ArgMatches<'a>) -> Option<Request<'a>> {
+    Some(Request::DrawWitness(DrawWitness {
+        instance: *pair.first()?,
+        earlier: *pair.get(1)?,
+        receive: *pair.get(2)?,
+        only: words.get_str("only"),
+        title: words.get_str("title"),
+        numbers: words.get_flag("numbers"),
+        file: words.get_str("FILE"),
+    }))
+}
+
+/// Whether the words of `draw` have an option that goes with one picture alone.
+fn is_for_one(words: &ArgMatches<'_>) -> bool {
+    words.get_str("events").is_some()
+        || words.get_str("rows").is_some()
+        || words.get_strs("around").is_some()
+        || words.get_str("from").is_some()
+        || words.get_str("skip").is_some()
+        || words.get_str("join").is_some()
+        || words.get_flag("strict")
+}
+
+/// The picture of one chart that the words of `draw` ask for.
+fn picture_of<'a>(alloc: Global, words: &ArgMatches<'a>) -> Result<Request<'a>, CommandLineError> {
     Ok(Request::Draw(Draw {
         only: words.get_str("only"),
         events: words.get_str("events"),
@@ -58,6 +82,19 @@ fn draw_of<'a>(alloc: Global, words: &ArgMatches<'a>) -> Result<Request<'a>, Com
         reading: other_reading(alloc, words)?,
         file: words.get_str("FILE"),
     }))
+}
+
+/// What the words of `draw` ask for.
+fn draw_of<'a>(alloc: Global, words: &ArgMatches<'a>) -> Result<Request<'a>, CommandLineError> {
+    match words.get_strs("witness") {
+        None => picture_of(alloc, words),
+        Some(pair) => {
+            if is_for_one(words) {
+                return Err(CommandLineError::Usage);
+            }
+            witness_of(pair, words).ok_or(CommandLineError::Usage)
+        }
+    }
 }
 
 /// What the words of `export` ask for.
@@ -214,6 +251,26 @@ fn races_of<'a>(alloc: Global, words: &ArgMatches<'a>) -> Result<Request<'a>, Co
     }
 }
 
+/// The page of one file that the words of `page` ask for.
+fn file_page_of<'a>(
+    alloc: Global,
+    words: &ArgMatches<'a>,
+) -> Result<Request<'a>, CommandLineError> {
+    let file = one_file(alloc, words)?;
+    match other_reading(alloc, words)? {
+        Some(reading) => Ok(Request::ToolPage(Import { reading, file })),
+        None => Ok(Request::Page(file)),
+    }
+}
+
+/// What the words of `page` ask for.
+fn page_of<'a>(alloc: Global, words: &ArgMatches<'a>) -> Result<Request<'a>, CommandLineError> {
+    match log_form(words) {
+        Some(form) => Ok(Request::LogPage(log_of(alloc, form, words)?)),
+        None => file_page_of(alloc, words),
+    }
+}
+
 /// What the words of `mend` ask for. With `--all` neither a race nor a name is.
 fn mend_of<'a>(words: &ArgMatches<'a>) -> Option<Request<'a>> {
     let name = words.get_str("name");
@@ -240,7 +297,6 @@ fn other_of<'a>(command: &str, words: &ArgMatches<'a>) -> Option<Request<'a>> {
         "export" => export_of(words),
         "compare" => compare_of(words),
         "mend" => mend_of(words),
-        "page" => Some(Request::Page(words.get_str("FILE"))),
         "tidy" => Some(Request::Tidy(words.get_str("FILE"))),
         "explain" => Some(Request::Explain(words.get_str("FILE"))),
         _ => pair_of(question_of(command)?, words),
@@ -257,6 +313,7 @@ fn request_of<'a>(
         "draw" => draw_of(alloc, words),
         "import" => import_of(alloc, words),
         "races" => races_of(alloc, words),
+        "page" => page_of(alloc, words),
         _ => other_of(command, words).ok_or(CommandLineError::Usage),
     }
 }
@@ -268,7 +325,7 @@ pub fn requested<'a, S: AsStr>(
     alloc: Global,
     words: &'a [S],
 ) -> Result<Request<'a>, CommandLineError> {
-    let matches = command_line(alloc)?.try_get_matches_from(words)?;
+    let matches = program_of(alloc, "mscview", &COMMANDS)?.try_get_matches_from(words)?;
     let (command, words) = matches.subcommand().ok_or(CommandLineError::Usage)?;
     request_of(alloc, command, words)
 }

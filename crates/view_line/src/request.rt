@@ -47,6 +47,23 @@ pub struct Draw<'a> {
     pub file: Option<&'a str>,
 }
 
+/// A chart that is to be drawn beside its witness. The names and the numbers are words still.
+#[derive(Clone, Copy, Debug, PartialEq, Eq)]
+pub struct DrawWitness<'a> {
+    /// The words behind `--witness`.
+    pub instance: &'a str,
+    pub earlier: &'a str,
+    pub receive: &'a str,
+    /// The names behind `--only`, joined by commas.
+    pub only: Option<&'a str>,
+    /// The words behind `--title`.
+    pub title: Option<&'a str>,
+    /// Whether `--numbers` is given.
+    pub numbers: bool,
+    /// Without it, and where it is `-`, standard input is read.
+    pub file: Option<&'a str>,
+}
+
 /// What is to be written for another tool.
 #[derive(Clone, Copy, Debug, PartialEq, Eq)]
 pub struct Export<'a> {
@@ -169,8 +186,14 @@ pub enum Request<'a> {
     /// `draw [--only NAME,NAME..] [--events A..B] [--rows A..B | --around INSTANCE N] [--numbers] [--title TEXT] [FILE]`,
     /// and with `--from TOOL` the options of `import`.
     Draw(Draw<'a>),
+    /// `draw --witness INSTANCE EARLIER RECEIVE [--only NAME,NAME..] [--numbers] [--title TEXT] [FILE]`.
+    DrawWitness(DrawWitness<'a>),
     /// `page [FILE]`: without the file, and where it is `-`, standard input is read.
     Page(Option<&'a str>),
+    /// `page --from TOOL [--strict] [--skip A..B].. [--join NAME=NAME,NAME..].. [FILE]`.
+    ToolPage(Import<'a>),
+    /// `page --from log|shiviz` with the options of `import`, and `[FILE..]`.
+    LogPage(ImportLog<'a>),
     /// `export --to TOOL [FILE]`.
     Export(Export<'a>),
     /// `import [--from TOOL] [--strict] [--skip A..B].. [--join NAME=NAME,NAME..].. [FILE]`.

@@ -1,6 +1,5 @@
 -- How many files a command line reads (this project's profile).
-use Rattle.std.specs.Prelude.{ℕ, List, length, max}
-use Rattle.view_line.specs.declared.request.ImportLog.{ImportLog}
+use Rattle.std.specs.Prelude.{ℕ, length, max}
 use Rattle.view_line.specs.declared.request.Request.{Request}
 use Rattle.view_line.specs.declared.request.Request.TheVariants as requests
 
@@ -12,7 +11,10 @@ at_least_one many = max many 1
 abbrev pub files_read : Request → ℕ
 files_read (requests.Pair pair) = 1
 files_read (requests.Draw draw) = 1
+files_read (requests.DrawWitness draw) = 1
 files_read (requests.Page file) = 1
+files_read (requests.ToolPage wanted) = 1
+files_read (requests.LogPage log) = at_least_one (length log.files.items)
 files_read (requests.Export wanted) = 1
 files_read (requests.Import wanted) = 1
 files_read (requests.ImportLog log) = at_least_one (length log.files.items)

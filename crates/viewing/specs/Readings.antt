@@ -1,5 +1,5 @@
 -- What was read of the words of a command line, as a command's options.
-use Rattle.std.specs.Prelude.{ℕ, List, map, Option}
+use Rattle.std.specs.Prelude.{List, map, Option}
 use Rattle.std.specs.Global.{Vec}
 use Rattle.diagram_imports.specs.Importing as diagrams
 use Rattle.diagram_imports.specs.declared.skipping.Skip.{Skip}

@@ -13,10 +13,12 @@ use Rattle.formats.specs.Drawing.{DrawsText}
 use Rattle.formats.specs.Exporting.{ExportsText, export_said}
 use Rattle.formats.specs.Targets.{target_said}
 use Rattle.import_answers.specs.Importing as diagram_answers
+use Rattle.import_pages.specs.Drawings as diagram_pages
 use Rattle.import_pictures.specs.Drawing as diagram_pictures
 use Rattle.import_races.specs.Showing as diagram_races
 use Rattle.log_imports.specs.Importing as log_answers
 use Rattle.log_imports.specs.Options as logs
+use Rattle.log_pages.specs.Showing as log_pages
 use Rattle.log_races.specs.Showing as log_races
 use Rattle.mend_answers.specs.Answers.{mend_said, mend_all_said}
 use Rattle.mend_answers.specs.Showing as mends
@@ -34,6 +36,7 @@ use Rattle.tidying.specs.Tidying.{Tidies, tidy_said}
 use Rattle.tool_text.specs.declared.Tool.{Tool}
 use Rattle.view_line.specs.declared.request.Compare.{Compare}
 use Rattle.view_line.specs.declared.request.Draw.{Draw}
+use Rattle.view_line.specs.declared.request.DrawWitness.{DrawWitness}
 use Rattle.view_line.specs.declared.request.Export.{Export}
 use Rattle.view_line.specs.declared.request.Import.{Import}
 use Rattle.view_line.specs.declared.request.ImportLog.{ImportLog}
@@ -51,9 +54,11 @@ use Rattle.views.specs.Answers.{why_said, witness_said}
 use Rattle.views.specs.Views.{Whys}
 use Rattle.views.specs.Witnessing.{Witnesses}
 use Rattle.views.specs.declared.pair.Asked.{Asked}
+use Rattle.witness_pictures.specs.Answers.{picture_said}
+use Rattle.witness_pictures.specs.Drawing.{DrawsWitnessText}
 use Rattle.viewing.specs.Given.{named_so, file_said, files_said, told_files, AreGiven, IsNotGiven}
 use Rattle.viewing.specs.Lines.{RefusesWords}
-use Rattle.viewing.specs.Wanted.{IsAsked, IsMend, IsPicture, IsPictureOf, IsNameOf, titled_path, comparison_form, AreRaces, AreJudged, IsReading, IsLog}
+use Rattle.viewing.specs.Wanted.{IsAsked, IsMend, IsPicture, IsPictureOf, IsBeside, IsNameOf, titled_path, first_path, comparison_form, AreRaces, AreJudged, IsReading, IsLog}
 
 -- What commands do, by what is known of standard output and of standard error, with what they were before and are afterwards.
 module _ {S V : Type 0} (sink : S → Sink) (old new : S) (told : V → Sink) (before after : V) where
@@ -86,7 +91,19 @@ module _ {S V : Type 0} (sink : S → Sink) (old new : S) (told : V → Sink) (b
   -- the page of a file was written, called as a picture of it is
   abbrev pub DoesPage : Option (List ℕ) → List ℕ → ℕ → Type 0
   DoesPage file text status = (title : List ℕ) × IsNameOf (titled_path file) title
-      × Answers (pages.ShowsText sink old new title text) page_said told before after status
+      × Answers (pages.ShowsText sink old new (pages.titled title) text) page_said told before after status
+
+  -- the page of another tool's text was written, called as a picture of the file is
+  abbrev pub DoesToolPage : Option (List ℕ) → Option Tool × diagrams.OptionsView → List ℕ → ℕ → Type 0
+  DoesToolPage file reading text status = (title : List ℕ) × IsNameOf (titled_path file) title
+      × Answers (diagram_pages.ShowsDrawing sink old new reading.0 text reading.1 title) diagram_pages.page_said told before after status
+
+  -- the page of a log was written, called as a picture of its first file is
+  abbrev pub DoesLogPage : ImportLog → logs.OptionsView → List (List ℕ) → ℕ → Type 0
+  DoesLogPage log options texts status = (title : List ℕ) × (names : List (List ℕ))
+      × IsNameOf (titled_path (first_path (map (λ word. word.now) log.files.items))) title
+      × (names ≡ told_files (map (λ word. word.now) log.files.items))
+      × Answers (log_pages.ShowsLog sink old new options texts title) (log_pages.page_said names) told before after status
 
   -- a message was added by which a race goes
   abbrev pub DoesMend : mend_wanted.Wanted → List ℕ → ℕ → Type 0
@@ -131,6 +148,11 @@ module _ {S V : Type 0} (gives : ℕ → Option (List ℕ) → Result (List ℕ)
       (file_said (option_map (λ word. word.now) draw.file))
       (λ asked text status. Answers (diagram_pictures.DrawsDrawing sink old new asked.1.0 text asked.1.1 asked.0)
       diagram_pictures.picture_said told before after status)
+
+  -- a chart was drawn beside its witness
+  abbrev pub ViewsWitnessPicture : DrawWitness → Result ℕ ProgramError → Type 0
+  ViewsWitnessPicture draw = OfFile (IsBeside draw) (SayNothing (IsBeside draw)) (file_said (option_map (λ word. word.now) draw.file))
+      (λ wanted text status. Answers (DrawsWitnessText sink old new wanted.0 wanted.1 text) picture_said told before after status)
 
   -- by whether another tool's text is read
   abbrev pub ViewsPictureBy : Option Reading → Draw → Result ℕ ProgramError → Type 0
@@ -203,6 +225,15 @@ module _ {S V : Type 0} (gives : ℕ → Option (List ℕ) → Result (List ℕ)
   abbrev pub ViewsPage : Option (List ℕ) → Result ℕ ProgramError → Type 0
   ViewsPage file = OfFileAlone (file_said file) (DoesPage sink old new told before after file)
 
+  -- the page of another tool's text was written
+  abbrev pub ViewsToolPage : Import → Result ℕ ProgramError → Type 0
+  ViewsToolPage wanted = OfFile (IsReading wanted.reading) (AreNotRead (IsReading wanted.reading)) (file_said (option_map (λ word. word.now) wanted.file))
+      (DoesToolPage sink old new told before after (option_map (λ word. word.now) wanted.file))
+
+  -- the page of a log was written
+  abbrev pub ViewsLogPage : ImportLog → Result ℕ ProgramError → Type 0
+  ViewsLogPage log = OfFiles (IsLog log) (files_said (map (λ word. word.now) log.files.items)) (DoesLogPage sink old new told before after log)
+
   -- the exact text of what is typed in a file was written
   abbrev pub ViewsTidy : Option (List ℕ) → Result ℕ ProgramError → Type 0
   ViewsTidy file = OfFileAlone (file_said file) (λ text status. Answers (Tidies sink old new text) tidy_said told before after status)
@@ -215,7 +246,10 @@ module _ {S V : Type 0} (gives : ℕ → Option (List ℕ) → Result (List ℕ)
   abbrev pub Comes : Request → Result ℕ ProgramError → Type 0
   Comes (requests.Pair pair) result = ViewsPair pair result
   Comes (requests.Draw draw) result = ViewsPicture draw result
+  Comes (requests.DrawWitness draw) result = ViewsWitnessPicture draw result
   Comes (requests.Page file) result = ViewsPage (option_map (λ word. word.now) file) result
+  Comes (requests.ToolPage wanted) result = ViewsToolPage wanted result
+  Comes (requests.LogPage log) result = ViewsLogPage log result
   Comes (requests.Export wanted) result = ViewsExport wanted result
   Comes (requests.Import wanted) result = ViewsImport wanted result
   Comes (requests.ImportLog log) result = ViewsLog log result

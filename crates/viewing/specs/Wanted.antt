@@ -1,5 +1,5 @@
 -- What the words of a command line want of a command (this project's profile).
-use Rattle.std.specs.Prelude.{◌≡◌, ℕ, ◌≤◌, List, [], map, bytes_eq, codes, Bool, true, false, Option, None, Some, option_map}
+use Rattle.std.specs.Prelude.{◌≡◌, ℕ, ◌≤◌, List, [], ◌∷◌, map, bytes_eq, codes, Bool, true, false, Option, None, Some, option_map}
 use Rattle.std.specs.Prelude.{if◌then◌else◌}
 use Rattle.comparisons.specs.declared.comparison_text.Form as comparison
 use Rattle.comparisons.specs.declared.comparison_text.Form.TheVariants as comparisons
@@ -26,6 +26,7 @@ use Rattle.told_races.specs.declared.telling.Form as telling
 use Rattle.told_races.specs.declared.telling.Form.TheVariants as tellings
 use Rattle.tool_text.specs.declared.Tool.{Tool}
 use Rattle.view_line.specs.declared.request.Draw.{Draw}
+use Rattle.view_line.specs.declared.request.DrawWitness.{DrawWitness}
 use Rattle.view_line.specs.declared.request.ImportLog.{ImportLog}
 use Rattle.view_line.specs.declared.request.LogForm.{LogForm}
 use Rattle.view_line.specs.declared.request.LogForm.TheVariants as forms
@@ -34,6 +35,7 @@ use Rattle.view_line.specs.declared.request.Rows as lines
 use Rattle.view_line.specs.declared.request.Rows.TheVariants as row_words
 use Rattle.view_line.specs.declared.request.Showing.{Showing}
 use Rattle.views.specs.declared.pair.Asked.{Asked}
+use Rattle.witness_pictures.specs.declared.drawing.Wanted as witnesses
 
 -- the number that a word says, in decimal digits alone
 abbrev pub IsNumberIn : List ℕ → ℕ → Type 0
@@ -71,6 +73,11 @@ titled_path None = None
 titled_path (Some path) =
     if bytes_eq path (codes "-") then None else if bytes_eq path (codes "/dev/stdin") then None else Some path
 
+-- the path of the first file, where one is named
+abbrev pub first_path : List (List ℕ) → Option (List ℕ)
+first_path [] = None
+first_path (file ∷ files) = Some file
+
 -- the title that a path gives: the name of the file alone
 abbrev pub IsNameOf : Option (List ℕ) → List ℕ → Type 0
 IsNameOf None title = title ≡ []
@@ -81,16 +88,22 @@ abbrev pub TitleBy : Option (List ℕ) → Option (List ℕ) → List ℕ → Ty
 TitleBy None path title = IsNameOf path title
 TitleBy (Some words) path title = title ≡ words
 
-abbrev pub IsTitle : Draw → List ℕ → Type 0
-IsTitle draw = TitleBy (option_map (λ word. word.now) draw.title) (titled_path (option_map (λ word. word.now) draw.file))
-
 -- the picture that is wanted
 pub record IsPicture (draw : Draw) (wanted : pictures.Wanted) : Type 0 where
-  pub title : IsTitle draw wanted.title.now
+  pub title : TitleBy (option_map (λ word. word.now) draw.title) (titled_path (option_map (λ word. word.now) draw.file))
+      wanted.title.now
   pub only : option_map (λ bytes. bytes.now) wanted.only ≡ option_map (λ word. word.now) draw.only
   pub events : AreDrawn (option_map (λ word. word.now) draw.events) wanted.events
   pub rows : AreRows draw.rows wanted.rows
   pub numbers : wanted.numbers ≡ draw.numbers
+
+-- the two events, and what is drawn of the chart and of its witness
+pub record IsBeside (draw : DrawWitness) (wanted : Asked × witnesses.Wanted) : Type 0 where
+  pub asked : IsAsked draw.instance.now draw.earlier.now draw.receive.now wanted.0
+  pub title : TitleBy (option_map (λ word. word.now) draw.title) (titled_path (option_map (λ word. word.now) draw.file))
+      wanted.1.title.now
+  pub only : option_map (λ bytes. bytes.now) wanted.1.only ≡ option_map (λ word. word.now) draw.only
+  pub numbers : wanted.1.numbers ≡ draw.numbers
 
 -- the form of a comparison, and that of races
 abbrev pub comparison_form : Bool → comparison.Form

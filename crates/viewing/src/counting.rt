@@ -17,11 +17,13 @@ pub fn many_files(request: &Request<'_>) -> usize
 {
     match request {
         Request::Compare(_) => 2,
-        Request::ImportLog(log) => many_logs(log),
+        Request::ImportLog(log) | Request::LogPage(log) => many_logs(log),
         Request::LogRaces(asked) => many_logs(&asked.log),
         Request::Pair(_)
         | Request::Draw(_)
+        | Request::DrawWitness(_)
         | Request::Page(_)
+        | Request::ToolPage(_)
         | Request::Export(_)
         | Request::Import(_)
         | Request::Races(_)

@@ -3,7 +3,7 @@ ghost use Rattle.std.specs.Prelude.{◌≡◌, Some, option_map};
 ghost use Rattle.formats.specs.Targets.{target_said};
 ghost use Rattle.option_words.specs.Words.{Says};
 ghost use Rattle.viewing.specs.Views.{ViewsPicture, ViewsFilePicture, ViewsExport};
-ghost use Rattle.viewing.specs.Wanted.{IsPicture, IsTitle, IsNameOf, AreDrawn, AreRows, titled_path};
+ghost use Rattle.viewing.specs.Wanted.{IsPicture, TitleBy, IsNameOf, AreDrawn, AreRows, titled_path};
 
 use crate::asking::number_by;
 use crate::giving::{Giver, first_in};
@@ -63,12 +63,12 @@ pub(crate) fn file_title(file: Option<&str>) -> &[u8]
 }
 
 /// The title of a picture: the words that are given, or the name of the file alone.
-fn title_by<'a>(draw: &Draw<'a>) -> &'a [u8]
-    ensures { IsTitle draw.now result.now }
+pub(crate) fn title_of<'a>(title: Option<&'a str>, file: Option<&'a str>) -> &'a [u8]
+    ensures { TitleBy (option_map (λ w. w.now) title.entry) (titled_path (option_map (λ w. w.now) file.entry)) result.now }
 {
-    match draw.title {
+    match title {
         Some(words) => words.as_bytes(),
-        None => file_title(draw.file),
+        None => file_title(file),
     }
 }
 
@@ -91,7 +91,7 @@ pub(crate) fn picture_by<'a>(draw: &Draw<'a>) -> Result<Wanted<'a>, ProgramError
     ensures { Says (IsPicture draw.now) result }
 {
     Ok(Wanted {
-        title: title_by(draw),
+        title: title_of(draw.title, draw.file),
         only: draw.only.map(|names| names.as_bytes()),
         events: numbers_by(draw.events)?,
         rows: rows_by(&draw.rows)?,

@@ -1,20 +1,21 @@
-//! Texts of other tools: their charts, and the pictures and races of these.
+//! Texts of other tools: their charts, and the pictures, races and pages of these.
 ghost use Rattle.std.specs.Prelude.{◌≡◌, map, option_map, MatchResult};
 ghost use Rattle.files.specs.declared.error.ProgramError.TheVariants.{Memory};
 ghost use Rattle.joined_diagrams.specs.Joins.{join_view};
 ghost use Rattle.diagram_imports.specs.Importing.{options_view};
 ghost use Rattle.viewing.specs.Readings.{read_view, skips_of};
 ghost use Rattle.option_words.specs.Words.{AreSaid, Says, Reads};
-ghost use Rattle.viewing.specs.Views.{ViewsImport, ViewsPictureOf, ViewsRacesOf};
+ghost use Rattle.viewing.specs.Views.{ViewsImport, ViewsPictureOf, ViewsRacesOf, ViewsToolPage};
 ghost use Rattle.viewing.specs.Wanted.{IsTool, IsSkip, IsReading};
 
-use crate::drawing::picture_by;
+use crate::drawing::{file_title, picture_by};
 use crate::giving::{Giver, first_in};
 use crate::racing::wanted_by;
 use diagram_imports::{Options, Skip};
 use files::ProgramError;
 use formats::{events_in, tool_in};
 use import_answers::import;
+use import_pages::page_of_drawing;
 use import_pictures::draw_of;
 use import_races::races_of;
 use joined_diagrams::Join;
@@ -150,6 +151,24 @@ pub(crate) fn view_picture_of<G: Giver, W: Out, V: Out>(
         out,
         err,
     ))
+}
+
+/// Writes the page of another tool's text, called as a picture of the file is.
+pub(crate) fn view_tool_page<G: Giver, W: Out, V: Out>(
+    alloc: Global,
+    wanted: &Import<'_>,
+    giver: &G,
+    out: &mut W,
+    err: &mut V,
+) -> Result<u8, ProgramError>
+    ensures { ViewsToolPage (G.gives giver.now) W.sink out.old out.new V.sink err.old err.new wanted.now result }
+{
+    let read = read_by(alloc, &wanted.reading)?;
+    let joins = joins_by(alloc, &read)?;
+    let bytes = first_in(alloc, giver, wanted.file)?;
+    let options = options_of(&read, &joins);
+    let title = file_title(wanted.file);
+    Ok(page_of_drawing(alloc, read.tool, bytes.as_slice(), options, title, out, err))
 }
 
 /// Shows the races of another tool's text by name. G1: luck is asked for, of which such a text tells nothing.

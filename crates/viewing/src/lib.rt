@@ -15,6 +15,7 @@
 #![tactic(auto)]
 
 mod asking;
+mod beside;
 mod counting;
 mod drawing;
 mod file_bytes;

@@ -1,16 +1,18 @@
-//! Logs: the charts that they say, and the races of these.
+//! Logs: the charts that they say, and the races and pages of these.
 ghost use Rattle.std.specs.Prelude.{◌≡◌, ◌∷◌, [], map, option_map, IfOk, Some};
 ghost use Rattle.viewing.specs.FileBytes.{bytes_of};
 ghost use Rattle.viewing.specs.Given.{file_said, files_said, told_files, AreAnswered};
-ghost use Rattle.viewing.specs.Views.{ViewsLog, ViewsLogRaces};
-ghost use Rattle.viewing.specs.Wanted.{AreJudged};
+ghost use Rattle.viewing.specs.Views.{ViewsLog, ViewsLogPage, ViewsLogRaces};
+ghost use Rattle.viewing.specs.Wanted.{AreJudged, IsNameOf, first_path, titled_path};
 
+use crate::drawing::file_title;
 use crate::file_bytes::FileBytes;
 use crate::giving::{Giver, first_in};
 use crate::log_words::{log_words, options_of, peers_by};
 use crate::racing::wanted_by;
 use files::ProgramError;
 use log_imports::import;
+use log_pages::page_of_log;
 use log_races::races_of_log;
 use msc_text::Out;
 use race_answers::LuckWanted;
@@ -106,6 +108,40 @@ pub(crate) fn view_log<G: Giver, W: Out, V: Out>(
     };
     let options = options_of(&words, &peers);
     Ok(import(alloc, options, &slices, &files, out, err))
+}
+
+/// The title that a log gives: the name of its first file alone, and of standard input none.
+fn log_title<'a>(files: &[&'a str]) -> &'a [u8]
+    ensures { IsNameOf (titled_path (first_path (map (λ w. w.now) files.now))) result.now }
+{
+    match files.first() {
+        None => file_title(None),
+        Some(file) => file_title(Some(*file)),
+    }
+}
+
+/// Writes the page of a log, called as a picture of its first file is.
+pub(crate) fn view_log_page<G: Giver, W: Out, V: Out>(
+    alloc: Global,
+    wanted: &ImportLog<'_>,
+    giver: &G,
+    out: &mut W,
+    err: &mut V,
+) -> Result<u8, ProgramError>
+    ensures { ViewsLogPage (G.gives giver.now) W.sink out.old out.new V.sink err.old err.new wanted.now result }
+{
+    let words = log_words(alloc, wanted)?;
+    let peers = peers_by(alloc, &words)?;
+    let texts = texts_in(alloc, giver, &wanted.files)?;
+    let Ok(files) = told_files(alloc, &wanted.files) else {
+        return Err(ProgramError::Memory);
+    };
+    let Ok(slices) = slices_of(alloc, &texts) else {
+        return Err(ProgramError::Memory);
+    };
+    let options = options_of(&words, &peers);
+    let title = log_title(&wanted.files);
+    Ok(page_of_log(alloc, options, &slices, &files, title, out, err))
 }
 
 /// Which races of a log are to be shown, and how.

@@ -2,12 +2,13 @@
 ghost use Rattle.viewing.specs.Views.{Comes, Views, ViewsSome};
 
 use crate::asking::{view_comparison, view_pair};
+use crate::beside::view_beside;
 use crate::drawing::{view_export, view_picture};
 use crate::giving::Giver;
-use crate::importing::view_import;
+use crate::importing::{view_import, view_tool_page};
 use crate::mends::view_mend;
 use crate::racing::view_races;
-use crate::recorded::{view_log, view_log_races};
+use crate::recorded::{view_log, view_log_page, view_log_races};
 use crate::refusing::refusal;
 use crate::telling::{view_explanation, view_page, view_tidy};
 use files::{ProgramError, refused};
@@ -29,7 +30,10 @@ fn come<G: Giver, W: Out, V: Out>(
     match request {
         Request::Pair(pair) => view_pair(alloc, pair, giver, out, err),
         Request::Draw(picture) => view_picture(alloc, picture, giver, out, err),
+        Request::DrawWitness(wanted) => view_beside(alloc, wanted, giver, out, err),
         Request::Page(file) => view_page(alloc, *file, giver, out, err),
+        Request::ToolPage(wanted) => view_tool_page(alloc, wanted, giver, out, err),
+        Request::LogPage(wanted) => view_log_page(alloc, wanted, giver, out, err),
         Request::Export(exported) => view_export(alloc, exported, giver, out, err),
         Request::Import(imported) => view_import(alloc, imported, giver, out, err),
         Request::ImportLog(imported) => view_log(alloc, imported, giver, out, err),

@@ -1,6 +1,6 @@
--- What is written of what was found for a pair.
+-- What is found for a pair of events, and what is written of it.
 use Rattle.std.proofs.Common.{◌≡◌, ℕ, inl, inr, ◌≤◌, Bool, true, false, cond, List, length, Option, None, Some, Result, Ok, Err, refl, sym, subst, arith}
-use Rattle.chart.specs.Charts.{Chart, LineView, chart_lines}
+use Rattle.chart.specs.Charts.{Chart, LineView, chart_lines, IsPossible}
 use Rattle.std.specs.Prelude.{nat_lt}
 use Rattle.chart.specs.declared.event.Event.{Event}
 use Rattle.chart.specs.Events.{ith, is_receive_from}
@@ -8,11 +8,11 @@ use Rattle.chart.specs.Places.{IsEvent}
 use Rattle.chart.proofs.Belongs.{IsEvent-from_passes}
 use Rattle.closure.specs.Faults.{place_of}
 use Rattle.msc_text.specs.Outs.{Sink}
-use Rattle.msc_text.specs.Writing.{Puts}
 use Rattle.schedule.specs.Plans.{Plan}
-use Rattle.schedule.specs.ScheduleText.{schedule_text}
 use Rattle.files.specs.declared.error.ProgramError.TheVariants.{Usage, File, Memory, Text, ReceiveWithoutSend, NameMismatch, Cyclic, Write}
+use Rattle.files.specs.declared.source.Source.{Source}
 use Rattle.files.specs.Files.{Named}
+use Rattle.files.specs.Texts.{named_of}
 use Rattle.turned_runs.specs.Showing.{IsShown, HasSteps}
 use Rattle.turned_runs.specs.declared.turning.Turned.{Turned}
 use Rattle.turned_runs.specs.declared.turning.Turned.TheVariants as turns
@@ -21,15 +21,15 @@ use Rattle.turned_runs.specs.declared.showing.Shown.{Shown}
 use Rattle.turned_runs.specs.declared.showing.Shown.TheVariants as founds
 use Rattle.views.specs.declared.error.ViewError.{ViewError}
 use Rattle.views.specs.declared.error.ViewError.TheVariants.{Program, NoSuchEvent, NotAPair, ManySlots}
+use Rattle.views.specs.declared.finding.Found.{Found}
 use Rattle.views.specs.declared.pair.Asked.{Asked}
 use Rattle.views.specs.declared.pair.Pair.{Pair}
-use Rattle.views.specs.declared.verdict.Verdict.{Verdict}
-use Rattle.views.specs.declared.verdict.Verdict.TheVariants.{Enforced, Race, Hidden}
-use Rattle.views.specs.Explaining.{IsPair, AreInOneRegion}
+use Rattle.views.specs.declared.verdict.Witnessed.{Witnessed}
+use Rattle.views.specs.Explaining.{IsPair}
+use Rattle.views.specs.Finding.{origin_of, HasShown, IsFoundOf, IsFound, IsJudged}
 use Rattle.views.specs.Pairs.{instance_said, has_event, receives, pair_on, pair_at, pair_of}
-use Rattle.views.specs.Turning.{Origin, first_of, IsKeptFrom, IsOrdered, IsAskedFor, WritesPlan, Writes, Shows}
-use Rattle.views.specs.Verdicts.{verdict_in}
-use Rattle.views.specs.Witnessing.{Finds}
+use Rattle.views.specs.Turning.{Origin, first_of, IsKeptFrom, IsOrdered, IsAskedFor}
+use Rattle.views.specs.Witnessing.{WritesShown, Finds, FindsIn}
 
 -- a plan that has the steps that were found is ordered as they are
 ordered_from : (named : Named) (origin : Origin) (pair : Pair) (turned : Turned) (plan : Plan) → IsKeptFrom named origin pair turned → HasSteps turned (founds.Replay plan) → IsOrdered named origin pair plan
@@ -43,43 +43,52 @@ earlier_event c pair is =
     let r = IsEvent-from_passes c (is_receive_from is.receive.0) (place_of pair.receive) is.receive.1 in
     (is.earlier.begun, subst (λ p. pair.earlier.index ≤ length (c p)) (sym is.earlier.line) (let less = is.earlier.less in omega (arith, r.1)))
 
-module _ {S : Type 0} (sink : S → Sink) (old new : S) where
-  -- a schedule that was written
-  pub plan_written : (c : Chart) (pair : Pair) (plan : Plan) (hidden : Bool) → AreInOneRegion c pair hidden → Puts sink old new (schedule_text plan) → WritesPlan sink old new c pair plan (Ok (verdict_in hidden))
-  plan_written c pair plan true are puts = (are, puts)
-  plan_written c pair plan false are puts = (are, puts)
+-- what was found is shown so
+pub has_shown : (names : List (List ℕ)) (lines : List LineView) (origin : Origin) (pair : Pair) (turned : Turned) (shown : Shown) → IsKeptFrom (names, lines) origin pair turned → HasSteps turned shown
+    → IsShown names (first_of origin) (chart_lines lines) (place_of pair.earlier) (place_of pair.receive) shown → HasShown (names, lines) origin pair shown
+has_shown names lines origin pair turned (founds.Replay plan) kept has is = (is.0, is.1, is.2, ordered_from (names, lines) origin pair turned plan kept has)
+has_shown names lines origin pair turned founds.Enforced kept has is = is
+has_shown names lines origin pair turned (founds.TooManySlots k) kept has is = is
 
-  -- what was found is shown so
-  pub shows_from : (names : List (List ℕ)) (lines : List LineView) (origin : Origin) (pair : Pair) (turned : Turned) (shown : Shown) (done : Result Verdict ViewError) → IsKeptFrom (names, lines) origin pair turned → HasSteps turned shown → IsShown names (first_of origin) (chart_lines lines) (place_of pair.earlier) (place_of pair.receive) shown
-      → Writes sink old new (chart_lines lines) pair shown done → Shows sink old new done (names, lines) origin pair
-  shows_from names lines origin pair turned (founds.Replay plan) (Ok Enforced) kept has is written = absurd written
-  shows_from names lines origin pair turned (founds.Replay plan) (Ok Race) kept has is written =
-      (plan, (is.0, is.1, is.2, ordered_from (names, lines) origin pair turned plan kept has), written.0, written.1)
-  shows_from names lines origin pair turned (founds.Replay plan) (Ok Hidden) kept has is written =
-      (plan, (is.0, is.1, is.2, ordered_from (names, lines) origin pair turned plan kept has), written.0, written.1)
-  shows_from names lines origin pair turned (founds.Replay plan) (Err error) kept has is written =
-      subst (λ (e : ViewError). Shows sink old new (Err e) (names, lines) origin pair) (sym written.0)
-      (plan, (is.0, is.1, is.2, ordered_from (names, lines) origin pair turned plan kept has), written.1)
-  shows_from names lines origin pair turned founds.Enforced done kept has is written =
-      subst (λ (d : Result Verdict ViewError). Shows sink old new d (names, lines) origin pair) (sym written.0) (is, written.1)
-  shows_from names lines origin pair turned (founds.TooManySlots k) done kept has is written =
-      subst (λ (d : Result Verdict ViewError). Shows sink old new d (names, lines) origin pair) (sym written.0) (is, written.1)
+-- it is found for the pair that is asked about
+pub found_from : (named : Named) (origin : Origin) (asked : Asked) (pair : Pair) (result : Result Found ViewError) → IsAskedFor named asked (Ok pair) → IsFoundOf named origin pair result → IsFound named origin asked result
+found_from named origin asked pair (Ok found) is (same, shown) =
+    (subst (λ (p : Pair). pair_of named.0 named.1 asked ≡ Ok p) (sym same) is.0, is.1, shown_for named origin pair found same shown)
+  where
+    shown_for : (named : Named) (origin : Origin) (pair : Pair) (found : Found) → found.pair ≡ pair → HasShown named origin pair found.shown → HasShown named origin found.pair found.shown
+    shown_for named origin pair found same shown = subst (λ (p : Pair). HasShown named origin p found.shown) (sym same) shown
+found_from named origin asked pair (Err (Program Memory)) is so = tt
+found_from named origin asked pair (Err (Program Usage)) is so = absurd so
+found_from named origin asked pair (Err (Program File)) is so = absurd so
+found_from named origin asked pair (Err (Program (Text fault))) is so = absurd so
+found_from named origin asked pair (Err (Program (ReceiveWithoutSend p index))) is so = absurd so
+found_from named origin asked pair (Err (Program (NameMismatch p index))) is so = absurd so
+found_from named origin asked pair (Err (Program Cyclic)) is so = absurd so
+found_from named origin asked pair (Err (Program Write)) is so = absurd so
+found_from named origin asked pair (Err NoSuchEvent) is so = absurd so
+found_from named origin asked pair (Err NotAPair) is so = absurd so
+found_from named origin asked pair (Err (ManySlots k)) is so = absurd so
 
-  -- what is shown for the pair that is asked about
-  pub finds_from : (named : Named) (origin : Origin) (asked : Asked) (pair : Pair) (done : Result Verdict ViewError) → IsAskedFor named asked (Ok pair) → Shows sink old new done named origin pair
-      → Finds sink old new done named origin asked
-  finds_from named origin asked pair (Ok verdict) is shows = (pair, is.0, is.1, shows)
-  finds_from named origin asked pair (Err (Program Usage)) is shows = absurd shows
-  finds_from named origin asked pair (Err (Program File)) is shows = absurd shows
-  finds_from named origin asked pair (Err (Program Memory)) is shows = shows
-  finds_from named origin asked pair (Err (Program (Text fault))) is shows = absurd shows
-  finds_from named origin asked pair (Err (Program (ReceiveWithoutSend p index))) is shows = absurd shows
-  finds_from named origin asked pair (Err (Program (NameMismatch p index))) is shows = absurd shows
-  finds_from named origin asked pair (Err (Program Cyclic)) is shows = absurd shows
-  finds_from named origin asked pair (Err (Program Write)) is shows = (pair, is.0, is.1, shows)
-  finds_from named origin asked pair (Err NoSuchEvent) is shows = absurd shows
-  finds_from named origin asked pair (Err NotAPair) is shows = absurd shows
-  finds_from named origin asked pair (Err (ManySlots k)) is shows = (pair, is.0, is.1, shows)
+module _ {S : Type 0} (sink : S → Sink) (old new : S) (asked : Asked) (source : Source) (pair : Pair) (is_pair : pair_of (named_of source).0 (named_of source).1 asked ≡ Ok pair) (possible : IsPossible (length (named_of source).1) (chart_lines (named_of source).1)) where
+  -- what is written of a pair that is judged so
+  pub finds_so : (shown : Shown) (witnessed : Witnessed) → HasShown (named_of source) (origin_of source) pair shown → IsJudged source pair shown (Ok witnessed) → WritesShown sink old new shown (Ok tt) → FindsIn sink old new asked source (Ok witnessed)
+  finds_so (founds.Replay plan) witnessed is (true, are, same) puts = subst (FindsIn sink old new asked source) (sym same) (refl, (pair, is_pair, possible, (plan, is, are, puts)))
+  finds_so (founds.Replay plan) witnessed is (false, are, same) puts = subst (FindsIn sink old new asked source) (sym same) (refl, (pair, is_pair, possible, (plan, is, are, puts)))
+  finds_so founds.Enforced witnessed is same wrote = subst (FindsIn sink old new asked source) (sym same) (refl, (pair, is_pair, possible, (is, wrote.1)))
+  finds_so (founds.TooManySlots k) witnessed is same wrote = cc
+
+  -- of one whose text isn't written whole
+  pub finds_broken : (shown : Shown) (error : ViewError) → HasShown (named_of source) (origin_of source) pair shown → WritesShown sink old new shown (Err error) → FindsIn sink old new asked source (Err error)
+  finds_broken (founds.Replay plan) error is (same, breaks) =
+      subst (λ (e : ViewError). FindsIn sink old new asked source (Err e)) (sym same) (pair, is_pair, possible, (plan, is, breaks))
+  finds_broken founds.Enforced error is wrote = let differs = wrote.0 in cc
+  finds_broken (founds.TooManySlots k) error is wrote = let differs = wrote.0 in cc
+
+  -- of one for which each run needs too many slots
+  pub finds_none : (shown : Shown) (error : ViewError) → HasShown (named_of source) (origin_of source) pair shown → IsJudged source pair shown (Err error) → FindsIn sink old old asked source (Err error)
+  finds_none (founds.TooManySlots k) error is same = subst (FindsIn sink old old asked source) (sym same) (pair, is_pair, possible, (is, refl))
+  finds_none founds.Enforced error is same = cc
+  finds_none (founds.Replay plan) error is (hidden, are, same) = cc
 
 -- words that name no pair need no slots
 failed : (b : Bool) (x : Result Pair ViewError) (error other : ViewError) → (error ≡ other → ⊥) → cond b x (Err error) ≡ Err other → x ≡ Err other
@@ -94,7 +103,7 @@ slots_on p events e r k is =
     let f = failed (receives (ith events r)) _ NotAPair (ManySlots k) (λ h. cc) d in
     cc
 
-no_slots : (names : List (List ℕ)) (lines : List LineView) (asked : Asked) (k : ℕ) → pair_of names lines asked ≡ Err (ManySlots k) → ⊥
+pub no_slots : (names : List (List ℕ)) (lines : List LineView) (asked : Asked) (k : ℕ) → pair_of names lines asked ≡ Err (ManySlots k) → ⊥
 no_slots names lines asked k is = by_instance (instance_said names asked.instance.now) is
   where
     by_instance : (found : Option ℕ) → pair_at found lines asked.earlier asked.receive ≡ Err (ManySlots k) → ⊥

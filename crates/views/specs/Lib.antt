@@ -1,5 +1,6 @@
 pub mod Answers
 pub mod Explaining
+pub mod Finding
 pub mod Pairs
 pub mod Sayings
 pub mod SayingText

@@ -1,4 +1,4 @@
--- What is written to turn a pair of events round.
+-- What turns a pair of events round, and what is written of it.
 use Rattle.std.specs.Prelude.{◌≡◌, ℕ, ◌<◌, true, false, List, length, Option, Result, Ok, Err}
 use Rattle.chart.specs.Charts.{Chart, chart_lines, IsPossible}
 use Rattle.closure.specs.Faults.{place_of}
@@ -19,8 +19,6 @@ use Rattle.turned_runs.specs.declared.scheduling.TheConstants.{FIRST_LINE}
 use Rattle.turned_runs.specs.declared.turning.Turned.{Turned}
 use Rattle.witness.specs.Orders.{IsInOrder}
 use Rattle.witness.specs.declared.step.Step.{Step}
-use Rattle.turned_runs.specs.declared.showing.Shown.{Shown}
-use Rattle.turned_runs.specs.declared.showing.Shown.TheVariants as founds
 use Rattle.views.specs.declared.error.ViewError.{ViewError}
 use Rattle.views.specs.declared.error.ViewError.TheVariants.{Program, ManySlots}
 use Rattle.views.specs.declared.pair.Asked.{Asked}
@@ -83,22 +81,6 @@ NeedsSlots (names, lines) origin pair k = (MAX_CAPACITY < k)
     (place_of pair.earlier) (place_of pair.receive)
 
 module _ {S : Type 0} (sink : S → Sink) where
-  -- what is written of a schedule, by what the answer is
-  abbrev pub WritesPlan : S → S → Chart → Pair → Plan → Result Verdict ViewError → Type 0
-  WritesPlan old new c pair plan (Ok Enforced) = ⊥
-  WritesPlan old new c pair plan (Ok Race) = AreInOneRegion c pair false
-      × Puts sink old new (schedule_text plan)
-  WritesPlan old new c pair plan (Ok Hidden) = AreInOneRegion c pair true
-      × Puts sink old new (schedule_text plan)
-  WritesPlan old new c pair plan (Err error) = (error ≡ Program errors.Write)
-      × Breaks sink old new (schedule_text plan)
-
-  -- what is written of what was found
-  abbrev pub Writes : S → S → Chart → Pair → Shown → Result Verdict ViewError → Type 0
-  Writes old new c pair (founds.Replay plan) result = WritesPlan old new c pair plan result
-  Writes old new c pair founds.Enforced result = (result ≡ Ok Enforced) × (new ≡ old)
-  Writes old new c pair (founds.TooManySlots k) result = (result ≡ Err (ManySlots k)) × (new ≡ old)
-
   -- for a pair of the chart: the text of a witness was written, or a beginning of it, where a put failed; or nothing,
   -- where no run turns the pair round, where each needs too many slots, or where memory ran out
   abbrev pub Shows : S → S → Result Verdict ViewError → Named → Origin → Pair → Type 0

@@ -1,41 +1,34 @@
 -- What `mscview witness` does with the bytes of a file.
-use Rattle.std.specs.Prelude.{◌≡◌, ℕ, Bool, true, false, List, length, Result, Ok, Err}
-use Rattle.std.specs.List.{list_any}
+use Rattle.std.specs.Prelude.{◌≡◌, ℕ, List, length, Result, Ok, Err}
 use Rattle.chart.specs.Charts.{chart_lines, IsPossible}
 use Rattle.msc_text.specs.Outs.{Sink}
-use Rattle.schedule.specs.declared.command.Action.{Action}
-use Rattle.schedule.specs.declared.command.Action.TheVariants.{Send, Receive, Any, Close, Open, Shut}
-use Rattle.schedule.specs.declared.command.Command.{Command}
-use Rattle.schedule.specs.Plans.{Plan}
+use Rattle.msc_text.specs.Writing.{Puts, Breaks}
+use Rattle.schedule.specs.ScheduleText.{schedule_text}
 use Rattle.files.specs.declared.error.ProgramError.TheVariants as errors
 use Rattle.files.specs.declared.source.Source.{Source}
-use Rattle.files.specs.declared.source.Source.TheVariants.{Run, Drawn}
 use Rattle.files.specs.Files.{Named, IsRefused}
 use Rattle.files.specs.Texts.{OfFile, named_of}
+use Rattle.turned_runs.specs.declared.showing.Shown.{Shown}
+use Rattle.turned_runs.specs.declared.showing.Shown.TheVariants as founds
 use Rattle.views.specs.declared.error.ViewError.{ViewError}
 use Rattle.views.specs.declared.error.ViewError.TheVariants.{Program, NoSuchEvent, NotAPair}
 use Rattle.views.specs.declared.pair.Asked.{Asked}
 use Rattle.views.specs.declared.pair.Pair.{Pair}
 use Rattle.views.specs.declared.verdict.Verdict.{Verdict}
 use Rattle.views.specs.declared.verdict.Witnessed.{Witnessed}
+use Rattle.views.specs.Finding.{origin_of, closes_in}
 use Rattle.views.specs.Pairs.{pair_of}
 use Rattle.views.specs.Turning.{Origin, Shows}
-use Rattle.views.specs.Turning.Origin.{recorded, drawn}
-
--- it closes a lane
-abbrev pub is_close : Action → Bool
-is_close (Send to name) = false
-is_close (Receive from) = false
-is_close Any = false
-is_close (Close to) = true
-is_close Open = false
-is_close Shut = false
-
--- some command of a plan closes a lane
-abbrev pub has_closes : Plan → Bool
-has_closes plan = list_any (λ (c : Command). is_close c.action) plan.commands
 
 module _ {S : Type 0} (sink : S → Sink) where
+  -- what is written of what there is to show: the text of the schedule, or a beginning of it, where a put failed; and
+  -- nothing where there is none
+  abbrev pub WritesShown : S → S → Shown → Result (Unit {0}) ViewError → Type 0
+  WritesShown old new (founds.Replay plan) (Ok done) = Puts sink old new (schedule_text plan)
+  WritesShown old new (founds.Replay plan) (Err error) = (error ≡ Program errors.Write)
+      × Breaks sink old new (schedule_text plan)
+  WritesShown old new shown result = (result ≡ Ok tt) × (new ≡ old)
+
   -- what is written for two events of a chart: a witness, or none was found; or nothing, where the chart is not
   -- possible, where there is no such pair, or where memory ran out
   abbrev pub Finds : S → S → Result Verdict ViewError → Named → Origin → Asked → Type 0
@@ -51,16 +44,6 @@ module _ {S : Type 0} (sink : S → Sink) where
       × (new ≡ old)
   Finds old new done named origin asked = (pair : Pair) × (pair_of named.0 named.1 asked ≡ Ok pair)
       × IsPossible (length named.1) (chart_lines named.1) × Shows sink old new done named origin pair
-
--- what a witness is made from: what a schedule's commands made, or a chart's lines as drawn
-abbrev pub origin_of : Source → Origin
-origin_of (Run schedule outcome) = recorded schedule.now
-origin_of (Drawn named) = drawn
-
--- whether closes are left out
-abbrev pub closes_in : Source → Bool
-closes_in (Run schedule outcome) = has_closes schedule.now
-closes_in (Drawn named) = false
 
 module _ {S : Type 0} (sink : S → Sink) where
   -- the same for two events of a file's chart, with what is left out of it

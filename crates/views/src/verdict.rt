@@ -4,7 +4,7 @@ ghost use Rattle.views.specs.Verdicts.{code_of, verdict_in};
 
 /// What a receive and an earlier event of its line are.
 #[derive(Clone, Copy)]
-pub(crate) enum Verdict {
+pub enum Verdict {
     /// The enforced order puts the event before the receive.
     Enforced,
     /// It doesn't: a race that is reported.
@@ -15,10 +15,10 @@ pub(crate) enum Verdict {
 
 /// What was found for a pair whose other order was looked for.
 #[derive(Clone, Copy)]
-pub(crate) struct Witnessed {
-    pub(crate) verdict: Verdict,
+pub struct Witnessed {
+    pub verdict: Verdict,
     /// Whether the schedule closes lanes, which no witness does.
-    pub(crate) has_closes: bool,
+    pub has_closes: bool,
 }
 
 impl Verdict {

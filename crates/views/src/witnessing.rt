@@ -1,84 +1,32 @@
 //! What `mscview witness` does with the bytes of a file.
-ghost use Rattle.std.specs.Prelude.{◌≡◌, length};
 ghost use Rattle.files.specs.Answers.{Answers};
 ghost use Rattle.files.specs.Texts.{ComesFrom};
-ghost use Rattle.outcomes.specs.Outcomes.{IsOutcome};
 ghost use Rattle.views.specs.Answers.{witness_said};
-ghost use Rattle.views.specs.Turning.Origin.{drawn, recorded};
-ghost use Rattle.views.specs.Witnessing.{is_close, has_closes, Finds, FindsIn, Witnesses};
+ghost use Rattle.views.specs.Witnessing.{WritesShown, FindsIn, Witnesses};
 
 use crate::error::ViewError;
+use crate::finding::{found_in, judged};
 use crate::pair::Asked;
-use crate::turning::{pair_of_possible, write_turned};
-use crate::verdict::{Verdict, Witnessed};
-use chart::{Chart, Names};
+use crate::verdict::Witnessed;
 use files::{ProgramError, Source, Text, answered};
 use msc_text::Out;
-use outcomes::Outcome;
-use schedule::{Action, Schedule};
 use std::alloc::Global;
-use turned_runs::{overtake_of_chart, overtake_of_schedule};
+use turned_runs::Shown;
 
-fn is_close(action: &Action) -> bool
-    ensures { result ≡ is_close action.now }
+/// Writes the schedule that was found, if there is one.
+fn write_shown<W: Out>(shown: &Shown, out: &mut W) -> Result<(), ViewError>
+    ensures { WritesShown W.sink out.old out.new shown.now result }
 {
-    match action {
-        Action::Close { .. } => true,
-        Action::Send { .. } | Action::Receive { .. } | Action::Any | Action::Open | Action::Shut =>
-            false,
+    match shown {
+        Shown::Replay(schedule) => match schedule.write(out) {
+            Ok(()) => Ok(()),
+            Err(_) => Err(ViewError::Program(ProgramError::Write)),
+        },
+        Shown::Enforced | Shown::TooManySlots(_) => Ok(()),
     }
 }
 
-/// Whether a schedule closes a lane.
-fn has_closes(schedule: &Schedule) -> bool
-    ensures { result ≡ has_closes schedule.now }
-{
-    schedule
-        .commands()
-        .iter()
-        .any(|command| is_close(&command.action))
-}
-
-/// Writes a witness for two events of the chart, and answers what they are.
-fn witness_chart<W: Out>(
-    alloc: Global,
-    names: &Names,
-    chart: &Chart,
-    asked: &Asked<'_>,
-    out: &mut W,
-) -> Result<Verdict, ViewError>
-    requires { length names.now ≡ length chart.now }
-    ensures { Finds W.sink out.old out.new result (names.now, chart.now) drawn asked.now }
-{
-    let pair = pair_of_possible(alloc, names, chart, asked)?;
-    let Ok(turned) = overtake_of_chart(alloc, chart, pair.receive, pair.earlier) else {
-        return Err(ViewError::Program(ProgramError::Memory));
-    };
-    write_turned(alloc, names, chart, &turned, &pair, out)
-}
-
-/// The same for two events of the chart that a schedule comes to. What needn't come with the receive stays in the
-/// recorded order.
-fn witness_run<W: Out>(
-    alloc: Global,
-    schedule: &Schedule,
-    outcome: &Outcome<'_>,
-    asked: &Asked<'_>,
-    out: &mut W,
-) -> Result<Verdict, ViewError>
-    requires { IsOutcome schedule.now outcome.now }
-    ensures { Finds W.sink out.old out.new result (outcome.now.names, outcome.now.chart) (recorded schedule.now)
-        asked.now }
-{
-    let pair = pair_of_possible(alloc, outcome.names(), outcome.chart(), asked)?;
-    let Ok(turned) = overtake_of_schedule(alloc, schedule, pair.receive, pair.earlier) else {
-        return Err(ViewError::Program(ProgramError::Memory));
-    };
-    prove!(1 <= schedule.capacity().slots());
-    write_turned(alloc, outcome.names(), outcome.chart(), &turned, &pair, out)
-}
-
-/// The same for two events of a file's chart, with whether closes are left out.
+/// Writes a witness for two events of a file's chart, and answers what they are, with whether closes are left out.
 fn witness_of<W: Out>(
     alloc: Global,
     source: &Source<'_>,
@@ -88,22 +36,10 @@ fn witness_of<W: Out>(
     requires { ComesFrom source.now }
     ensures { FindsIn W.sink out.old out.new asked.now source.now result }
 {
-    match source {
-        Source::Run(schedule, outcome) => {
-            let verdict = witness_run(alloc, schedule, outcome, asked, out)?;
-            Ok(Witnessed {
-                verdict,
-                has_closes: has_closes(schedule),
-            })
-        }
-        Source::Drawn(named) => {
-            let verdict = witness_chart(alloc, named.names(), named.chart(), asked, out)?;
-            Ok(Witnessed {
-                verdict,
-                has_closes: false,
-            })
-        }
-    }
+    let found = found_in(alloc, source, asked)?;
+    let witnessed = judged(source, &found)?;
+    write_shown(&found.shown, out)?;
+    Ok(witnessed)
 }
 
 /// Writes a witness for two events of a chart that was read: the same as [`witness`] does with the bytes of the file that

@@ -5,6 +5,7 @@ use Rattle.chart.specs.Charts.{LineView, chart_lines, IsPossible}
 use Rattle.chart.specs.Reports.{ReportView, AreReports}
 use Rattle.files.specs.Files.{Named}
 use Rattle.layout.specs.declared.row.Row.{Row}
+use Rattle.margin_notes.specs.declared.MarginNote.{MarginNote}
 use Rattle.pictures.specs.Pictures.{PictureView}
 use Rattle.pictures.specs.Preparing.{IsPictureOf}
 use Rattle.formats.specs.declared.drawing.Wanted.{Wanted}
@@ -16,7 +17,7 @@ use Rattle.formats.specs.Windows.{IsWindow}
 use Rattle.formats.proofs.drawing.draw_columns.Goals as goal
 
 -- the picture of a window of a possible chart
-is_wanted : (wanted : Wanted) (turns : List ℕ) (names : List (List ℕ)) (lines lines' : List LineView) (columns : List ℕ) (rows : List Row) (ends : List (List (Option EventNo))) (reports : List ReportView) (window : Window) (picture : PictureView)
+is_wanted : (wanted : Wanted) (turns : List ℕ) (notes : List MarginNote) (names : List (List ℕ)) (lines lines' : List LineView) (columns : List ℕ) (rows : List Row) (ends : List (List (Option EventNo))) (reports : List ReportView) (window : Window) (picture : PictureView)
     → AreColumns names (only_of wanted) columns → IsPossible (length lines) (chart_lines lines) → IsPrepared lines turns rows ends → AreReports lines reports
     → lines' ≡ lines → IsWindow (names, lines') rows wanted.rows window
     → IsPictureOf wanted.title.now names lines rows reports ends (record {
@@ -26,8 +27,9 @@ is_wanted : (wanted : Wanted) (turns : List ℕ) (names : List (List ℕ)) (line
       top = window.top;
       bottom = window.bottom;
       numbers = wanted.numbers;
-    }) picture → IsWanted wanted turns (names, lines) picture
-is_wanted wanted turns names lines lines' columns rows ends reports window picture are possible prepared races same chosen drawn = record {
+      notes = notes;
+    }) picture → IsWanted wanted turns notes (names, lines) picture
+is_wanted wanted turns notes names lines lines' columns rows ends reports window picture are possible prepared races same chosen drawn = record {
   columns = columns;
   rows = rows;
   ends = ends;
@@ -44,7 +46,7 @@ is_wanted wanted turns names lines lines' columns rows ends reports window pictu
 pub returns-in-Ok-write_picture : goal.returns-in-Ok-write_picture
 returns-in-Ok-write_picture g c = (
   c.in-Ok-of.picture,
-  is_wanted c.args.wanted.now c.args.subject.now.turns.now c.args.subject.now.names.now c.args.subject.now.closure.now c.lines.result.now c.args.columns.now c.in-Ok.prepared.layout c.in-Ok.prepared.ends c.args.subject.now.reports.now c.in-Some.window c.in-Ok-of.picture
+  is_wanted c.args.wanted.now c.args.subject.now.turns.now c.args.subject.now.notes.now c.args.subject.now.names.now c.args.subject.now.closure.now c.lines.result.now c.args.columns.now c.in-Ok.prepared.layout c.in-Ok.prepared.ends c.args.subject.now.reports.now c.in-Some.window c.in-Ok-of.picture
       c.requires.columns c.requires.possible c.in-Ok.ensures c.requires.reports c.lines.ensures c.in-Some.ensures c.in-Ok-of.ensures,
   c.in-Ok-write_picture.ensures,
 )
@@ -52,7 +54,7 @@ returns-in-Ok-write_picture g c = (
 pub returns : goal.returns
 returns g c = (
   c.in-Ok-of.picture,
-  is_wanted c.args.wanted.now c.args.subject.now.turns.now c.args.subject.now.names.now c.args.subject.now.closure.now c.lines.result.now c.args.columns.now c.in-Ok.prepared.layout c.in-Ok.prepared.ends c.args.subject.now.reports.now c.in-Some.window c.in-Ok-of.picture
+  is_wanted c.args.wanted.now c.args.subject.now.turns.now c.args.subject.now.notes.now c.args.subject.now.names.now c.args.subject.now.closure.now c.lines.result.now c.args.columns.now c.in-Ok.prepared.layout c.in-Ok.prepared.ends c.args.subject.now.reports.now c.in-Some.window c.in-Ok-of.picture
       c.requires.columns c.requires.possible c.in-Ok.ensures c.requires.reports c.lines.ensures c.in-Some.ensures c.in-Ok-of.ensures,
   c.in-Err.ensures,
 )

@@ -1,14 +1,27 @@
-use Rattle.std.proofs.Common.{ℕ, List, [], Ok, Err, subst₂}
-use Rattle.chart.specs.Charts.{LineView}
+use Rattle.std.proofs.Common.{ℕ, List, Ok, Err, refl, ◌∙◌, subst₂}
 use Rattle.formats.specs.Drawing.{Draws}
+use Rattle.margin_notes.specs.declared.MarginNote.{MarginNote}
 use Rattle.import_pictures.proofs.drawing.draw_text.Goals as goal
 
 pub returns-in-Ok-draw_chart : goal.returns-in-Ok-draw_chart
 returns-in-Ok-draw_chart g c =
-    let r = c.in-Ok.ensures.reads in
-    (r.0, r.1, r.2, subst₂ (λ (ns : List (List ℕ)) (ls : List LineView). Draws g.W.Out.sink c.args.out.now c.draw_chart.new.out (Ok tt) c.args.wanted.now [] (ns, ls)) r.3 r.4 c.in-Ok-draw_chart.ensures)
+    let drawn = c.in-Ok.imported.drawn in
+    let draws = λ (turns : List ℕ) (notes : List MarginNote). Draws g.W.Out.sink c.args.out.now c.draw_chart.new.out (Ok tt) c.args.wanted.now turns notes (drawn.names, drawn.chart) in (
+      c.in-Ok.imported,
+      c.in-Ok-notes_of_text.notes.items,
+      (c.in-Ok.ensures.reads, c.in-Ok.ensures.possible),
+      (rw c.deref.ensures.value at c.in-Ok-undrawn.ensures, refl, refl),
+      c.in-Ok-notes_of_text.ensures,
+      subst₂ draws (c.as_slice.ensures.value ∙ c.in-Ok-turns_of_text.ensures) c.as_slice-2.ensures.value c.in-Ok-draw_chart.ensures,
+    )
 
-pub returns-in-Err-draw_chart : goal.returns-in-Err-draw_chart
-returns-in-Err-draw_chart g c =
-    let r = c.in-Ok.ensures.reads in
-    (r.0, r.1, subst₂ (λ (ns : List (List ℕ)) (ls : List LineView). Draws g.W.Out.sink c.args.out.now c.draw_chart.new.out (Err c.in-Err-draw_chart.error) c.args.wanted.now [] (ns, ls)) r.3 r.4 c.in-Err-draw_chart.ensures)
+pub returns : goal.returns
+returns g c =
+    let drawn = c.in-Ok.imported.drawn in
+    let draws = λ (turns : List ℕ) (notes : List MarginNote). Draws g.W.Out.sink c.args.out.now c.draw_chart.new.out (Err c.in-Err-draw_chart.error) c.args.wanted.now turns notes (drawn.names, drawn.chart) in (
+      c.in-Ok.imported,
+      c.in-Ok-notes_of_text.notes.items,
+      (c.in-Ok.ensures.reads, c.in-Ok.ensures.possible),
+      c.in-Ok-notes_of_text.ensures,
+      subst₂ draws (c.as_slice.ensures.value ∙ c.in-Ok-turns_of_text.ensures) c.as_slice-2.ensures.value c.in-Err-draw_chart.ensures,
+    )

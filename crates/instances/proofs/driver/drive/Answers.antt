@@ -27,7 +27,7 @@ returns-then-is_err g c =
     let (left, is, run) = c.loop-turn.invariant in
     let trace = c.of.ensures ∙ ap turns_of c.reserve.ensures.items in
     let failed = has-failed m first old most _ c.loop-turn.turn _ run c.loop-turn-test.true in
-    (left, is, subst (λ t. IsRun m most first old t Memory left c.loop-turn.mailbox) (sym trace) failed)
+    (left, is, subst (λ t. IsRun m most first old t Memory (record { state = left; view = c.loop-turn.mailbox })) (sym trace) failed)
 
 pub returns-in-None : goal.returns-in-None
 returns-in-None g c =
@@ -49,9 +49,9 @@ returns-in-None g c =
     ∙ ap₂ (λ kept a. turns_of kept ++ record { act = a; answer = None } ∷ []) c.reserve.ensures.items bare in
     let stops = sym here.0 ∙ c.in-None.ensures.0 in
     let stopped = has-stopped m first old most done c.loop-turn.turn _ run c.loop-turn-test.true stops in
-    let recorded = subst (λ t. IsRun m most first old t Stopped left c.loop-turn.mailbox) (sym trace) stopped in
+    let recorded = subst (λ t. IsRun m most first old t Stopped (record { state = left; view = c.loop-turn.mailbox })) (sym trace) stopped in
     let unmoved = sym c.in-None.ensures.1 in
-    (left, here.1, subst (λ new. IsRun m most first old c.of-in-None.result Stopped left new) unmoved recorded)
+    (left, here.1, subst (λ new. IsRun m most first old c.of-in-None.result Stopped (record { state = left; view = new })) unmoved recorded)
 
 pub loop-turn-preserved : goal.loop-turn-preserved
 loop-turn-preserved g c =
@@ -90,4 +90,4 @@ returns g c =
     let (left, is, run) = c.loop-turn.invariant in
     let all : c.loop-turn.turn ≡ most = omega (arith, c.loop-turn-test.false, c.loop-turn.auto.turn-end) in
     let spent = has-spent m first old most _ c.loop-turn.turn _ run all in
-    (left, is, subst (λ t. IsRun m most first old t TurnsSpent left c.loop-turn.mailbox) (sym c.of-2.ensures) spent)
+    (left, is, subst (λ t. IsRun m most first old t TurnsSpent (record { state = left; view = c.loop-turn.mailbox })) (sym c.of-2.ensures) spent)

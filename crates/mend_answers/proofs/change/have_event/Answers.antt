@@ -1,6 +1,6 @@
 use Rattle.std.proofs.Common.{◌∙◌, sym}
 use Rattle.chart.specs.Ranges.{events_of}
-use Rattle.mend_all.proofs.NameLemmas.{any_flat}
+use Rattle.mending.proofs.NameLemmas.{any_flat}
 use Rattle.mend_answers.specs.Changes.{is_at}
 use Rattle.mend_answers.proofs.change.have_event.Goals as goal
 

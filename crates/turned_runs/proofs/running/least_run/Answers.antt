@@ -1,4 +1,4 @@
-use Rattle.std.proofs.Common.{◌+◌, ◌/◌, length, arith}
+use Rattle.std.proofs.Common.{length, arith}
 use Rattle.chart.specs.Charts.{chart_lines}
 use Rattle.turned_runs.proofs.Slots.{possible-most, possible-more}
 use Rattle.turned_runs.proofs.running.least_run.Goals as goal
@@ -10,7 +10,7 @@ unreachable-requires c =
 
 pub loop-least-preserved : goal.loop-least-preserved
 loop-least-preserved c =
-    let middle = (c.loop-least.least + c.loop-least.slots) / 2 in
+    let middle = c.next_try-middle.result in
     let none = rw c.in-None-2.is at c.in_ok-run.ensures in
     record {
       begun = omega arith;

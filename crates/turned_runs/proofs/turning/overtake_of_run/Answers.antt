@@ -1,4 +1,4 @@
-use Rattle.std.proofs.Common.{◌+◌, ◌/◌, ◌≤◌, arith}
+use Rattle.std.proofs.Common.{◌≤◌, arith}
 use Rattle.chart.specs.declared.line.TheConstants.{MAX_EVENTS}
 use Rattle.chart.specs.Histories.{chart_of}
 use Rattle.witness.specs.Steps.{history_of, place_after}
@@ -34,7 +34,7 @@ pub loop-least-preserved-in-Some-2 : goal.loop-least-preserved-in-Some-2
 loop-least-preserved-in-Some-2 c =
     let steps = c.args.steps.now in
     let h = history_of steps in
-    let middle = (c.loop-least.least + c.loop-least.most) / 2 in
+    let middle = c.next_try-middle.result in
     let enough : c.args.slots ≤ middle = omega arith in
     record {
       begun = c.loop-least.invariant.begun;
@@ -53,7 +53,7 @@ pub loop-least-preserved : goal.loop-least-preserved
 loop-least-preserved c =
     let steps = c.args.steps.now in
     let h = history_of steps in
-    let middle = (c.loop-least.least + c.loop-least.most) / 2 in
+    let middle = c.next_try-middle.result in
     let enough : c.args.slots ≤ middle = omega arith in
     record {
       begun = omega arith;

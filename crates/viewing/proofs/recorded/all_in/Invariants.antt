@@ -1,4 +1,4 @@
-use Rattle.std.proofs.Common.{◌≤◌, length, map, take}
+use Rattle.std.proofs.Common.{map, take}
 use Rattle.std.specs.Prelude.{Some}
 use Rattle.viewing.specs.FileBytes.{bytes_of}
 use Rattle.viewing.specs.Given.{AreGiven}

@@ -1,4 +1,4 @@
-use Rattle.std.proofs.Common.{sym, subst, arith, ◌≤◌, length, ◌∙◌}
+use Rattle.std.proofs.Common.{sym, subst, arith, ◌≤◌, length}
 use Rattle.viewing.specs.Given.{AreAnswered}
 use Rattle.viewing.proofs.GivenLemmas.{several}
 use Rattle.viewing.proofs.recorded.texts_in.Goals as goal

@@ -8,7 +8,7 @@ use Rattle.logs.specs.FateTables.{IsWithin}
 use Rattle.luck.specs.Judging.{IsJudge}
 use Rattle.luck.specs.Places.{item_at, IsInvented}
 use Rattle.luck.specs.Recorded.{IsNamed, JudgeView}
-use Rattle.luck.specs.Verdicts.IsBegunBefore.{itself, before as comes_before}
+use Rattle.luck.specs.Verdicts.IsBegunBefore.{unlogged, itself, before as comes_before}
 use Rattle.luck.proofs.ItemLemmas.{of_log}
 use Rattle.luck.proofs.JudgeLemmas.{named_within, verdict_send, verdict_begun, verdict_logged, not_begun, begun_of}
 use Rattle.recordings.specs.Recordings.{RecordingView, recording_view}
@@ -21,17 +21,7 @@ returns-in_default c =
     let judge = subst (λ (v : JudgeView). IsJudge v (recording_view inside.recording) inside.taking inside.arrivals inside.lanes inside.order) c.self.view_is c.self.invariant in
     let receive = subst (λ (r : RecordingView). item_at r (place_of c.args.receive) ≡ Some c.item_at-item.result) judge.same c.item_at-item.ensures in
     let earlier = subst (λ (r : RecordingView). item_at r (place_of c.args.earlier) ≡ Some c.item_at-before.result) judge.same c.item_at-before.ensures in
-    let log = of_log now.lines now.recording judge.recording (place_of c.args.earlier) c.item_at-before.result earlier in
-    verdict_send now.lines now.recording (place_of c.args.receive) (place_of c.args.earlier) c.item_at-item.result c.item_at-before.result receive earlier (log.unlogged c.in_default.is)
-
-pub returns-then-before : goal.returns-then-before
-returns-then-before c =
-    let now = c.args.self.now in
-    let inside = c.self.inside in
-    let judge = subst (λ (v : JudgeView). IsJudge v (recording_view inside.recording) inside.taking inside.arrivals inside.lanes inside.order) c.self.view_is c.self.invariant in
-    let receive = subst (λ (r : RecordingView). item_at r (place_of c.args.receive) ≡ Some c.item_at-item.result) judge.same c.item_at-item.ensures in
-    let earlier = subst (λ (r : RecordingView). item_at r (place_of c.args.earlier) ≡ Some c.item_at-before.result) judge.same c.item_at-before.ensures in
-    verdict_send now.lines now.recording (place_of c.args.receive) (place_of c.args.earlier) c.item_at-item.result c.item_at-before.result receive earlier c.if-before.true
+    verdict_begun now.lines now.recording (place_of c.args.receive) (place_of c.args.earlier) c.item_at-item.result c.item_at-before.result receive earlier (unlogged c.in_default.is)
 
 pub returns-in_default-message : goal.returns-in_default-message
 returns-in_default-message c =
@@ -41,7 +31,7 @@ returns-in_default-message c =
     let receive = subst (λ (r : RecordingView). item_at r (place_of c.args.receive) ≡ Some c.item_at-item.result) judge.same c.item_at-item.ensures in
     let earlier = subst (λ (r : RecordingView). item_at r (place_of c.args.earlier) ≡ Some c.item_at-before.result) judge.same c.item_at-before.ensures in
     let begun = begun_of c.item_at-item.result.message c.in_default-message.not-Sent in
-    verdict_begun now.lines now.recording (place_of c.args.receive) (place_of c.args.earlier) c.item_at-item.result c.item_at-before.result receive earlier c.if-before.false (itself begun.0 begun.1)
+    verdict_begun now.lines now.recording (place_of c.args.receive) (place_of c.args.earlier) c.item_at-item.result c.item_at-before.result receive earlier (itself begun.0 begun.1)
 
 pub returns-then-are_before : goal.returns-then-are_before
 returns-then-are_before c =
@@ -52,7 +42,20 @@ returns-then-are_before c =
     let earlier = subst (λ (r : RecordingView). item_at r (place_of c.args.earlier) ≡ Some c.item_at-before.result) judge.same c.item_at-before.ensures in
     let before = subst (λ (v : JudgeView). IsTrue c.are_before.result ↔ ((e : Place) × IsInvented v.recording e × Before (chart_lines v.lines) e (place_of c.args.receive))) c.self.view_is c.are_before.ensures in
     let w = before.0 c.if-are_before.true in
-    verdict_begun now.lines now.recording (place_of c.args.receive) (place_of c.args.earlier) c.item_at-item.result c.item_at-before.result receive earlier c.if-before.false (comes_before w.0 w.1 w.2)
+    verdict_begun now.lines now.recording (place_of c.args.receive) (place_of c.args.earlier) c.item_at-item.result c.item_at-before.result receive earlier (comes_before w.0 w.1 w.2)
+
+pub returns-then-before : goal.returns-then-before
+returns-then-before c =
+    let now = c.args.self.now in
+    let inside = c.self.inside in
+    let judge = subst (λ (v : JudgeView). IsJudge v (recording_view inside.recording) inside.taking inside.arrivals inside.lanes inside.order) c.self.view_is c.self.invariant in
+    let receive = subst (λ (r : RecordingView). item_at r (place_of c.args.receive) ≡ Some c.item_at-item.result) judge.same c.item_at-item.ensures in
+    let earlier = subst (λ (r : RecordingView). item_at r (place_of c.args.earlier) ≡ Some c.item_at-before.result) judge.same c.item_at-before.ensures in
+    let before = subst (λ (v : JudgeView). IsTrue c.are_before.result ↔ ((e : Place) × IsInvented v.recording e × Before (chart_lines v.lines) e (place_of c.args.receive))) c.self.view_is c.are_before.ensures in
+    verdict_send now.lines now.recording (place_of c.args.receive) (place_of c.args.earlier) c.item_at-item.result c.item_at-before.result receive earlier
+    (not_begun now.lines now.recording (place_of c.args.receive) c.item_at-item.result c.item_at-before.result c.in-Some.line c.in-Sent.send c.in-Some.is c.in-Sent.is
+    (λ (e : Place) (its : IsInvented now.recording e) (is : Before (chart_lines now.lines) e (place_of c.args.receive)). false≢true (sym c.if-are_before.false ∙ before.1 (e, its, is))))
+    c.if-before.true
 
 pub logged_verdict-requires-clause-line : goal.logged_verdict-requires-clause-line
 logged_verdict-requires-clause-line c =
@@ -94,6 +97,6 @@ returns c =
     let before = subst (λ (v : JudgeView). IsTrue c.are_before.result ↔ ((e : Place) × IsInvented v.recording e × Before (chart_lines v.lines) e (place_of c.args.receive))) c.self.view_is c.are_before.ensures in
     verdict_logged now.lines now.recording (place_of c.args.receive) (place_of c.args.earlier) c.item_at-item.result c.item_at-before.result receive earlier c.in-Some.line c.in-Sent.send c.in-Some.is c.in-Sent.is c.logged_verdict.result
     (λ sends. false≢true (sym c.if-before.false ∙ sends))
-    (not_begun now.lines now.recording (place_of c.args.receive) c.item_at-item.result c.in-Sent.send c.in-Sent.is
+    (not_begun now.lines now.recording (place_of c.args.receive) c.item_at-item.result c.item_at-before.result c.in-Some.line c.in-Sent.send c.in-Some.is c.in-Sent.is
     (λ (e : Place) (its : IsInvented now.recording e) (is : Before (chart_lines now.lines) e (place_of c.args.receive)). false≢true (sym c.if-are_before.false ∙ before.1 (e, its, is))))
     c.logged_verdict.ensures

@@ -1,4 +1,0 @@
-pub mod DifferenceLemmas
-pub mod MatchLemmas
-pub mod PairLemmas
-pub mod VerdictLemmas

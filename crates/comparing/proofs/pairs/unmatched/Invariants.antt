@@ -1,6 +1,0 @@
-use Rattle.std.proofs.Common.{◌≡◌}
-use Rattle.comparing.specs.Pairs.{unmatched_to}
-use Rattle.comparing.proofs.pairs.unmatched.Given as goal
-
-abbrev pub invariant-loop-place : goal.invariant-loop-place
-invariant-loop-place l = l.numbers.items ≡ unmatched_to l.found l.place

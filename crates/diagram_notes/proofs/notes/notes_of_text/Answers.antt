@@ -1,0 +1,14 @@
+use Rattle.std.proofs.Common.{◌≡◌, Result, sym, subst}
+use Rattle.std.specs.Prelude.{map, IfOk}
+use Rattle.diagrams.specs.Diagrams.{DiagramView}
+use Rattle.diagram_imports.specs.Importing.{options_view}
+use Rattle.diagram_imports.specs.Refusals.{Refusal}
+use Rattle.margin_notes.specs.Notes.{note_view}
+use Rattle.diagram_notes.specs.Texts.{notes_read, notes_of_text}
+use Rattle.diagram_notes.proofs.notes.notes_of_text.Goals as goal
+
+pub returns : goal.returns
+unfolding notes_of_text
+returns c =
+    subst (λ (read : Result DiagramView Refusal). IfOk c.notes_of.result (λ notes. map note_view notes.items ≡ notes_read c.args.tool c.args.text.now (options_view c.args.options.now) read))
+    (sym c.in-Ok.ensures) c.notes_of.ensures

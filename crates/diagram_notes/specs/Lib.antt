@@ -1,0 +1,9 @@
+pub mod Arcs
+pub mod Order
+pub mod Owns
+pub mod Placing
+pub mod Plain
+pub mod Remarks
+pub mod Sources
+pub mod Statements
+pub mod Texts

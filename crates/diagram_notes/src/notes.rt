@@ -1,0 +1,121 @@
+//! The notes of a text.
+ghost use Rattle.std.specs.Prelude.{◌≡◌, ◌++◌, map, IfOk};
+ghost use Rattle.diagram_imports.specs.Importing.{options_view};
+ghost use Rattle.diagrams.specs.Diagrams.{diagram_view};
+ghost use Rattle.line_diagrams.specs.declared.labels.Breaks.TheVariants.{Mermaid, PlantUml};
+ghost use Rattle.margin_notes.specs.Notes.{note_view};
+ghost use Rattle.diagram_notes.specs.Remarks.{remark_view};
+ghost use Rattle.diagram_notes.specs.Texts.{mscgen_remarks, line_remarks, text_remarks, all_remarks, notes_of, notes_of_text};
+ghost use Rattle.mermaid_text.specs.Diagrams.{diagram_of as mermaid_of};
+ghost use Rattle.plantuml_text.specs.Diagrams.{diagram_of as plantuml_of};
+ghost use Rattle.plantuml_text.specs.Joints.{joined_text};
+
+use crate::arcs::arc_remarks;
+use crate::own::own_remarks;
+use crate::placing::placed;
+use crate::remark::Remark;
+use crate::skipping::{behind_mark, blanked, tool_of};
+use crate::statements::{add_all, statement_remarks};
+use diagram_imports::{Options, diagram_of_text};
+use diagram_turns::messages_of;
+use diagrams::Diagram;
+use line_diagrams::Breaks;
+use margin_notes::MarginNote;
+use std::alloc::{AllocError, Global};
+use tool_text::Tool;
+
+/// What a text of mscgen remarks beside the items of its diagram. It fails only where there is no memory, or where the text
+/// isn't read.
+#[tactic(auto, unfolding(crate::specs::Texts::mscgen_remarks))]
+fn mscgen_remarks(alloc: Global, text: &[u8]) -> Result<Vec<Remark>, AllocError>
+    ensures { IfOk result (λ remarks. map remark_view remarks.items ≡ mscgen_remarks text.now) }
+{
+    let Ok(msc) = mscgen_text::read(alloc, text) else {
+        return Err(AllocError);
+    };
+    arc_remarks(alloc, &msc.arcs)
+}
+
+/// The same of a text of Mermaid.
+fn mermaid_remarks(alloc: Global, text: &[u8]) -> Result<Vec<Remark>, AllocError>
+    ensures { IfOk result (λ remarks. map remark_view remarks.items ≡ line_remarks Mermaid text.now (mermaid_of text.now)) }
+{
+    let read = mermaid_text::read(alloc, text)?;
+    statement_remarks(alloc, Breaks::Mermaid, text, &read.statements)
+}
+
+/// The same of a text of PlantUML. Lines that go on in the next one are one line.
+fn plantuml_remarks(alloc: Global, text: &[u8]) -> Result<Vec<Remark>, AllocError>
+    ensures { IfOk result (λ remarks. map remark_view remarks.items ≡ line_remarks PlantUml (joined_text text.now) (plantuml_of text.now)) }
+{
+    let joined = plantuml_text::joined_text(alloc, text)?;
+    let lines = joined.as_slice();
+    let read = plantuml_text::read(alloc, text, lines)?;
+    statement_remarks(alloc, Breaks::PlantUml, lines, &read.statements)
+}
+
+/// What a text of this tool remarks beside the items of its diagram.
+#[tactic(auto, unfolding(crate::specs::Texts::text_remarks))]
+fn text_remarks(alloc: Global, tool: Tool, text: &[u8]) -> Result<Vec<Remark>, AllocError>
+    ensures { IfOk result (λ remarks. map remark_view remarks.items ≡ text_remarks tool text.now) }
+{
+    match tool {
+        Tool::Mscgen => mscgen_remarks(alloc, text),
+        Tool::Mermaid => mermaid_remarks(alloc, text),
+        Tool::PlantUml => plantuml_remarks(alloc, text),
+    }
+}
+
+/// What a text and its diagram remark.
+fn all_remarks(
+    alloc: Global,
+    tool: Tool,
+    text: &[u8],
+    diagram: &Diagram,
+) -> Result<Vec<Remark>, AllocError>
+    ensures { IfOk result (λ remarks. map remark_view remarks.items ≡ all_remarks tool text.now (diagram_view diagram.now)) }
+{
+    let mut remarks = own_remarks(alloc, &diagram.participants, &diagram.items)?;
+    let more = text_remarks(alloc, tool, text)?;
+    add_all(&mut remarks, more)?;
+    Ok(remarks)
+}
+
+/// The notes and dividers of a text of which this is the diagram.
+fn notes_of(
+    alloc: Global,
+    tool: Option<Tool>,
+    text: &[u8],
+    options: &Options<'_>,
+    diagram: Diagram,
+) -> Result<Vec<MarginNote>, AllocError>
+    ensures { IfOk result (λ notes. map note_view notes.items
+        ≡ notes_of tool text.now (options_view options.now) (diagram_view diagram)) }
+{
+    let bytes = blanked(alloc, options.skipped, text)?;
+    let body = behind_mark(&bytes);
+    let Some(tool) = tool_of(tool, body) else {
+        return Err(AllocError);
+    };
+    let remarks = all_remarks(alloc, tool, body, &diagram)?;
+    let messages = messages_of(alloc, diagram, options.joins)?;
+    placed(alloc, &remarks, &messages)
+}
+
+/// The notes and dividers of a text, each with the number of the messages of its chart that stand above it. What stands
+/// between two messages is one note. It fails only where there is no memory, or where the text says no diagram. It takes
+/// time in proportion to n log n for a text of n bytes, and for each note that isn't in one line with its participant the
+/// time to read the text up to there.
+pub fn notes_of_text(
+    alloc: Global,
+    tool: Option<Tool>,
+    text: &[u8],
+    options: &Options<'_>,
+) -> Result<Vec<MarginNote>, AllocError>
+    ensures { IfOk result (λ notes. map note_view notes.items ≡ notes_of_text tool text.now (options_view options.now)) }
+{
+    let Ok(diagram) = diagram_of_text(alloc, tool, text, options) else {
+        return Err(AllocError);
+    };
+    notes_of(alloc, tool, text, options, diagram)
+}

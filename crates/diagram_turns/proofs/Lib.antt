@@ -1,0 +1,3 @@
+mod MessageLemmas
+mod SendLemmas
+mod TurnLemmas

@@ -1,0 +1,3 @@
+pub mod Diagrams
+pub mod Sends
+pub mod Turns

@@ -1,0 +1,57 @@
+-- What is told of a circle: its steps, by the names of the instances and the lines of the chart's text.
+use Rattle.std.specs.Prelude.{◌≡◌, ℕ, ◌≤◌, List, ◌++◌, length, map, codes, decimal, Some, slice_get}
+use Rattle.causes.specs.declared.link.Link.{Link}
+use Rattle.causes.specs.declared.link.Rule.{Rule}
+use Rattle.causes.specs.declared.link.Rule.TheVariants.{Message, BeforeSend, SameSender}
+use Rattle.chart.specs.Charts.{LineView, chart_lines}
+use Rattle.chart.specs.declared.instance.EventNo.{EventNo}
+use Rattle.circles.specs.Circles.{IsShortestCircle}
+use Rattle.fault_places.specs.Standings.{event_from}
+use Rattle.msc_text.specs.ChartText.{name_at}
+use Rattle.msc_text.specs.Lines.{lines_of}
+use Rattle.fault_places.specs.declared.step.Step.{Step}
+use Rattle.fault_places.specs.declared.step.Told.{Told}
+
+-- an event by the name of its instance
+abbrev pub told_of : List (List ℕ) → EventNo → Told
+told_of names event = record { name = name_at names event.instance; index = event.index }
+
+-- a link, with the number of the line at which its earlier event stands
+abbrev pub step_of : List ℕ → List (List ℕ) → Link → Step
+step_of text names link = record {
+  line = event_from link.earlier.instance link.earlier.index 0 0 1 (lines_of text);
+  earlier = told_of names link.earlier;
+  later = told_of names link.later;
+  rule = link.rule;
+}
+
+-- the instances of both events have names
+abbrev pub HasNames : List (List ℕ) → Link → Type 0
+HasNames names link = (link.earlier.instance ≤ length names) × (link.later.instance ≤ length names)
+
+abbrev pub HaveNames : List (List ℕ) → List Link → Type 0
+HaveNames names links = (i : ℕ) (link : Link) → slice_get links i ≡ Some link → HasNames names link
+
+-- the steps are those of a shortest circle of the chart of this text, from its least event on
+abbrev pub AreStepsOf : List ℕ → List (List ℕ) → List LineView → List Step → Type 0
+AreStepsOf text names lines steps = (links : List Link) × IsShortestCircle (chart_lines lines) links
+    × (steps ≡ map (step_of text names) links)
+
+-- a rule's name
+unfoldable pub rule_text : Rule → List ℕ
+rule_text Message = codes "message"
+rule_text BeforeSend = codes "earlier event of a line, before a send"
+rule_text SameSender = codes "same sender"
+
+-- LINE: NAME NUMBER before NAME NUMBER: RULE
+unfoldable pub step_text : Step → List ℕ
+step_text step =
+    codes "  = line "
+    ++ (decimal step.line
+    ++ (codes ": "
+    ++ (step.earlier.name
+    ++ (codes " "
+    ++ (decimal step.earlier.index
+    ++ (codes " before "
+    ++ (step.later.name
+    ++ (codes " " ++ (decimal step.later.index ++ (codes ": " ++ (rule_text step.rule ++ codes "\n")))))))))))

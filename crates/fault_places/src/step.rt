@@ -1,0 +1,98 @@
+//! The steps of a circle, by the names of instances and the lines of the text.
+ghost use Rattle.std.specs.Prelude.{◌≡◌, ◌≤◌, length, map, IfOk};
+ghost use Rattle.chart.specs.Charts.{Place, chart_lines, HasNoSend};
+ghost use Rattle.chart.specs.Order.{IsCyclic};
+ghost use Rattle.msc_text.specs.ChartText.{name_at};
+ghost use Rattle.fault_places.specs.ToldCircles.{told_of, step_of, HasNames, HaveNames, AreStepsOf};
+
+use crate::lines::line_of_event;
+use causes::{Link, Rule};
+use chart::{Chart, EventNo, InstanceNo, Name, Names};
+use circles::shortest_circle;
+use std::alloc::{AllocError, Global};
+
+/// An event: the name of its instance, and its number there.
+#[derive(Clone, Copy, Debug)]
+pub struct Told {
+    pub name: Name,
+    pub index: u32,
+}
+
+/// A direct step of the enforced order.
+#[derive(Clone, Copy, Debug)]
+pub struct Step {
+    /// The number of the line at which the earlier event stands.
+    pub line: u64,
+    pub earlier: Told,
+    pub later: Told,
+    pub rule: Rule,
+}
+
+fn name_of(names: &Names, instance: InstanceNo) -> Name
+    requires { instance ≤ length names.now }
+    ensures { result ≡ name_at names.now instance }
+{
+    let place = instance.place();
+    prove!(place < names.len());
+    match names.name(instance) {
+        Some(name) => name,
+        None => unreachable!(),
+    }
+}
+
+fn told_of(names: &Names, event: &EventNo) -> Told
+    requires { event.now.instance ≤ length names.now }
+    ensures { result ≡ told_of names.now event.now }
+{
+    Told {
+        name: name_of(names, event.instance),
+        index: event.index,
+    }
+}
+
+fn step_of(text: &[u8], names: &Names, link: &Link) -> Step
+    requires { HasNames names.now link.now }
+    ensures { result ≡ step_of text.now names.now link.now }
+{
+    Step {
+        line: line_of_event(text, link.earlier.instance.number(), link.earlier.index),
+        earlier: told_of(names, &link.earlier),
+        later: told_of(names, &link.later),
+        rule: link.rule,
+    }
+}
+
+fn all_of(
+    alloc: Global,
+    text: &[u8],
+    names: &Names,
+    links: &[Link],
+) -> Result<Vec<Step>, AllocError>
+    requires { HaveNames names.now links.now }
+    ensures { IfOk result (λ steps. steps.items ≡ map (step_of text.now names.now) links.now) }
+{
+    let mut steps = Vec::new(alloc);
+    for link in links {
+        steps.push(step_of(text, names, link))?;
+    }
+    Ok(steps)
+}
+
+/// The steps of a shortest circle of a chart whose receives all have their sends, whose instances have these names, and
+/// in which an event comes before itself. F6: it fails only where there is no memory.
+pub fn steps_of(
+    alloc: Global,
+    text: &[u8],
+    names: &Names,
+    chart: &Chart,
+) -> Result<Vec<Step>, AllocError>
+    requires sends { (r : Place) → HasNoSend (chart_lines chart.now) r → ⊥ }
+    requires names { length chart.now ≡ length names.now }
+    requires cyclic { IsCyclic (chart_lines chart.now) }
+    ensures { IfOk result (λ steps. AreStepsOf text.now names.now chart.now steps.items) }
+{
+    match shortest_circle(alloc, chart)? {
+        Some(links) => all_of(alloc, text, names, links.as_slice()),
+        None => unreachable!(),
+    }
+}

@@ -1,0 +1,46 @@
+//! The text of a step.
+ghost use Rattle.std.specs.Prelude.{◌≡◌};
+ghost use Rattle.msc_text.specs.Writing.{Adds};
+ghost use Rattle.fault_places.specs.ToldCircles.{rule_text, step_text};
+
+use crate::step::Step;
+use causes::Rule;
+use msc_text::{Out, TextBuffer, WriteError};
+use text_parts::{Piece, add_pieces};
+
+#[tactic(auto, unfolding(crate::specs::ToldCircles::rule_text))]
+fn rule_of(rule: &Rule) -> &[u8]
+    ensures { result.now ≡ rule_text rule.now }
+{
+    match rule {
+        Rule::Message => b"message",
+        Rule::BeforeSend => b"earlier event of a line, before a send",
+        Rule::SameSender => b"same sender",
+    }
+}
+
+/// Adds a step: the line of its earlier event, the two events, and why the one comes before the other. F24: a put
+/// failed.
+#[tactic(auto, unfolding(crate::specs::ToldCircles::step_text))]
+pub fn add_step<W: Out>(text: &mut TextBuffer<'_, W>, step: &Step) -> Result<(), WriteError>
+    ensures { Adds W.sink text.old text.new result (step_text step.now) }
+{
+    add_pieces(
+        text,
+        &[
+            Piece::Bytes(b"  = line "),
+            Piece::Number(step.line),
+            Piece::Bytes(b": "),
+            Piece::Bytes(step.earlier.name.as_bytes()),
+            Piece::Bytes(b" "),
+            Piece::Number(u64::from(step.earlier.index)),
+            Piece::Bytes(b" before "),
+            Piece::Bytes(step.later.name.as_bytes()),
+            Piece::Bytes(b" "),
+            Piece::Number(u64::from(step.later.index)),
+            Piece::Bytes(b": "),
+            Piece::Bytes(rule_of(&step.rule)),
+            Piece::Bytes(b"\n"),
+        ],
+    )
+}

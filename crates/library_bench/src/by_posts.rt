@@ -1,0 +1,131 @@
+//! The same messages passed by posts alone: each holds its post itself, in a job of its own.
+ghost use Rattle.std.specs.Prelude.{◌≡◌};
+ghost use Rattle.board.specs.Meeting.{AreOfOneBoard};
+
+use crate::load::{Load, events_of};
+use crate::timing::nanoseconds_since;
+use anyhow::bail;
+use behaviour::{Act, BareAct};
+use board::{Board, Post, SendError, Taken, gather};
+use std::alloc::Global;
+use std::thread;
+use std::thread::Threads;
+use std::time::{Clock, Instant};
+
+/// How often an act is tried at most.
+const LOOKS: u32 = 1_000_000;
+
+/// What came of an act.
+#[derive(Clone, Copy, Debug, PartialEq, Eq)]
+enum Tried {
+    Done,
+    /// The lane is full, or nothing waits.
+    Waits,
+    Refused,
+}
+
+/// Tries an act, with an empty body.
+fn try_act(alloc: Global, post: &mut Post, act: &BareAct) -> Tried
+    ensures { post.new.board ≡ post.old.board }
+{
+    match act.with_empty_body(alloc) {
+        Act::Send(to, message) => match post.send(to, message) {
+            Ok(_) => Tried::Done,
+            Err((_message, error)) => {
+                if error == SendError::Full {
+                    Tried::Waits
+                } else {
+                    Tried::Refused
+                }
+            }
+        },
+        Act::Receive(from) => match post.receive(from) {
+            Ok(Taken::Got(_)) => Tried::Done,
+            Ok(Taken::Nothing) => Tried::Waits,
+            _ => Tried::Refused,
+        },
+        _ => Tried::Refused,
+    }
+}
+
+/// Does an act, as soon as it can be done. Answers whether it was.
+fn do_act(alloc: Global, post: &mut Post, act: &BareAct) -> bool
+    ensures { post.new.board ≡ post.old.board }
+{
+    for _ in 0..LOOKS {
+        match try_act(alloc, post, act) {
+            Tried::Done => return true,
+            Tried::Waits => thread::yield_now(),
+            Tried::Refused => return false,
+        }
+    }
+    false
+}
+
+/// Does the acts of the post's instance, up to one that is refused.
+fn do_all<'a>(alloc: Global, mut post: Post<'a>, lists: &[Vec<BareAct>]) -> Post<'a>
+    ensures { result.board ≡ post.entry.board }
+{
+    if let Some(acts) = lists.get(post.number().place()) {
+        for act in acts.as_slice() {
+            if !do_act(alloc, &mut post, act) {
+                break;
+            }
+        }
+    }
+    post
+}
+
+/// The acts of each instance.
+fn lists(alloc: Global, load: Load) -> anyhow::Result<Vec<Vec<BareAct>>> {
+    let mut lists = Vec::new(alloc);
+    for place in 0..load.instances {
+        lists.push(load.acts(alloc, place)?)?;
+    }
+    Ok(lists)
+}
+
+/// How many events a board's posts come to.
+fn gathered_events(alloc: Global, posts: Vec<Post>) -> anyhow::Result<usize>
+    requires { AreOfOneBoard posts.items }
+{
+    match gather(alloc, posts) {
+        Ok(gathered) => Ok(events_of(&gathered.chart)),
+        Err(_) => bail!("no memory for the chart"),
+    }
+}
+
+/// The nanoseconds from before the threads are made until the board is gathered, whose lines have so many events then.
+fn time_lists<R: Threads + Sync + Clock>(
+    rt: &R,
+    alloc: Global,
+    posts: Vec<Post>,
+    lists: &[Vec<BareAct>],
+    events: usize,
+) -> anyhow::Result<u64>
+    requires { AreOfOneBoard posts.items }
+{
+    let each = |post| -> Post
+        ensures { result.board ≡ post.entry.board }
+    { do_all(alloc, post, lists) };
+    let start = Instant::now(rt)?;
+    let left = thread::map_vec(rt, posts, &each)?;
+    let had = gathered_events(alloc, left)?;
+    let took = nanoseconds_since(rt, &start)?;
+    if had != events {
+        bail!("a message was refused, or didn't come");
+    }
+    Ok(took)
+}
+
+/// How many nanoseconds it takes posts to pass these messages, on a fresh board.
+pub fn time_posts<R: Threads + Sync + Clock>(
+    rt: &R,
+    alloc: Global,
+    load: Load,
+) -> anyhow::Result<u64> {
+    let lists = lists(alloc, load)?;
+    let mut board = Board::new(alloc, load.instances, load.capacity)?;
+    let posts = board.posts()?;
+    time_lists(rt, alloc, posts, lists.as_slice(), load.events())
+}

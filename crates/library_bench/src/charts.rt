@@ -1,0 +1,109 @@
+//! What it costs to read the text of a chart, to search it and to write it again.
+ghost use Rattle.std.specs.Prelude.{◌≡◌, length, IfOk};
+
+use crate::patterns::{Pattern, write_chart};
+use crate::timing::{median, nanoseconds_since};
+use anyhow::bail;
+use chart::{Chart, Names};
+use closure::Closure;
+use msc_reader::read;
+use msc_text::{StreamOut, write};
+use std::alloc::Global;
+use std::io;
+use std::time::{Clock, Instant};
+
+/// How often each is timed; the median is told.
+const REPETITIONS: usize = 5;
+
+/// The names and the chart that the text says.
+fn chart_in(alloc: Global, text: &[u8]) -> anyhow::Result<(Names, Chart)>
+    ensures { IfOk result (λ read. length read.0 ≡ length read.1) }
+{
+    match read(alloc, text) {
+        Ok(read) => Ok(read),
+        Err(_) => bail!("the file has no chart's text"),
+    }
+}
+
+/// How many races the chart has.
+fn races_in(alloc: Global, chart: &Chart) -> anyhow::Result<usize> {
+    let Ok(closure) = Closure::of(alloc, chart) else {
+        bail!("the chart isn't possible");
+    };
+    let mut races = 0usize;
+    for report in closure.races()?.as_slice() {
+        races = races.saturating_add(report.earlier().len());
+    }
+    Ok(races)
+}
+
+/// What reading the text takes, in microseconds.
+fn time_reading<R: Clock + AllocGlobal>(rt: &R, text: &[u8]) -> anyhow::Result<u64> {
+    let mut took = Vec::new(rt.alloc());
+    for _ in 0..REPETITIONS {
+        let start = Instant::now(rt)?;
+        let _read = chart_in(rt.alloc(), text)?;
+        took.push(nanoseconds_since(rt, &start)?)?;
+    }
+    Ok(median(took)? / 1000)
+}
+
+/// What searching the chart takes, in microseconds.
+fn time_searching<R: Clock + AllocGlobal>(rt: &R, chart: &Chart) -> anyhow::Result<u64> {
+    let mut took = Vec::new(rt.alloc());
+    for _ in 0..REPETITIONS {
+        let start = Instant::now(rt)?;
+        let _races = races_in(rt.alloc(), chart)?;
+        took.push(nanoseconds_since(rt, &start)?)?;
+    }
+    Ok(median(took)? / 1000)
+}
+
+/// What writing its text to standard output takes, in microseconds.
+fn time_writing<R: Clock + AllocGlobal + Print>(
+    rt: &R,
+    names: &Names,
+    chart: &Chart,
+) -> anyhow::Result<u64>
+    requires { length names.now ≡ length chart.now }
+{
+    let mut took = Vec::new(rt.alloc());
+    for _ in 0..REPETITIONS {
+        let mut out = StreamOut::new(io::writer(rt));
+        let start = Instant::now(rt)?;
+        if write(names, chart, &mut out).is_err() {
+            bail!("the chart could not be written");
+        }
+        took.push(nanoseconds_since(rt, &start)?)?;
+    }
+    Ok(median(took)? / 1000)
+}
+
+/// Writes the chart with this traffic to standard output.
+pub fn make_chart<R: Print>(rt: &R, pattern: Pattern) -> anyhow::Result<()> {
+    let mut out = StreamOut::new(io::writer(rt));
+    if write_chart(pattern, &mut out).is_err() {
+        bail!("the chart could not be written");
+    }
+    Ok(())
+}
+
+/// Tells the times on standard error and writes the text to standard output, or else tells how many races there are.
+pub fn tell_charts<R: Clock + AllocGlobal + Print + Eprint>(
+    rt: &R,
+    text: &[u8],
+    timed: bool,
+) -> anyhow::Result<()> {
+    let (names, chart) = chart_in(rt.alloc(), text)?;
+    if timed {
+        let reading = time_reading(rt, text)?;
+        let searching = time_searching(rt, &chart)?;
+        let writing = time_writing(rt, &names, &chart)?;
+        eprintln!(rt; "read {reading}, searched {searching}, written {writing} microseconds")?;
+    } else {
+        let instances = chart.lines().len();
+        let races = races_in(rt.alloc(), &chart)?;
+        println!(rt; "{instances} instances, {races} races")?;
+    }
+    Ok(())
+}

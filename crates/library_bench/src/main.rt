@@ -1,0 +1,81 @@
+//! What the library's parts cost: recorders, messages on threads, both replays, and the reading, searching and writing of a
+//! chart. With a word that asks for times it tells them, and else what it would time, which doesn't depend on the machine.
+//!
+//! - `recorders` and `threads`, with `time` behind: recorders on short and on long lines, and messages that behaviours and
+//!   posts pass.
+//! - `replays FILE`, with `time NUMBER` behind: so many replays of a schedule by each.
+//! - `charts FILE`, with `time` behind: the text of a chart, which is written to standard output then.
+//! - `make` and `token`, `mixed` or `bursts` writes the text of a large chart with such traffic.
+//! - `all CHART SCHEDULE` tells what each of the four would time.
+#![tactic(auto)]
+
+mod by_behaviours;
+mod by_posts;
+mod charts;
+mod load;
+mod pair;
+mod patient_script;
+mod patterns;
+mod recorders;
+mod replays;
+mod threads;
+mod timing;
+
+use anyhow::bail;
+use charts::{make_chart, tell_charts};
+use patterns::pattern_in;
+use recorders::tell_recorders;
+use replays::tell_replays;
+use std::convert::AsStr;
+use std::rt::{Env, Files};
+use std::{env, fs};
+use threads::tell_threads;
+
+/// Whether times are asked for: by the one word `time`.
+fn is_timed(words: &[String]) -> anyhow::Result<bool> {
+    match words {
+        [] => Ok(false),
+        [word] if word.as_str() == "time" => Ok(true),
+        _ => bail!("behind it may stand the word time"),
+    }
+}
+
+/// How many replays are timed, if times are asked for.
+fn times_in(words: &[String]) -> anyhow::Result<Option<u32>> {
+    match words {
+        [] => Ok(None),
+        [word, times] if word.as_str() == "time" => Ok(Some(times.as_str().parse::<u32>()?)),
+        _ => bail!("behind the file may stand time NUMBER"),
+    }
+}
+
+fn main(rt: HostRuntime) -> anyhow::Result<()> {
+    let words: Vec<String> = env::args(&rt)?.collect(rt.alloc())?;
+    match words.as_slice() {
+        [_, word, rest @ ..] if word.as_str() == "recorders" => {
+            tell_recorders(&rt, is_timed(rest)?)
+        }
+        [_, word, rest @ ..] if word.as_str() == "threads" => tell_threads(&rt, is_timed(rest)?),
+        [_, word, file, rest @ ..] if word.as_str() == "replays" => {
+            let text = fs::read(&rt, file.as_str())?;
+            tell_replays(&rt, text.as_slice(), times_in(rest)?)
+        }
+        [_, word, file, rest @ ..] if word.as_str() == "charts" => {
+            let text = fs::read(&rt, file.as_str())?;
+            tell_charts(&rt, text.as_slice(), is_timed(rest)?)
+        }
+        [_, word, name] if word.as_str() == "make" => match pattern_in(name.as_str()) {
+            Some(pattern) => make_chart(&rt, pattern),
+            None => bail!("the traffic is token, mixed or bursts"),
+        },
+        [_, word, chart, schedule] if word.as_str() == "all" => {
+            let chart = fs::read(&rt, chart.as_str())?;
+            let schedule = fs::read(&rt, schedule.as_str())?;
+            tell_recorders(&rt, false)?;
+            tell_threads(&rt, false)?;
+            tell_replays(&rt, schedule.as_slice(), None)?;
+            tell_charts(&rt, chart.as_slice(), false)
+        }
+        _ => bail!("the words are recorders, threads, replays, charts, make or all"),
+    }
+}

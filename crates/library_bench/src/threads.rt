@@ -1,0 +1,86 @@
+//! What messages between threads cost that behaviours pass, beside the same messages that posts alone pass.
+use crate::by_behaviours::time_behaviours;
+use crate::by_posts::time_posts;
+use crate::load::{Load, Pattern};
+use crate::timing::median;
+use chart::MAX_EVENTS;
+use std::thread::Threads;
+use std::time::Clock;
+
+/// Runs of each kind, whose median is told.
+const RUNS: usize = 15;
+
+/// Rounds that are passed where nothing is timed.
+const FEW: usize = 16;
+
+const PATTERNS: [Pattern; 3] = [Pattern::OneWay, Pattern::ToAndFro, Pattern::AllToAll];
+
+/// How many of these a second, where so many took so many nanoseconds.
+fn per_second(many: usize, took: u64) -> u64 {
+    (many as u64).saturating_mul(1_000_000_000) / took.max(1)
+}
+
+/// Tells how many messages and events a second are passed, by behaviours and by posts in turn.
+fn tell_times<R: Threads + Sync + Clock + AllocGlobal + Print>(
+    rt: &R,
+    load: Load,
+) -> anyhow::Result<()> {
+    let mut by_behaviours = Vec::new(rt.alloc());
+    let mut by_posts = Vec::new(rt.alloc());
+    for _ in 0..RUNS {
+        by_behaviours.push(time_behaviours(rt, rt.alloc(), load)?)?;
+        by_posts.push(time_posts(rt, rt.alloc(), load)?)?;
+    }
+    let run = median(by_behaviours)?;
+    let posts = median(by_posts)?;
+    let run_messages = per_second(load.messages(), run);
+    let run_events = per_second(load.events(), run);
+    let post_messages = per_second(load.messages(), posts);
+    let post_events = per_second(load.events(), posts);
+    println!(rt; "{load},{run_messages},{run_events},{post_messages},{post_events}")?;
+    Ok(())
+}
+
+/// Passes some of the messages once by each, and tells how many would be timed.
+fn tell_messages<R: Threads + Sync + Clock + AllocGlobal + Print>(
+    rt: &R,
+    load: Load,
+) -> anyhow::Result<()> {
+    let few = Load { most: FEW, ..load };
+    let _run = time_behaviours(rt, rt.alloc(), few)?;
+    let _posts = time_posts(rt, rt.alloc(), few)?;
+    println!(rt; "{load}")?;
+    Ok(())
+}
+
+/// Tells of each pattern among few and several instances, on lanes of few and of many slots.
+pub fn tell_threads<R: Threads + Sync + Clock + AllocGlobal + Print>(
+    rt: &R,
+    timed: bool,
+) -> anyhow::Result<()> {
+    if timed {
+        println!(rt;
+            "pattern,instances,capacity,messages,events,run messages/s,run events/s,posts messages/s,posts events/s"
+        )?;
+    } else {
+        println!(rt; "pattern,instances,capacity,messages,events")?;
+    }
+    for pattern in PATTERNS {
+        for instances in [2, 4, 8] {
+            for capacity in [1, 8, 64] {
+                let load = Load {
+                    pattern,
+                    instances,
+                    capacity,
+                    most: MAX_EVENTS,
+                };
+                if timed {
+                    tell_times(rt, load)?;
+                } else {
+                    tell_messages(rt, load)?;
+                }
+            }
+        }
+    }
+    Ok(())
+}

@@ -1,0 +1,100 @@
+-- The margin of a picture: texts on the right of its columns, each at the row of the first message that is sent below it, or
+-- below the last row, and dashed lines that part the rows (this project's profile).
+use Rattle.std.specs.Prelude.{ℕ, ◌+◌, ◌-◌, ◌*◌, ◌/◌, ◌^◌, min, max, Bool, true, false, ◌==◌, List, [], ◌++◌, length, fold, codes, decimal}
+use Rattle.std.specs.Prelude.{Option, None, Some, slice_get, if◌then◌else◌}
+use Rattle.chart.specs.declared.event.Event.{Event}
+use Rattle.chart.specs.declared.event.Event.TheVariants.{Send, Receive}
+use Rattle.chart.specs.Charts.{LineView, chart_event, chart_lines}
+use Rattle.closure.specs.Faults.{place_of}
+use Rattle.layout.specs.declared.row.Row.{Row}
+use Rattle.layout.specs.declared.row.Row.TheVariants as variants
+use Rattle.margin_notes.specs.declared.MarginNote.{MarginNote}
+use Rattle.picture_elements.specs.declared.spot.Spot.{Spot}
+use Rattle.text_parts.specs.Pieces.{escaped}
+use Rattle.pictures.specs.ColumnText.{place_drawn}
+use Rattle.pictures.specs.Pictures.{PictureView}
+
+abbrev pub is_send : Option Event → Bool
+is_send None = false
+is_send (Some (Send to name)) = true
+is_send (Some (Receive from name region)) = false
+
+-- a message is sent in the row
+abbrev pub has_send : List LineView → Row → Bool
+has_send lines (variants.Message s r) = true
+has_send lines (variants.Event e) = is_send (chart_event (chart_lines lines) (place_of e))
+
+-- so many characters in pixels, as of labels, of which 4,096 at most are counted
+abbrev pub text_width : ℕ → ℕ
+text_width n = (20 * min n 4096 + 2) / 3
+
+-- how wide the widest text is
+abbrev pub widest : List MarginNote → ℕ
+widest notes = fold (λ n note. max n (text_width (length note.text.items))) 0 notes
+
+-- how wide the margin is: nothing where there is no text
+abbrev pub margin_of : List MarginNote → ℕ
+margin_of notes = if length notes == 0 then 0 else min (widest notes + 16) (2 ^ 32 - 1)
+
+-- how wide a picture of this width is with its margin; what is more than 32 bits hold isn't counted
+abbrev pub with_margin : ℕ → List MarginNote → ℕ
+with_margin width notes = min (width + margin_of notes) (2 ^ 32 - 1)
+
+-- where its texts begin
+abbrev pub margin_x : PictureView → ℕ
+margin_x v = v.width - margin_of v.notes
+
+abbrev pub either : Option ℕ → Option ℕ → Option ℕ
+either None place = place
+either (Some place) other = Some place
+
+-- how many rows are drawn above a row, if one of its events is drawn
+abbrev pub row_place : PictureView → Row → Option ℕ
+row_place v (variants.Message s r) = either (place_drawn v s) (place_drawn v r)
+row_place v (variants.Event e) = place_drawn v e
+
+abbrev pub below_place : PictureView → Option ℕ → Option ℕ
+below_place v None = None
+below_place v (Some place) = Some v.count
+
+-- below the last row, if that is drawn
+abbrev pub end_place : PictureView → Option Row → Option ℕ
+end_place v None = Some v.count
+end_place v (Some row) = below_place v (row_place v row)
+
+abbrev pub place_at : PictureView → Option Row → Option ℕ
+place_at v None = end_place v (slice_get v.choice.rows (length v.choice.rows - 1))
+place_at v (Some row) = row_place v row
+
+-- how many rows are drawn above a text, if it is drawn: it stands at the row of the first message that is sent below it,
+-- or below the last row
+abbrev pub note_place : PictureView → MarginNote → Option ℕ
+note_place v note = place_at v (slice_get v.sends note.above)
+
+-- a text that begins at this spot, spelled as a title
+unfoldable pub note_at : Spot → List ℕ → List ℕ
+note_at a words =
+    codes "<text class='s' x='" ++ (decimal a.x ++ (codes "' y='" ++ (decimal a.y ++ (codes "'>" ++ (escaped words
+    ++ codes "</text>\n")))))
+
+-- the same below so many rows
+abbrev pub note_drawn : ℕ → List ℕ → Option ℕ → List ℕ
+note_drawn x words None = []
+note_drawn x words (Some place) = note_at (record { x = x; y = place * 24 + 76 }) words
+
+-- a text that begins at x, if it is drawn
+abbrev pub note_text : PictureView → ℕ → MarginNote → List ℕ
+note_text v x note = note_drawn x note.text.items (note_place v note)
+
+-- a line that parts the rows, up to this spot
+unfoldable pub line_at : Spot → List ℕ
+line_at end = codes "<path stroke-dasharray='2 4' d='M16 " ++ (decimal end.y ++ (codes "H" ++ (decimal end.x ++ codes "'/>\n")))
+
+-- the same below so many rows, up to the margin
+abbrev pub line_drawn : ℕ → Option ℕ → List ℕ
+line_drawn x None = []
+line_drawn x (Some place) = line_at (record { x = x - 16; y = place * 24 + 72 })
+
+-- the line of a text that parts the rows, if it is drawn
+abbrev pub dividing_line : PictureView → ℕ → MarginNote → List ℕ
+dividing_line v x note = if note.divides then line_drawn x (note_place v note) else []

@@ -1,6 +1,0 @@
-use Rattle.std.proofs.Common.{◌≤◌}
-use Rattle.recorder_pair.specs.Partners.{ArePartners}
-use Rattle.recorder_pair.proofs.pair.exchange.Given as goal
-
-abbrev pub invariant-loop-message : goal.invariant-loop-message
-invariant-loop-message l = ArePartners l.first l.second × (l.races ≤ l.message)

@@ -1,5 +1,0 @@
-mod Charts
-mod ExactTexts
-mod Firm
-mod Schedules
-mod Steps

@@ -1,0 +1,5 @@
+pub mod Answers
+pub mod Beside
+pub mod Counterparts
+pub mod Drawing
+pub mod Stages
