@@ -24,12 +24,17 @@ def send(post: msc.Post, to: int, name: str, body: bytes = b"") -> None:
             time.sleep(0.001)
 
 
+def tell(line: str) -> None:
+    """Prints a line by one write, so that lines of two threads don't run into each other."""
+    print(f"{line}\n", end="")
+
+
 def show(post: msc.Post, message: msc.Message) -> None:
     """Tells of a message, and of its races by the names of the two messages."""
     me = NAMES[post.number - 1]
-    print(f"{me}: event {message.event} is {message.name} from {NAMES[message.sender - 1]}")
+    tell(f"{me}: event {message.event} is {message.name} from {NAMES[message.sender - 1]}")
     for number in message.races:
-        print(f"{me}: {message.name} may come before {post.event(number).name} (event {number})")
+        tell(f"{me}: {message.name} may come before {post.event(number).name} (event {number})")
 
 
 def client(post: msc.Post) -> None:
