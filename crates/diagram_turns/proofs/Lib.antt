@@ -1,3 +1,2 @@
 mod MessageLemmas
 mod SendLemmas
-mod TurnLemmas

@@ -1,9 +1,10 @@
 -- Whose events stand in a diagram, one after another from the top on. Row by row they stand in the order of the text, a
 -- receive directly behind its send where both are in one row. Only what an instance receives in a row in which it also
 -- sends stands behind all sends of the row, since on its line it comes behind them (this project's profile).
-use Rattle.std.specs.Prelude.{ℕ, ◌+◌, ◌*◌, ◌==◌, ◌&&◌, Bool, List, [], ◌∷◌, map, fold, nat_lt, if◌then◌else◌}
+use Rattle.std.specs.Prelude.{ℕ, ◌+◌, ◌*◌, ◌==◌, ◌&&◌, Bool, List, [], ◌∷◌, map, if◌then◌else◌}
 use Rattle.std.specs.List.{flat_map, list_any}
 use Rattle.diagrams.specs.declared.message.Message.{Message}
+use Rattle.stable_order.specs.Order.{in_order_by}
 use Rattle.diagram_turns.specs.declared.moments.Moment.{Moment}
 
 -- the message is sent in this row, by the instance p
@@ -29,14 +30,9 @@ received messages m = record {
 abbrev pub moments_of : List Message → Message → List Moment
 moments_of messages m = if m.is_lost then sent m ∷ [] else sent m ∷ received messages m ∷ []
 
--- the event among those of earlier moments, and those of its own that stand before it
-unfoldable pub put : List Moment → Moment → List Moment
-put [] e = e ∷ []
-put (x ∷ xs) e = if nat_lt e.turn x.turn then e ∷ x ∷ xs else x ∷ put xs e
-
 -- the events by their moments, those of one moment in the order of the text
-unfoldable pub in_turn : List Moment → List Moment
-in_turn moments = fold put [] moments
+abbrev pub in_turn : List Moment → List Moment
+in_turn moments = in_order_by (λ (e : Moment). e.turn) moments
 
 -- whose events these messages are, from the top on
 unfoldable pub turns_of : List Message → List ℕ
