@@ -1,5 +1,4 @@
 pub mod Hearing
 pub mod Moments
-pub mod Numbers
 pub mod Saying
 pub mod Stamps

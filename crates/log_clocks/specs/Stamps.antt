@@ -3,7 +3,7 @@ use Rattle.std.specs.Prelude.{ℕ, ◌+◌, ◌==◌, Bool, List, [], ◌∷◌,
 use Rattle.std.specs.List.{slice_split}
 use Rattle.line_statements.specs.Words.{behind_blanks, first_place, stripped}
 use Rattle.log_lines.specs.Options.{◌>>=◌}
-use Rattle.log_clocks.specs.Numbers.{number_in}
+use Rattle.digits.specs.Numbers.{number_in}
 use Rattle.log_clocks.specs.declared.stamp.Stamp.{Stamp}
 
 -- an entry of a clock: a host, and how many of its events are known

@@ -7,7 +7,6 @@
 
 mod heard;
 mod moment;
-mod numbers;
 mod saying;
 mod stamp;
 

@@ -2,7 +2,7 @@
 ghost use Rattle.std.specs.Prelude.{◌≡◌, map, option_map, IfOk, OnOk};
 ghost use Rattle.log_clocks.specs.Stamps.{stamp_view, behind_mark, stamp_in, inside, with_stamp, is_comma, listed, stamps_in, count_of};
 
-use crate::numbers::number_in;
+use digits::number_in;
 use line_statements::{behind_blanks, first_place, stripped};
 use std::alloc::{AllocError, Global};
 

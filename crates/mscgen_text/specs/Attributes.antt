@@ -1,6 +1,7 @@
 -- Attributes: what stands between `[` and `]` (mscgen 0.20's documentation on attributes).
 use Rattle.std.specs.Prelude.{ℕ, zero, suc, ◌+◌, ◌-◌, ◌*◌, ◌||◌, ◌==◌, nat_lt, List, [], ◌∷◌, length, Option, None, Some}
 use Rattle.std.specs.Prelude.{option_map, option_and_then, Result, Ok, Err, if◌then◌else◌}
+use Rattle.digits.specs.Numbers.{number_in}
 use Rattle.mscgen_text.specs.Reading.{Tokens, ◌>>=◌, or_stop, behind_mark, skip_mark, name_in, next_word}
 use Rattle.mscgen_text.specs.Words.{attribute_name}
 use Rattle.mscgen_text.specs.declared.attributes.Attributes.{Attributes}
@@ -13,20 +14,6 @@ AttributesView = Option (List ℕ) × ℕ
 
 abbrev pub attributes_view : Attributes → AttributesView
 attributes_view a = (option_map (λ label. label.now) a.label, a.skip)
-
--- a number with one digit more, where it has 32 bits
-unfoldable pub with_digit : ℕ → ℕ → Option ℕ
-with_digit number digit =
-    if nat_lt digit 48 || nat_lt 57 digit then None else (
-    if nat_lt (number * 10 + (digit - 48)) 4294967296 then Some (number * 10 + (digit - 48)) else None)
-
-abbrev pub number_from : ℕ → List ℕ → Option ℕ
-number_from number [] = Some number
-number_from number (digit ∷ digits) = option_and_then (λ more. number_from more digits) (with_digit number digit)
-
--- the number that these decimal digits say
-unfoldable pub number_in : List ℕ → Option ℕ
-number_in digits = if length digits == 0 then None else number_from 0 digits
 
 -- what one attribute more says: a later one of its name counts, and a skip is a number
 abbrev pub with_attribute : AttributesView → AttributeName → List ℕ → Option AttributesView

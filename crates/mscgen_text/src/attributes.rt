@@ -1,6 +1,6 @@
 //! Attributes: what stands between `[` and `]`.
 ghost use Rattle.std.specs.Prelude.{◌≡◌, ◌≤◌, ◌<◌, length, map, option_map, IfOk};
-ghost use Rattle.mscgen_text.specs.Attributes.{attributes_view, with_digit, number_in, with_attribute};
+ghost use Rattle.mscgen_text.specs.Attributes.{attributes_view, with_attribute};
 ghost use Rattle.mscgen_text.specs.Attributes.{attribute_name_in, attribute_in, attributes_at, attributes_in};
 ghost use Rattle.mscgen_text.specs.Reading.{Sees, Finds};
 ghost use Rattle.mscgen_text.specs.Tokens.{seen};
@@ -8,6 +8,7 @@ ghost use Rattle.mscgen_text.specs.Tokens.{seen};
 use crate::reading::{Left, behind_mark, name_in, next_word, skip_mark};
 use crate::token::Token;
 use crate::words::{AttributeName, attribute_name};
+use digits::number_in;
 
 /// What attributes say.
 #[derive(Clone, Copy, Debug)]
@@ -22,37 +23,6 @@ const PLAIN: Attributes<'static> = Attributes {
     label: None,
     skip: 0,
 };
-
-/// A number with one digit more, where it has 32 bits.
-#[tactic(auto, unfolding(crate::specs::Attributes::with_digit))]
-fn with_digit(number: u32, digit: u8) -> Option<u32>
-    ensures { result ≡ with_digit number digit }
-{
-    if digit < b'0' || b'9' < digit {
-        return None;
-    }
-    let more = u64::from(number) * 10 + u64::from(digit - b'0');
-    if more < 4294967296 {
-        Some(more as u32)
-    } else {
-        None
-    }
-}
-
-/// The number that these decimal digits say, where it has 32 bits.
-#[tactic(auto, unfolding(crate::specs::Attributes::number_in))]
-fn number_in(digits: &[u8]) -> Option<u32>
-    ensures { result ≡ number_in digits.now }
-{
-    if digits.is_empty() {
-        return None;
-    }
-    let mut number = 0u32;
-    for digit in digits {
-        number = with_digit(number, *digit)?;
-    }
-    Some(number)
-}
 
 /// What one attribute more says, if it is one.
 fn with_attribute<'a>(

@@ -36,7 +36,7 @@ impl Place {
 
     /// The place behind these bytes, the first of which stands here.
     #[tactic(auto, using(crate::proofs::ByteLoops::behind_next, crate::proofs::ByteLoops::behind_all))]
-    pub(crate) fn behind(self, bytes: &[u8]) -> Place
+    pub fn behind(self, bytes: &[u8]) -> Place
         requires line { self.line + length bytes.now < 2 ^ 64 }
         requires column { self.column + length bytes.now < 2 ^ 64 }
         ensures place { result ≡ behind self bytes.now }

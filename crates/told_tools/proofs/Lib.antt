@@ -1,2 +1,1 @@
-pub mod ByteLoops
 pub mod GapLoops

@@ -6,7 +6,6 @@
 #![tactic(auto)]
 
 mod gaps;
-mod place;
 mod telling;
 
 pub use telling::{Untold, told_tool};

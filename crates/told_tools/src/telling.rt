@@ -1,12 +1,12 @@
 //! The tool of a diagram.
 ghost use Rattle.std.specs.Prelude.{◌≡◌, map, bytes_eq, take, length};
 ghost use Rattle.mscgen_text.specs.Lengths.{is_word_byte};
+ghost use Rattle.mscgen_text.specs.Places.{start, behind};
 ghost use Rattle.mscgen_text.specs.Words.{is_spelled};
 ghost use Rattle.told_tools.specs.Telling.{ends_word, begins_word, begins_spelled, is_bare, begins_block, tool_of};
 ghost use Rattle.told_tools.specs.Telling.{told_tool};
 
 use crate::gaps::{begins, gaps_length, is_blank};
-use crate::place::place_behind;
 use mscgen_text::Place;
 use tool_text::Tool;
 
@@ -103,6 +103,13 @@ fn tool_of(bytes: &[u8]) -> Option<Tool>
     } else {
         None
     }
+}
+
+/// The place behind these bytes, with which the text begins.
+fn place_behind(bytes: &[u8]) -> Place
+    ensures { result ≡ behind start bytes.now }
+{
+    Place { line: 1, column: 1 }.behind(bytes)
 }
 
 /// The tool that a text tells by its first word that stands in no comment: `msc`, `@startuml`, `sequenceDiagram` in any

@@ -1,6 +1,6 @@
 //! Numbers in decimal digits.
 ghost use Rattle.std.specs.Prelude.{◌≡◌};
-ghost use Rattle.log_clocks.specs.Numbers.{with_digit, number_in};
+ghost use Rattle.digits.specs.Numbers.{with_digit, number_in};
 
 /// A number with one digit more, where it has 32 bits.
 #[tactic(auto, unfolding(crate::specs::Numbers::with_digit))]
@@ -20,7 +20,7 @@ fn with_digit(number: u32, digit: u8) -> Option<u32>
 
 /// The number that these decimal digits say, where it has 32 bits.
 #[tactic(auto, unfolding(crate::specs::Numbers::number_in))]
-pub(crate) fn number_in(digits: &[u8]) -> Option<u32>
+pub fn number_in(digits: &[u8]) -> Option<u32>
     ensures { result ≡ number_in digits.now }
 {
     if digits.is_empty() {
