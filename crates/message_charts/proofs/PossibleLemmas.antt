@@ -14,7 +14,8 @@ use Rattle.message_charts.specs.declared.message.Named.{Named}
 use Rattle.message_charts.specs.Each.{Each}
 use Rattle.message_charts.proofs.EachLemmas.{each_weaker}
 use Rattle.message_charts.specs.Following.{IsMessage, AreDrawn}
-use Rattle.message_charts.proofs.FifoLemmas.{own_in_turn, turn_length, turn_each, lane_fifo}
+use Rattle.message_charts.proofs.FifoLemmas.{own_in_turn, turn_each, lane_fifo}
+use Rattle.message_charts.proofs.TurnLemmas.{turn_length}
 use Rattle.message_charts.proofs.HistoryLemmas.{Stands, history_from, history_legal, history_chart}
 use Rattle.message_charts.proofs.LineLemmas.{open_none}
 
