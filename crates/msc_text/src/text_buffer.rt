@@ -1,5 +1,6 @@
 //! Texts that are being written: pieces are held in a buffer and put a buffer at a time.
-ghost use Rattle.std.specs.Prelude.{◌≡◌, ◌++◌, [], decimal};
+ghost use Rattle.std.specs.Prelude.{◌≡◌, ◌≤◌, ◌<◌, ◌++◌, [], length, slice_set, decimal};
+ghost use Rattle.msc_text.specs.declared.held.TheConstants.{BUFFERED};
 ghost use Rattle.std.specs.List.{flat_map};
 ghost use Rattle.msc_text.specs.Writing.{Wrote, Adds};
 
@@ -63,6 +64,25 @@ impl<'a, W: Out> TextBuffer<'a, W> {
             return Ok(());
         }
         put_all(self.out, piece)
+    }
+
+    /// Adds the piece to the text, with another byte in this place of it.
+    #[inline(always)]
+    pub(crate) fn add_with(
+        &mut self,
+        piece: &[u8],
+        place: usize,
+        byte: u8,
+    ) -> Result<(), WriteError>
+        requires place { place < length piece.now }
+        requires short { length piece.now ≤ BUFFERED }
+        ensures { Adds W.sink self.old self.new result (slice_set piece.now place byte) }
+    {
+        if piece.len() > self.held.room() {
+            self.finish()?;
+        }
+        self.held.push_with(piece, place, byte);
+        Ok(())
     }
 
     #[tactic(auto, using(crate::proofs::Writes::joining))]
