@@ -1,4 +1,4 @@
-use Rattle.std.proofs.Common.{◌≡◌, ℕ, ◌+◌, ◌-◌, ◌<◌, ◌≤◌, List, ◌++◌, length, take, set, refl, sym, ap, ◌∙◌, arith, length-take-le}
+use Rattle.std.proofs.Common.{◌≡◌, ℕ, ◌+◌, ◌<◌, List, ◌++◌, length, take, set, refl, sym, ap, ◌∙◌, arith, length-take-le}
 use Rattle.std.proofs.Math.Seq.{take-set-lt}
 use Rattle.std.proofs.lemmas.List.{set-append_right, length-append}
 use Rattle.msc_text.proofs.held.Held.push_with.Goals as goal
