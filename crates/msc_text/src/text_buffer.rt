@@ -1,5 +1,5 @@
 //! Texts that are being written: pieces are held in a buffer and put a buffer at a time.
-ghost use Rattle.std.specs.Prelude.{◌≡◌, ◌≤◌, ◌<◌, ◌++◌, [], length, slice_set, decimal};
+ghost use Rattle.std.specs.Prelude.{◌≡◌, ◌≤◌, ◌<◌, ◌+◌, ◌++◌, [], length, slice_set, decimal};
 ghost use Rattle.msc_text.specs.declared.held.TheConstants.{BUFFERED};
 ghost use Rattle.std.specs.List.{flat_map};
 ghost use Rattle.msc_text.specs.Writing.{Wrote, Adds};
@@ -114,6 +114,33 @@ impl<'a, W: Out> TextBuffer<'a, W> {
             return Ok(());
         }
         self.add_one_by_one(first, second, third)
+    }
+
+    /// Adds five short pieces to the text, in their order, by one look at the room.
+    #[inline(always)]
+    pub(crate) fn add_five(
+        &mut self,
+        first: &[u8],
+        second: &[u8],
+        third: &[u8],
+        fourth: &[u8],
+        fifth: &[u8],
+    ) -> Result<(), WriteError>
+        requires short { length first.now + length second.now + length third.now + length fourth.now
+            + length fifth.now ≤ BUFFERED }
+        ensures { Adds W.sink self.old self.new result
+            (first.now ++ (second.now ++ (third.now ++ (fourth.now ++ fifth.now)))) }
+    {
+        let length = first.len() + second.len() + third.len() + fourth.len() + fifth.len();
+        if length > self.held.room() {
+            self.finish()?;
+        }
+        self.held.push(first);
+        self.held.push(second);
+        self.held.push(third);
+        self.held.push(fourth);
+        self.held.push(fifth);
+        Ok(())
     }
 
     /// Adds the pieces to the text, in their order.
