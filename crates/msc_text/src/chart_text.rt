@@ -100,12 +100,8 @@ fn add_event<W: Out>(
     ensures { Adds W.sink text.old text.new result (event_text names.now event.now) }
 {
     match event {
-        Event::Send { to, name } => {
-            add_send_line(text, *name, named(names, *to))
-        }
-        Event::Receive { from, name, .. } => {
-            add_receive_line(text, *name, named(names, *from))
-        }
+        Event::Send { to, name } => { add_send_line(text, *name, named(names, *to)) }
+        Event::Receive { from, name, .. } => { add_receive_line(text, *name, named(names, *from)) }
     }
 }
 

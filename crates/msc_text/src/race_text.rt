@@ -1,8 +1,9 @@
 //! The races of a chart as text.
-ghost use Rattle.std.specs.Prelude.{◌≡◌, ◌≤◌, ◌<◌, ◌+◌, ◌%◌, length, decimal, All};
+ghost use Rattle.std.specs.Prelude.{◌≡◌, ◌≤◌, ◌<◌, ◌+◌, ◌/◌, length, decimal, All};
 ghost use Rattle.std.specs.List.{flat_map};
 ghost use Rattle.chart.specs.Ranges.{IsRange, events_of, events_in};
 ghost use Rattle.msc_text.specs.RaceText.{race_front, race_end, race_line, report_text, races_text, AreNamed};
+ghost use Rattle.msc_text.specs.MadeLines.{IsMade};
 ghost use Rattle.msc_text.specs.Writing.{Adds};
 ghost use Rattle.msc_text.specs.declared.held.TheConstants.{BUFFERED};
 ghost use Rattle.msc_text.specs.declared.race_text.TheConstants.{MOST_ENDS};
@@ -18,6 +19,20 @@ use itoa::Buffer;
 /// behind it a space, a number and the line's end.
 const MOST_ENDS: usize = 80;
 
+/// The tens of no event's number.
+const NO_TENS: u32 = u32::MAX;
+
+/// A race line. Those of events whose numbers have all digits but the last in common differ in that digit alone, so that
+/// one line serves them all.
+#[derive(Drop)]
+struct MadeLine {
+    line: Held,
+    /// The number of its earlier event without the last digit, or `NO_TENS` where no line is made yet.
+    tens: u32,
+    /// Where the last digit stands.
+    place: usize,
+}
+
 /// What is the same in all race lines of a receive.
 #[derive(Drop)]
 struct LineEnds {
@@ -25,24 +40,6 @@ struct LineEnds {
     front: Held,
     /// What stands behind it.
     end: Held,
-}
-
-/// The first events of a range, from the one of this number on, whose numbers have all digits but the last in common.
-fn tens_from(range: &EventRange, number: usize) -> EventRange
-    requires range { IsRange range.now }
-    requires within { number < range.now.count }
-    ensures range { IsRange result }
-    ensures tens { result.first.index % 10 + result.count ≤ 10 }
-    ensures first { result.first ≡ record { instance = range.now.first.instance; index = range.now.first.index + number } }
-    ensures within { number + result.count ≤ range.now.count }
-{
-    let first = range.event(number);
-    let left = range.count - number;
-    let tens = 10 - (first.index % 10) as usize;
-    EventRange {
-        first,
-        count: left.min(tens),
-    }
 }
 
 impl LineEnds {
@@ -64,110 +61,82 @@ impl LineEnds {
         self.end.push(b"\n");
     }
 
-    /// Adds the line with the number of this earlier event.
+    /// Makes the line with the number of this earlier event.
     #[tactic(auto, unfolding(crate::specs::RaceText::race_line))]
-    fn add<W: Out>(&self, text: &mut TextBuffer<'_, W>, earlier: EventNo) -> Result<(), WriteError>
-        ensures { Adds W.sink text.old text.new result (race_line self.now.front self.now.end earlier) }
-    {
-        let mut digits = Buffer::new();
-        let index = digits.format(earlier.index).as_bytes();
-        text.add_three(self.front.as_bytes(), index, self.end.as_bytes())
-    }
-
-    /// Makes the line with the number of this earlier event, and answers where its last digit stands.
-    #[tactic(auto, unfolding(crate::specs::RaceText::race_line))]
-    fn line_of(&self, line: &mut Held, earlier: EventNo) -> usize
+    fn make(&self, made: &mut MadeLine, earlier: EventNo)
         requires { length self.now.front + length self.now.end ≤ MOST_ENDS }
-        ensures line { line.new ≡ race_line self.now.front self.now.end earlier }
-        ensures place { result + 1 ≡ length self.now.front + length (decimal earlier.index) }
-        ensures within { result < length line.new }
-        ensures short { length line.new ≤ BUFFERED }
+        ensures line { made.new.line ≡ race_line self.now.front self.now.end earlier }
+        ensures tens { made.new.tens ≡ earlier.index / 10 }
+        ensures place { made.new.place + 1 ≡ length self.now.front + length (decimal earlier.index) }
+        ensures within { made.new.place < length made.new.line }
+        ensures short { length made.new.line ≤ BUFFERED }
     {
         let mut digits = Buffer::new();
         let index = digits.format(earlier.index).as_bytes();
         let front = self.front.as_bytes();
-        line.clear();
-        line.push(front);
-        line.push(index);
-        line.push(self.end.as_bytes());
-        front.len() + index.len() - 1
+        made.line.clear();
+        made.line.push(front);
+        made.line.push(index);
+        made.line.push(self.end.as_bytes());
+        made.tens = earlier.index / 10;
+        made.place = front.len() + index.len() - 1;
     }
 
-    /// Adds the lines of events whose numbers have all digits but the last in common: one line is made, and for each
-    /// event its last digit is put in.
-    fn add_tens<W: Out>(
+    /// Adds the line with the number of this earlier event: mostly the one that is made, with its last digit put in.
+    #[inline(always)]
+    fn add<W: Out>(
         &self,
         text: &mut TextBuffer<'_, W>,
-        line: &mut Held,
-        earlier: &EventRange,
+        made: &mut MadeLine,
+        earlier: EventNo,
     ) -> Result<(), WriteError>
-        requires range { IsRange earlier.now }
-        requires tens { earlier.now.first.index % 10 + earlier.now.count ≤ 10 }
         requires short { length self.now.front + length self.now.end ≤ MOST_ENDS }
-        ensures { Adds W.sink text.old text.new result
-            (flat_map (race_line self.now.front self.now.end) (events_of earlier.now)) }
+        requires made { IsMade self.now.front self.now.end made.old }
+        ensures text { Adds W.sink text.old text.new result (race_line self.now.front self.now.end earlier) }
+        ensures made { IsMade self.now.front self.now.end made.new }
     {
-        let place = self.line_of(line, earlier.first);
-        let first = b'0' + (earlier.first.index % 10) as u8;
-        for number in 0..earlier.count {
-            text.add_with(line.as_bytes(), place, first + number as u8)?;
+        let digit = b'0' + (earlier.index % 10) as u8;
+        if made.tens != earlier.index / 10 {
+            self.make(made, earlier);
         }
-        Ok(())
+        text.add_with(made.line.as_bytes(), made.place, digit)
     }
 
     /// Adds the line of each event of a range.
     fn add_range<W: Out>(
         &self,
         text: &mut TextBuffer<'_, W>,
-        line: &mut Held,
+        made: &mut MadeLine,
         earlier: &EventRange,
     ) -> Result<(), WriteError>
         requires range { IsRange earlier.now }
         requires short { length self.now.front + length self.now.end ≤ MOST_ENDS }
-        ensures { Adds W.sink text.old text.new result
+        requires made { IsMade self.now.front self.now.end made.old }
+        ensures text { Adds W.sink text.old text.new result
             (flat_map (race_line self.now.front self.now.end) (events_of earlier.now)) }
+        ensures made { IsMade self.now.front self.now.end made.new }
     {
-        let mut number = 0;
-        while number < earlier.count {
-            let tens = tens_from(earlier, number);
-            self.add_tens(text, line, &tens)?;
-            number += tens.count;
+        for number in 0..earlier.count {
+            self.add(text, made, earlier.event(number))?;
         }
         Ok(())
-    }
-
-    /// Adds the line of each event of a range, of which many have one event.
-    fn add_few<W: Out>(
-        &self,
-        text: &mut TextBuffer<'_, W>,
-        line: &mut Held,
-        earlier: &EventRange,
-    ) -> Result<(), WriteError>
-        requires range { IsRange earlier.now }
-        requires short { length self.now.front + length self.now.end ≤ MOST_ENDS }
-        ensures { Adds W.sink text.old text.new result
-            (flat_map (race_line self.now.front self.now.end) (events_of earlier.now)) }
-    {
-        if earlier.count == 1 {
-            return self.add(text, earlier.first);
-        }
-        self.add_range(text, line, earlier)
     }
 
     /// Adds the line of each event of these ranges.
     fn add_all<W: Out>(
         &self,
         text: &mut TextBuffer<'_, W>,
-        line: &mut Held,
+        made: &mut MadeLine,
         earlier: &[EventRange],
     ) -> Result<(), WriteError>
         requires ranges { All IsRange earlier.now }
         requires short { length self.now.front + length self.now.end ≤ MOST_ENDS }
+        requires made { IsMade self.now.front self.now.end made.old }
         ensures { Adds W.sink text.old text.new result
             (flat_map (race_line self.now.front self.now.end) (events_in earlier.now)) }
     {
         for range in earlier {
-            self.add_few(text, line, range)?;
+            self.add_range(text, made, range)?;
         }
         Ok(())
     }
@@ -178,8 +147,7 @@ impl LineEnds {
 #[derive(Drop)]
 pub struct RaceLines {
     ends: LineEnds,
-    /// The line that is written.
-    line: Held,
+    made: MadeLine,
 }
 
 impl RaceLines {
@@ -190,7 +158,11 @@ impl RaceLines {
                 front: Held::new(),
                 end: Held::new(),
             },
-            line: Held::new(),
+            made: MadeLine {
+                line: Held::new(),
+                tens: NO_TENS,
+                place: 0,
+            },
         }
     }
 
@@ -209,7 +181,8 @@ impl RaceLines {
             (report_text names.now (record { receive = receive; earlier = events_in earlier.now })) }
     {
         self.ends.set(named(names, receive.instance), receive.index);
-        self.ends.add_all(text, &mut self.line, earlier)
+        self.made.tens = NO_TENS;
+        self.ends.add_all(text, &mut self.made, earlier)
     }
 }
 

@@ -1,10 +1,10 @@
 use Rattle.std.proofs.Common.{length, ap, arith}
 use Rattle.std.proofs.lemmas.Fmt.{decimal_nonempty}
 use Rattle.std.proofs.lemmas.List.{length-append}
-use Rattle.msc_text.proofs.race_text.LineEnds.line_of.Goals as goal
+use Rattle.msc_text.proofs.race_text.LineEnds.make.Goals as goal
 
-pub overflow_sub-result : goal.overflow_sub-result
-overflow_sub-result c =
+pub overflow_sub-made : goal.overflow_sub-made
+overflow_sub-made c =
     let some = decimal_nonempty c.args.earlier.index (omega arith) in
     let is = ap length c.format.ensures.text in
     let same = ap length c.as_bytes-index.ensures.value in
