@@ -9,7 +9,7 @@ REPETITIONS = 5
 
 
 class Run:
-    """One run of a program: its seconds, its peak megabytes and its status."""
+    """One run of a program: its seconds, its peak megabytes, its page faults and its status."""
 
     def __init__(self, words):
         began = time.monotonic()
@@ -18,16 +18,18 @@ class Run:
             _, status, usage = os.wait4(child.pid, 0)
         self.seconds = time.monotonic() - began
         self.megabytes = usage.ru_maxrss / 1000
+        self.faults = usage.ru_minflt
         self.status = os.waitstatus_to_exitcode(status)
 
 
 class Timed:
-    """Runs of a program: the median of their seconds, the greatest peak, and the last one's status."""
+    """Runs of a program: the median of their seconds and of their page faults, the greatest peak, and the last one's status."""
 
     def __init__(self, runs):
         self.runs = runs
         self.seconds = statistics.median(run.seconds for run in runs)
         self.megabytes = max(run.megabytes for run in runs)
+        self.faults = statistics.median(run.faults for run in runs)
         self.status = runs[-1].status
 
 

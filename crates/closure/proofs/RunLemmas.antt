@@ -50,22 +50,27 @@ left-other c (suc n) p m made h =
     let same = get_or-set_other made p n m 0 differs in
     omega (arith, same, before)
 
--- one event more leaves fewer
-pub left-less : (c : Chart) (n p : ℕ) (made : List ℕ) → p < n → p < length made → slice_index made p < length (c (suc p)) → left c n (set made p (slice_index made p + 1)) < left c n made
-left-less c zero p made h inside more = absurd (omega arith)
-left-less c (suc n) p made h inside more =
+-- some events more leave fewer
+pub left-raised : (c : Chart) (n p m : ℕ) (made : List ℕ) → p < n → p < length made → slice_index made p < m → m ≤ length (c (suc p)) → left c n (set made p m) < left c n made
+left-raised c zero p m made h inside more most = absurd (omega arith)
+left-raised c (suc n) p m made h inside more most =
     elim (cases_eq n p) [
       | inl e ↦
-          subst (λ x. left c (suc n) (set made x (slice_index made x + 1)) < left c (suc n) made) e
-          (let others = left-other c n n (slice_index made n + 1) made (omega arith) in
-          let new = get_or-set_same made n (slice_index made n + 1) 0 (omega arith) in
-          let most : slice_index made n < length (c (suc n)) = subst (λ x. slice_index made x < length (c (suc x))) (sym e) more in
-          omega (arith, others, new, most))
+          subst (λ x. left c (suc n) (set made x m) < left c (suc n) made) e
+          (let others = left-other c n n m made (omega arith) in
+          let new = get_or-set_same made n m 0 (omega arith) in
+          let few : slice_index made n < m = subst (λ x. slice_index made x < m) (sym e) more in
+          let line : m ≤ length (c (suc n)) = subst (λ x. m ≤ length (c (suc x))) (sym e) most in
+          omega (arith, others, new, few, line))
       | inr differs ↦
-          let fewer = left-less c n p made (omega arith) inside more in
-          let same = get_or-set_other made p n (slice_index made p + 1) 0 differs in
+          let fewer = left-raised c n p m made (omega arith) inside more most in
+          let same = get_or-set_other made p n m 0 differs in
           omega (arith, same, fewer)
     ]
+
+-- one event more leaves fewer
+pub left-less : (c : Chart) (n p : ℕ) (made : List ℕ) → p < n → p < length made → slice_index made p < length (c (suc p)) → left c n (set made p (slice_index made p + 1)) < left c n made
+left-less c n p made h inside more = left-raised c n p (slice_index made p + 1) made h inside (omega arith) (omega arith)
 
 -- up to a place of a front there are as many as on the line
 tally_front : (test : Event → Bool) (m : ℕ) (xs : List Event) (i : ℕ) → i ≤ length (take m xs) → tally test (take m xs) i ≡ tally test xs i

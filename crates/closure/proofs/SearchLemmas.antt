@@ -2,7 +2,7 @@
 use Rattle.std.proofs.Common.{◌≡◌, ℕ, zero, suc, ◌+◌, ◌<◌, ◌≤◌, ◌⊎◌, inl, inr, max, List, length, set, replicate, refl, sym, ap, ◌∙◌, subst, arith}
 use Rattle.std.specs.Prelude.{slice_index}
 use Rattle.std.proofs.lemmas.Bool.{cases_lt, cases_eq}
-use Rattle.std.proofs.lemmas.List.{length-set, get_or-set_same, get_or-replicate, get_or_past, length-replicate}
+use Rattle.std.proofs.lemmas.List.{length-set, set-set, set-get_or, get_or-set_same, get_or-replicate, get_or_past, length-replicate}
 use Rattle.chart.specs.Events.{is_send_to, is_receive_from}
 use Rattle.chart.specs.Charts.{Chart, Place, at, LineView, IsSendTo, BelongsTo, chart_lines}
 use Rattle.chart.specs.Order.{IsEarlier, Direct, Before}
@@ -154,6 +154,41 @@ IsSearch-receive c n s fronts seen p q j p_in q_in pending belongs old =
     IsSearch-seen c n s (set fronts q (max (slice_index fronts q) j)) seen p p_in (let grown = more (suc p) in omega (arith, grown)) raised
     (λ t is. let same = same_send c (at (suc q) j) t (at (suc p) (suc (slice_index seen p))) belongs is in
     subst (λ (x : Place). x.index ≤ entry (set fronts q (max (slice_index fronts q) j)) x.instance) same (let new = raised-same fronts q j within in omega (arith, new)))
+
+-- events of the line at p were followed: no front went back, the others' seen events are the same, and the search goes on
+-- for whatever send it was for
+pub record IsFollowed (lines : List LineView) (p : ℕ) (fronts seen after now : List ℕ) : Type 0 where
+  pub whole : length after ≡ length lines
+  pub others : now ≡ set seen p (slice_index now p)
+  pub grown : HaveGrown fronts after
+  pub kept : (s : Place) → IsSearch (chart_lines lines) (length lines) s fronts seen → IsSearch (chart_lines lines) (length lines) s after now
+
+pub IsFollowed-none : (lines : List LineView) (p : ℕ) (fronts seen : List ℕ) → length fronts ≡ length lines → IsFollowed lines p fronts seen fronts seen
+IsFollowed-none lines p fronts seen whole = record {
+  whole = whole;
+  others = sym (set-get_or seen p 0);
+  grown = λ q. omega arith;
+  kept = λ s old. old;
+}
+
+-- one event more
+pub IsFollowed-next : (lines : List LineView) (p : ℕ) (fronts seen after now later new : List ℕ) → p < length seen → IsFollowed lines p fronts seen after now
+    → length later ≡ length lines → new ≡ set now p (slice_index now p + 1) → HaveGrown after later
+    → ((s : Place) → IsSearch (chart_lines lines) (length lines) s after now → IsSearch (chart_lines lines) (length lines) s later new)
+    → IsFollowed lines p fronts seen later new × (slice_index new p ≡ slice_index now p + 1)
+IsFollowed-next lines p fronts seen after now later new within old whole is grown kept =
+    let below : p < length now = omega (arith, ap length old.others, length-set seen p (slice_index now p)) in
+    let one : slice_index new p ≡ slice_index now p + 1 = ap (λ xs. slice_index xs p) is ∙ get_or-set_same now p (slice_index now p + 1) 0 below in
+    (
+      record {
+        whole = whole;
+        others =
+            is ∙ ap (λ xs. set xs p (slice_index now p + 1)) old.others ∙ set-set seen p (slice_index now p) (slice_index now p + 1) ∙ ap (set seen p) (sym one);
+        grown = λ q. let first = old.grown q in let second = grown q in omega arith;
+        kept = λ s search. kept s (old.kept s search);
+      },
+      one,
+    )
 
 -- what was reached of a line is on it
 pub front_within : (c : Chart) (n : ℕ) (s : Place) (fronts seen : List ℕ) (p : ℕ) → IsSearch c n s fronts seen → entry fronts p ≤ length (c p)

@@ -76,6 +76,7 @@ impl<'a> Linked<'a> {
     }
 
     /// The other end of the message of the event at a place of a line. It reads the table alone.
+    #[inline(always)]
     pub fn partner_of(&self, line: usize, place: usize) -> Partner
         requires line { line < length self.now }
         requires place { place < length (chart_lines self.now (suc line)) }

@@ -28,6 +28,7 @@ impl Numbers {
         })
     }
 
+    #[inline(always)]
     pub fn len(&self) -> usize
         ensures { result ≡ length self.now }
     {
@@ -35,6 +36,7 @@ impl Numbers {
     }
 
     /// The number at a place.
+    #[inline(always)]
     pub fn at(&self, place: usize) -> usize
         requires { place < length self.now }
         ensures { result ≡ slice_index self.now place }
@@ -43,6 +45,7 @@ impl Numbers {
     }
 
     /// Puts the number at a place in place of the one there.
+    #[inline(always)]
     pub fn set(&mut self, place: usize, number: usize)
         requires { place < length self.old }
         ensures { self.new ≡ slice_set self.old place number }

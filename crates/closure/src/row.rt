@@ -38,6 +38,7 @@ impl<T: Copy> Row<T> {
     }
 
     /// The value at a place.
+    #[inline(always)]
     fn at(&self, place: usize) -> T
         requires { place < length self.now }
         ensures { slice_get self.now place ≡ Some result }
@@ -47,6 +48,7 @@ impl<T: Copy> Row<T> {
 }
 
 /// The value that rows have for the event at a place of a line.
+#[inline(always)]
 pub fn value_at<T: Copy>(rows: &[Row<T>], line: usize, place: usize) -> T
     requires line { line < length rows.now }
     requires place { place < length (slice_index_or rows.now line []) }

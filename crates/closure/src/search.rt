@@ -3,7 +3,7 @@
 //! What is a send or before it is, of each line, the events up to some send, its front: all that is earlier than a
 //! send on its line is before it. So the pairs to be followed are those from a receive to its send, and each event is
 //! seen once. Of a later send of the same line the fronts are no smaller, and the search goes on from where it is.
-ghost use Rattle.std.specs.Prelude.{ℕ, ◌≡◌, ◌<◌, ◌≤◌, ◌+◌, ◌↔◌, suc, max, length, replicate, slice_index, slice_set};
+ghost use Rattle.std.specs.Prelude.{ℕ, ◌≡◌, ◌<◌, ◌≤◌, ◌+◌, ◌-◌, ◌↔◌, suc, max, length, replicate, slice_index, slice_set};
 ghost use Rattle.std.specs.Prelude.{IsTrue, IfOk, IfSome, MatchBool, MatchOption};
 ghost use Rattle.chart.specs.declared.line.TheConstants.{MAX_EVENTS};
 ghost use Rattle.chart.specs.Charts.{Place, at, chart_lines};
@@ -38,6 +38,7 @@ impl Search {
     }
 
     /// Whether events of the line are to be followed. The front itself is a send, and needs not be.
+    #[inline(always)]
     fn is_pending(&self, line: usize) -> bool
         requires fronts { line < length self.now.fronts }
         requires seen { line < length self.now.seen }
@@ -68,6 +69,7 @@ impl Search {
     }
 
     /// Reaches the send of this index of a line.
+    #[inline(always)]
     fn raise(&mut self, line: usize, index: usize)
         requires { line < length self.old.fronts }
         ensures { self.new ≡ record self.old {
@@ -79,16 +81,20 @@ impl Search {
     }
 }
 
-/// Follows the next event of a line that was reached, and answers the line where the search may go on.
-fn follow(linked: &Linked<'_>, search: &mut Search, line: usize) -> usize
+/// Follows the next event of a line that was reached, and answers the line where the search may go on behind this one:
+/// that of a receive's send, or else the one given.
+#[inline(always)]
+fn follow(linked: &Linked<'_>, search: &mut Search, line: usize, next: usize) -> usize
     requires line { line < length linked.now }
+    requires next { next < length linked.now }
     requires fronts { length search.old.fronts ≡ length linked.now }
     requires seen { length search.old.seen ≡ length linked.now }
     requires pending { slice_index search.old.seen line < slice_index search.old.fronts line }
-    requires within { slice_index search.old.fronts line ≤ length (chart_lines linked.now (suc line)) }
+    requires within { slice_index search.old.seen line < length (chart_lines linked.now (suc line)) }
     requires short { length (chart_lines linked.now (suc line)) ≤ MAX_EVENTS }
     ensures line { result < length linked.now }
     ensures seen { search.new.seen ≡ slice_set search.old.seen line (slice_index search.old.seen line + 1) }
+    ensures whole { length search.new.fronts ≡ length linked.now }
     ensures grown { HaveGrown search.old.fronts search.new.fronts }
     ensures kept { (s : Place)
         → IsSearch (chart_lines linked.now) (length linked.now) s search.old.fronts search.old.seen
@@ -97,7 +103,7 @@ fn follow(linked: &Linked<'_>, search: &mut Search, line: usize) -> usize
     let place = search.seen.at(line);
     search.seen.set(line, place + 1);
     match linked.partner_of(line, place) {
-        Partner::Receiver { .. } => line,
+        Partner::Receiver { .. } => next,
         Partner::Sender {
             line: sender,
             index,
@@ -107,6 +113,30 @@ fn follow(linked: &Linked<'_>, search: &mut Search, line: usize) -> usize
             sender
         }
     }
+}
+
+/// Follows all events of a line that are before its front, and answers a line where the search may go on: the sender's
+/// of the last receive among them.
+fn follow_line(linked: &Linked<'_>, search: &mut Search, line: usize) -> usize
+    requires line { line < length linked.now }
+    requires fronts { length search.old.fronts ≡ length linked.now }
+    requires seen { length search.old.seen ≡ length linked.now }
+    requires pending { slice_index search.old.seen line + 1 < slice_index search.old.fronts line }
+    requires within { slice_index search.old.fronts line ≤ length (chart_lines linked.now (suc line)) }
+    requires short { length (chart_lines linked.now (suc line)) ≤ MAX_EVENTS }
+    ensures line { result < length linked.now }
+    ensures seen { search.new.seen ≡ slice_set search.old.seen line (slice_index search.old.fronts line - 1) }
+    ensures grown { HaveGrown search.old.fronts search.new.fronts }
+    ensures kept { (s : Place)
+        → IsSearch (chart_lines linked.now) (length linked.now) s search.old.fronts search.old.seen
+        → IsSearch (chart_lines linked.now) (length linked.now) s search.new.fronts search.new.seen }
+{
+    let end = search.fronts.at(line) - 1;
+    let mut next = line;
+    while search.seen.at(line) < end {
+        next = follow(linked, search, line, next);
+    }
+    next
 }
 
 /// Goes on to the send of this index of a line, and all that is before it. What was reached before is it or before
@@ -124,7 +154,7 @@ pub fn reach(linked: &Linked<'_>, search: &mut Search, line: usize, index: usize
     search.raise(line, index);
     let mut next = line;
     while let Some(pending) = search.pending(next) {
-        next = follow(linked, search, pending);
+        next = follow_line(linked, search, pending);
     }
 }
 

@@ -1,5 +1,5 @@
 -- How a loop over a line's events writes their text. S is what is written to, sink what is known of it.
-use Rattle.std.proofs.Common.{◌≡◌, ℕ, suc, ◌+◌, ◌<◌, ◌≤◌, length, get_or, drop, add-one, drop-cons, List, [], ◌∷◌, ◌++◌, Option, Result, Ok, Err, true, sym, ap, ◌∙◌, subst, append_assoc}
+use Rattle.std.proofs.Common.{◌≡◌, ℕ, suc, ◌+◌, ◌<◌, ◌≤◌, length, get_or, drop, add-one, drop-cons, List, [], ◌∷◌, ◌++◌, Result, Ok, Err, true, sym, ap, ◌∙◌, subst, append_assoc}
 use Rattle.std.proofs.lemmas.List.{drop_all}
 use Rattle.std.specs.Result.{is_err}
 use Rattle.chart.specs.declared.event.Event.{Event}

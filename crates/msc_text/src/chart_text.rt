@@ -63,27 +63,30 @@ fn add_beginning<W: Out>(
     add_lone(text, Keyword::Concurrent)
 }
 
-/// Adds a line of four words: in which direction the message goes, its name, and its partner behind a word of its own.
-#[tactic(auto, unfolding(crate::specs::ChartText::event_line))]
-fn add_event_line<W: Out>(
+/// Adds the line of a send: its words stand in it with their spaces, so that it has few pieces.
+#[tactic(auto, unfolding(crate::specs::ChartText::event_line, chart::specs::Keywords::spelled))]
+fn add_send_line<W: Out>(
     text: &mut TextBuffer<'_, W>,
-    direction: Keyword,
     message: Name,
-    side: Keyword,
     partner: Name,
 ) -> Result<(), WriteError>
-    ensures { Adds W.sink text.old text.new result (event_line direction message side partner) }
+    ensures { Adds W.sink text.old text.new result (event_line Keyword.Out message Keyword.To partner) }
 {
-    text.add_all(&[
-        direction.as_bytes(),
-        b" ",
-        message.as_bytes(),
-        b" ",
-        side.as_bytes(),
-        b" ",
-        partner.as_bytes(),
-        b";\n",
-    ])
+    let (name, to) = (message.as_bytes(), partner.as_bytes());
+    text.add_five(b"out ", name, b" to ", to, b";\n")
+}
+
+/// Adds the line of a receive.
+#[tactic(auto, unfolding(crate::specs::ChartText::event_line, chart::specs::Keywords::spelled))]
+fn add_receive_line<W: Out>(
+    text: &mut TextBuffer<'_, W>,
+    message: Name,
+    partner: Name,
+) -> Result<(), WriteError>
+    ensures { Adds W.sink text.old text.new result (event_line Keyword.In message Keyword.From partner) }
+{
+    let (name, from) = (message.as_bytes(), partner.as_bytes());
+    text.add_five(b"in ", name, b" from ", from, b";\n")
 }
 
 /// Adds the line of an event.
@@ -97,12 +100,8 @@ fn add_event<W: Out>(
     ensures { Adds W.sink text.old text.new result (event_text names.now event.now) }
 {
     match event {
-        Event::Send { to, name } => {
-            add_event_line(text, Keyword::Out, *name, Keyword::To, named(names, *to))
-        }
-        Event::Receive { from, name, .. } => {
-            add_event_line(text, Keyword::In, *name, Keyword::From, named(names, *from))
-        }
+        Event::Send { to, name } => { add_send_line(text, *name, named(names, *to)) }
+        Event::Receive { from, name, .. } => { add_receive_line(text, *name, named(names, *from)) }
     }
 }
 

@@ -1,5 +1,5 @@
 //! Bytes of a text that are not yet put.
-ghost use Rattle.std.specs.Prelude.{◌≡◌, ◌≤◌, ◌+◌, ◌++◌, List, ℕ, [], take, length};
+ghost use Rattle.std.specs.Prelude.{◌≡◌, ◌≤◌, ◌<◌, ◌+◌, ◌++◌, List, ℕ, [], take, length, slice_set};
 ghost use Rattle.msc_text.specs.declared.held.TheConstants.{BUFFERED};
 
 use std::marker::Model;
@@ -38,12 +38,14 @@ impl Held {
         }
     }
 
+    #[inline(always)]
     pub(crate) fn room(&self) -> usize
         ensures { result + length self.now ≡ BUFFERED }
     {
         BUFFERED - self.len
     }
 
+    #[inline(always)]
     pub(crate) fn as_bytes(&self) -> &[u8]
         ensures { result.now ≡ self.now }
     {
@@ -56,6 +58,7 @@ impl Held {
         self.len = 0;
     }
 
+    #[inline(always)]
     pub(crate) fn push(&mut self, piece: &[u8])
         requires { length self.old + length piece.now ≤ BUFFERED }
         ensures { self.new ≡ self.old ++ piece.now }
@@ -63,5 +66,17 @@ impl Held {
         let end = self.len + piece.len();
         self.bytes[self.len..end].copy_from_slice(piece);
         self.len = end;
+    }
+
+    /// Adds the piece with another byte in this place of it.
+    #[inline(always)]
+    pub(crate) fn push_with(&mut self, piece: &[u8], place: usize, byte: u8)
+        requires room { length self.old + length piece.now ≤ BUFFERED }
+        requires place { place < length piece.now }
+        ensures { self.new ≡ self.old ++ slice_set piece.now place byte }
+    {
+        let changed = self.len + place;
+        self.push(piece);
+        self.bytes[changed] = byte;
     }
 }

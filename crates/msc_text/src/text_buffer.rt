@@ -1,5 +1,6 @@
 //! Texts that are being written: pieces are held in a buffer and put a buffer at a time.
-ghost use Rattle.std.specs.Prelude.{◌≡◌, ◌++◌, [], decimal};
+ghost use Rattle.std.specs.Prelude.{◌≡◌, ◌≤◌, ◌<◌, ◌+◌, ◌++◌, [], length, slice_set, decimal};
+ghost use Rattle.msc_text.specs.declared.held.TheConstants.{BUFFERED};
 ghost use Rattle.std.specs.List.{flat_map};
 ghost use Rattle.msc_text.specs.Writing.{Wrote, Adds};
 
@@ -65,6 +66,25 @@ impl<'a, W: Out> TextBuffer<'a, W> {
         put_all(self.out, piece)
     }
 
+    /// Adds the piece to the text, with another byte in this place of it.
+    #[inline(always)]
+    pub(crate) fn add_with(
+        &mut self,
+        piece: &[u8],
+        place: usize,
+        byte: u8,
+    ) -> Result<(), WriteError>
+        requires place { place < length piece.now }
+        requires short { length piece.now ≤ BUFFERED }
+        ensures { Adds W.sink self.old self.new result (slice_set piece.now place byte) }
+    {
+        if piece.len() > self.held.room() {
+            self.finish()?;
+        }
+        self.held.push_with(piece, place, byte);
+        Ok(())
+    }
+
     #[tactic(auto, using(crate::proofs::Writes::joining))]
     fn add_one_by_one(
         &mut self,
@@ -94,6 +114,33 @@ impl<'a, W: Out> TextBuffer<'a, W> {
             return Ok(());
         }
         self.add_one_by_one(first, second, third)
+    }
+
+    /// Adds five short pieces to the text, in their order, by one look at the room.
+    #[inline(always)]
+    pub(crate) fn add_five(
+        &mut self,
+        first: &[u8],
+        second: &[u8],
+        third: &[u8],
+        fourth: &[u8],
+        fifth: &[u8],
+    ) -> Result<(), WriteError>
+        requires short { length first.now + length second.now + length third.now + length fourth.now
+            + length fifth.now ≤ BUFFERED }
+        ensures { Adds W.sink self.old self.new result
+            (first.now ++ (second.now ++ (third.now ++ (fourth.now ++ fifth.now)))) }
+    {
+        let length = first.len() + second.len() + third.len() + fourth.len() + fifth.len();
+        if length > self.held.room() {
+            self.finish()?;
+        }
+        self.held.push(first);
+        self.held.push(second);
+        self.held.push(third);
+        self.held.push(fourth);
+        self.held.push(fifth);
+        Ok(())
     }
 
     /// Adds the pieces to the text, in their order.

@@ -7,6 +7,7 @@ pub mod CommandsAgain
 pub mod FirstFault
 pub mod InstanceLine
 pub mod Legal
+pub mod NamedWords
 pub mod Numbers
 pub mod PlainWords
 pub mod Read

@@ -14,12 +14,16 @@ use Rattle.schedule.specs.declared.command.Action.TheVariants.{Send, Receive, An
 abbrev pub ActorAction : Type 0
 ActorAction = ℕ × Action
 
+-- two instances that were looked up, which are not the same
+abbrev pub both_of : Result ℕ Cause → Result ℕ Cause → Result (ℕ × ℕ) Cause
+both_of actor partner = do
+  by ← actor
+  to ← partner
+  if by == to then Err ToItself else Ok (by, to)
+
 -- two instances, which are not the same
 unfoldable pub pair_of : List (List ℕ) → List ℕ → List ℕ → Result (ℕ × ℕ) Cause
-pair_of names a b = do
-  by ← known_of names a
-  to ← known_of names b
-  if by == to then Err ToItself else Ok (by, to)
+pair_of names a b = both_of (known_of names a) (known_of names b)
 
 -- actor and partner, where nothing else of the line is a name
 unfoldable pub partners_of : List (List ℕ) → List ℕ → List ℕ → Result (ℕ × ℕ) Cause

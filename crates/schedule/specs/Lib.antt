@@ -11,6 +11,7 @@ pub mod ActionLines
 pub mod FirstLines
 pub mod Keywords
 pub mod Meaning
+pub mod NamedWords
 pub mod Plans
 pub mod Reading
 pub mod ScheduleText

@@ -1,20 +1,23 @@
 //! A command's line: who acts, and what it does.
 ghost use Rattle.std.specs.Prelude.{◌≡◌};
-ghost use Rattle.schedule.specs.ActionLines.{pair_of, partners_of, send_of, receive_of, close_of, alone_of, by_two};
+ghost use Rattle.schedule.specs.ActionLines.{both_of, partners_of, send_of, receive_of, close_of, alone_of, by_two};
 ghost use Rattle.schedule.specs.ActionLines.{by_three, action_of};
 
 use crate::command::Action;
+use crate::guesses::Guesses;
 use crate::keyword::ScheduleWord;
 use chart::{InstanceNo, Name, Names};
 use msc_text::{Cause, Words, known_in, name_in, words_in};
 
-/// Two instances, or F23 for the first name that is none, and F13 where they are the same.
-#[tactic(auto, unfolding(crate::specs::ActionLines::pair_of))]
-fn read_pair(names: &Names, actor: Name, partner: Name) -> Result<(InstanceNo, InstanceNo), Cause>
-    ensures { result ≡ pair_of names.now actor partner }
+/// Two instances that were found, or the first one's F23, and F13 where they are the same.
+fn read_pair(
+    actor: Result<InstanceNo, Cause>,
+    partner: Result<InstanceNo, Cause>,
+) -> Result<(InstanceNo, InstanceNo), Cause>
+    ensures { result ≡ both_of actor partner }
 {
-    let actor = known_in(names, actor)?;
-    let partner = known_in(names, partner)?;
+    let actor = actor?;
+    let partner = partner?;
     if actor == partner {
         return Err(Cause::ToItself);
     }
@@ -22,51 +25,63 @@ fn read_pair(names: &Names, actor: Name, partner: Name) -> Result<(InstanceNo, I
 }
 
 /// Actor and partner, where nothing else of the line is a name.
-#[tactic(auto, unfolding(crate::specs::ActionLines::partners_of))]
+#[tactic(auto, unfolding(crate::specs::ActionLines::partners_of, crate::specs::ActionLines::pair_of))]
 fn read_partners(
     names: &Names,
+    guesses: &mut Guesses,
     actor: &[u8],
     partner: &[u8],
 ) -> Result<(InstanceNo, InstanceNo), Cause>
     ensures { result ≡ partners_of names.now actor.now partner.now }
 {
-    let actor = name_in(actor)?;
-    let partner = name_in(partner)?;
-    read_pair(names, actor, partner)
+    let actor = guesses.named(names, actor)?;
+    let partner = guesses.named(names, partner)?;
+    read_pair(actor, partner)
 }
 
 /// `NAME send NAME MESSAGE`.
-#[tactic(auto, unfolding(crate::specs::ActionLines::send_of))]
+#[tactic(auto, unfolding(crate::specs::ActionLines::send_of, crate::specs::ActionLines::pair_of))]
 fn read_send(
     names: &Names,
+    guesses: &mut Guesses,
     actor: &[u8],
     partner: &[u8],
     message: &[u8],
 ) -> Result<(InstanceNo, Action), Cause>
     ensures { result ≡ send_of names.now actor.now partner.now message.now }
 {
-    let actor = name_in(actor)?;
-    let partner = name_in(partner)?;
+    let actor = guesses.named(names, actor)?;
+    let partner = guesses.named(names, partner)?;
     let name = name_in(message)?;
-    let (actor, to) = read_pair(names, actor, partner)?;
+    let (actor, to) = read_pair(actor, partner)?;
     Ok((actor, Action::Send { to, name }))
 }
 
 /// `NAME receive NAME`.
 #[tactic(auto, unfolding(crate::specs::ActionLines::receive_of))]
-fn read_receive(names: &Names, actor: &[u8], partner: &[u8]) -> Result<(InstanceNo, Action), Cause>
+fn read_receive(
+    names: &Names,
+    guesses: &mut Guesses,
+    actor: &[u8],
+    partner: &[u8],
+) -> Result<(InstanceNo, Action), Cause>
     ensures { result ≡ receive_of names.now actor.now partner.now }
 {
-    let (actor, from) = read_partners(names, actor, partner)?;
+    let (actor, from) = read_partners(names, guesses, actor, partner)?;
     Ok((actor, Action::Receive { from }))
 }
 
 /// `NAME close NAME`.
 #[tactic(auto, unfolding(crate::specs::ActionLines::close_of))]
-fn read_close(names: &Names, actor: &[u8], partner: &[u8]) -> Result<(InstanceNo, Action), Cause>
+fn read_close(
+    names: &Names,
+    guesses: &mut Guesses,
+    actor: &[u8],
+    partner: &[u8],
+) -> Result<(InstanceNo, Action), Cause>
     ensures { result ≡ close_of names.now actor.now partner.now }
 {
-    let (actor, to) = read_partners(names, actor, partner)?;
+    let (actor, to) = read_partners(names, guesses, actor, partner)?;
     Ok((actor, Action::Close { to }))
 }
 
@@ -101,6 +116,7 @@ fn by_two(names: &Names, actor: &[u8], keyword: &[u8]) -> Result<(InstanceNo, Ac
 #[tactic(auto, unfolding(crate::specs::ActionLines::by_three))]
 fn by_three(
     names: &Names,
+    guesses: &mut Guesses,
     actor: &[u8],
     keyword: &[u8],
     partner: &[u8],
@@ -108,29 +124,35 @@ fn by_three(
     ensures { result ≡ by_three names.now actor.now keyword.now partner.now }
 {
     if ScheduleWord::Receive.is(keyword) {
-        return read_receive(names, actor, partner);
+        return read_receive(names, guesses, actor, partner);
     }
     if ScheduleWord::Close.is(keyword) {
-        return read_close(names, actor, partner);
+        return read_close(names, guesses, actor, partner);
     }
     Err(Cause::Syntax)
 }
 
 /// What a command's line says, or the first of its faults.
 #[tactic(auto, unfolding(crate::specs::ActionLines::action_of))]
-pub(crate) fn read_action(names: &Names, line: &[u8]) -> Result<(InstanceNo, Action), Cause>
+pub(crate) fn read_action(
+    names: &Names,
+    guesses: &mut Guesses,
+    line: &[u8],
+) -> Result<(InstanceNo, Action), Cause>
     ensures { result ≡ action_of names.now line.now }
 {
     match words_in(line) {
         Words::Two(actor, keyword) if !actor.is_empty() => by_two(names, actor, keyword),
         Words::Three(actor, keyword, partner) if !actor.is_empty() && !partner.is_empty() => {
-            by_three(names, actor, keyword, partner)
+            by_three(names, guesses, actor, keyword, partner)
         }
         Words::Four(actor, keyword, partner, message)
             if !actor.is_empty()
                 && !partner.is_empty()
                 && !message.is_empty()
-                && ScheduleWord::Send.is(keyword) => { read_send(names, actor, partner, message) }
+                && ScheduleWord::Send.is(keyword) => {
+            read_send(names, guesses, actor, partner, message)
+        }
         _ => Err(Cause::Syntax),
     }
 }

@@ -12,6 +12,7 @@
 mod action_line;
 mod command;
 mod first_lines;
+mod guesses;
 mod keyword;
 pub mod laws;
 mod reading;

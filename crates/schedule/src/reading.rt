@@ -9,6 +9,7 @@ ghost use Rattle.schedule.specs.ScheduleText.{schedule_text, HasText};
 use crate::action_line::read_action;
 use crate::command::Command;
 use crate::first_lines::{capacity_in, names_in};
+use crate::guesses::Guesses;
 use crate::schedule::{Capacity, Schedule};
 use chart::Names;
 use msc_text::{Fault, TextError, at_line, next_line};
@@ -31,13 +32,14 @@ fn commands_in(alloc: Global, names: &Names, bytes: &[u8]) -> Result<Vec<Command
         (end_of bytes.now)) }
 {
     let mut commands = Vec::new(alloc);
+    let mut guesses = Guesses::new();
     let mut rest = bytes;
     let mut number = 3;
     'lines: loop {
         match next_line(rest) {
             None => break,
             Some((line, after)) => {
-                let (actor, action) = at_line(number, read_action(names, line))?;
+                let (actor, action) = at_line(number, read_action(names, &mut guesses, line))?;
                 commands.push(Command {
                     line: number,
                     actor,
