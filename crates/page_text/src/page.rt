@@ -69,7 +69,11 @@ fn add_head<W: Out>(text: &mut TextBuffer<'_, W>, title: &[u8]) -> Result<(), Wr
 fn race_word(races: u64) -> Word
     ensures { result ≡ race_word races }
 {
-    if races == 1 { Word::OneRace } else { Word::Races }
+    if races == 1 {
+        Word::OneRace
+    } else {
+        Word::Races
+    }
 }
 
 /// Adds how many races are told in full.
