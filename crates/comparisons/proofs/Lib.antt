@@ -1,5 +1,6 @@
 pub mod TellingLemmas
 pub mod DifferenceLemmas
 pub mod MatchLemmas
+pub mod NamingLemmas
 pub mod PairLemmas
 pub mod VerdictLemmas

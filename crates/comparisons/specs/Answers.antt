@@ -2,6 +2,7 @@
 use Rattle.std.specs.Prelude.{ℕ, List, None, codes, Result}
 use Rattle.files.specs.Answers.{Said, refusal, said_of}
 use Rattle.files.specs.Refusals as refusals
+use Rattle.named_refusals.specs.NamedRefusals.{named_text}
 use Rattle.comparisons.specs.declared.error.CompareError.{CompareError}
 use Rattle.comparisons.specs.declared.error.CompareError.TheVariants.{Program, OtherInstances}
 use Rattle.comparisons.specs.declared.showing.Found.{Found}
@@ -10,7 +11,7 @@ use Rattle.comparisons.specs.declared.showing.Found.TheVariants.{Same, Turned}
 -- the line of a refusal
 abbrev pub refusal_text : CompareError → List ℕ
 refusal_text (Program cause) = refusals.refusal_text cause
-refusal_text OtherInstances = refusals.labelled_text (codes "F40 OtherInstances") None
+refusal_text (OtherInstances name) = named_text (codes "F40 OtherInstances") name None
 
 abbrev pub error_said : CompareError → Said
 error_said error = refusal (refusal_text error)

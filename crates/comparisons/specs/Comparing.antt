@@ -16,10 +16,12 @@ pub record AreCounterparts (names others_names : List (List ℕ)) (others : List
   pub each : (i p : ℕ) → slice_get others i ≡ Some p → (w : List ℕ) → slice_get names i ≡ Some w
       → instance_of others_names w ≡ Some p
 
--- an instance of the one is none of the other
-abbrev pub HasNoCounterpart : List (List ℕ) → List (List ℕ) → Type 0
-HasNoCounterpart names others_names = (i : ℕ) × (w : List ℕ) × (slice_get names i ≡ Some w)
-    × (instance_of others_names w ≡ None)
+-- this is the first instance of the one that is none of the other, by its name
+pub record HasNoCounterpart (names others_names : List (List ℕ)) (name : List ℕ) : Type 0 where
+  pub place : ℕ
+  pub has : slice_get names place ≡ Some name
+  pub none : instance_of others_names name ≡ None
+  pub first : (i : ℕ) → i < place → (w : List ℕ) → slice_get names i ≡ Some w → (p : ℕ) × (instance_of others_names w ≡ Some p)
 
 -- two events of p's line that both recordings have and that stand the other way round in the other one; in c the
 -- earlier is what `here` says, before the later, and in d the later what `there` says, before the earlier

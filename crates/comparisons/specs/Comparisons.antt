@@ -1,5 +1,6 @@
 -- What `mscview compare` does with the bytes of two files.
 use Rattle.std.specs.Prelude.{◌≡◌, ◌⊎◌, ℕ, Bool, true, false, List, [], ◌∷◌, ◌++◌, length, Result, Ok, Err}
+use Rattle.std.specs.Global.{Vec}
 use Rattle.std.specs.List.{flat_map, list_any}
 use Rattle.chart.specs.declared.event.Event.{Event}
 use Rattle.chart.specs.Charts.{chart_lines, IsPossible}
@@ -73,9 +74,18 @@ pub record IsTold (form : Form) (a b : Named) (text : List ℕ) (found : Found) 
   pub text_is : text ≡ flat_map (line_text form a b) lines
   pub found_is : found ≡ found_in (list_any has_difference lines)
 
--- an instance of one of the two is none of the other
-abbrev pub HaveOtherInstances : Named → Named → Type 0
-HaveOtherInstances a b = HasNoCounterpart a.0 b.0 ⊎ HasNoCounterpart b.0 a.0
+-- the numbers were found, or an instance is none of the other, or memory ran out
+abbrev pub FindsCounterparts : List (List ℕ) → List (List ℕ) → Result (Vec ℕ) CompareError → Type 0
+FindsCounterparts names others_names (Ok others) = AreCounterparts names others_names others.items
+FindsCounterparts names others_names (Err (OtherInstances name)) = HasNoCounterpart names others_names name
+FindsCounterparts names others_names (Err (Program errors.Memory)) = Unit {0}
+FindsCounterparts names others_names (Err (Program error)) = ⊥
+
+-- this instance of one of the two is none of the other: the first such of the first, and where that has none, the first
+-- such of the second
+abbrev pub HaveOtherInstances : Named → Named → List ℕ → Type 0
+HaveOtherInstances a b name = HasNoCounterpart a.0 b.0 name
+    ⊎ (((others : List ℕ) × AreCounterparts a.0 b.0 others) × HasNoCounterpart b.0 a.0 name)
 
 module _ {S : Type 0} (sink : S → Sink) where
   -- the text of two charts was written; or a beginning of it, where a put failed; or nothing, where their instances are
@@ -84,7 +94,7 @@ module _ {S : Type 0} (sink : S → Sink) where
   Compares old new form a b (Ok found) = IsPossible (length a.1) (chart_lines a.1)
       × IsPossible (length b.1) (chart_lines b.1)
       × ((text : List ℕ) × IsTold form a b text found × Puts sink old new text)
-  Compares old new form a b (Err OtherInstances) = HaveOtherInstances a b × (new ≡ old)
+  Compares old new form a b (Err (OtherInstances name)) = HaveOtherInstances a b name × (new ≡ old)
   Compares old new form a b (Err (Program errors.Memory)) = new ≡ old
   Compares old new form a b (Err (Program errors.Write)) = IsPossible (length a.1) (chart_lines a.1)
       × IsPossible (length b.1) (chart_lines b.1)

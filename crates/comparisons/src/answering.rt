@@ -3,8 +3,9 @@ ghost use Rattle.comparisons.specs.Answers.{error_said, found_said};
 
 use crate::error::CompareError;
 use crate::showing::Found;
-use files::{Answer, refused, refused_by};
+use files::{Answer, refused};
 use msc_text::Out;
+use named_refusals::refused_at;
 
 impl Answer for CompareError {
     ghost said = { error_said };
@@ -18,8 +19,8 @@ impl Answer for CompareError {
             CompareError::Program(cause) => {
                 let _ = refused(cause, err);
             }
-            CompareError::OtherInstances => {
-                let _ = refused_by(b"F40 OtherInstances", None, err);
+            CompareError::OtherInstances(name) => {
+                let _ = refused_at(b"F40 OtherInstances", name, None, err);
             }
         }
     }

@@ -1,5 +1,6 @@
 //! What the program refuses.
 
+use chart::Name;
 use files::ProgramError;
 use thiserror::Error;
 
@@ -9,9 +10,9 @@ pub enum CompareError {
     /// What `mscrun` refuses too: the command line, a file, its text, the chart that it says, a write.
     #[error(transparent)]
     Program(ProgramError),
-    /// F40: an instance of one recording is none of the other.
+    /// F40: this instance of one recording is none of the other.
     #[error("the two recordings have other instances")]
-    OtherInstances,
+    OtherInstances(Name),
 }
 
 impl From<ProgramError> for CompareError {

@@ -69,15 +69,8 @@ fn compare_charts<W: Out>(
     ensures { Compares W.sink out.old out.new both.now.form (both.now.names.now, both.now.chart.now)
         (both.now.other_names.now, both.now.other_chart.now) result }
 {
-    let Ok(forth) = counterparts(alloc, both.names, both.other_names) else {
-        return Err(CompareError::Program(ProgramError::Memory));
-    };
-    let Ok(back) = counterparts(alloc, both.other_names, both.names) else {
-        return Err(CompareError::Program(ProgramError::Memory));
-    };
-    let (Some(others), Some(back)) = (forth, back) else {
-        return Err(CompareError::OtherInstances);
-    };
+    let others = counterparts(alloc, both.names, both.other_names)?;
+    let back = counterparts(alloc, both.other_names, both.names)?;
     let here = closure_of(alloc, both.names, both.chart)?;
     let there = closure_of(alloc, both.other_names, both.other_chart)?;
     let recordings = Recordings {

@@ -1,9 +1,10 @@
 -- A page as text (this project's profile; the elements are those of HTML).
-use Rattle.std.specs.Prelude.{ℕ, List, ◌++◌, length, decimal}
+use Rattle.std.specs.Prelude.{ℕ, List, [], ◌++◌, ◌==◌, length, decimal, nat_lt, if◌then◌else◌}
 use Rattle.std.specs.List.{flat_map}
 use Rattle.text_parts.specs.Pieces.{escaped}
 use Rattle.page_text.specs.declared.fixed.TheConstants.{POLICY, STYLE, CONTROLS, SCRIPT}
 use Rattle.page_text.specs.declared.page.Page.{Page}
+use Rattle.page_text.specs.declared.word.Word.{Word}
 use Rattle.page_text.specs.declared.word.Word.TheVariants as words
 use Rattle.page_text.specs.RaceText.{race_text}
 use Rattle.page_text.specs.Words.{word_text}
@@ -25,9 +26,22 @@ script = SCRIPT.now
 unfoldable pub head_text : List ℕ → List ℕ
 head_text title = word_text words.PageStart ++ (policy ++ (escaped title ++ (word_text words.StyleStart ++ style)))
 
--- how many races there are, and how many are told in full
+-- the word for so many races
+abbrev pub race_word : ℕ → Word
+race_word n = if n == 1 then words.OneRace else words.Races
+
+-- how many of them are told in full
+unfoldable pub some_told : ℕ → List ℕ
+some_told told = word_text words.ToldStart ++ (decimal told ++ word_text words.ToldEnd)
+
+-- the same where not all are
+abbrev pub told_text : ℕ → ℕ → List ℕ
+told_text races told = if nat_lt told races then some_told told else []
+
+-- how many races there are, and where not all are told in full, how many are
 unfoldable pub counts_text : ℕ → ℕ → List ℕ
-counts_text races told = word_text words.CountStart ++ (decimal races ++ (word_text words.ToldStart ++ (decimal told ++ controls)))
+counts_text races told = word_text words.CountStart ++ (decimal races ++ (word_text (race_word races)
+    ++ (told_text races told ++ controls)))
 
 -- the title, and the picture
 unfoldable pub top_text : Page → List ℕ

@@ -2,7 +2,8 @@
 ghost use Rattle.std.specs.Prelude.{◌≡◌};
 ghost use Rattle.std.specs.List.{flat_map};
 ghost use Rattle.msc_text.specs.Writing.{Adds, Wrote};
-ghost use Rattle.page_text.specs.PageText.{policy, style, controls, script, head_text, counts_text, top_text, page_text};
+ghost use Rattle.page_text.specs.PageText.{policy, style, controls, script, head_text, race_word, some_told, told_text};
+ghost use Rattle.page_text.specs.PageText.{counts_text, top_text, page_text};
 ghost use Rattle.page_text.specs.RaceText.{race_text};
 
 use crate::excerpt::add_any;
@@ -64,15 +65,47 @@ fn add_head<W: Out>(text: &mut TextBuffer<'_, W>, title: &[u8]) -> Result<(), Wr
     add_style(text)
 }
 
-/// Adds how many races the page has, and how many of them are told in full.
+/// The word for so many races.
+fn race_word(races: u64) -> Word
+    ensures { result ≡ race_word races }
+{
+    if races == 1 {
+        Word::OneRace
+    } else {
+        Word::Races
+    }
+}
+
+/// Adds how many races are told in full.
+#[tactic(auto, using(msc_text::proofs::Writes::joining), unfolding(crate::specs::PageText::some_told))]
+fn add_some_told<W: Out>(text: &mut TextBuffer<'_, W>, told: u64) -> Result<(), WriteError>
+    ensures { Adds W.sink text.old text.new result (some_told told) }
+{
+    add_word(text, Word::ToldStart)?;
+    text.add_number(told)?;
+    add_word(text, Word::ToldEnd)
+}
+
+/// Adds the same, where not all are.
+fn add_told<W: Out>(text: &mut TextBuffer<'_, W>, races: u64, told: u64) -> Result<(), WriteError>
+    ensures { Adds W.sink text.old text.new result (told_text races told) }
+{
+    if told < races {
+        add_some_told(text, told)
+    } else {
+        text.add(b"")
+    }
+}
+
+/// Adds how many races the page has, and where not all of them are told in full, how many are.
 #[tactic(auto, using(msc_text::proofs::Writes::joining), unfolding(crate::specs::PageText::counts_text))]
 fn add_counts<W: Out>(text: &mut TextBuffer<'_, W>, races: u64, told: u64) -> Result<(), WriteError>
     ensures { Adds W.sink text.old text.new result (counts_text races told) }
 {
     add_word(text, Word::CountStart)?;
     text.add_number(races)?;
-    add_word(text, Word::ToldStart)?;
-    text.add_number(told)?;
+    add_word(text, race_word(races))?;
+    add_told(text, races, told)?;
     add_controls(text)
 }
 

@@ -56,8 +56,14 @@ pub(crate) enum Word {
     HeadStart,
     /// Before the number of its races.
     CountStart,
+    /// Behind it, where there is one.
+    OneRace,
+    /// Behind it, where there are none or several.
+    Races,
     /// Before the number of those that are told in full.
     ToldStart,
+    /// Behind it.
+    ToldEnd,
     /// Before the picture.
     PictureStart,
     /// Before the races.
@@ -97,8 +103,11 @@ fn word_of(word: &Word) -> &[u8]
             b"<!DOCTYPE html>\n<html lang=\"en\">\n<head>\n<meta charset=\"utf-8\">\n",
         Word::StyleStart => b"</title>\n<style>\n",
         Word::HeadStart => b"</style>\n</head>\n<body>\n<header>\n<h1>",
-        Word::CountStart => b"</h1>\n<p>Races: ",
-        Word::ToldStart => b", of which so many are told in full: ",
+        Word::CountStart => b"</h1>\n<p>",
+        Word::OneRace => b" race",
+        Word::Races => b" races",
+        Word::ToldStart => b", ",
+        Word::ToldEnd => b" of them told in full",
         Word::PictureStart => b"</header>\n<main id=\"picture\">\n",
         Word::RacesStart => b"</main>\n<section id=\"list\">\n<ol id=\"races\">\n",
         Word::ScriptStart => b"</ol>\n</section>\n<script>\n",

@@ -6,4 +6,4 @@ use Rattle.comparisons.proofs.answering.CompareErrorAnswer.tell.Goals as goal
 
 pub returns-in-OtherInstances : goal.returns-in-OtherInstances
 returns-in-OtherInstances g c =
-    subst (λ (e : CompareError). Tried g.V.Out.sink c.args.err.now c.refused_by.new.err (refusal_text e)) (sym c.in-OtherInstances.is) c.refused_by.ensures.line
+    subst (λ (e : CompareError). Tried g.V.Out.sink c.args.err.now c.refused_at.new.err (refusal_text e)) (sym c.in-OtherInstances.is) c.refused_at.ensures.line
