@@ -1,12 +1,11 @@
 -- Messages in the slots of a lane, sent by one store.
-use Rattle.std.proofs.Common.{◌≡◌, ℕ, ◌+◌, ◌≤◌, false, List, [], ◌∷◌, ◌++◌, length, drop, sym, ap, ◌∙◌, subst, arith}
+use Rattle.std.proofs.Common.{◌≡◌, ℕ, ◌+◌, ◌≤◌, false, List, [], ◌∷◌, ◌++◌, length, drop, refl, sym, ap, ◌∙◌, subst, arith}
 use Rattle.std.proofs.lemmas.List.{length-map}
 use Rattle.chart.specs.declared.history.Occurrence.{Occurrence}
 use Rattle.chart.specs.declared.line.TheConstants.{MAX_EVENTS}
 use Rattle.chart.specs.Messages.{Content}
 use Rattle.chart.specs.Histories.{own, sent, is_closed, chart_of, IsLegal}
-use Rattle.clock.specs.declared.diff.Change.{Change}
-use Rattle.line_recorder.specs.Recorders.{RecorderView, after_sends, send_clocks}
+use Rattle.line_recorder.specs.Recorders.{RecorderView, after_sends}
 use Rattle.line_recorder.specs.Recording.{IsRecorder}
 use Rattle.board_core.proofs.OwnEvents.{same_recorder}
 use Rattle.board_table.specs.declared.held.Held.{Held}
@@ -19,11 +18,11 @@ use Rattle.board.specs.declared.ends.Outgoing.{Outgoing}
 use Rattle.board.specs.Known.{IsOutgoing, Did}
 use Rattle.board.specs.Sending.{sends_of}
 use Rattle.board.specs.Parts.{MayPut, HasSlots}
-use Rattle.board.specs.SendingMany.{names_of, packets_of, AreDiffsTo, last_of}
+use Rattle.board.specs.SendingMany.{AreFilled}
 use Rattle.board.proofs.EndLemmas.{outgoing_later}
 use Rattle.board.proofs.DidLemmas.{did_move}
 use Rattle.board.proofs.OneSend.{known_many, recorder_saw, line_saw, closed_saw}
-use Rattle.board.proofs.SeveralSends.{IsSender, is_sender, sends_after, sends_are, contents, sent_are, packets_contents, as_many_diffs, recorder_sends, end_sends}
+use Rattle.board.proofs.SeveralSends.{IsSender, is_sender, sends_after, sends_are, contents, sent_are, carried_contents, names_of, last_base, recorder_sends, end_sends}
 
 -- The call knew what m knows, and then saw what s knows; f has these packets, which are of these messages, in its slots.
 pub record Fills (l : LaneView) (m s f : Mine) (r : RecorderView) (u : Outgoing) (ms : List Content) (xs : List Packet) : Type 0 where
@@ -37,10 +36,10 @@ pub record Fills (l : LaneView) (m s f : Mine) (r : RecorderView) (u : Outgoing)
   pub filled : packets_out f ≡ xs
   pub are : contents xs ≡ ms
 
--- with these differences
-pub fills_of : (l : LaneView) (m s f : Mine) (r : RecorderView) (u : Outgoing) (ms : List Content) (ds : List (List Change)) → IsLegal l.instances l.capacity (held m).seen → own (held m).seen l.sender ≡ (held m).made → Did l.instances l.capacity l.sender (held m) (held s) (held s).seen [] → IsRecorder l.instances (held m).seen l.sender r → IsOutgoing l.instances (held s).seen l.sender l.receiver u
-    → HasSlots l (length ms) s → held f ≡ held s → packets_out f ≡ packets_of ms ds → AreDiffsTo u.base ds (send_clocks r l.receiver (names_of ms)) → Fills l m s f r u ms (packets_of ms ds)
-fills_of l m s f r u ms ds legal its did recorder end slots kept filled are = record {
+-- where the recorder has recorded the sends of the messages
+pub fills_of : (l : LaneView) (m s f : Mine) (r v : RecorderView) (u : Outgoing) (ms : List Content) → IsLegal l.instances l.capacity (held m).seen → own (held m).seen l.sender ≡ (held m).made → Did l.instances l.capacity l.sender (held m) (held s) (held s).seen [] → IsRecorder l.instances (held m).seen l.sender r → IsOutgoing l.instances (held s).seen l.sender l.receiver u
+    → HasSlots l (length ms) s → held f ≡ held s → AreFilled u.base r l.receiver ms (packets_out f) v → Fills l m s f r u ms (packets_out f)
+fills_of l m s f r v u ms legal its did recorder end slots kept are = record {
   legal = legal;
   its = its;
   did = did;
@@ -48,8 +47,8 @@ fills_of l m s f r u ms ds legal its did recorder end slots kept filled are = re
   end = end;
   number = slots.filling.post.number;
   kept = kept;
-  filled = filled;
-  are = packets_contents ms ds (as_many_diffs u.base r l.receiver ms ds are);
+  filled = refl;
+  are = carried_contents u.base (packets_out f) are.parcels are.carried ∙ are.messages_are;
 }
 
 -- with one packet, which carries its message with the sender's next clock
@@ -126,9 +125,9 @@ module _ (l : LaneView) (m s f : Mine) (r : RecorderView) (u : Outgoing) (ms : L
         subst (λ (h : List Occurrence). IsRecorder l.instances h l.sender (after_sends r l.receiver (names_of ms))) (sym seen_is)
         (recorder_sends l.instances l.capacity l.sender l.receiver ms before r (subst (IsLegal l.instances l.capacity) seen_is moves.legal) recorder_before)
 
-    pub end_sent : (put : ℕ) → put ≡ u.put + length ms → IsOutgoing l.instances (held w).seen l.sender l.receiver (record u { put = put; base = last_of u.base (send_clocks r l.receiver (names_of ms)) })
+    pub end_sent : (put : ℕ) → put ≡ u.put + length ms → IsOutgoing l.instances (held w).seen l.sender l.receiver (record u { put = put; base = last_base u.base r l.receiver ms })
     end_sent put many =
         let there = outgoing_later l.instances (held s).seen before l.sender l.receiver u moves.later same_before fills.end in
         let long = known_many l.instances l.capacity (held m).seen l.sender r fills.legal fills.recorder in
-        subst (λ (h : List Occurrence). IsOutgoing l.instances h l.sender l.receiver (record u { put = put; base = last_of u.base (send_clocks r l.receiver (names_of ms)) })) (sym seen_is)
+        subst (λ (h : List Occurrence). IsOutgoing l.instances h l.sender l.receiver (record u { put = put; base = last_base u.base r l.receiver ms })) (sym seen_is)
         (end_sends l.instances l.sender l.receiver ms before r u put (is_sender l.instances before l.sender r recorder_before) long there many)

@@ -1,5 +1,5 @@
 //! Fills of slots by messages that are sent directly after another one.
-ghost use Rattle.std.specs.Prelude.{◌≡◌, ◌≢◌, ◌+◌, ◌<◌, ◌≤◌, [], ◌∷◌, ◌++◌, length, suc, IfSome, IsSome};
+ghost use Rattle.std.specs.Prelude.{◌≡◌, ◌≢◌, ◌+◌, ◌<◌, ◌≤◌, [], ◌∷◌, ◌++◌, length, suc, None, IfSome, IsSome};
 ghost use Rattle.chart.specs.Histories.{sent};
 ghost use Rattle.chart.specs.declared.line.TheConstants.{MAX_EVENTS};
 ghost use Rattle.clock.specs.Clocks.{entry_of};
@@ -14,7 +14,7 @@ use chart::{InstanceNo, Message};
 use clock::Diff;
 use line_recorder::Recorder;
 
-/// Puts a message into a slot and records its send, which comes directly after another one. Its difference is made in
+/// Puts a message into an empty slot and records its send, which comes directly after another one. Its difference is made in
 /// the slot: what changed since that one.
 #[inline(always)]
 fn put_next(
@@ -23,6 +23,7 @@ fn put_next(
     to: InstanceNo,
     message: Message,
 )
+    requires vacant { slot.old ≡ None }
     requires not_itself { to ≢ recorder.old.line.instance }
     requires short { length recorder.old.line.events < MAX_EVENTS }
     requires ready { 0 < recorder.old.room }
@@ -37,6 +38,8 @@ fn put_next(
     *slot = Some(Packet { message, diff });
     let Some(packet) = slot else { unreachable!() };
     recorder.send_next(to, name, &mut packet.diff);
+    // What was written through the packet is known of the slot once the packet is read again.
+    let _changes = packet.diff.len();
 }
 
 /// Puts a message into the first empty slot, which is that of the message before which `count` were put on the lane, and
