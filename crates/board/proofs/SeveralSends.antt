@@ -1,5 +1,5 @@
 -- Several messages, sent one directly after another.
-use Rattle.std.proofs.Common.{◌≡◌, ℕ, suc, ◌+◌, List, [], ◌∷◌, ◌++◌, length, map, refl, sym, ap, ap₂, ◌∙◌, subst, arith, append_assoc}
+use Rattle.std.proofs.Common.{◌≡◌, ℕ, suc, ◌+◌, ◌≤◌, List, [], ◌∷◌, ◌++◌, length, map, refl, sym, ap, ap₂, ◌∙◌, subst, arith, append_assoc}
 use Rattle.std.proofs.lemmas.Bool.{eq-eqb}
 use Rattle.std.proofs.lemmas.List.{reverse-append, length-append, length-map}
 use Rattle.chart.specs.declared.history.Occurrence.{Occurrence}
@@ -118,9 +118,14 @@ pub last_stamped : (base : List ℕ) (r : RecorderView) (q : ℕ) (ms : List Con
 last_stamped base r q [] some = absurd (omega arith)
 last_stamped base r q (m ∷ ms) some =
     let all = names_of (m ∷ ms) in
+    let v = after_sends r q all in
+    let is = after_sends_is r q all in
     let sends = map (send_event q) all in
-    let many : length (r.line.events ++ sends) ≡ length r.line.events + length all = omega (arith, length-append r.line.events sends, length-map all (send_event q)) in
-    rw (after_sends_is r q all) (with_entry-with_entry r.knowledge r.line.instance (length r.line.events + 1) (length (r.line.events ++ sends)) ∙ ap (λ (i : ℕ). with_entry r.knowledge r.line.instance i) many)
+    let own : v.line.instance ≡ r.line.instance = ap (λ (x : RecorderView). x.line.instance) is in
+    let many : length v.line.events ≡ length r.line.events + length all = ap (λ (x : RecorderView). length x.line.events) is ∙ omega (arith, length-append r.line.events sends, length-map all (send_event q)) in
+    let knows : v.knowledge ≡ with_entry r.knowledge r.line.instance (length r.line.events + length all) = ap (λ (x : RecorderView). x.knowledge) is in
+    ap (λ (i : ℕ). with_entry (send_clock r) i (length v.line.events)) own ∙ ap (λ (i : ℕ). with_entry (send_clock r) r.line.instance i) many
+    ∙ with_entry-with_entry r.knowledge r.line.instance (length r.line.events + 1) (length r.line.events + length all) ∙ sym knows
 
 pub end_sends : (n p q : ℕ) (ms : List Content) (h : List Occurrence) (r : RecorderView) (o : Outgoing) (put : ℕ) → IsSender n h p r → length r.knowledge ≡ n → IsOutgoing n h p q o → put ≡ o.put + length ms
     → IsOutgoing n (sends_after p q ms h) p q (record o { put = put; base = last_base o.base r q ms })
