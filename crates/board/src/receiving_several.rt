@@ -5,16 +5,16 @@ ghost use Rattle.board_table.specs.Layout.{IsBoard};
 ghost use Rattle.board_table.specs.Knowing.{held, Rests};
 ghost use Rattle.board.specs.Known.{IsIncoming};
 ghost use Rattle.board.specs.Found.{KnowsOf};
-ghost use Rattle.board.specs.Receipts.{MayReceive, MayTake, IsTaken, AreTaken, IsHalted, AreReceived, IsStopped};
-ghost use Rattle.board.specs.Receipts.{IsUnreceived};
+ghost use Rattle.board.specs.Receipts.{MayReceive, AreTaken, IsHalted, AreReceived, IsStopped, IsUnreceived};
 
 use crate::answer::{Arrival, Stop};
 use crate::ends::Incoming;
 use crate::error::TakeError;
-use board_table::{Lane, Seat, Words, free, give_back_full, receive_front};
+use crate::receiving::take_next;
+use board_table::{Lane, Seat, Words, free, give_back_full};
 use chart::{InstanceNo, MAX_EVENTS};
 use line_recorder::Recorder;
-use std::alloc::{AllocError, Global};
+use std::alloc::Global;
 
 /// Receives the first of the messages that were found, at most so many, in this coregion, and answers why no more.
 /// They are freed at once.
@@ -101,8 +101,6 @@ fn take_several(
         (length recorder.new.line.events) result }
 {
     let many = max.min(end.known_put - end.taken);
-    // Where there is no memory for all at once, there may still be some for the first ones.
-    let _ = arrivals.reserve(many as usize);
     for _ in 0..many {
         if recorder.line().len() >= MAX_EVENTS {
             return Stop::Refused(TakeError::LineFull);
@@ -110,7 +108,7 @@ fn take_several(
         if arrivals.reserve(1).is_err() {
             return Stop::Refused(TakeError::Memory);
         }
-        let Ok(arrival) = take_in_place(words, seat, lane, recorder, end, from, region) else {
+        let Ok(arrival) = take_next(words, seat, lane, recorder, end, from, region) else {
             return Stop::Refused(TakeError::Memory);
         };
         arrivals.push_reserved(arrival);
@@ -120,41 +118,4 @@ fn take_several(
     } else {
         Stop::NoMore
     }
-}
-
-/// Takes the next of the messages that were found out of its slot, and records its receive, where it lies.
-///
-/// F6: it fails only where there is no memory, and then nothing has changed.
-#[inline(always)]
-fn take_in_place(
-    words: &Words,
-    seat: &mut Seat,
-    lane: &Lane,
-    recorder: &mut Recorder,
-    end: &mut Incoming,
-    from: InstanceNo,
-    region: u32,
-) -> Result<Arrival, AllocError>
-    requires table { seat.old.table_id ≡ words.now.table_id }
-    requires board { IsBoard lane.now.instances lane.now.capacity words.now.key words.now.table_id }
-    requires may_take { MayTake lane.now region seat.old.me end.old recorder.old }
-    requires from { from ≡ lane.now.sender }
-    ensures table { seat.new.table_id ≡ seat.old.table_id }
-    ensures ok { IfOk result (λ arrival. IsTaken lane.now region seat.old.me end.old recorder.old arrival seat.new.me
-        end.new recorder.new) }
-    ensures seat { OnErr result (seat.new.me ≡ seat.old.me) }
-    ensures end { OnErr result (end.new ≡ end.old) }
-    ensures recorder { OnErr result (recorder.new ≡ recorder.old) }
-{
-    let taken = end.taken;
-    let came = receive_front(words, seat, lane, taken, recorder, &mut end.base, region);
-    let Ok((message, report)) = came else {
-        return Err(AllocError);
-    };
-    end.taken += 1;
-    Ok(Arrival {
-        from,
-        message,
-        report,
-    })
 }

@@ -17,12 +17,7 @@ use line_recorder::Recorder;
 /// Puts a message into an empty slot and records its send, which comes directly after another one. Its difference is made in
 /// the slot: what changed since that one.
 #[inline(always)]
-fn put_next(
-    slot: &mut Option<Packet>,
-    recorder: &mut Recorder,
-    to: InstanceNo,
-    message: Message,
-)
+fn put_next(slot: &mut Option<Packet>, recorder: &mut Recorder, to: InstanceNo, message: Message)
     requires vacant { slot.old ≡ None }
     requires not_itself { to ≢ recorder.old.line.instance }
     requires short { length recorder.old.line.events < MAX_EVENTS }

@@ -17,7 +17,6 @@
 //! What the steps tell stands in `specs/Plays.antt`. The words are grouped by who writes them (`specs/Layout.antt`).
 #![tactic(auto)]
 
-mod emptying;
 mod filling;
 mod held;
 mod lane;
@@ -30,7 +29,6 @@ mod sender;
 mod shape;
 mod table;
 
-pub use emptying::receive_front;
 pub use filling::fill_next;
 pub use held::{Held, Hold};
 pub use lane::Lane;

@@ -15,12 +15,12 @@ loop-init c =
     let r = c.args.recorder.now in
     record {
       table = c.requires.table;
-      taken = subst (λ (xs : List Arrival). AreTaken l c.args.region s u r xs s u r) (sym (c.reserve.ensures.items ∙ c.requires.none)) (none_taken l c.args.region s u r c.requires.may_receive);
-      as_many = ap length (c.reserve.ensures.items ∙ c.requires.none);
+      taken = subst (λ (xs : List Arrival). AreTaken l c.args.region s u r xs s u r) (sym c.requires.none) (none_taken l c.args.region s u r c.requires.may_receive);
+      as_many = ap length c.requires.none;
     }
 
-pub take_in_place-requires-clause-may_take : goal.take_in_place-requires-clause-may_take
-take_in_place-requires-clause-may_take c =
+pub take_next-requires-clause-may_take : goal.take_next-requires-clause-may_take
+take_next-requires-clause-may_take c =
     let some : 0 < length (packets_out c.loop.seat.me) = search rules in
     let short : length c.loop.recorder.line.events < MAX_EVENTS = omega (arith, ap (λ (line : LineView). length line.events) c.line.ensures, c.len.ensures.value, c.if-len-ge-MAX_EVENTS.false) in
     may_take c.args.lane.now c.args.region c.args.seat.now.me c.args.end.now c.args.recorder.now c.requires.may_receive c.loop.arrivals.items c.loop.seat.me c.loop.end c.loop.recorder c.loop.invariant.taken some short
@@ -31,15 +31,15 @@ loop-preserved c =
     let s = c.args.seat.now.me in
     let u = c.args.end.now in
     let r = c.args.recorder.now in
-    let t = c.take_in_place.new.seat.me in
-    let o = c.take_in_place.new.end in
-    let v = c.take_in_place.new.recorder in
+    let t = c.take_next.new.seat.me in
+    let o = c.take_next.new.end in
+    let v = c.take_next.new.recorder in
     let short : length c.loop.recorder.line.events < MAX_EVENTS = omega (arith, ap (λ (line : LineView). length line.events) c.line.ensures, c.len.ensures.value, c.if-len-ge-MAX_EVENTS.false) in
     let grown = c.push_reserved.ensures.items in
     record {
-      table = c.take_in_place.ensures.table ∙ c.loop.invariant.table;
+      table = c.take_next.ensures.table ∙ c.loop.invariant.table;
       taken = subst (λ (xs : List Arrival). AreTaken l c.args.region s u r xs t o v) (sym c.push_reserved.ensures.items)
-          (subst (λ (xs : List Arrival). AreTaken l c.args.region s u r (xs ++ c.in-Ok.arrival ∷ []) t o v) (sym c.reserve-in-loop.ensures.items)
+          (subst (λ (xs : List Arrival). AreTaken l c.args.region s u r (xs ++ c.in-Ok.arrival ∷ []) t o v) (sym c.reserve.ensures.items)
           (one_more l c.args.region s u r c.requires.may_receive c.loop.arrivals.items c.loop.seat.me c.loop.end c.loop.recorder c.loop.invariant.taken t o v c.in-Ok.arrival short c.in-Ok.ensures.ok));
       as_many = search rules;
     }

@@ -171,10 +171,10 @@ returns-clause-end c =
     let many : c.len-2.result ≡ length v.line.events = c.len-2.ensures.value ∙ ap (λ (x : LineView). length x.events) c.line-line.ensures in
     let sends_all = after_sends q l.receiver (names_of ms) in
     let stamped : c.stamp.new.self ≡ last_base u.base q l.receiver ms =
-        c.stamp.ensures.value ∙ ap (λ (b : List ℕ). with_entry b c.instance.result c.len-2.result) first
-        ∙ ap (λ (i : ℕ). with_entry (send_clock q) i c.len-2.result) (own ∙ ap (λ (x : RecorderView). x.line.instance) (recorded c))
-        ∙ ap (λ (i : ℕ). with_entry (send_clock q) sends_all.line.instance i) (many ∙ ap (λ (x : RecorderView). length x.line.events) (recorded c))
-        ∙ last_stamped u.base q l.receiver ms (omega (arith, c.requires.some)) in
+    c.stamp.ensures.value ∙ ap (λ (b : List ℕ). with_entry b c.instance.result c.len-2.result) first
+    ∙ ap (λ (i : ℕ). with_entry (send_clock q) i c.len-2.result) (own ∙ ap (λ (x : RecorderView). x.line.instance) (recorded c))
+    ∙ ap (λ (i : ℕ). with_entry (send_clock q) sends_all.line.instance i) (many ∙ ap (λ (x : RecorderView). length x.line.events) (recorded c))
+    ∙ last_stamped u.base q l.receiver ms (omega (arith, c.requires.some)) in
     subst (λ (base : List ℕ). IsOutgoing l.instances (held c.publish.new.seat.me).seen l.sender l.receiver (record u { put = c.fill_slots-end.result; base = base })) (sym stamped) (end_sent l m s f q u ms (packets_out f) (sends c) c.publish.new.seat.me c.publish.ensures.publishes c.fill_slots-end.result c.fill_slots-end.ensures.count)
 
 pub returns-clause-left : goal.returns-clause-left
