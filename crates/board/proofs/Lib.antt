@@ -6,6 +6,7 @@ pub mod DidLemmas
 pub mod Drawing
 pub mod DrawnLanes
 pub mod EndLemmas
+pub mod FilledSlots
 pub mod Finding
 pub mod Leavers
 pub mod Looking

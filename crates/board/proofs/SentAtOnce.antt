@@ -1,12 +1,11 @@
 -- Messages in the slots of a lane, sent by one store.
-use Rattle.std.proofs.Common.{◌≡◌, ℕ, ◌+◌, ◌≤◌, false, List, [], ◌∷◌, ◌++◌, length, drop, sym, ap, ◌∙◌, subst, arith}
+use Rattle.std.proofs.Common.{◌≡◌, ℕ, ◌+◌, ◌≤◌, false, List, [], ◌∷◌, ◌++◌, length, drop, refl, sym, ap, ◌∙◌, subst, arith}
 use Rattle.std.proofs.lemmas.List.{length-map}
 use Rattle.chart.specs.declared.history.Occurrence.{Occurrence}
 use Rattle.chart.specs.declared.line.TheConstants.{MAX_EVENTS}
 use Rattle.chart.specs.Messages.{Content}
 use Rattle.chart.specs.Histories.{own, sent, is_closed, chart_of, IsLegal}
-use Rattle.clock.specs.declared.diff.Change.{Change}
-use Rattle.line_recorder.specs.Recorders.{RecorderView, after_sends, send_clocks}
+use Rattle.line_recorder.specs.Recorders.{RecorderView, send_clock, after_sends}
 use Rattle.line_recorder.specs.Recording.{IsRecorder}
 use Rattle.board_core.proofs.OwnEvents.{same_recorder}
 use Rattle.board_table.specs.declared.held.Held.{Held}
@@ -19,11 +18,12 @@ use Rattle.board.specs.declared.ends.Outgoing.{Outgoing}
 use Rattle.board.specs.Known.{IsOutgoing, Did}
 use Rattle.board.specs.Sending.{sends_of}
 use Rattle.board.specs.Parts.{MayPut, HasSlots}
-use Rattle.board.specs.SendingMany.{names_of, packets_of, AreDiffsTo, last_of}
+use Rattle.board.specs.declared.sending_several.Prepared.{Prepared}
+use Rattle.board.specs.SendingMany.{IsDiffTo, IsPrepared, AreFilled}
 use Rattle.board.proofs.EndLemmas.{outgoing_later}
 use Rattle.board.proofs.DidLemmas.{did_move}
 use Rattle.board.proofs.OneSend.{known_many, recorder_saw, line_saw, closed_saw}
-use Rattle.board.proofs.SeveralSends.{IsSender, is_sender, sends_after, sends_are, contents, sent_are, packets_contents, as_many_diffs, recorder_sends, end_sends}
+use Rattle.board.proofs.SeveralSends.{IsSender, is_sender, sends_after, sends_are, contents, sent_are, carried_contents, names_of, names_are, last_base, recorder_sends, end_sends}
 
 -- The call knew what m knows, and then saw what s knows; f has these packets, which are of these messages, in its slots.
 pub record Fills (l : LaneView) (m s f : Mine) (r : RecorderView) (u : Outgoing) (ms : List Content) (xs : List Packet) : Type 0 where
@@ -37,20 +37,28 @@ pub record Fills (l : LaneView) (m s f : Mine) (r : RecorderView) (u : Outgoing)
   pub filled : packets_out f ≡ xs
   pub are : contents xs ≡ ms
 
--- with these differences
-pub fills_of : (l : LaneView) (m s f : Mine) (r : RecorderView) (u : Outgoing) (ms : List Content) (ds : List (List Change)) → IsLegal l.instances l.capacity (held m).seen → own (held m).seen l.sender ≡ (held m).made → Did l.instances l.capacity l.sender (held m) (held s) (held s).seen [] → IsRecorder l.instances (held m).seen l.sender r → IsOutgoing l.instances (held s).seen l.sender l.receiver u
-    → HasSlots l (length ms) s → held f ≡ held s → packets_out f ≡ packets_of ms ds → AreDiffsTo u.base ds (send_clocks r l.receiver (names_of ms)) → Fills l m s f r u ms (packets_of ms ds)
-fills_of l m s f r u ms ds legal its did recorder end slots kept filled are = record {
-  legal = legal;
-  its = its;
+-- what is prepared, and then filled over any base that the first difference is to, is filled over the lane's base
+pub prepared_filled : (base : List ℕ) (r q v : RecorderView) (to : ℕ) (ms : List Content) (it : Prepared) (xs : List Packet) → IsPrepared base r ms it q → ((b : List ℕ) → IsDiffTo b it.first (send_clock q) → AreFilled b q to ms xs v) → AreFilled base q to ms xs v
+prepared_filled base r q v to ms it xs prepared filled = filled base (subst (λ (z : RecorderView). IsDiffTo base it.first (send_clock z)) (sym prepared.room) prepared.first)
+
+-- with packets of which the recorder has recorded the sends
+pub fills_of : (l : LaneView) (m s f : Mine) (r q v : RecorderView) (e u : Outgoing) (ms : List Content) (it : Prepared) → MayPut l (length ms) m e r → Did l.instances l.capacity l.sender (held m) (held s) (held s).seen [] → IsOutgoing l.instances (held s).seen l.sender l.receiver u
+    → HasSlots l (length ms) s → IsPrepared u.base r ms it q → held f ≡ held s → AreFilled u.base q l.receiver ms (packets_out f) v → Fills l m s f q u ms (packets_out f)
+fills_of l m s f r q v e u ms it may did end slots prepared kept are = record {
+  legal = may.legal;
+  its = may.own;
   did = did;
-  recorder = recorder;
+  recorder = subst (λ (z : RecorderView). IsRecorder l.instances (held m).seen l.sender z) (sym prepared.room) (record { line = may.recorded.line; knowledge = may.recorded.knowledge; receives = may.recorded.receives; reports = may.recorded.reports });
   end = end;
   number = slots.filling.post.number;
   kept = kept;
-  filled = filled;
-  are = packets_contents ms ds (as_many_diffs u.base r l.receiver ms ds are);
+  filled = refl;
+  are = carried_contents u.base (packets_out f) are.parcels are.carried ∙ are.messages_are;
 }
+
+-- the recorder has recorded the sends of these messages
+pub recorded_is : (base : List ℕ) (q v : RecorderView) (to : ℕ) (ms : List Content) (xs : List Packet) → AreFilled base q to ms xs v → v ≡ after_sends q to (names_of ms)
+recorded_is base q v to ms xs are = are.recorded ∙ ap (after_sends q to) (names_are are.parcels ∙ ap names_of are.messages_are)
 
 -- with one packet, which carries its message with the sender's next clock
 pub fills_one : (l : LaneView) (m s f : Mine) (r : RecorderView) (e u : Outgoing) (message : Content) (x : Packet) → MayPut l 1 m e r → Did l.instances l.capacity l.sender (held m) (held s) (held s).seen [] → IsOutgoing l.instances (held s).seen l.sender l.receiver u
@@ -126,9 +134,9 @@ module _ (l : LaneView) (m s f : Mine) (r : RecorderView) (u : Outgoing) (ms : L
         subst (λ (h : List Occurrence). IsRecorder l.instances h l.sender (after_sends r l.receiver (names_of ms))) (sym seen_is)
         (recorder_sends l.instances l.capacity l.sender l.receiver ms before r (subst (IsLegal l.instances l.capacity) seen_is moves.legal) recorder_before)
 
-    pub end_sent : (put : ℕ) → put ≡ u.put + length ms → IsOutgoing l.instances (held w).seen l.sender l.receiver (record u { put = put; base = last_of u.base (send_clocks r l.receiver (names_of ms)) })
+    pub end_sent : (put : ℕ) → put ≡ u.put + length ms → IsOutgoing l.instances (held w).seen l.sender l.receiver (record u { put = put; base = last_base u.base r l.receiver ms })
     end_sent put many =
         let there = outgoing_later l.instances (held s).seen before l.sender l.receiver u moves.later same_before fills.end in
         let long = known_many l.instances l.capacity (held m).seen l.sender r fills.legal fills.recorder in
-        subst (λ (h : List Occurrence). IsOutgoing l.instances h l.sender l.receiver (record u { put = put; base = last_of u.base (send_clocks r l.receiver (names_of ms)) })) (sym seen_is)
+        subst (λ (h : List Occurrence). IsOutgoing l.instances h l.sender l.receiver (record u { put = put; base = last_base u.base r l.receiver ms })) (sym seen_is)
         (end_sends l.instances l.sender l.receiver ms before r u put (is_sender l.instances before l.sender r recorder_before) long there many)

@@ -40,10 +40,8 @@ impl Parked {
             words,
             &mut self.seat,
             &lane,
-            self.alloc,
             &mut self.recorder,
             end,
-            to,
             capacity,
             messages,
         )

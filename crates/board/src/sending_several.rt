@@ -1,8 +1,8 @@
 //! Sends of several messages at once.
-ghost use Rattle.std.specs.Prelude.{◌≡◌, ◌≢◌, ◌+◌, ◌-◌, ◌<◌, ◌≤◌, length, map, IfOk, IfErr, OnOk, OnErr};
-ghost use Rattle.chart.specs.Histories.{own, sent};
+ghost use Rattle.std.specs.Prelude.{◌≡◌, ◌+◌, ◌-◌, ◌<◌, ◌≤◌, ℕ, List, length, map, IfOk, IfErr, OnOk, OnErr};
+ghost use Rattle.chart.specs.Histories.{sent};
 ghost use Rattle.chart.specs.declared.line.TheConstants.{MAX_EVENTS};
-ghost use Rattle.line_recorder.specs.Sends.{next_clocks};
+ghost use Rattle.line_recorder.specs.Recorders.{send_clock};
 ghost use Rattle.line_recorder.specs.Recording.{IsRecorder};
 ghost use Rattle.chart.specs.declared.history.TheConstants.{MAX_CAPACITY};
 ghost use Rattle.board_table.specs.Layout.{IsBoard};
@@ -10,14 +10,14 @@ ghost use Rattle.board_table.specs.Knowing.{held, packets_out, Rests, IsFilling}
 ghost use Rattle.board.specs.Known.{IsOutgoing};
 ghost use Rattle.board.specs.Parts.{MayPut, HasSlots, IsUnmade};
 ghost use Rattle.board.specs.Sending.{numbered};
-ghost use Rattle.board.specs.SendingMany.{names_of, packets_of, AreDiffsTo, last_of, IsPrepared, AreMade};
+ghost use Rattle.board.specs.SendingMany.{IsDiffTo, IsPrepared, AreFilled, AreMade};
 
 use crate::answer::Sent;
 use crate::ends::Outgoing;
 use crate::error::SendError;
 use crate::sending::claim_slots;
-use board_table::{Lane, Packet, Seat, Words, fill, give_back_vacant, publish};
-use chart::{EventNo, GrowingLine, InstanceNo, MAX_EVENTS, Message, Name};
+use board_table::{Lane, Packet, Seat, Words, fill, fill_next, give_back_vacant, publish};
+use chart::{EventNo, GrowingLine, MAX_EVENTS, Message};
 use clock::{Clock, Diff};
 use line_recorder::Recorder;
 use std::alloc::{AllocError, Global};
@@ -25,23 +25,10 @@ use std::alloc::{AllocError, Global};
 /// What the sends of several messages need. All of it is there before any is made.
 #[derive(Debug, Drop)]
 pub(crate) struct Prepared {
-    /// For each message what changed in the sender's clock since the one before it on the lane.
-    pub diffs: Vec<Diff>,
-    /// The clock of the last message.
-    pub last: Clock,
+    /// What changed in the sender's clock with the first message since the one before it on the lane.
+    pub first: Diff,
     /// What is told of each send.
     pub sents: Vec<Sent>,
-}
-
-/// The messages' names. F6: it fails only where there is no memory.
-fn names_of(alloc: Global, messages: &[Message]) -> Result<Vec<Name>, AllocError>
-    ensures { IfOk result (λ names. names.items ≡ names_of messages.now) }
-{
-    let mut names = Vec::with_capacity(alloc, messages.len())?;
-    for message in messages {
-        names.push_reserved(message.name());
-    }
-    Ok(names)
 }
 
 /// The line's next events, one for each message. F6: it fails only where there is no memory.
@@ -65,106 +52,88 @@ fn next_sents(
     Ok(sents)
 }
 
-/// What changes in the clock with each of the next events, if so many are sends, over this base with the first one;
-/// and the clock of the last. F6: it fails only where there is no memory.
-fn next_diffs(
-    alloc: Global,
-    recorder: &Recorder,
-    base: &Clock,
-    sends: usize,
-) -> Result<(Vec<Diff>, Clock), AllocError>
-    requires room { length recorder.now.line.events + sends ≤ MAX_EVENTS }
-    requires base { length base.now ≡ length recorder.now.knowledge }
-    ensures diffs { IfOk result (λ made. AreDiffsTo base.now made.0.items (next_clocks recorder.now sends)) }
-    ensures last { IfOk result (λ made. made.1 ≡ last_of base.now (next_clocks recorder.now sends)) }
-{
-    let own = recorder.line().instance();
-    let mut last = base.copied(alloc)?;
-    let mut diffs = Vec::with_capacity(alloc, sends)?;
-    for place in 0..sends {
-        let index = (recorder.line().len() + place + 1) as u32;
-        let clock = recorder.knowledge().stamped(alloc, own, index)?;
-        let diff = clock.diff_from(alloc, &last)?;
-        last.apply(&diff);
-        diffs.push_reserved(diff);
-    }
-    Ok((diffs, last))
-}
-
-/// Records a send of each message, and makes what these sends need.
+/// Makes what the sends of these messages need, and room for them on the line.
 ///
-/// F6: it fails only where there is no memory, and then nothing is recorded.
+/// F6: it fails only where there is no memory, and then nothing has changed.
 fn prepare(
-    alloc: Global,
     recorder: &mut Recorder,
     base: &Clock,
-    to: InstanceNo,
     messages: &[Message],
 ) -> Result<Prepared, AllocError>
-    requires among { to ≤ length recorder.old.knowledge }
-    requires not_itself { to ≢ recorder.old.line.instance }
     requires base { length base.now ≡ length recorder.old.knowledge }
+    requires some { 0 < length messages.now }
     requires room { length recorder.old.line.events + length messages.now ≤ MAX_EVENTS }
-    ensures ok { IfOk result (λ it. IsPrepared base.now recorder.old to messages.now it recorder.new) }
+    ensures ok { IfOk result (λ it. IsPrepared base.now recorder.old messages.now it recorder.new) }
     ensures err { OnErr result (recorder.new ≡ recorder.old) }
 {
-    let names = names_of(alloc, messages)?;
+    let alloc = recorder.alloc();
     let sents = next_sents(alloc, recorder.line(), messages)?;
-    let (diffs, last) = next_diffs(alloc, recorder, base, messages.len())?;
-    match recorder.send_many(to, names.as_slice()) {
-        Ok(_) => Ok(Prepared { diffs, last, sents }),
-        Err(_) => Err(AllocError),
-    }
+    let mut first = Diff::none(alloc);
+    recorder.ready_sends(messages.len(), base, &mut first)?;
+    Ok(Prepared { first, sents })
 }
 
-/// Fills a slot with each message and its difference, in their order, from that on before which `count` messages were
-/// put on the lane. It answers how many were put with these.
+/// Puts each message into its slot and records its send, in their order, from that slot on before which `count` messages
+/// were put on the lane. The first one has this difference; each other one differs from the one before it in the sender's
+/// own entry alone. It answers how many were put with these.
 fn fill_slots(
     words: &Words,
     seat: &mut Seat,
     lane: &Lane,
+    recorder: &mut Recorder,
     count: u64,
+    first: Diff,
     messages: Vec<Message>,
-    diffs: Vec<Diff>,
 ) -> u64
     requires table { seat.old.table_id ≡ words.now.table_id }
     requires board { IsBoard lane.now.instances lane.now.capacity words.now.key words.now.table_id }
     requires slots { HasSlots lane.now (length messages.items) seat.old.me }
+    requires some { 0 < length messages.items }
     requires count { count ≡ length (sent (held seat.old.me).seen lane.now.sender lane.now.receiver) }
     requires within_limit { count + length messages.items ≤ MAX_EVENTS }
-    requires as_many { length diffs.items ≡ length messages.items }
+    requires its { recorder.old.line.instance ≡ lane.now.sender }
+    requires knows { length recorder.old.knowledge ≡ lane.now.instances }
+    requires short { length recorder.old.line.events + length messages.items ≤ MAX_EVENTS }
+    requires room { length messages.items ≤ recorder.old.room }
     ensures table { seat.new.table_id ≡ seat.old.table_id }
     ensures filling { IsFilling lane.now seat.new.me }
     ensures held { held seat.new.me ≡ held seat.old.me }
-    ensures packets { packets_out seat.new.me ≡ packets_of messages.items diffs.items }
+    ensures filled { (base : List ℕ) → IsDiffTo base first (send_clock recorder.old)
+        → AreFilled base recorder.old lane.now.receiver messages.items (packets_out seat.new.me) recorder.new }
     ensures count { result ≡ count + length messages.items }
 {
-    let mut put = count;
-    for (message, diff) in messages.into_iter().zip(diffs) {
-        fill(words, seat, lane, put, Packet { message, diff });
+    let mut rest = messages.into_iter();
+    let Some(message) = rest.next() else {
+        unreachable!()
+    };
+    let name = message.name();
+    let diff = first;
+    fill(words, seat, lane, count, Packet { message, diff });
+    recorder.send_ready(lane.receiver(), name);
+    let mut put = count + 1;
+    for message in rest {
+        fill_next(words, seat, lane, put, recorder, message);
         put += 1;
     }
     put
 }
 
 /// Sends these messages by one store, on an open lane, whose sender's line has room for them. F11 or F6 refuses them,
-/// and then they come back.
+/// and then they come back. All memory is there before the first is in its slot, and no clock is copied.
 pub(crate) fn send_several(
     words: &Words,
     seat: &mut Seat,
     lane: &Lane,
-    alloc: Global,
     recorder: &mut Recorder,
     end: &mut Outgoing,
-    to: InstanceNo,
     capacity: usize,
     messages: Vec<Message>,
 ) -> Result<Vec<Sent>, (Vec<Message>, SendError)>
     requires table { seat.old.table_id ≡ words.now.table_id }
     requires board { IsBoard lane.now.instances lane.now.capacity words.now.key words.now.table_id }
     requires may_put { MayPut lane.now (length messages.items) seat.old.me end.old recorder.old }
+    requires some { 0 < length messages.items }
     requires within_capacity { length messages.items ≤ MAX_CAPACITY }
-    requires to { to ≡ lane.now.receiver }
     requires capacity { capacity ≡ lane.now.capacity }
     ensures table { seat.new.table_id ≡ seat.old.table_id }
     ensures rests { Rests lane.now.instances lane.now.capacity lane.now.sender seat.new.me }
@@ -179,13 +148,15 @@ pub(crate) fn send_several(
     if !claim_slots(words, seat, lane, end, capacity, messages.len()) {
         return Err((messages, SendError::Full));
     }
-    let Ok(prepared) = prepare(alloc, recorder, &end.base, to, messages.as_slice()) else {
+    let Ok(prepared) = prepare(recorder, &end.base, messages.as_slice()) else {
         give_back_vacant(words, seat, lane);
         return Err((messages, SendError::Memory));
     };
-    let Prepared { diffs, last, sents } = prepared;
-    end.put = fill_slots(words, seat, lane, end.put, messages, diffs);
-    end.base = last;
+    let Prepared { first, sents } = prepared;
+    end.base.apply(&first);
+    end.put = fill_slots(words, seat, lane, recorder, end.put, first, messages);
+    let line = recorder.line();
+    end.base.stamp(line.instance(), line.len() as u32);
     publish(words, seat, lane, end.put);
     Ok(sents)
 }

@@ -1,6 +1,7 @@
 -- An end that fills, or empties, the first of its slots, and turns it behind the others.
 use Rattle.std.proofs.Common.{◌≡◌, ℕ, zero, suc, ◌+◌, ◌<◌, List, [], ◌∷◌, ◌++◌, length, take, drop, refl, sym, ap, ap₂, ◌∙◌, subst, arith, append_assoc, length-append}
-use Rattle.std.specs.Prelude.{Option, Some, None}
+use Rattle.std.proofs.lemmas.Bool.{false≢true}
+use Rattle.std.specs.Prelude.{Option, Some, None, IfSome, IsSome}
 use Rattle.atomic_table.specs.Table.{rest}
 use Rattle.chart.specs.Histories.{sent, received}
 use Rattle.board_core.specs.Parcels.{Parcel, goods}
@@ -23,6 +24,11 @@ module _ (n k q p : ℕ) where
   vacant_push : (c d many : ℕ) → d ≡ c + many → vacant_slots n k q p c many ++ (slot_of n k q p d, None) ∷ [] ≡ vacant_slots n k q p c (suc many)
   vacant_push c d zero at = ap (λ i. (slot_of n k q p i, None) ∷ []) (let z : d ≡ c = omega (arith, at) in z)
   vacant_push c d (suc many) at = ap (λ zs. (slot_of n k q p c, None) ∷ zs) (vacant_push (suc c) d many (omega (arith, at)))
+
+-- what a full slot contains
+pub contained : (slot : Option Packet) (P : Packet → Type 0) → IsSome slot → IfSome slot P → (x : Packet) × (slot ≡ Some x) × P x
+contained (Some x) P full is = (x, refl, is)
+contained None P full is = absurd (false≢true full)
 
 -- the goods behind a first one
 one_on : (base : List ℕ) (gs : List Parcel) (r : ℕ) (y : Parcel) (ys : List Parcel) → drop r gs ≡ y ∷ ys → (last_clock base (take (suc r) gs) ≡ y.clock) × (drop (suc r) gs ≡ ys)

@@ -17,6 +17,7 @@
 //! What the steps tell stands in `specs/Plays.antt`. The words are grouped by who writes them (`specs/Layout.antt`).
 #![tactic(auto)]
 
+mod filling;
 mod held;
 mod lane;
 mod leaving;
@@ -28,6 +29,7 @@ mod sender;
 mod shape;
 mod table;
 
+pub use filling::fill_next;
 pub use held::{Held, Hold};
 pub use lane::Lane;
 pub use leaving::{draw, leave};

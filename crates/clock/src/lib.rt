@@ -4,7 +4,8 @@
 //! What is promised:
 //!
 //! - A merge is the entrywise maximum ([`Clock::merge`]).
-//! - A stamp changes one entry, in a copy or in place ([`Clock::stamped`], [`Clock::stamp`]).
+//! - A stamp changes one entry, in a copy or in place ([`Clock::stamped`], [`Clock::stamp`]), also with the difference that
+//!   this is ([`Clock::stamp_over`]).
 //! - A difference has exactly the entries that differ, and applied to its base it gives the clock back
 //!   ([`Clock::diff_from`], in place [`Clock::diff_into`], [`Clock::apply`]); an entry after a difference can be read before it is applied
 //!   ([`Clock::entry_after`]).
@@ -14,6 +15,7 @@
 mod clock;
 mod diff;
 mod entries;
+mod stamping;
 
 pub use clock::{Clock, INLINE_ENTRIES};
 pub use diff::{Change, Diff};

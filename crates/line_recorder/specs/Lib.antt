@@ -2,4 +2,3 @@ pub mod Carried
 pub mod Laws
 pub mod Recorders
 pub mod Recording
-pub mod Sends

@@ -1,6 +1,5 @@
 use Rattle.std.proofs.Common.{◌≡◌, ℕ, suc, ◌∷◌, [], ◌++◌, refl, sym, ap, ◌∙◌, subst, length}
-use Rattle.std.proofs.lemmas.Bool.{false≢true}
-use Rattle.std.specs.Prelude.{Option, Some, None, IfSome, IsSome, Result, Ok, Err, OnErr}
+use Rattle.std.specs.Prelude.{Option, Some, None, Result, Ok, Err, OnErr}
 use Rattle.atomic_table.specs.Table.{rest}
 use Rattle.line_recorder.specs.Recorders.{send_clock}
 use Rattle.board_table.specs.declared.packet.Packet.{Packet}
@@ -8,14 +7,9 @@ use Rattle.chart.specs.Histories.{sent}
 use Rattle.board_table.specs.Layout.{slot_of}
 use Rattle.board_table.specs.Carrying.{Carries}
 use Rattle.board_table.specs.Knowing.{Mine, held, packets_out, vacant_out, IsFilling}
-use Rattle.board_table.proofs.Handling.{first_vacant, fill_first, filled_is}
+use Rattle.board_table.proofs.Handling.{contained, first_vacant, fill_first, filled_is}
 use Rattle.board_table.proofs.OutSlots.{filling_slots, filling_packets, filling_vacant}
 use Rattle.board_table.proofs.sender.fill_begun.Goals as goal
-
--- what a full slot contains
-contained : (slot : Option Packet) (P : Packet → Type 0) → IsSome slot → IfSome slot P → (x : Packet) × (slot ≡ Some x) × P x
-contained (Some x) P full is = (x, refl, is)
-contained None P full is = absurd (false≢true full)
 
 -- the packet that was put
 put : (c : goal.After-turn) → (x : Packet) × (c.begin_in.new.slot ≡ Some x) × Carries c.args.base.now x (record { message = c.args.message; clock = send_clock c.args.recorder.now })
