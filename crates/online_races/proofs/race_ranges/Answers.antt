@@ -1,16 +1,22 @@
-use Rattle.std.proofs.Common.{◌-◌, sym, subst, arith}
-use Rattle.online_races.specs.Passing.{HasFound}
-use Rattle.online_races.proofs.PassingLemmas.{HasFound-end, none_met}
+use Rattle.std.proofs.Common.{rules, ◌≡◌, ℕ, ◌-◌, ◌<◌, ◌≤◌, List, [], ◌++◌, length, map, take, vec_capacity, All, IfSome, MatchOption, IsOk, IfOk, ◌+◌, ◌*◌, ◌/◌, ◌%◌, Bool, true, false, nat_eq, nat_lt, ◌∷◌, slice_index_or, slice_set, bit_and, bit_or, Fits, w8, w32, w64, Bor, MutBor}
+use Rattle.chart.specs.Order.{IsRaces}
+use Rattle.chart.specs.Ranges.{IsRange, events_of, events_in}
+use Rattle.chart.specs.declared.line.TheConstants.{MAX_EVENTS}
+use Rattle.online_races.specs.Passing.{IsRace, AreRaces, IsStretch, HasFound}
 use Rattle.online_races.proofs.race_ranges.Goals as goal
 
-pub loop-races-init : goal.loop-races-init
-loop-races-init c =
-    subst (HasFound c.args.line.now.line c.args.end c.args.end c.args.entry c.args.sender c.args.region) (sym c.new-found.ensures)
-    (HasFound-end c.args.line.now.line c.args.end c.args.entry c.args.sender c.args.region c.requires (omega (arith, c.len.ensures.limit, c.len.ensures.value)))
+-- src/lib.rt:114:1
+pub returns-in-Some-clause-races : goal.returns-in-Some-clause-races
+returns-in-Some-clause-races c = ?
 
-pub loop-races-preserved : goal.loop-races-preserved
-loop-races-preserved c = rw (c.in_ok-put_before.ensures.ok) (c.in-Some.ensures.found c.args.end c.loop-races.found c.loop-races.invariant)
+-- src/lib.rt:114:1
+pub returns-in-Some-clause-own : goal.returns-in-Some-clause-own
+returns-in-Some-clause-own c = ?
 
-pub returns-in_err-put_before-clause-none : goal.returns-in_err-put_before-clause-none
-returns-in_err-put_before-clause-none c none =
-    absurd (none_met c.args.line.now.line c.args.end (c.in-Some.races.first.index - 1) c.args.entry c.args.sender c.args.region c.in-Some.races c.loop-races.found none c.in-Some.ensures.range.some (c.in-Some.ensures.found c.args.end c.loop-races.found c.loop-races.invariant))
+-- src/lib.rt:114:1
+pub returns-in-Some-clause-none : goal.returns-in-Some-clause-none
+returns-in-Some-clause-none c = ?
+
+-- src/lib.rt:114:1
+pub returns-in-None-clause-races : goal.returns-in-None-clause-races
+returns-in-None-clause-races c = ?
