@@ -12,12 +12,14 @@ use chart::{InstanceNo, MAX_INSTANCES};
 use std::alloc::{AllocError, Global};
 use std::marker::Model;
 
-/// The most entries that a [`Clock`] holds in place. With more it takes memory.
+/// The most changes that a [`Diff`] holds in place. With more it takes memory. So up to so many instances nothing takes
+/// memory here.
 pub const INLINE_ENTRIES: usize = 8;
 
 const _: () = prove!(INLINE_ENTRIES == 8);
 
-/// A vector time: one entry for each of 2 to [`MAX_INSTANCES`] instances (Fidge 1988, Mattern 1989).
+/// A vector time: one entry for each of 2 to [`MAX_INSTANCES`] instances (Fidge 1988, Mattern 1989). All of them are held
+/// in place.
 ///
 /// A contract sees the list of the entries, that of instance `p` at index `p - 1`.
 #[derive(Debug, Drop)]
@@ -39,7 +41,8 @@ impl Model for Clock {
 impl Clock {
     /// The clock of `n` instances of which no event is known.
     ///
-    /// F6: it fails only where there is no memory, and up to [`INLINE_ENTRIES`] instances it takes none.
+    /// F6: it fails only where there is no memory, and up to [`INLINE_ENTRIES`] instances it takes none. As it is, it
+    /// takes none at all.
     pub fn zero(_alloc: Global, n: usize) -> Result<Clock, AllocError>
         requires at_least_two { 2 ≤ n }
         requires at_most { n ≤ MAX_INSTANCES }
@@ -93,7 +96,8 @@ impl Clock {
 
     /// A copy.
     ///
-    /// F6: it fails only where there is no memory, and up to [`INLINE_ENTRIES`] instances it takes none.
+    /// F6: it fails only where there is no memory, and up to [`INLINE_ENTRIES`] instances it takes none. As it is, it
+    /// takes none at all.
     #[inline(always)]
     pub fn copied(&self, _alloc: Global) -> Result<Clock, AllocError>
         ensures value { IfOk result (λ clock. clock ≡ self.now) }

@@ -146,6 +146,7 @@ fn races_up_to(
     region: u32,
 ) -> Result<EventRanges, AllocError>
     requires range { IsRange last }
+    requires begun { 1 ≤ last.first.index }
     requires within { last.first.index ≤ length line.now.line.events }
     ensures races { (end : ℕ) → HasFound line.now.line end (last.first.index - 1) entry sender region (events_of last)
         → IfOk result (λ found.

@@ -1,34 +1,27 @@
-use Rattle.std.proofs.Common.{rules, ◌≡◌, ℕ, ◌-◌, ◌<◌, ◌≤◌, List, [], ◌++◌, length, map, take, vec_capacity, All, IfSome, MatchOption, IsOk, IfOk, ◌+◌, ◌*◌, ◌/◌, ◌%◌, Bool, true, false, nat_eq, nat_lt, ◌∷◌, slice_index_or, slice_set, bit_and, bit_or, Fits, w8, w32, w64, Bor, MutBor}
-use Rattle.chart.specs.Order.{IsRaces}
-use Rattle.chart.specs.Ranges.{IsRange, events_of, events_in}
-use Rattle.chart.specs.declared.line.TheConstants.{MAX_EVENTS}
-use Rattle.online_races.specs.Passing.{IsRace, AreRaces, IsStretch, HasFound}
+use Rattle.std.proofs.Common.{List, ◌-◌, ◌++◌, sym, ap, ◌∙◌, subst, arith}
+use Rattle.std.proofs.lemmas.List.{append-nil}
+use Rattle.chart.specs.Ranges.{events_of}
+use Rattle.chart.specs.declared.instance.EventNo.{EventNo}
+use Rattle.online_races.specs.Passing.{HasFound}
 use Rattle.online_races.proofs.races_up_to.Goals as goal
 
--- src/lib.rt:158:21
-pub overflow_sub-index : goal.overflow_sub-index
-overflow_sub-index c = ?
-
--- src/lib.rt:160:5
 pub loop-races-init : goal.loop-races-init
-loop-races-init c = ?
+loop-races-init c = record {
+  found = λ end has. subst (HasFound c.args.line.now.line end (c.args.last.first.index - 1) c.args.entry c.args.sender c.args.region) (sym (c.in_ok-put_before.ensures.ok ∙ ap (λ (rest : List EventNo). events_of c.args.last ++ rest) c.new-found.ensures ∙ append-nil (events_of c.args.last))) has;
+  within = omega (arith, c.requires.within);
+}
 
--- src/lib.rt:160:29
 pub last_races-requires : goal.last_races-requires
-last_races-requires c = ?
+last_races-requires c = c.loop-races.invariant.within
 
--- src/lib.rt:160:5
-pub loop-races-smaller : goal.loop-races-smaller
-loop-races-smaller c = ?
-
--- src/lib.rt:160:5
 pub loop-races-preserved : goal.loop-races-preserved
-loop-races-preserved c = ?
+loop-races-preserved c = record {
+  found = λ end has. rw (c.in_ok-put_before-2.ensures.ok) (c.in-Some.ensures.found end c.loop-races.found (c.loop-races.invariant.found end has));
+  within = omega (arith, c.in-Some.ensures.within, c.loop-races.invariant.within);
+}
 
--- src/lib.rt:139:1
 pub returns-clause-races : goal.returns-clause-races
-returns-clause-races c = ?
+returns-clause-races c = λ end has. rw (c.finish.ensures) (c.in_default.ensures.found end c.loop-races.found (c.loop-races.invariant.found end has))
 
--- src/lib.rt:139:1
 pub returns-clause-own : goal.returns-clause-own
-returns-clause-own c = ?
+returns-clause-own c = λ end has. rw (c.finish.ensures) ((c.loop-races.invariant.found end has).own)

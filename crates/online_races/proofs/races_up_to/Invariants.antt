@@ -1,12 +1,13 @@
-use Rattle.std.proofs.Common.{◌≡◌, ℕ, ◌-◌, ◌<◌, ◌≤◌, List, [], ◌++◌, length, map, take, vec_capacity, All, IfSome, MatchOption, IsOk, IfOk, ◌+◌, ◌*◌}
-use Rattle.chart.specs.Order.{IsRaces}
-use Rattle.chart.specs.Ranges.{IsRange, events_of, events_in}
-use Rattle.chart.specs.declared.line.TheConstants.{MAX_EVENTS}
-use Rattle.online_races.specs.Passing.{IsRace, AreRaces, IsStretch, HasFound}
+use Rattle.std.proofs.Common.{ℕ, ◌-◌, ◌≤◌, length}
+use Rattle.chart.specs.Ranges.{events_of}
+use Rattle.online_races.specs.Passing.{HasFound}
 use Rattle.online_races.proofs.races_up_to.Given as goal
 
 abbrev pub invariant-loop-races : goal.invariant-loop-races
-invariant-loop-races l = ?
+invariant-loop-races l = record {
+  found : (end : ℕ) → HasFound l.line.line end (l.fn.last.first.index - 1) l.entry l.sender l.region (events_of l.fn.last) → HasFound l.line.line end l.index l.entry l.sender l.region l.found;
+  within : l.index ≤ length l.line.line.events;
+}
 
 abbrev pub decreases-loop-races : goal.decreases-loop-races
-decreases-loop-races l = ?
+decreases-loop-races l = l.index
