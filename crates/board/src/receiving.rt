@@ -15,10 +15,9 @@ use crate::answer::Arrival;
 use crate::ends::Incoming;
 use crate::error::TakeError;
 use board_table::{
-    Lane, Packet, Seat, Words, find_again, find_anew, free, give_back_full, look, record_front,
-    take,
+    Lane, Seat, Words, find_again, find_anew, free, give_back_full, look, take_recorded,
 };
-use chart::{InstanceNo, MAX_EVENTS, Report};
+use chart::{InstanceNo, MAX_EVENTS};
 use line_recorder::Recorder;
 use std::alloc::AllocError;
 
@@ -172,50 +171,16 @@ pub(crate) fn take_next(
     ensures end { OnErr result (end.new ≡ end.old) }
     ensures recorder { OnErr result (recorder.new ≡ recorder.old) }
 {
-    let report = record(words, seat, lane, recorder, end, region)?;
-    let Packet { message, diff: _ } = take(words, seat, lane, end.taken);
+    let count = end.taken;
+    let Ok((message, report)) =
+        take_recorded(words, seat, lane, count, recorder, &mut end.base, region)
+    else {
+        return Err(AllocError);
+    };
     end.taken += 1;
     Ok(Arrival {
         from,
         message,
         report,
     })
-}
-
-/// Records the receive of the next message that was found, and answers its report. The end's base is the message's
-/// clock from then on.
-///
-/// F6: it fails only where there is no memory, and then nothing is recorded.
-#[inline(always)]
-fn record(
-    words: &Words,
-    seat: &mut Seat,
-    lane: &Lane,
-    recorder: &mut Recorder,
-    end: &mut Incoming,
-    region: u32,
-) -> Result<Report, AllocError>
-    requires table { seat.old.table_id ≡ words.now.table_id }
-    requires board { IsBoard lane.now.instances lane.now.capacity words.now.key words.now.table_id }
-    requires may_take { MayTake lane.now region seat.old.me end.old recorder.old }
-    ensures table { seat.new.table_id ≡ seat.old.table_id }
-    ensures same { seat.new.me ≡ seat.old.me }
-    ensures ok { IfOk result (λ report. IsRecorded (packets_out seat.old.me) end.old.base lane.now.sender region
-        recorder.old report end.new.base recorder.new) }
-    ensures counts { (end.new.taken ≡ end.old.taken) × (end.new.known_put ≡ end.old.known_put) }
-    ensures err { OnErr result (recorder.new ≡ recorder.old) }
-    ensures end { OnErr result (end.new ≡ end.old) }
-{
-    match record_front(
-        words,
-        seat,
-        lane,
-        end.taken,
-        recorder,
-        &mut end.base,
-        region,
-    ) {
-        Ok(report) => Ok(report),
-        Err(_) => Err(AllocError),
-    }
 }

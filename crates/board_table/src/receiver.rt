@@ -1,8 +1,9 @@
 //! The steps of a lane's receiver.
-ghost use Rattle.std.specs.Prelude.{◌≡◌, ℕ, ◌+◌, ◌<◌, ◌≤◌, ◌↔◌, [], ◌∷◌, length, suc, Err, IfOk, OnErr};
+ghost use Rattle.std.specs.Prelude.{◌≡◌, ℕ, ◌+◌, ◌<◌, ◌≤◌, ◌↔◌, [], ◌∷◌, length, suc, Err, IfOk, OnOk, OnErr};
 ghost use Rattle.chart.specs.Events.{MayHaveRegion};
 ghost use Rattle.chart.specs.Histories.{received, chart_of};
 ghost use Rattle.chart.specs.declared.line.TheConstants.{MAX_EVENTS};
+ghost use Rattle.board_table.specs.declared.packet.Packet.{Packet};
 ghost use Rattle.board_table.specs.Layout.{IsBoard};
 ghost use Rattle.board_table.specs.Knowing.{held, packets_out, vacant_out, emptied_base, Rests, IsEmptying};
 ghost use Rattle.board_table.specs.Plays.{FindsAnew, FindsAgain, LooksAt, Frees, PutsBack};
@@ -10,7 +11,7 @@ ghost use Rattle.board_table.specs.Recording.{IsReady, IsRecorded};
 
 use crate::rule::{FindAgain, FindAnew, Free, LookAt, PutBackEmptying, Site};
 use crate::{Lane, Packet, Seat, Words};
-use chart::Report;
+use chart::{Message, Report};
 use clock::Clock;
 use line_recorder::{RecordError, Recorder};
 use std::marker::Brand;
@@ -88,13 +89,13 @@ fn find_again_at<A: Site>(words: &Words, seat: &mut Seat, lane: &Lane)
     words.load::<FindAgain<A>>(seat, lane.taken_word());
 }
 
-/// Records the receive of the first message that is in the slots, in this coregion (0 outside of one), and answers its
-/// report. The base is the clock of the message before it, and is this one's afterwards. The message stands behind
-/// `count` messages, and stays where it is.
+/// Records the receive of the first message that is in the slots, in this coregion (0 outside of one), and takes it out
+/// of its own: it answers the message and its report. The base is the clock of the message before it, and is this one's
+/// afterwards. The message stands behind `count` messages.
 ///
-/// A refusal, the first of F7 and F6 that applies, changes nothing.
+/// A refusal, the first of F7 and F6 that applies, changes nothing, and the message is where it was.
 #[inline(always)]
-pub fn record_front(
+pub fn take_recorded(
     words: &Words,
     seat: &mut Seat,
     lane: &Lane,
@@ -102,7 +103,7 @@ pub fn record_front(
     recorder: &mut Recorder,
     base: &mut Clock,
     region: u32,
-) -> Result<Report, RecordError>
+) -> Result<(Message, Report), RecordError>
     requires table { seat.old.table_id ≡ words.now.table_id }
     requires board { IsBoard lane.now.instances lane.now.capacity words.now.key words.now.table_id }
     requires emptying { IsEmptying lane.now seat.old.me }
@@ -113,39 +114,27 @@ pub fn record_front(
     requires entries { length base.old ≡ lane.now.instances }
     requires ready { IsReady lane.now region recorder.old }
     ensures table { (seat.new.table_id ≡ seat.old.table_id) × (seat.new.id ≡ seat.old.id) }
-    ensures same { seat.new.me ≡ seat.old.me }
-    ensures ok { IfOk result (λ report. IsRecorded (packets_out seat.old.me) base.old lane.now.sender region
-        recorder.old report base.new recorder.new) }
+    ensures emptying { OnOk result (IsEmptying lane.now seat.new.me) }
+    ensures held { held seat.new.me ≡ held seat.old.me }
+    ensures packet { IfOk result (λ took. (x : Packet) × (packets_out seat.old.me ≡ x ∷ packets_out seat.new.me)
+        × (took.0 ≡ x.message)) }
+    ensures vacant { OnOk result (vacant_out seat.new.me ≡ suc (vacant_out seat.old.me)) }
+    ensures recorded { IfOk result (λ took. IsRecorded (packets_out seat.old.me) base.old lane.now.sender region
+        recorder.old took.1 base.new recorder.new) }
     ensures full { (result ≡ Err RecordError.LineFull) ↔ (length recorder.old.line.events ≡ MAX_EVENTS) }
+    ensures same { OnErr result (seat.new.me ≡ seat.old.me) }
     ensures err { OnErr result (recorder.new ≡ recorder.old) }
     ensures base_err { OnErr result (base.new ≡ base.old) }
 {
     let from = lane.sender();
-    let slot: &Option<Packet> = seat.slot_mut(words, lane.slot(count));
+    let slot = seat.slot_mut(words, lane.slot(count));
     let Some(packet) = slot else { unreachable!() };
-    recorder.receive_over(from, packet.message.name(), base, &packet.diff, region)
-}
-
-/// Takes the first message that is in the slots out of its own. It stands behind `count` messages.
-#[inline(always)]
-pub fn take(words: &Words, seat: &mut Seat, lane: &Lane, count: u64) -> Packet
-    requires table { seat.old.table_id ≡ words.now.table_id }
-    requires board { IsBoard lane.now.instances lane.now.capacity words.now.key words.now.table_id }
-    requires emptying { IsEmptying lane.now seat.old.me }
-    requires some { 0 < length (packets_out seat.old.me) }
-    requires count { count ≡ received (held seat.old.me).seen lane.now.sender lane.now.receiver
-        + vacant_out seat.old.me }
-    ensures table { (seat.new.table_id ≡ seat.old.table_id) × (seat.new.id ≡ seat.old.id) }
-    ensures emptying { IsEmptying lane.now seat.new.me }
-    ensures held { held seat.new.me ≡ held seat.old.me }
-    ensures packet { packets_out seat.old.me ≡ result ∷ packets_out seat.new.me }
-    ensures vacant { vacant_out seat.new.me ≡ suc (vacant_out seat.old.me) }
-{
-    let Some(packet) = words.exchange(seat, lane.slot(count), None) else {
+    let report = recorder.receive_over(from, packet.message.name(), base, &packet.diff, region)?;
+    let Some(Packet { message, diff: _ }) = slot.take() else {
         unreachable!()
     };
     seat.turn();
-    packet
+    Ok((message, report))
 }
 
 /// Receives the messages that were taken out, one directly after another, in this coregion (0 outside of one), and

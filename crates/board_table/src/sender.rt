@@ -132,6 +132,9 @@ fn begin_in(
     ensures alone { 0 < recorder.old.room → AgreeBut recorder.old.line.instance base.old recorder.old.knowledge
         → IsOk result }
 {
+    if slot.is_some() {
+        unreachable!()
+    }
     let diff = Diff::none(recorder.alloc());
     *slot = Some(Packet { message, diff });
     let Some(packet) = slot else { unreachable!() };

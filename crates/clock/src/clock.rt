@@ -7,22 +7,24 @@ ghost use Rattle.clock.specs.Diffs.{IsDiff, apply_diff, AgreeBut};
 
 use crate::Diff;
 use crate::entries::{entry_after, find_changes, raise, set_changes};
+use arrayvec::ArrayVec;
 use chart::{InstanceNo, MAX_INSTANCES};
-use smallvec::SmallVec;
 use std::alloc::{AllocError, Global};
 use std::marker::Model;
 
-/// The most entries that a [`Clock`] holds in place. With more it takes memory.
+/// The most changes that a [`Diff`] holds in place. With more it takes memory. So up to so many instances nothing takes
+/// memory here.
 pub const INLINE_ENTRIES: usize = 8;
 
 const _: () = prove!(INLINE_ENTRIES == 8);
 
-/// A vector time: one entry for each of 2 to [`MAX_INSTANCES`] instances (Fidge 1988, Mattern 1989).
+/// A vector time: one entry for each of 2 to [`MAX_INSTANCES`] instances (Fidge 1988, Mattern 1989). All of them are held
+/// in place.
 ///
 /// A contract sees the list of the entries, that of instance `p` at index `p - 1`.
 #[derive(Debug, Drop)]
 pub struct Clock {
-    entries: SmallVec<u32, INLINE_ENTRIES>,
+    entries: ArrayVec<u32, MAX_INSTANCES>,
 }
 
 impl Model for Clock {
@@ -39,17 +41,18 @@ impl Model for Clock {
 impl Clock {
     /// The clock of `n` instances of which no event is known.
     ///
-    /// F6: it fails only where there is no memory, and up to [`INLINE_ENTRIES`] instances it takes none.
-    pub fn zero(alloc: Global, n: usize) -> Result<Clock, AllocError>
+    /// F6: it fails only where there is no memory, and up to [`INLINE_ENTRIES`] instances it takes none. As it is, it
+    /// takes none at all.
+    pub fn zero(_alloc: Global, n: usize) -> Result<Clock, AllocError>
         requires at_least_two { 2 ≤ n }
         requires at_most { n ≤ MAX_INSTANCES }
         ensures value { IfOk result (λ clock. clock ≡ replicate n 0) }
         ensures len { IfOk result (λ clock. length clock ≡ n) }
         ensures succeeds { n ≤ INLINE_ENTRIES → IsOk result }
     {
-        Ok(Clock {
-            entries: SmallVec::from_elem(alloc, 0, n)?,
-        })
+        let mut entries = ArrayVec::from_array_in((), [0; MAX_INSTANCES]);
+        entries.truncate(n);
+        Ok(Clock { entries })
     }
 
     /// How many instances it has an entry for.
@@ -93,16 +96,19 @@ impl Clock {
 
     /// A copy.
     ///
-    /// F6: it fails only where there is no memory, and up to [`INLINE_ENTRIES`] instances it takes none.
+    /// F6: it fails only where there is no memory, and up to [`INLINE_ENTRIES`] instances it takes none. As it is, it
+    /// takes none at all.
     #[inline(always)]
-    pub fn copied(&self, alloc: Global) -> Result<Clock, AllocError>
+    pub fn copied(&self, _alloc: Global) -> Result<Clock, AllocError>
         ensures value { IfOk result (λ clock. clock ≡ self.now) }
         ensures len { IfOk result (λ clock. length clock ≡ length self.now) }
         ensures succeeds { length self.now ≤ INLINE_ENTRIES → IsOk result }
     {
-        Ok(Clock {
-            entries: SmallVec::from_slice(alloc, self.entries.as_slice())?,
-        })
+        let mut entries = ArrayVec::new();
+        match entries.try_extend_from_slice(self.entries.as_slice()) {
+            Ok(()) => Ok(Clock { entries }),
+            Err(_) => unreachable!(),
+        }
     }
 
     /// A copy whose entry for `p` is `index`, as the clock of the event of `p` with this number.

@@ -1,6 +1,6 @@
 //! What clocks do to their entries, as slices.
-ghost use Rattle.std.specs.Prelude.{◌≡◌, ◌≤◌, ℕ, length, All, IsOk, OnOk};
-ghost use Rattle.smallvec.specs.SmallVec.{small_vec_len};
+ghost use Rattle.std.specs.Prelude.{◌≡◌, ◌≤◌, ◌++◌, ◌∷◌, [], ℕ, length, All, IsOk, OnOk};
+ghost use Rattle.smallvec.specs.SmallVec.{small_vec_len, HasRoomFor};
 ghost use Rattle.clock.specs.Clocks.{entry_of, merged};
 ghost use Rattle.clock.specs.Diffs.{IsDiff, apply_diff, AgreeBut};
 
@@ -40,12 +40,47 @@ pub(crate) fn find_changes(
     changes.clear();
     for (place, entry) in entries.iter().enumerate() {
         if *entry != base[place] {
-            changes.push(Change {
+            let change = Change {
                 instance: InstanceNo::at_place(place),
                 entry: *entry,
-            })?;
+            };
+            add_change(changes, change)?;
         }
     }
+    Ok(())
+}
+
+/// Adds a change to the list. The compiler keeps a list's own push apart from where it is called.
+///
+/// F6: it fails only where there is no room and no memory.
+#[inline(always)]
+fn add_change(
+    changes: &mut SmallVec<Change, INLINE_ENTRIES>,
+    change: Change,
+) -> Result<(), AllocError>
+    ensures ok { OnOk result (changes.new.items ≡ changes.old.items ++ change ∷ []) }
+    ensures capacity { changes.old.capacity ≤ changes.new.capacity }
+    ensures succeeds { HasRoomFor changes.old 1 → IsOk result }
+{
+    if changes.len() == changes.capacity() {
+        return add_beyond(changes, change);
+    }
+    changes.push_reserved(change);
+    Ok(())
+}
+
+/// Adds a change to a list that may have no room.
+#[cold]
+#[inline(never)]
+fn add_beyond(
+    changes: &mut SmallVec<Change, INLINE_ENTRIES>,
+    change: Change,
+) -> Result<(), AllocError>
+    ensures ok { OnOk result (changes.new.items ≡ changes.old.items ++ change ∷ []) }
+    ensures capacity { changes.old.capacity ≤ changes.new.capacity }
+    ensures succeeds { HasRoomFor changes.old 1 → IsOk result }
+{
+    changes.push(change)?;
     Ok(())
 }
 

@@ -127,8 +127,37 @@ pub fn race_ranges(
     ensures none { IsRaces (take end line.now.line.events) entry sender region [] → IsOk result }
 {
     prove!(end <= line.len());
+    match last_races(line, end, entry, sender, region) {
+        Some(last) => races_up_to(alloc, line, last, entry, sender, region),
+        None => Ok(RangesBuilder::new(alloc).finish()),
+    }
+}
+
+/// The races of which these are the last neighbours.
+///
+/// F6: it fails only where there is no memory.
+#[inline(always)]
+fn races_up_to(
+    alloc: Global,
+    line: &GrowingLine,
+    last: EventRange,
+    entry: u32,
+    sender: InstanceNo,
+    region: u32,
+) -> Result<EventRanges, AllocError>
+    requires range { IsRange last }
+    requires begun { 1 ≤ last.first.index }
+    requires within { last.first.index ≤ length line.now.line.events }
+    ensures races { (end : ℕ) → HasFound line.now.line end (last.first.index - 1) entry sender region (events_of last)
+        → IfOk result (λ found.
+        IsRaces (take end line.now.line.events) entry sender region (map (λ race. race.index) found)) }
+    ensures own { (end : ℕ) → HasFound line.now.line end (last.first.index - 1) entry sender region (events_of last)
+        → IfOk result (λ found. All (λ race. race.instance ≡ line.now.line.instance) found) }
+{
+    prove!(last.first.index as usize <= line.len());
     let mut found = RangesBuilder::new(alloc);
-    let mut index = end;
+    let mut index = last.first.index as usize - 1;
+    found.put_before(last)?;
     while let Some(races) = last_races(line, index, entry, sender, region) {
         index = races.first.index as usize - 1;
         found.put_before(races)?;

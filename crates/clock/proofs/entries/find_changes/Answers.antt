@@ -2,12 +2,12 @@ use Rattle.std.proofs.Common.{◌≡◌, length, refl, arith}
 use Rattle.std.proofs.lemmas.Bool.{false≢true}
 use Rattle.clock.proofs.DiffLemmas.{up_to_same, up_to_change, up_to_all, restored, one_change}
 use Rattle.clock.proofs.entries.find_changes.Goals as goal
-use Rattle.clock.proofs.entries.find_changes.Goals.{then-entry-base+in_ok-push, else-entry-base}
+use Rattle.clock.proofs.entries.find_changes.Goals.{then-entry-base+in_ok-add_change, else-entry-base}
 
 pub loop-place-preserved : goal.loop-place-preserved
 loop-place-preserved c = elim c.if-entry-base.branch [
-  | then-entry-base+in_ok-push w ↦ rw w.changes-is (record {
-    listed = rw (w.in_ok-push.ensures.ok, w.at_place.ensures)
+  | then-entry-base+in_ok-add_change w ↦ rw w.changes-is (record {
+    listed = rw (w.in_ok-add_change.ensures.ok, w.at_place.ensures)
         (up_to_change _ _ _ _ _ c.loop-place-test.true c.requires.same_length refl w.if-entry-base.true c.loop-place.invariant.listed);
     inline = omega arith;
   })
@@ -30,7 +30,7 @@ returns c =
       alone = λ p agree. refl;
     }
 
-pub returns-in_err-push-clause-alone : goal.returns-in_err-push-clause-alone
-returns-in_err-push-clause-alone c = λ p agree.
+pub returns-in_err-add_change-clause-alone : goal.returns-in_err-add_change-clause-alone
+returns-in_err-add_change-clause-alone c = λ p agree.
     let one = one_change p _ _ _ _ agree c.loop-place.invariant.listed in
-    absurd (false≢true (c.in_err-push.ensures.succeeds (omega (arith, one, c.loop-place.invariant.inline))))
+    absurd (false≢true (c.in_err-add_change.ensures.succeeds (omega (arith, one, c.loop-place.invariant.inline))))
