@@ -2,3 +2,4 @@ pub mod Carried
 pub mod Laws
 pub mod Recorders
 pub mod Recording
+pub mod Sends

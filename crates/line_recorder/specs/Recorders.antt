@@ -97,6 +97,11 @@ abbrev pub after_sends : RecorderView → ℕ → List (List ℕ) → RecorderVi
 after_sends r to [] = r
 after_sends r to (name ∷ names) = after_sends (after_send r to name) to names
 
+-- the clocks of those sends
+abbrev pub send_clocks : RecorderView → ℕ → List (List ℕ) → List (List ℕ)
+send_clocks r to [] = []
+send_clocks r to (name ∷ names) = send_clock r ∷ send_clocks (after_send r to name) to names
+
 -- with room for so many events at least
 abbrev pub with_room : RecorderView → ℕ → RecorderView
 with_room r events = record r { room = max r.room events }

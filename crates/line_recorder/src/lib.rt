@@ -4,7 +4,8 @@
 //!
 //! What is promised:
 //!
-//! - A send adds exactly its event, and answers what is known with the event's own index ([`Recorder::send`]).
+//! - A send adds exactly its event, and answers what is known with the event's own index ([`Recorder::send`]). Several
+//!   sends are all recorded, or none is ([`Recorder::send_many`]).
 //! - A receive's report is made by its message's clock alone; the report is kept, and the clock is merged
 //!   ([`Recorder::receive`]).
 //! - The same with clocks told as what changed in them since another one, of which no copy is made

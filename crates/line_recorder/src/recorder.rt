@@ -4,9 +4,10 @@ ghost use Rattle.chart.specs.Events.{MayHaveRegion};
 ghost use Rattle.clock.specs.Clocks.{entry_of, with_entry};
 ghost use Rattle.clock.specs.Diffs.{IsDiff, apply_diff, AgreeBut};
 ghost use Rattle.clock.specs.declared.clock.TheConstants.{INLINE_ENTRIES};
-ghost use Rattle.line_recorder.specs.Recorders.{new_recorder, with_room, send_clock, after_send};
+ghost use Rattle.line_recorder.specs.Sends.{next_clocks, known_after};
+ghost use Rattle.line_recorder.specs.Recorders.{new_recorder, with_room, send_clock, after_send, after_sends};
 ghost use Rattle.line_recorder.specs.Recorders.{begun_send, after_begun};
-ghost use Rattle.line_recorder.specs.Recorders.{after_report, after_receive, IsReportAbove, IsReportOf};
+ghost use Rattle.line_recorder.specs.Recorders.{send_clocks, after_report, after_receive, IsReportAbove, IsReportOf};
 
 use crate::error::RecordError;
 use chart::{
@@ -283,6 +284,60 @@ impl Recorder {
         let next = self.line.len() as u32 + 1;
         self.knowledge.stamp_over(own, next, diff);
         self.record_begun(to, name);
+    }
+
+    /// Records a send to this instance for each name, in their order, and answers their clocks, as if each were made by
+    /// [`Recorder::send`].
+    ///
+    /// All are recorded or none: a refusal, the first of F7 and F6 that applies, changes nothing. F7: the line has not
+    /// as much room. All memory is there before anything changes.
+    pub fn send_many(&mut self, to: InstanceNo, names: &[Name]) -> Result<Vec<Clock>, RecordError>
+        requires among { to ≤ length self.old.knowledge }
+        requires not_itself { to ≢ self.old.line.instance }
+        ensures ok { OnOk result (self.new ≡ after_sends self.old to names.now) }
+        ensures clocks { IfOk result (λ clocks. clocks.items ≡ send_clocks self.old to names.now) }
+        ensures full { (result ≡ Err RecordError.LineFull)
+            ↔ (MAX_EVENTS < length self.old.line.events + length names.now) }
+        ensures err { OnErr result (self.new ≡ self.old) }
+    {
+        if names.len() > MAX_EVENTS - self.line.len() {
+            return Err(RecordError::LineFull);
+        }
+        let clocks = self.next_clocks(names.len())?;
+        let known = self.known_after(names.len())?;
+        self.line.push_sends(to, names)?;
+        self.room = self.room.saturating_sub(names.len());
+        self.knowledge = known;
+        Ok(clocks)
+    }
+
+    /// The clocks of the next events, if so many are sends.
+    fn next_clocks(&self, sends: usize) -> Result<Vec<Clock>, AllocError>
+        requires { length self.now.line.events + sends ≤ MAX_EVENTS }
+        ensures { IfOk result (λ clocks. clocks.items ≡ next_clocks self.now sends) }
+    {
+        let mut clocks = Vec::with_capacity(self.alloc, sends)?;
+        for place in 0..sends {
+            let index = (self.line.len() + place + 1) as u32;
+            let clock = self
+                .knowledge
+                .stamped(self.alloc, self.line.instance(), index)?;
+            clocks.push_reserved(clock);
+        }
+        Ok(clocks)
+    }
+
+    /// The knowledge after the next events, if so many are sends.
+    fn known_after(&self, sends: usize) -> Result<Clock, AllocError>
+        requires { length self.now.line.events + sends ≤ MAX_EVENTS }
+        ensures { IfOk result (λ known. known ≡ known_after self.now sends) }
+    {
+        if sends == 0 {
+            return self.knowledge.copied(self.alloc);
+        }
+        let index = (self.line.len() + sends) as u32;
+        self.knowledge
+            .stamped(self.alloc, self.line.instance(), index)
     }
 
     /// Records a receive from this instance of a message of this name, whose send had this clock, in this coregion (0
