@@ -172,9 +172,15 @@ pub(crate) fn take_next(
     ensures recorder { OnErr result (recorder.new ≡ recorder.old) }
 {
     let count = end.taken;
-    let Ok((message, report)) =
-        take_recorded(words, seat, lane, count, recorder, &mut end.base, region)
-    else {
+    let Ok((message, report)) = take_recorded(
+        words,
+        seat,
+        lane,
+        count,
+        recorder,
+        &mut end.base,
+        region,
+    ) else {
         return Err(AllocError);
     };
     end.taken += 1;

@@ -178,8 +178,7 @@ pub IsFollowed-next : (lines : List LineView) (p : ℕ) (fronts seen after now l
     → IsFollowed lines p fronts seen later new × (slice_index new p ≡ slice_index now p + 1)
 IsFollowed-next lines p fronts seen after now later new within old whole is grown kept =
     let below : p < length now = omega (arith, ap length old.others, length-set seen p (slice_index now p)) in
-    let one : slice_index new p ≡ slice_index now p + 1 = ap (λ xs. slice_index xs p) is ∙ get_or-set_same now p (slice_index now p + 1) 0 below in
-    (
+    let one : slice_index new p ≡ slice_index now p + 1 = ap (λ xs. slice_index xs p) is ∙ get_or-set_same now p (slice_index now p + 1) 0 below in (
       record {
         whole = whole;
         others =

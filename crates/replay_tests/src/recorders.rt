@@ -3,7 +3,7 @@
 ghost use Rattle.std.specs.Prelude.{◌≡◌, ◌≢◌, ◌≤◌, length};
 
 use crate::calls::{every_growth_was_refused, instance, name};
-use chart::{InstanceNo, Report};
+use chart::{InstanceNo, Name, Report};
 use clock::Clock;
 use line_recorder::Recorder;
 use std::alloc::Global;
@@ -25,13 +25,15 @@ const C: usize = 3;
 enum Step {
     /// A send of one instance to another: the letter of its name, and the entries of its clock.
     Send(usize, usize, u8, &'static [u32]),
+    /// Two at once: the letters of their names.
+    SendTwo(usize, usize, u8, u8),
     /// A receive of one instance from another: the letter of its name, its clock, and the earlier events of its report.
     Receive(usize, usize, u8, usize, &'static [u32]),
     /// What an instance knows.
     Knows(usize, &'static [u32]),
 }
 
-use Step::{Knows, Receive, Send};
+use Step::{Knows, Receive, Send, SendTwo};
 
 /// The recorder of one of the instances, asked for once more where the growth was refused.
 fn one_of(rt: &impl Abort, alloc: Global, p: usize) -> Recorder {
@@ -72,6 +74,15 @@ fn send(rt: &impl Abort, recorder: &mut Recorder, to: usize, letter: u8, entries
     };
     holds(rt, &clock, entries);
     clock
+}
+
+/// The same of two sends at once.
+fn send_two(rt: &impl Abort, recorder: &mut Recorder, to: usize, names: &[Name]) -> Vec<Clock> {
+    let to = other(rt, recorder, to);
+    match recorder.send_many(to, names) {
+        Ok(clocks) => clocks,
+        Err(_) => recorder.send_many(to, names).expect(rt, "two sends"),
+    }
 }
 
 /// The report is of the receive of this index, and has these earlier events.
@@ -119,6 +130,13 @@ fn record(rt: &impl Abort, recorder: &mut Recorder, clocks: &mut Vec<Clock>, ste
             let clock = send(rt, recorder, to, letter, entries);
             keep(rt, clocks, clock);
         }
+        SendTwo(_, to, first, second) => {
+            let two = send_two(rt, recorder, to, &[name(rt, &[first]), name(rt, &[second])]);
+            assert_eq!(rt; two.len(), 2);
+            for clock in two {
+                keep(rt, clocks, clock);
+            }
+        }
         Receive(_, from, letter, clock, earlier) => {
             let clock = clocks.get(clock).expect(rt, "a clock");
             receive(rt, recorder, from, letter, clock, earlier);
@@ -136,17 +154,16 @@ fn play(rt: &impl Abort, alloc: Global, steps: &[Step]) {
     ];
     let mut clocks = Vec::new(alloc);
     for step in steps {
-        let (Send(at, ..) | Receive(at, ..) | Knows(at, ..)) = *step;
+        let (Send(at, ..) | SendTwo(at, ..) | Receive(at, ..) | Knows(at, ..)) = *step;
         let place = instance(rt, at).place();
         let recorder = recorders.get_mut(place).expect(rt, "a recorder");
         record(rt, recorder, &mut clocks, step);
     }
 }
 
-static STEPS: [Step; 7] = [
+static STEPS: [Step; 6] = [
     Send(A, B, b'x', &[1, 0, 0, 0, 0, 0, 0, 0, 0]),
-    Send(C, B, b'y', &[0, 0, 1, 0, 0, 0, 0, 0, 0]),
-    Send(C, B, b'z', &[0, 0, 2, 0, 0, 0, 0, 0, 0]),
+    SendTwo(C, B, b'y', b'z'),
     Receive(B, A, b'x', 0, &[]),
     Receive(B, C, b'y', 1, &[1]),
     Receive(B, C, b'z', 2, &[1]),
