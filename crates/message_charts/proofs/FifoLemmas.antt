@@ -1,87 +1,55 @@
 -- The ends of messages that follow each other, by their turns: each lane is first in, first out.
-use Rattle.std.proofs.Common.{◌≡◌, ℕ, suc, ◌+◌, ◌*◌, ◌≤◌, ◌==◌, not, Bool, true, false, cond, List, [], ◌∷◌, ◌++◌, length, drop, get_or, map, filter, refl, sym, ap, ◌∙◌, subst, arith, append_assoc, eqb-true}
+use Rattle.std.proofs.Common.{◌≡◌, ℕ, ◌+◌, ◌*◌, ◌≤◌, ◌==◌, not, Bool, true, false, cond, List, [], ◌∷◌, ◌++◌, length, drop, get_or, map, filter, refl, sym, ap, ◌∙◌, subst, arith, append_assoc, eqb-true}
 use Rattle.std.specs.Prelude.{fold, nat_lt}
 use Rattle.std.proofs.lemmas.Bool.{and_parts}
 use Rattle.std.proofs.lemmas.List.{map-append}
 use Rattle.chart.specs.Messages.{Content}
 use Rattle.chart.specs.Histories.{is_lane}
-use Rattle.message_charts.specs.Turns.{send_end, receive_end, all_ends, own_ends, put, in_turn}
+use Rattle.message_charts.specs.Turns.{send_end, receive_end, all_ends, own_ends, in_turn}
 use Rattle.message_charts.specs.declared.end.End.{End}
 use Rattle.message_charts.specs.declared.message.Named.{Named}
 use Rattle.message_charts.specs.Each.{Each, Pairs}
 use Rattle.message_charts.specs.Following.{Follows}
 use Rattle.message_charts.proofs.EachLemmas.{each_weaker, each_filter, each_passing, pairs_weaker, pairs_passing, filter_swap}
 use Rattle.message_charts.proofs.HistoryLemmas.{content_of, is_of, lane_ends, Fifo}
-use Rattle.message_charts.proofs.TurnLemmas.{Least, Rising, of_turn, turns_rise, turns_kept, same_by_turn}
+use Rattle.stable_order.specs.Order.{put_by, in_order_by}
+use Rattle.stable_order.proofs.OrderLemmas.{Least, Rising, of_key, least_filter, rising_filter, order_rises, order_kept, same_by_key}
 
 -- Some of the ends that stand by their turns.
 
-least_filter : (t : ℕ) (test : End → Bool) (xs : List End) → Least t xs → Least t (filter test xs)
-unfolding Least
-least_filter t test [] least = tt
-least_filter t test (x ∷ xs) least = go (test x) (least_filter t test xs least.1)
-  where
-    go : (its : Bool) → Least t (filter test xs) → Least t (cond its (x ∷ filter test xs) (filter test xs))
-    go true rest = (least.0, rest)
-    go false rest = rest
-
-pub rising_filter : (test : End → Bool) (xs : List End) → Rising xs → Rising (filter test xs)
-unfolding Rising
-rising_filter test [] rising = tt
-rising_filter test (x ∷ xs) rising = go (test x) (rising_filter test xs rising.1)
-  where
-    go : (its : Bool) → Rising (filter test xs) → Rising (cond its (x ∷ filter test xs) (filter test xs))
-    go true rest = (least_filter x.turn test xs rising.0, rest)
-    go false rest = rest
+abbrev turn_of : End → ℕ
+turn_of e = e.turn
 
 -- an instance's ends by their turns
 pub own_in_turn : (p : ℕ) (came : List End) → own_ends p (in_turn came) ≡ in_turn (own_ends p came)
-own_in_turn p came = same_by_turn (own_ends p (in_turn came)) (in_turn (own_ends p came)) (rising_filter (λ (e : End). e.instance == p) (in_turn came) (turns_rise came)) (turns_rise (own_ends p came))
-    (λ t. filter_swap (λ (e : End). e.turn == t) (λ (e : End). e.instance == p) (in_turn came) ∙ ap (own_ends p) (turns_kept t came)
-    ∙ sym (filter_swap (λ (e : End). e.turn == t) (λ (e : End). e.instance == p) came) ∙ sym (turns_kept t (own_ends p came)))
+own_in_turn p came = same_by_key turn_of (own_ends p (in_turn came)) (in_turn (own_ends p came)) (rising_filter turn_of (λ (e : End). e.instance == p) (in_turn came) (order_rises turn_of came)) (order_rises turn_of (own_ends p came))
+    (λ t. filter_swap (λ (e : End). e.turn == t) (λ (e : End). e.instance == p) (in_turn came) ∙ ap (own_ends p) (order_kept turn_of t came)
+    ∙ sym (filter_swap (λ (e : End). e.turn == t) (λ (e : End). e.instance == p) came) ∙ sym (order_kept turn_of t (own_ends p came)))
 
 -- those that pass two tests, where they come by their turns
-twice_kept : (f g : End → Bool) (came : List End) → Rising (filter f (filter g came)) → filter f (filter g (in_turn came)) ≡ filter f (filter g came)
-twice_kept f g came rising = same_by_turn (filter f (filter g (in_turn came))) (filter f (filter g came)) (rising_filter f (filter g (in_turn came)) (rising_filter g (in_turn came) (turns_rise came))) rising
-    (λ t. through t (in_turn came) ∙ ap (λ l. filter f (filter g l)) (turns_kept t came) ∙ sym (through t came))
+twice_kept : (f g : End → Bool) (came : List End) → Rising turn_of (filter f (filter g came)) → filter f (filter g (in_turn came)) ≡ filter f (filter g came)
+twice_kept f g came rising = same_by_key turn_of (filter f (filter g (in_turn came))) (filter f (filter g came)) (rising_filter turn_of f (filter g (in_turn came)) (rising_filter turn_of g (in_turn came) (order_rises turn_of came))) rising
+    (λ t. through t (in_turn came) ∙ ap (λ l. filter f (filter g l)) (order_kept turn_of t came) ∙ sym (through t came))
   where
-    through : (t : ℕ) (xs : List End) → of_turn t (filter f (filter g xs)) ≡ filter f (filter g (of_turn t xs))
+    through : (t : ℕ) (xs : List End) → of_key turn_of t (filter f (filter g xs)) ≡ filter f (filter g (of_key turn_of t xs))
     through t xs = filter_swap (λ (e : End). e.turn == t) f (filter g xs) ∙ ap (filter f) (filter_swap (λ (e : End). e.turn == t) g xs)
 
--- no end is lost, and none comes
-put_length : (xs : List End) (e : End) → length (put xs e) ≡ suc (length xs)
-unfolding put
-put_length [] e = refl
-put_length (x ∷ xs) e = go (nat_lt e.turn x.turn) (put_length xs e)
-  where
-    go : (its : Bool) → length (put xs e) ≡ suc (length xs) → length (cond its (e ∷ x ∷ xs) (x ∷ put xs e)) ≡ suc (suc (length xs))
-    go true more = refl
-    go false more = ap suc more
-
-fold_length : (acc ends : List End) → length (fold put acc ends) ≡ length acc + length ends
-fold_length acc [] = omega arith
-fold_length acc (e ∷ ends) = omega (arith, fold_length (put acc e) ends, put_length acc e)
-
-pub turn_length : (ends : List End) → length (in_turn ends) ≡ length ends
-unfolding in_turn
-turn_length ends = omega (arith, fold_length [] ends)
-
 module _ (P : End → Type 0) where
-  put_each : (xs : List End) (e : End) → Each P xs → P e → Each P (put xs e)
-  unfolding put
+  put_each : (xs : List End) (e : End) → Each P xs → P e → Each P (put_by turn_of xs e)
+  unfolding put_by
   put_each [] e all its = (its, tt)
   put_each (x ∷ xs) e all its = go (nat_lt e.turn x.turn) (put_each xs e all.1 its)
     where
-      go : (less : Bool) → Each P (put xs e) → Each P (cond less (e ∷ x ∷ xs) (x ∷ put xs e))
+      go : (less : Bool) → Each P (put_by turn_of xs e) → Each P (cond less (e ∷ x ∷ xs) (x ∷ put_by turn_of xs e))
       go true more = (its, all)
       go false more = (all.0, more)
 
-  fold_each : (acc ends : List End) → Each P acc → Each P ends → Each P (fold put acc ends)
+  fold_each : (acc ends : List End) → Each P acc → Each P ends → Each P (fold (put_by turn_of) acc ends)
   fold_each acc [] all more = all
-  fold_each acc (e ∷ ends) all more = fold_each (put acc e) ends (put_each acc e all more.0) more.1
+  fold_each acc (e ∷ ends) all more = fold_each (put_by turn_of acc e) ends (put_each acc e all more.0) more.1
 
   pub turn_each : (ends : List End) → Each P ends → Each P (in_turn ends)
-  unfolding in_turn
+  unfolding in_order_by
   turn_each ends all = fold_each [] ends tt all
 
 -- Messages that follow each other.
@@ -131,23 +99,23 @@ lane_receives q p (m ∷ messages) = go m.is_lost refl (goes q p m) refl (lane_r
     go false l false e rest = rw e rest
 
 -- they come by their turns
-least_sends : (t : ℕ) (messages : List Named) → Each (λ m. t ≤ 2 * m.begins) messages → Least t (map send_end messages)
+least_sends : (t : ℕ) (messages : List Named) → Each (λ m. t ≤ 2 * m.begins) messages → Least turn_of t (map send_end messages)
 unfolding Least
 least_sends t [] all = tt
 least_sends t (m ∷ messages) all = (all.0, least_sends t messages all.1)
 
-sends_rise : (messages : List Named) → Pairs (λ m n. m.begins ≤ n.begins) messages → Rising (map send_end messages)
+sends_rise : (messages : List Named) → Pairs (λ m n. m.begins ≤ n.begins) messages → Rising turn_of (map send_end messages)
 unfolding Rising
 sends_rise [] all = tt
 sends_rise (m ∷ messages) all =
     (least_sends (2 * m.begins) messages (each_weaker (λ n. m.begins ≤ n.begins) (λ n. 2 * m.begins ≤ 2 * n.begins) (λ n le. omega (arith, le)) messages all.0), sends_rise messages all.1)
 
-least_receives : (t : ℕ) (messages : List Named) → Each (λ m. t ≤ 2 * m.ends + 1) messages → Least t (map receive_end messages)
+least_receives : (t : ℕ) (messages : List Named) → Each (λ m. t ≤ 2 * m.ends + 1) messages → Least turn_of t (map receive_end messages)
 unfolding Least
 least_receives t [] all = tt
 least_receives t (m ∷ messages) all = (all.0, least_receives t messages all.1)
 
-receives_rise : (messages : List Named) → Pairs (λ m n. m.ends ≤ n.ends) messages → Rising (map receive_end messages)
+receives_rise : (messages : List Named) → Pairs (λ m n. m.ends ≤ n.ends) messages → Rising turn_of (map receive_end messages)
 unfolding Rising
 receives_rise [] all = tt
 receives_rise (m ∷ messages) all =
@@ -168,9 +136,9 @@ received_first (m ∷ messages) all = go m.is_lost refl (received_first messages
     go false e (rest, is) = (rest, ap (λ l. m ∷ l) is)
 
 -- the least turn of the sends that are still to come
-least_first : (t : ℕ) (m : Named) (later : List Named) (ends : List End) → Least t ends → sends_of ends ≡ map send_end (m ∷ later) → t ≤ 2 * m.begins
+least_first : (t : ℕ) (m : Named) (later : List Named) (ends : List End) → Least turn_of t ends → sends_of ends ≡ map send_end (m ∷ later) → t ≤ 2 * m.begins
 unfolding Least
-least_first t m later ends least is = (subst (Least t) is (least_filter t (λ (e : End). e.sends) ends least)).0
+least_first t m later ends least is = (subst (Least turn_of t) is (least_filter turn_of t (λ (e : End). e.sends) ends least)).0
 
 -- what receives take of the messages that wait on a lane, in the order of their sends
 abbrev pub TakesFirst : List Named → List End → Type 0
@@ -185,7 +153,7 @@ send_first rest e ends waits (m ∷ later) taken next sent received all down =
     let more : map content (waits ++ m ∷ []) ≡ map content waits ++ content_of e ∷ [] = map-append content waits (m ∷ []) ∙ ap (λ x. map content waits ++ content_of x ∷ []) (sym its) in
     subst (λ ms. Fifo ms ends) more (next (waits ++ m ∷ []) later taken (ap (drop 1) sent) received (append_assoc waits (m ∷ []) later ∙ all) down)
 
-receive_first : (rest : List Named) (e : End) (ends : List End) (waits later taken : List Named) → TakesFirst rest ends → Least e.turn ends → sends_of ends ≡ map send_end later → e ∷ receives_of ends ≡ map receive_end taken
+receive_first : (rest : List Named) (e : End) (ends : List End) (waits later taken : List Named) → TakesFirst rest ends → Least turn_of e.turn ends → sends_of ends ≡ map send_end later → e ∷ receives_of ends ≡ map receive_end taken
     → waits ++ later ≡ taken ++ rest → Each (λ m. m.begins ≤ m.ends) taken
     → (c : Content) × (others : List Content) × (map content waits ≡ c ∷ others) × (c.name ≡ e.name) × Fifo others ends
 receive_first rest e ends waits later [] next least sent received all down = absurd (omega (arith, ap length received))
@@ -203,7 +171,7 @@ receive_first rest e ends (w ∷ waits) later (g ∷ taken) next least sent rece
       next waits later taken sent (ap (drop 1) received) (ap (drop 1) all) down.1,
     )
 
-pub first_out : (rest : List Named) (ends : List End) → Rising ends → TakesFirst rest ends
+pub first_out : (rest : List Named) (ends : List End) → Rising turn_of ends → TakesFirst rest ends
 unfolding Rising
 first_out rest [] rising waits later taken sent received all down = tt
 first_out rest (e ∷ ends) rising waits later taken sent received all down = (
@@ -220,9 +188,9 @@ is_false false e = refl
 -- each lane of such messages
 pub lane_fifo : (messages : List Named) → Pairs Follows messages → Each (λ m. m.is_lost ≡ false → m.begins ≤ m.ends) messages → (q p : ℕ) → Fifo [] (lane_ends q p (in_turn (all_ends messages)))
 lane_fifo messages follow down q p =
-    first_out first.0 (lane_ends q p (in_turn (all_ends messages))) (rising_filter (is_of q p) (in_turn (all_ends messages)) (turns_rise (all_ends messages))) [] own (received_of own)
-    (twice_kept (λ (e : End). e.sends) (is_of q p) (all_ends messages) (subst Rising (sym (lane_sends q p messages)) (sends_rise own sent_so)) ∙ lane_sends q p messages)
-    (twice_kept (λ (e : End). not e.sends) (is_of q p) (all_ends messages) (subst Rising (sym (lane_receives q p messages)) (receives_rise (received_of own) received_so)) ∙ lane_receives q p messages)
+    first_out first.0 (lane_ends q p (in_turn (all_ends messages))) (rising_filter turn_of (is_of q p) (in_turn (all_ends messages)) (order_rises turn_of (all_ends messages))) [] own (received_of own)
+    (twice_kept (λ (e : End). e.sends) (is_of q p) (all_ends messages) (subst (Rising turn_of) (sym (lane_sends q p messages)) (sends_rise own sent_so)) ∙ lane_sends q p messages)
+    (twice_kept (λ (e : End). not e.sends) (is_of q p) (all_ends messages) (subst (Rising turn_of) (sym (lane_receives q p messages)) (receives_rise (received_of own) received_so)) ∙ lane_receives q p messages)
     first.1 in_time
   where
     own : List Named

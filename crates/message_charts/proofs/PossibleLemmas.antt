@@ -14,7 +14,8 @@ use Rattle.message_charts.specs.declared.message.Named.{Named}
 use Rattle.message_charts.specs.Each.{Each}
 use Rattle.message_charts.proofs.EachLemmas.{each_weaker}
 use Rattle.message_charts.specs.Following.{IsMessage, AreDrawn}
-use Rattle.message_charts.proofs.FifoLemmas.{own_in_turn, turn_length, turn_each, lane_fifo}
+use Rattle.message_charts.proofs.FifoLemmas.{own_in_turn, turn_each, lane_fifo}
+use Rattle.stable_order.proofs.OrderLemmas.{order_length}
 use Rattle.message_charts.proofs.HistoryLemmas.{Stands, history_from, history_legal, history_chart}
 use Rattle.message_charts.proofs.LineLemmas.{open_none}
 
@@ -39,7 +40,7 @@ begins n messages are = record {
   opened = λ q p. refl;
   slots = omega arith;
   two = turn_each (λ e. AreTwo n e.instance e.partner) (all_ends messages) (ends_two n messages are.each);
-  room = λ p. omega (arith, are.room p, ap length (own_in_turn p (all_ends messages)), turn_length (own_ends p (all_ends messages)));
+  room = λ p. omega (arith, are.room p, ap length (own_in_turn p (all_ends messages)), order_length (λ (e : End). e.turn) (own_ends p (all_ends messages)));
   is_open = λ p. open_none (own_ends p (in_turn (all_ends messages)));
   fifo = lane_fifo messages are.follow (each_weaker (IsMessage n) (λ m. m.is_lost ≡ false → m.begins ≤ m.ends) (λ m is. is.down) messages are.each);
 }
