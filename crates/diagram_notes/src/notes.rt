@@ -1,11 +1,12 @@
 //! The notes of a text.
 ghost use Rattle.std.specs.Prelude.{◌≡◌, ◌++◌, map, IfOk};
 ghost use Rattle.diagram_imports.specs.Importing.{options_view};
+ghost use Rattle.diagram_imports.specs.Readers.{tool_in};
 ghost use Rattle.diagrams.specs.Diagrams.{diagram_view};
 ghost use Rattle.line_diagrams.specs.declared.labels.Breaks.TheVariants.{Mermaid, PlantUml};
 ghost use Rattle.margin_notes.specs.Notes.{note_view};
 ghost use Rattle.diagram_notes.specs.Remarks.{remark_view};
-ghost use Rattle.diagram_notes.specs.Texts.{mscgen_remarks, line_remarks, text_remarks, all_remarks, notes_of, notes_of_text};
+ghost use Rattle.diagram_notes.specs.Texts.{IsTool, mscgen_remarks, line_remarks, text_remarks, all_remarks, notes_of, notes_of_text};
 ghost use Rattle.mermaid_text.specs.Diagrams.{diagram_of as mermaid_of};
 ghost use Rattle.plantuml_text.specs.Diagrams.{diagram_of as plantuml_of};
 ghost use Rattle.plantuml_text.specs.Joints.{joined_text};
@@ -14,15 +15,29 @@ use crate::arcs::arc_remarks;
 use crate::own::own_remarks;
 use crate::placing::placed;
 use crate::remark::Remark;
-use crate::skipping::{behind_mark, blanked, tool_of};
 use crate::statements::{add_all, statement_remarks};
-use diagram_imports::{Options, diagram_of_text};
+use diagram_imports::{Options, behind_mark, blanked, diagram_of_text};
 use diagram_turns::messages_of;
 use diagrams::Diagram;
 use line_diagrams::Breaks;
 use margin_notes::MarginNote;
 use std::alloc::{AllocError, Global};
+use told_tools::told_tool;
 use tool_text::Tool;
+
+/// The tool of a text, if it is named or the text tells it.
+#[tactic(auto, unfolding(diagram_imports::specs::Readers::tool_in))]
+fn tool_of(tool: Option<Tool>, text: &[u8]) -> Option<Tool>
+    ensures { IsTool result (tool_in tool text.now) }
+{
+    if let Some(tool) = tool {
+        return Some(tool);
+    }
+    match told_tool(text) {
+        Ok(tool) => Some(tool),
+        Err(_) => None,
+    }
+}
 
 /// What a text of mscgen remarks beside the items of its diagram. It fails only where there is no memory, or where the text
 /// isn't read.
