@@ -1,6 +1,7 @@
 -- What a look at a lane answers (this project's profile).
 use Rattle.std.specs.Prelude.{◌≡◌, ℕ, ◌+◌, ◌-◌, ◌<◌, ◌==◌, ◌&&◌, not, Bool, true, false, List, [], ◌∷◌, ◌++◌, filter, Result, Ok, Err}
 use Rattle.std.specs.List.{range_with_len}
+use Rattle.chart.specs.Words.{Instance}
 use Rattle.board.specs.declared.answer.Glance.{Glance}
 use Rattle.board.specs.declared.answer.Glance.TheVariants.{Message, Nothing, Ended}
 use Rattle.board.specs.declared.answer.Scan.{Scan}
@@ -25,20 +26,20 @@ Glances old from (Ok Ended) new = Stays old new × IsFoundEmpty old from true ne
 Glances old from (Err error) new = (new ≡ old) × IsNoLane old from error
 
 -- the instances but p with a number past `from` and up to `to`
-abbrev pub others : ℕ → ℕ → ℕ → List ℕ
+abbrev pub others : ℕ → ℕ → ℕ → List Instance
 others p from to = filter (λ q. not (q == p)) (range_with_len (from + 1) (to - from))
 
 -- A look at the lane from each of these instances, in this order, found that no message waits, each by what had been
 -- seen at the one before it; and whether all of them were found ended.
-abbrev pub AreGlanced : PostView → List ℕ → Bool → PostView → Type 0
+abbrev pub AreGlanced : PostView → List Instance → Bool → PostView → Type 0
 AreGlanced old [] its_end new = (new ≡ old) × (its_end ≡ true)
 AreGlanced old (q ∷ order) its_end new = (mid : PostView) × (first : Bool) × (rest : Bool) × Sound old mid × Stays old mid
     × IsFoundEmpty old q first mid × AreGlanced mid order rest new × (its_end ≡ (first && rest))
 
 -- the lane from this instance is the first in this order on which a message waits, by a look at each lane before it
-pub record IsFirstWaiting (old : PostView) (order : List ℕ) (from : ℕ) (new : PostView) : Type 0 where
-  pub before : List ℕ
-  pub after : List ℕ
+pub record IsFirstWaiting (old : PostView) (order : List Instance) (from : ℕ) (new : PostView) : Type 0 where
+  pub before : List Instance
+  pub after : List Instance
   pub order_is : order ≡ before ++ from ∷ after
   pub mid : PostView
   pub its_end : Bool
@@ -48,7 +49,7 @@ pub record IsFirstWaiting (old : PostView) (order : List ℕ) (from : ℕ) (new 
   pub waits : Waits mid from new
 
 -- whether a message waits on one of the lanes from these instances: nothing was received
-abbrev pub GlancesAmong : PostView → List ℕ → Scan → PostView → Type 0
+abbrev pub GlancesAmong : PostView → List Instance → Scan → PostView → Type 0
 GlancesAmong old order (among.Message from) new = IsFirstWaiting old order from new
 GlancesAmong old order among.Nothing new = AreGlanced old order false new
 GlancesAmong old order among.Ended new = AreGlanced old order true new

@@ -2,6 +2,7 @@
 use Rattle.std.specs.Prelude.{◌≡◌, ℕ, suc, ◌+◌, ◌<◌, ◌≤◌, ◌==◌, List, [], ◌∷◌, ◌++◌, length, map, filter, take, drop}
 use Rattle.std.specs.Prelude.{All, slice_get, vec_capacity, Option, Some}
 use Rattle.std.specs.List.{flat_map}
+use Rattle.chart.specs.Words.{Instance}
 use Rattle.chart.specs.declared.history.Occurrence.{Occurrence}
 use Rattle.chart.specs.declared.instance.EventNo.{EventNo}
 use Rattle.chart.specs.declared.line.TheConstants.{MAX_EVENTS}
@@ -106,11 +107,11 @@ pub record HaveParted (n k : ℕ) (table : TableId) (h : List Occurrence) (many 
 -- The messages of the lanes, to be drawn one lane after another.
 
 -- who sends to p on these lanes
-abbrev pub senders_to : ℕ → List LaneEnds → List ℕ
+abbrev pub senders_to : ℕ → List LaneEnds → List Instance
 senders_to p lanes = map (λ (lane : LaneEnds). lane.sender) (filter (λ (lane : LaneEnds). lane.receiver == p) lanes)
 
 -- for each of these senders come slots with what waits for p, and then others
-abbrev pub AreNext : ℕ → ℕ → ℕ → List Occurrence → List ℕ → Slots → Type 0
+abbrev pub AreNext : ℕ → ℕ → ℕ → List Occurrence → List Instance → Slots → Type 0
 AreNext n k p h [] slots = Unit {0}
 AreNext n k p h (q ∷ qs) slots = (packets : List Packet) × (others : Slots)
     × ComeFirst n k q p (received h q p) packets slots others × (messages_in packets ≡ waiting h q p)

@@ -1,6 +1,7 @@
 -- What the parts of a send of several messages tell each other (differences between clocks as Singhal and
 -- Kshemkalyani 1992 have them; several sends at once are this project's profile).
 use Rattle.std.specs.Prelude.{◌≡◌, ℕ, ◌+◌, ◌≤◌, List, length, map, drop, All}
+use Rattle.chart.specs.Words.{Clock}
 use Rattle.chart.specs.Messages.{Content}
 use Rattle.chart.specs.Histories.{chart_of}
 use Rattle.clock.specs.declared.diff.Change.{Change}
@@ -18,14 +19,14 @@ use Rattle.board.specs.Known.{Did}
 use Rattle.board.specs.Sending.{sends_of, numbered}
 
 -- the difference has exactly what changed, and makes the clock of the base
-pub record IsDiffTo (base : List ℕ) (diff : List Change) (clock : List ℕ) : Type 0 where
+pub record IsDiffTo (base : Clock) (diff : List Change) (clock : Clock) : Type 0 where
   pub within : All (λ (change : Change). change.instance ≤ length base) diff
   pub exact : IsDiff base clock diff
   pub applied : apply_diff base diff ≡ clock
 
 -- what the sends of these messages need is there: what changes with the first, what is told of each, and room for all
 -- on the line
-pub record IsPrepared (base : List ℕ) (old : RecorderView) (messages : List Content) (it : Prepared)
+pub record IsPrepared (base : Clock) (old : RecorderView) (messages : List Content) (it : Prepared)
     (new : RecorderView) : Type 0 where
   pub first : IsDiffTo base it.first (send_clock old)
   pub sents : map (λ (sent : Sent). sent.event) it.sents.items
@@ -34,7 +35,7 @@ pub record IsPrepared (base : List ℕ) (old : RecorderView) (messages : List Co
 
 -- these packets carry the messages, each with the clock of its send, over that of the one before it, the first one over
 -- the base; and the recorder has recorded these sends
-pub record AreFilled (base : List ℕ) (old : RecorderView) (to : ℕ) (messages : List Content) (packets : List Packet)
+pub record AreFilled (base : Clock) (old : RecorderView) (to : ℕ) (messages : List Content) (packets : List Packet)
     (new : RecorderView) : Type 0 where
   pub parcels : List Parcel
   pub messages_are : map (λ (x : Parcel). x.message) parcels ≡ messages

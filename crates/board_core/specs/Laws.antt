@@ -2,6 +2,7 @@
 -- was: statements that `laws` proves. That a clock has what its send knows is vector time (Fidge 1988, Mattern 1989),
 -- that differences tell it is Singhal and Kshemkalyani's (1992); the others are this project's profile.
 use Rattle.std.specs.Prelude.{◌≡◌, ℕ, ◌≤◌, List, ◌++◌, length, map, take, slice_get, Some, All}
+use Rattle.chart.specs.Words.{Clock}
 use Rattle.chart.specs.declared.history.Occurrence.{Occurrence}
 use Rattle.chart.specs.Charts.{at, chart_event}
 use Rattle.chart.specs.Events.{send_event}
@@ -81,7 +82,7 @@ abbrev pub TellingLaw : Type 0
 TellingLaw = (n k : ℕ) (h : List Occurrence) → IsLegal n k h
     → (q p : ℕ) (diffs : List (List Change)) → AreDiffs (zeros n) (clocks (goods n h q p)) diffs
     → (i j : ℕ) → IsSendAfter (chart_of h q) p i j
-    → (clock : List ℕ) × (slice_get (restored (zeros n) diffs) i ≡ Some clock)
+    → (clock : Clock) × (slice_get (restored (zeros n) diffs) i ≡ Some clock)
     × (length clock ≡ n) × IsClockOf (chart_of h) (at q j) clock
 
 -- of every run they give the clocks of what it published
@@ -111,7 +112,7 @@ OthersLaw = (n : ℕ) (h g : List Occurrence) → Begins h g → (p : ℕ) → o
 -- a clock is still what its send knows
 abbrev pub ClockGrowthLaw : Type 0
 ClockGrowthLaw = (n k : ℕ) (h g : List Occurrence) → IsLegal n k h → Begins h g
-    → (q j : ℕ) (clock : List ℕ) → IsEvent (chart_of h) (at q j)
+    → (q j : ℕ) (clock : Clock) → IsEvent (chart_of h) (at q j)
     → IsClockOf (chart_of h) (at q j) clock → IsClockOf (chart_of g) (at q j) clock
 
 -- a report is still that of its receive

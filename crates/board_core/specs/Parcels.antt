@@ -1,6 +1,7 @@
 -- What passes through the lanes of a board: messages, each with the clock of its send (vector time as Fidge 1988 and
 -- Mattern 1989 have it). What the lanes carry is a function of the history (this project's profile).
 use Rattle.std.specs.Prelude.{ℕ, ◌+◌, List, [], ◌∷◌, ◌++◌, length, map, if◌then◌else◌}
+use Rattle.chart.specs.Words.{Name, Clock}
 use Rattle.chart.specs.declared.history.Occurrence.{Occurrence}
 use Rattle.chart.specs.declared.history.Occurrence.TheVariants.{Send, Receive, Close}
 use Rattle.chart.specs.Messages.{Content}
@@ -11,18 +12,18 @@ use Rattle.line_recorder.specs.Carried.{knowledge_of}
 -- a message, and the clock of its send
 pub record Parcel : Type 0 where
   pub message : Content
-  pub clock : List ℕ
+  pub clock : Clock
 
 -- the names of the messages in these
-abbrev pub names : List Parcel → List (List ℕ)
+abbrev pub names : List Parcel → List Name
 names parcels = map (λ (x : Parcel). x.message.name) parcels
 
 -- their clocks
-abbrev pub clocks : List Parcel → List (List ℕ)
+abbrev pub clocks : List Parcel → List Clock
 clocks parcels = map (λ (x : Parcel). x.clock) parcels
 
 -- the clock of p's next event, if that is a send: what p knows then, with this event itself
-abbrev pub next_clock : ℕ → List Occurrence → ℕ → List ℕ
+abbrev pub next_clock : ℕ → List Occurrence → ℕ → Clock
 next_clock n h p = with_entry (knowledge_of n h p) p (length (chart_of h p) + 1)
 
 -- the parcels that q sent to p, in order

@@ -1,6 +1,7 @@
 -- What the slots of a lane carry: messages, each with what changed in the sender's clock since the message before it
 -- on the lane, the first one since zeros (Singhal and Kshemkalyani 1992).
 use Rattle.std.specs.Prelude.{◌≡◌, ℕ, zero, suc, ◌≤◌, List, [], ◌∷◌, length, take, All, Option, Some, None}
+use Rattle.chart.specs.Words.{Clock}
 use Rattle.chart.specs.declared.history.Occurrence.{Occurrence}
 use Rattle.chart.specs.declared.history.Occurrence.TheVariants.{Send, Receive}
 use Rattle.chart.specs.Histories.{received}
@@ -11,34 +12,34 @@ use Rattle.board_table.specs.declared.packet.Packet.{Packet}
 use Rattle.board_table.specs.Layout.{slot_of}
 
 -- the packet has this parcel for an end whose clock is the base: it names exactly the entries that changed
-pub record Carries (base : List ℕ) (x : Packet) (y : Parcel) : Type 0 where
+pub record Carries (base : Clock) (x : Packet) (y : Parcel) : Type 0 where
   pub message : x.message ≡ y.message
   pub within : All (λ change. change.instance ≤ length base) x.diff
   pub exact : IsDiff base y.clock x.diff
   pub clock : apply_diff base x.diff ≡ y.clock
 
 -- these packets have these parcels, each over the clock of the one before it
-abbrev pub AreCarried : List ℕ → List Packet → List Parcel → Type 0
+abbrev pub AreCarried : Clock → List Packet → List Parcel → Type 0
 AreCarried base [] [] = Unit {0}
 AreCarried base [] (y ∷ ys) = ⊥
 AreCarried base (x ∷ xs) [] = ⊥
 AreCarried base (x ∷ xs) (y ∷ ys) = Carries base x y × AreCarried y.clock xs ys
 
 -- the clock of the last of these, or the base where there is none
-abbrev pub last_clock : List ℕ → List Parcel → List ℕ
+abbrev pub last_clock : Clock → List Parcel → Clock
 last_clock base [] = base
 last_clock base (y ∷ ys) = last_clock y.clock ys
 
 -- the clock of the last message that q sent to p
-abbrev pub sent_base : ℕ → List Occurrence → ℕ → ℕ → List ℕ
+abbrev pub sent_base : ℕ → List Occurrence → ℕ → ℕ → Clock
 sent_base n h q p = last_clock (zeros n) (goods n h q p)
 
 -- the clock of the last message that p received from q
-abbrev pub received_base : ℕ → List Occurrence → ℕ → ℕ → List ℕ
+abbrev pub received_base : ℕ → List Occurrence → ℕ → ℕ → Clock
 received_base n h q p = last_clock (zeros n) (take (received h q p) (goods n h q p))
 
 -- these packets are q's next sends to p after the history, over this base: each has the clock that its send has
-abbrev pub AreNext : ℕ → List ℕ → List Occurrence → ℕ → ℕ → List Packet → Type 0
+abbrev pub AreNext : ℕ → Clock → List Occurrence → ℕ → ℕ → List Packet → Type 0
 AreNext n base h q p [] = Unit {0}
 AreNext n base h q p (x ∷ xs) = Carries base x (record { message = x.message; clock = next_clock n h q })
     × AreNext n (next_clock n h q) (Send q p x.message ∷ h) q p xs

@@ -1,6 +1,7 @@
 -- What a seat at a board's table knows, and how that grows (this project's profile).
 use Rattle.std.specs.Prelude.{◌≡◌, ℕ, ◌+◌, ◌==◌, List, [], ◌∷◌, ◌++◌, length, take, drop, Option, cond, leb}
 use Rattle.std.specs.Prelude.{if◌then◌else◌}
+use Rattle.chart.specs.Words.{Clock}
 use Rattle.atomic_table.specs.Table.{Me}
 use Rattle.chart.specs.declared.history.Occurrence.{Occurrence}
 use Rattle.chart.specs.Histories.{own, sent, received, IsLegal, Begins}
@@ -102,7 +103,7 @@ waiting_goods l me = drop (received (held me).seen l.sender l.receiver + vacant_
     (goods l.instances (held me).seen l.sender l.receiver)
 
 -- the clock of the last one that it has taken out, or received
-abbrev pub emptied_base : LaneView → Mine → List ℕ
+abbrev pub emptied_base : LaneView → Mine → Clock
 emptied_base l me =
     last_clock (zeros l.instances) (take (received (held me).seen l.sender l.receiver + vacant_out me)
     (goods l.instances (held me).seen l.sender l.receiver))

@@ -1,6 +1,7 @@
 -- What a receiver records of the first message that is out with it (this project's profile; differences between clocks
 -- as Singhal and Kshemkalyani 1992 have them).
 use Rattle.std.specs.Prelude.{◌≡◌, ℕ, List, ◌∷◌, length}
+use Rattle.chart.specs.Words.{Clock}
 use Rattle.chart.specs.Events.{MayHaveRegion}
 use Rattle.chart.specs.Reports.{ReportView}
 use Rattle.clock.specs.Diffs.{apply_diff}
@@ -16,8 +17,8 @@ pub record IsReady (l : LaneView) (region : ℕ) (recorder : RecorderView) : Typ
 
 -- the recorder has recorded the receive of the first of these packets over the base, with this report, and this is
 -- its clock
-pub record IsRecorded (packets : List Packet) (base : List ℕ) (from region : ℕ) (old : RecorderView)
-    (report : ReportView) (clock : List ℕ) (new : RecorderView) : Type 0 where
+pub record IsRecorded (packets : List Packet) (base : Clock) (from region : ℕ) (old : RecorderView)
+    (report : ReportView) (clock : Clock) (new : RecorderView) : Type 0 where
   pub clock_is : (x : Packet) (xs : List Packet) → packets ≡ x ∷ xs → apply_diff base x.diff ≡ clock
   pub recorded : (x : Packet) (xs : List Packet) → packets ≡ x ∷ xs
       → new ≡ after_receive old from x.message.name region clock report

@@ -1,6 +1,7 @@
 -- What comes before a receive, as a number for each line (over the order of Alur, Holzmann and Peled 1996, in this
 -- project's profile).
-use Rattle.std.specs.Prelude.{◌≡◌, ℕ, ◌≤◌, ◌↔◌, ◌⊎◌, List, length}
+use Rattle.std.specs.Prelude.{◌≡◌, ℕ, ◌≤◌, ◌↔◌, ◌⊎◌, length}
+use Rattle.chart.specs.Words.{Counts}
 use Rattle.chart.specs.Charts.{Chart, Place, IsReceiveFrom, BelongsTo}
 use Rattle.chart.specs.Order.{Before}
 use Rattle.closure.specs.Rows.{entry}
@@ -9,7 +10,7 @@ use Rattle.closure.specs.Searches.{IsReached, IsEarlierReceive}
 -- Of each of n lines so many first events are the send of the receive r, or come before that send. Before r are these,
 -- and earlier receives of its line from its sender. That alone would leave a number open where such a receive stands
 -- right behind the first events.
-pub record IsPast (n : ℕ) (c : Chart) (r : Place) (counts : List ℕ) : Type 0 where
+pub record IsPast (n : ℕ) (c : Chart) (r : Place) (counts : Counts) : Type 0 where
   pub whole : length counts ≡ n
   pub reached : (s : Place) × BelongsTo c s r × IsReached c s counts
   pub before : (q : ℕ) → IsReceiveFrom c q r → (e : Place) → 1 ≤ e.index
@@ -17,4 +18,4 @@ pub record IsPast (n : ℕ) (c : Chart) (r : Place) (counts : List ℕ) : Type 0
 
 -- a receive has one past
 abbrev pub OnePastLaw : Type 0
-OnePastLaw = (n : ℕ) (c : Chart) (r : Place) (a b : List ℕ) → IsPast n c r a → IsPast n c r b → a ≡ b
+OnePastLaw = (n : ℕ) (c : Chart) (r : Place) (a b : Counts) → IsPast n c r a → IsPast n c r b → a ≡ b

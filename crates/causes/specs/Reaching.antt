@@ -2,6 +2,7 @@
 -- of Alur, Holzmann and Peled 1996, in this project's profile).
 use Rattle.std.specs.Prelude.{◌≡◌, ℕ, ◌+◌, ◌*◌, ◌<◌, ◌≤◌, ◌⊎◌, List, [], ◌∷◌, ◌++◌, length, slice_get, Option, None}
 use Rattle.std.specs.Prelude.{Some}
+use Rattle.chart.specs.Words.{Counts}
 use Rattle.chart.specs.Charts.{Chart, Place, IsReceiveFrom, BelongsTo}
 use Rattle.chart.specs.Order.{IsEarlier}
 use Rattle.chart.specs.declared.instance.EventNo.{EventNo}
@@ -43,7 +44,7 @@ IsFollowed c found x = (e s : Place) → BelongsTo c s e → IsEarlier e (place_
 
 -- of each line so many events were seen, and the sends of the receives among them found; all before the head were
 -- followed
-pub record IsSearching (c : Chart) (r : Place) (found : List Reached) (seen : List ℕ) (head : ℕ) : Type 0 where
+pub record IsSearching (c : Chart) (r : Place) (found : List Reached) (seen : Counts) (head : ℕ) : Type 0 where
   pub trail : IsTrail c r found
   pub marked : (e s : Place) → BelongsTo c s e → e.index ≤ entry seen e.instance
       → (i : ℕ) × (x : Reached) × IsAt found i x × (place_of x.send ≡ s)

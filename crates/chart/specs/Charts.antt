@@ -2,6 +2,7 @@
 -- first in, first out, as Alur, Holzmann and Peled 1996 have them).
 use Rattle.std.specs.Prelude.{◌≡◌, ◌≢◌, ℕ, zero, suc, ◌<◌, ◌≤◌, true, List, [], length, slice_index_or, slice_get}
 use Rattle.std.specs.Prelude.{Option, Some, count_by, All}
+use Rattle.chart.specs.Words.{Instance, Index}
 use Rattle.chart.specs.declared.history.Occurrence.{Occurrence}
 use Rattle.chart.specs.declared.event.Event.{Event}
 use Rattle.chart.specs.declared.line.TheConstants.{MAX_EVENTS}
@@ -11,14 +12,14 @@ use Rattle.chart.specs.Histories.{IsLegal, chart_of}
 
 -- each instance's line
 abbrev pub Chart : Type 0
-Chart = ℕ → List Event
+Chart = Instance → List Event
 
 -- the place of an event: an instance, and the event's number on its line, from 1
 pub record Place : Type 0 where
-  pub instance : ℕ
-  pub index : ℕ
+  pub instance : Instance
+  pub index : Index
 
-abbrev pub at : ℕ → ℕ → Place
+abbrev pub at : Instance → Index → Place
 at p i = record { instance = p; index = i }
 
 -- the event at a place
@@ -26,11 +27,11 @@ abbrev pub chart_event : Chart → Place → Option Event
 chart_event c e = ith (c e.instance) e.index
 
 -- at e is a send to q
-abbrev pub IsSendTo : Chart → ℕ → Place → Type 0
+abbrev pub IsSendTo : Chart → Instance → Place → Type 0
 IsSendTo c q e = (m : Event) × (chart_event c e ≡ Some m) × (is_send_to q m ≡ true)
 
 -- at e is a receive from q
-abbrev pub IsReceiveFrom : Chart → ℕ → Place → Type 0
+abbrev pub IsReceiveFrom : Chart → Instance → Place → Type 0
 IsReceiveFrom c q e = (m : Event) × (chart_event c e ≡ Some m) × (is_receive_from q m ≡ true)
 
 -- the receive r is of the send s: the n-th receive on a lane is of the n-th send

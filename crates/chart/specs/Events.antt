@@ -1,28 +1,29 @@
 -- The events of a line (ITU-T Z.120), and the coregions along it (this project's profile, after ITU-T Z.120).
 use Rattle.std.specs.Prelude.{◌≡◌, ℕ, zero, suc, ◌+◌, ◌<◌, max, Bool, false, not, ◌&&◌, ◌==◌, List, [], ◌∷◌, take}
 use Rattle.std.specs.Prelude.{slice_get, Option, None, Some, count_by, ◌⊎◌}
+use Rattle.chart.specs.Words.{Instance, Name}
 use Rattle.chart.specs.declared.event.Event.{Event}
 use Rattle.chart.specs.declared.event.Event.TheVariants.{Send, Receive}
 
 -- Tests on an event (ITU-T Z.120: message output and message input events).
 
 -- it sends to q
-abbrev pub is_send_to : ℕ → Event → Bool
+abbrev pub is_send_to : Instance → Event → Bool
 is_send_to q (Send to name) = to == q
 is_send_to q (Receive from name region) = false
 
 -- it receives from q
-abbrev pub is_receive_from : ℕ → Event → Bool
+abbrev pub is_receive_from : Instance → Event → Bool
 is_receive_from q (Send to name) = false
 is_receive_from q (Receive from name region) = from == q
 
 -- the instance at the other end of the message
-abbrev pub partner_of : Event → ℕ
+abbrev pub partner_of : Event → Instance
 partner_of (Send to name) = to
 partner_of (Receive from name region) = from
 
 -- the name of the message
-abbrev pub name_of : Event → List ℕ
+abbrev pub name_of : Event → Name
 name_of (Send to name) = name
 name_of (Receive from name region) = name
 
@@ -36,10 +37,10 @@ abbrev pub is_in : ℕ → Event → Bool
 is_in c m = region_of m == c && not (c == 0)
 
 -- Events as others make them.
-abbrev pub send_event : ℕ → List ℕ → Event
+abbrev pub send_event : Instance → Name → Event
 send_event to name = Send to name
 
-abbrev pub receive_event : ℕ → List ℕ → ℕ → Event
+abbrev pub receive_event : Instance → Name → ℕ → Event
 receive_event from name region = Receive from name region
 
 -- Places on a line.

@@ -1,13 +1,14 @@
 -- The words that a chart's text keeps for itself (this project's profile of the words of ITU-T Z.120), each spelled
 -- here and nowhere else.
-use Rattle.std.specs.Prelude.{ℕ, Bool, List, [], ◌∷◌, codes, bytes_eq}
+use Rattle.std.specs.Prelude.{Bool, List, [], ◌∷◌, codes, bytes_eq}
 use Rattle.std.specs.List.{list_any}
+use Rattle.chart.specs.Words.{Text}
 use Rattle.chart.specs.declared.keyword.Keyword.{Keyword}
 use Rattle.chart.specs.declared.keyword.Keyword.TheVariants.{Msc, EndMsc, Instance, EndInstance, Out, To, In, From}
 use Rattle.chart.specs.declared.keyword.Keyword.TheVariants.{Concurrent, EndConcurrent}
 
 -- how the word is spelled
-unfoldable pub spelled : Keyword → List ℕ
+unfoldable pub spelled : Keyword → Text
 spelled Msc = codes "msc"
 spelled EndMsc = codes "endmsc"
 spelled Instance = codes "instance"
@@ -20,7 +21,7 @@ spelled Concurrent = codes "concurrent"
 spelled EndConcurrent = codes "endconcurrent"
 
 -- the bytes are this word
-unfoldable pub is_keyword : Keyword → List ℕ → Bool
+unfoldable pub is_keyword : Keyword → Text → Bool
 is_keyword keyword word = bytes_eq word (spelled keyword)
 
 -- each of them
@@ -28,5 +29,5 @@ abbrev pub keywords : List Keyword
 keywords = Msc ∷ EndMsc ∷ Instance ∷ EndInstance ∷ Out ∷ To ∷ In ∷ From ∷ Concurrent ∷ EndConcurrent ∷ []
 
 -- the bytes are one of them
-unfoldable pub is_reserved : List ℕ → Bool
+unfoldable pub is_reserved : Text → Bool
 is_reserved word = list_any (λ keyword. is_keyword keyword word) keywords

@@ -2,6 +2,7 @@
 -- time's (Fidge 1988, Mattern 1989); the others are this project's profile, over the definitions that they cite.
 use Rattle.std.specs.Prelude.{◌≡◌, ℕ, ◌+◌, ◌<◌, ◌≤◌, ◌↔◌, ◌⊎◌, max, List, [], ◌∷◌, ◌++◌, take, length, slice_get, Some}
 use Rattle.std.specs.Prelude.{Err}
+use Rattle.chart.specs.Words.{Indices}
 use Rattle.chart.specs.declared.history.Occurrence.{Occurrence}
 use Rattle.chart.specs.declared.history.Occurrence.TheVariants.{Send, Receive, Close}
 use Rattle.chart.specs.declared.event.Event.{Event}
@@ -34,7 +35,7 @@ ReportLaw = (c : Chart) (s : Place) (p i j k : ℕ) → BelongsTo c s (at p i) �
 
 -- the races of the line as it was before the receive, later than what the send knows, are the receive's report
 abbrev pub RacesLaw : Type 0
-RacesLaw = (c : Chart) (s : Place) (p i k region : ℕ) (races : List ℕ) → BelongsTo c s (at p (i + 1))
+RacesLaw = (c : Chart) (s : Place) (p i k region : ℕ) (races : Indices) → BelongsTo c s (at p (i + 1))
     → region_of_event (chart_event c (at p (i + 1))) ≡ region → IsKnown c s p k
     → IsRaces (take i (c p)) k s.instance region races → IsReport c (at p (i + 1)) races
 
@@ -149,7 +150,7 @@ NewReceiveHearingLaw = (n k : ℕ) (h : List Occurrence) → IsLegal n k h → (
 abbrev pub NewReportLaw : Type 0
 NewReportLaw = (n k : ℕ) (h : List Occurrence) → IsLegal n k h → (p q c : ℕ) (m : Content) (rest : List Content)
     → waiting h q p ≡ m ∷ rest → (j : ℕ) → IsSendAfter (chart_of h q) p (received h q p) j
-    → (known : ℕ) (races : List ℕ) → IsKnown (chart_of h) (at q j) p known → IsRaces (chart_of h p) known q c races
+    → (known : ℕ) (races : Indices) → IsKnown (chart_of h) (at q j) p known → IsRaces (chart_of h p) known q c races
     → IsReport (chart_of (Receive p q c ∷ h)) (at p (length (chart_of h p) + 1)) races
 
 -- What stays as it is in each history that begins with another, for the most part a legal one.
@@ -185,7 +186,7 @@ KnowledgeGrowthLaw = (n k : ℕ) (h g : List Occurrence) → IsLegal n k h → B
 
 -- a report
 abbrev pub ReportGrowthLaw : Type 0
-ReportGrowthLaw = (n k : ℕ) (h g : List Occurrence) → IsLegal n k h → Begins h g → (r : Place) (report : List ℕ)
+ReportGrowthLaw = (n k : ℕ) (h g : List Occurrence) → IsLegal n k h → Begins h g → (r : Place) (report : Indices)
     → IsEvent (chart_of h) r → IsReport (chart_of h) r report → IsReport (chart_of g) r report
 
 -- the greatest heard of the first events of a line
@@ -209,5 +210,5 @@ OneHearingLaw = (n k : ℕ) (h : List Occurrence) → IsLegal n k h → (p i q :
 abbrev pub OneReportLaw : Type 0
 OneReportLaw = (n k : ℕ) (h : List Occurrence) → IsLegal n k h → (from : ℕ) (r : Place)
     → IsReceiveFrom (chart_of h) from r
-    → (report : List ℕ) × IsReport (chart_of h) r report
-    × ((other : List ℕ) → IsReport (chart_of h) r other → other ≡ report)
+    → (report : Indices) × IsReport (chart_of h) r report
+    × ((other : Indices) → IsReport (chart_of h) r other → other ≡ report)

@@ -16,3 +16,4 @@ pub mod Ranges
 pub mod Reports
 pub mod Runs
 pub mod Scans
+pub mod Words

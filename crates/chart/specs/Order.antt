@@ -1,6 +1,7 @@
 -- The enforced order, and the races that a receive reports (after Alur, Holzmann and Peled 1996; which pairs are
 -- enforced is this project's profile).
 use Rattle.std.specs.Prelude.{◌≡◌, ℕ, ◌<◌, ◌≤◌, ◌↔◌, false, List, Option, None, Some, AllPairs, Contains}
+use Rattle.chart.specs.Words.{Indices}
 use Rattle.chart.specs.declared.event.Event.{Event}
 use Rattle.chart.specs.Events.{is_receive_from, is_in, region_of, ith}
 use Rattle.chart.specs.Charts.{Chart, Place, at, chart_event, IsSendTo, IsReceiveFrom, BelongsTo}
@@ -33,7 +34,7 @@ region_of_event None = 0
 region_of_event (Some m) = region_of m
 
 -- the report of the receive r: the earlier events of its line, outside of its coregion, that aren't before it, rising
-pub record IsReport (c : Chart) (r : Place) (report : List ℕ) : Type 0 where
+pub record IsReport (c : Chart) (r : Place) (report : Indices) : Type 0 where
   pub rising : AllPairs (λ i j. i < j) report
   pub exact : (j : ℕ) → Contains report j
       ↔ ((j < r.index)
@@ -42,7 +43,7 @@ pub record IsReport (c : Chart) (r : Place) (report : List ℕ) : Type 0 where
       × (Before c (at r.instance j) r → ⊥))
 
 -- the events of a line later than an entry that are neither receives from q nor in the region, rising
-pub record IsRaces (line : List Event) (entry q region : ℕ) (races : List ℕ) : Type 0 where
+pub record IsRaces (line : List Event) (entry q region : ℕ) (races : Indices) : Type 0 where
   pub rising : AllPairs (λ i j. i < j) races
   pub exact : (j : ℕ) → Contains races j
       ↔ ((entry < j) × ((m : Event) × (ith line j ≡ Some m) × (is_receive_from q m ≡ false) × (is_in region m ≡ false)))

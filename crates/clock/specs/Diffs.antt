@@ -2,26 +2,27 @@
 -- Kshemkalyani 1992); that they rise by instance is this project's profile.
 use Rattle.std.specs.Prelude.{◌≡◌, ◌≢◌, ◌≤◌, ◌↔◌, ℕ, List, [], ◌∷◌, map, length, Contains}
 use Rattle.std.specs.List.Sorted.{IsStrictlyIncreasing}
+use Rattle.chart.specs.Words.{Clock, Instance}
 use Rattle.clock.specs.Clocks.{entry_of, with_entry}
 use Rattle.clock.specs.declared.diff.Change.{Change}
 
 -- the clock after the changes, one after another
-abbrev pub apply_diff : List ℕ → List Change → List ℕ
+abbrev pub apply_diff : Clock → List Change → Clock
 apply_diff clock [] = clock
 apply_diff clock (change ∷ rest) = apply_diff (with_entry clock change.instance change.entry) rest
 
 -- an entry of the clock that differs from base's
-pub record IsChange (base clock : List ℕ) (change : Change) : Type 0 where
+pub record IsChange (base clock : Clock) (change : Change) : Type 0 where
   pub first : 1 ≤ change.instance
   pub last : change.instance ≤ length clock
   pub entry : change.entry ≡ entry_of clock change.instance
   pub differs : change.entry ≢ entry_of base change.instance
 
 -- exactly the entries of the clock that differ from base's, rising by instance
-pub record IsDiff (base clock : List ℕ) (diff : List Change) : Type 0 where
+pub record IsDiff (base clock : Clock) (diff : List Change) : Type 0 where
   pub rising : IsStrictlyIncreasing (map (λ change. change.instance) diff)
   pub exact : (change : Change) → Contains diff change ↔ IsChange base clock change
 
 -- the clocks differ in no entry but that of one instance
-abbrev pub AgreeBut : ℕ → List ℕ → List ℕ → Type 0
+abbrev pub AgreeBut : Instance → Clock → Clock → Type 0
 AgreeBut p base clock = (q : ℕ) → q ≢ p → entry_of clock q ≡ entry_of base q

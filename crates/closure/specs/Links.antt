@@ -1,6 +1,7 @@
 -- The other end of each event's message, and how the sends of a lane are passed along the sender's line (lanes are
 -- first in, first out, as Alur, Holzmann and Peled 1996 have them).
 use Rattle.std.specs.Prelude.{◌≡◌, ℕ, suc, ◌+◌, ◌<◌, ◌≤◌, true, List, length, slice_index, Some}
+use Rattle.chart.specs.Words.{Counts}
 use Rattle.chart.specs.declared.event.Event.{Event}
 use Rattle.chart.specs.declared.instance.EventNo.{EventNo}
 use Rattle.chart.specs.Events.{ith, tally, is_send_to, is_receive_from, name_of}
@@ -34,7 +35,7 @@ pub record IsNextSend (line : List Event) (q passed j : ℕ) : Type 0 where
 
 -- for the first k events of the line at p: of each sender's line so many events are passed that they have as many
 -- sends to this line as there are receives from this sender
-pub record HasPassed (c : Chart) (n p k : ℕ) (passed : List ℕ) : Type 0 where
+pub record HasPassed (c : Chart) (n p k : ℕ) (passed : Counts) : Type 0 where
   pub same : length passed ≡ n
   pub within : (q : ℕ) → q < n → slice_index passed q ≤ length (c (suc q))
   pub turn : (q : ℕ) → q < n → tally (is_send_to (suc p)) (c (suc q)) (slice_index passed q)

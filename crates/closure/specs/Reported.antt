@@ -1,5 +1,6 @@
 -- The reports of a chart's receives so far, while they are made: by instance and index (this project's own).
 use Rattle.std.specs.Prelude.{◌≡◌, ℕ, suc, ◌+◌, ◌-◌, ◌*◌, ◌<◌, ◌≤◌, List, [], ◌∷◌, ◌++◌, length, take}
+use Rattle.chart.specs.Words.{Counts}
 use Rattle.chart.specs.declared.instance.EventNo.{EventNo}
 use Rattle.chart.specs.declared.line.TheConstants.{MAX_EVENTS}
 use Rattle.chart.specs.Charts.{Chart, Place, at, LineView, IsReceiveFrom, chart_lines}
@@ -42,7 +43,7 @@ reports_left r = (length r.lines - r.line) * (MAX_EVENTS + 1) - r.place
 
 -- what a reporter keeps: that the chart is possible, what its sends know, and that it is at an event or the end of a
 -- line
-pub record IsReporting (lines : List LineView) (known : List (List ℕ)) (line place : ℕ) : Type 0 where
+pub record IsReporting (lines : List LineView) (known : List Counts) (line place : ℕ) : Type 0 where
   pub chart : IsPossibleChart lines
   pub knows : HasKnowledge lines known
   pub line_within : line < length lines

@@ -1,10 +1,11 @@
 -- Tables with a value for each event of each line (this project's own).
 use Rattle.std.specs.Prelude.{◌≡◌, ℕ, zero, suc, ◌<◌, List, [], length, Option, Some, slice_get, slice_index}
 use Rattle.std.specs.Prelude.{slice_index_or}
+use Rattle.chart.specs.Words.{Counts}
 use Rattle.chart.specs.Charts.{Chart, Place, at}
 
 -- the number that a list has for an instance, 0 where it has none
-abbrev pub entry : List ℕ → ℕ → ℕ
+abbrev pub entry : Counts → ℕ → ℕ
 entry xs zero = 0
 entry xs (suc p) = slice_index xs p
 

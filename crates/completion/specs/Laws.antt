@@ -1,6 +1,7 @@
 -- What holds of the order where instances finish: statements that `laws` proves (this project's profile, over the
 -- definitions that they cite).
 use Rattle.std.specs.Prelude.{◌≡◌, ℕ, ◌<◌, ◌≤◌, ◌↔◌, ◌⊎◌, List, filter, nat_lt, Contains}
+use Rattle.chart.specs.Words.{Indices}
 use Rattle.chart.specs.declared.history.Occurrence.{Occurrence}
 use Rattle.chart.specs.Histories.{chart_of, IsLegal, Begins}
 use Rattle.chart.specs.Charts.{Chart, Place, at, IsPossible}
@@ -37,12 +38,12 @@ NoCircleLaw = (n : ℕ) (c : Chart) → IsPossible n c → (e : Place) → Compl
 
 -- the races that are left are among the others
 abbrev pub OthersLaw : Type 0
-OthersLaw = (c : Chart) (r : Place) (report left : List ℕ) → IsReport c r report → IsCompletedReport c r left
+OthersLaw = (c : Chart) (r : Place) (report left : Indices) → IsReport c r report → IsCompletedReport c r left
     → (j : ℕ) → Contains left j → Contains report j
 
 -- they are those that are later than the last send that is finished before the receive
 abbrev pub CompletedReportLaw : Type 0
-CompletedReportLaw = (n : ℕ) (c : Chart) → IsPossible n c → (r : Place) (report : List ℕ) → IsReport c r report
+CompletedReportLaw = (n : ℕ) (c : Chart) → IsPossible n c → (r : Place) (report : Indices) → IsReport c r report
     → (k : ℕ) → IsFinishedUpTo c r k → IsCompletedReport c r (filter (nat_lt k) report)
 
 -- in each run of the chart's events in which instances finish, what is before an event has come when this event has

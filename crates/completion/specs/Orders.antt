@@ -3,6 +3,7 @@
 -- 1996, in this project's profile).
 use Rattle.std.specs.Prelude.{◌≡◌, ℕ, ◌<◌, ◌≤◌, ◌↔◌, ◌⊎◌, false, List, map, All, AllPairs, Contains, Some}
 use Rattle.std.specs.List.{flat_map}
+use Rattle.chart.specs.Words.{Indices}
 use Rattle.chart.specs.declared.event.Event.{Event}
 use Rattle.chart.specs.Events.{is_in}
 use Rattle.chart.specs.Charts.{Chart, Place, at, chart_event, IsReceiveFrom, LineView, chart_lines}
@@ -32,7 +33,7 @@ pub record IsFinishedUpTo (c : Chart) (r : Place) (k : ℕ) : Type 0 where
 
 -- the report of the receive r where instances finish: the earlier events of its line, outside of its coregion, that
 -- aren't before it then, rising
-pub record IsCompletedReport (c : Chart) (r : Place) (report : List ℕ) : Type 0 where
+pub record IsCompletedReport (c : Chart) (r : Place) (report : Indices) : Type 0 where
   pub rising : AllPairs (λ i j. i < j) report
   pub exact : (j : ℕ) → Contains report j
       ↔ ((j < r.index)

@@ -1,5 +1,6 @@
 -- What is kept of each line to find the last send that is finished before a receive (this project's own).
 use Rattle.std.specs.Prelude.{◌≡◌, ℕ, suc, ◌<◌, ◌≤◌, ◌⊎◌, true, List, [], ◌∷◌, length, slice_get, slice_index, Some}
+use Rattle.chart.specs.Words.{Counts}
 use Rattle.chart.specs.declared.event.Event.{Event}
 use Rattle.chart.specs.declared.instance.EventNo.{EventNo}
 use Rattle.chart.specs.Charts.{LineView, chart_lines}
@@ -43,7 +44,7 @@ IsAmongFrom line q n d = (d ≤ n) × IsFrom line q d
 
 -- the last send that handles nothing but the first n events, and for each sender the last that handles nothing but
 -- receives from it among them
-pub record HasPassed (line : List Event) (n within : ℕ) (by_sender : List ℕ) : Type 0 where
+pub record HasPassed (line : List Event) (n within : ℕ) (by_sender : Counts) : Type 0 where
   pub all : IsLastSettled (IsAmong n) line within
   pub each : (q : ℕ) → q < length by_sender → IsLastSettled (IsAmongFrom line (suc q) n) line (slice_index by_sender q)
 

@@ -1,6 +1,7 @@
 -- What the recorders of several instances know after a history, and the clocks that the messages of its lanes carry:
 -- vector time (Fidge 1988, Mattern 1989) along a history of this project's profile.
 use Rattle.std.specs.Prelude.{ℕ, ◌+◌, ◌==◌, List, [], ◌∷◌, ◌++◌, length, drop, replicate, if◌then◌else◌}
+use Rattle.chart.specs.Words.{Instance, Clock}
 use Rattle.chart.specs.declared.history.Occurrence.{Occurrence}
 use Rattle.chart.specs.declared.history.Occurrence.TheVariants.{Send, Receive, Close}
 use Rattle.chart.specs.Histories.{is_lane, received, chart_of}
@@ -8,11 +9,11 @@ use Rattle.clock.specs.Clocks.{with_entry, merged}
 
 -- what each instance knows, and the clocks of the messages that were sent on each lane, the oldest first
 pub record Carried : Type 0 where
-  pub knowledge : ℕ → List ℕ
-  pub clocks : ℕ → ℕ → List (List ℕ)
+  pub knowledge : ℕ → Clock
+  pub clocks : ℕ → ℕ → List Clock
 
 -- the first of these clocks
-abbrev pub first_clock : List (List ℕ) → List ℕ
+abbrev pub first_clock : List Clock → Clock
 first_clock [] = []
 first_clock (clock ∷ clocks) = clock
 
@@ -28,7 +29,7 @@ carried_by_send w p q index = record {
 }
 
 -- after p's receive of a message with this clock
-abbrev pub carried_by_receive : Carried → ℕ → List ℕ → Carried
+abbrev pub carried_by_receive : Carried → Instance → Clock → Carried
 carried_by_receive w p clock = record {
   knowledge = λ r. if r == p then merged (w.knowledge r) clock else w.knowledge r;
   clocks = w.clocks;
@@ -43,13 +44,13 @@ carried n (Receive p q c ∷ h) =
 carried n (Close p q ∷ h) = carried n h
 
 -- what p knows
-abbrev pub knowledge_of : ℕ → List Occurrence → ℕ → List ℕ
+abbrev pub knowledge_of : ℕ → List Occurrence → ℕ → Clock
 knowledge_of n h p = (carried n h).knowledge p
 
 -- the clocks of the messages that q sent to p
-abbrev pub clocks_of : ℕ → List Occurrence → ℕ → ℕ → List (List ℕ)
+abbrev pub clocks_of : ℕ → List Occurrence → ℕ → ℕ → List Clock
 clocks_of n h q p = (carried n h).clocks q p
 
 -- the clocks of the messages from q to p that wait
-abbrev pub waiting_clocks : ℕ → List Occurrence → ℕ → ℕ → List (List ℕ)
+abbrev pub waiting_clocks : ℕ → List Occurrence → ℕ → ℕ → List Clock
 waiting_clocks n h q p = drop (received h q p) (clocks_of n h q p)

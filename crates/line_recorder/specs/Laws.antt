@@ -1,6 +1,7 @@
 -- The laws of recorders: statements that the functions of `laws` prove. That a clock is what its event knows is from
 -- Fidge 1988 and Mattern 1989, that a report can be read off one entry of it is this project's profile.
 use Rattle.std.specs.Prelude.{◌≡◌, ℕ, ◌+◌, ◌<◌, ◌≤◌, ◌⊎◌, List, ◌∷◌, ◌++◌, length, map, slice_get, Some}
+use Rattle.chart.specs.Words.{Name, Clock}
 use Rattle.chart.specs.declared.history.Occurrence.{Occurrence}
 use Rattle.chart.specs.declared.history.Occurrence.TheVariants.{Receive}
 use Rattle.chart.specs.declared.event.Event.{Event}
@@ -34,7 +35,7 @@ KnowsWhatItHeard c r = (q : ℕ) → 1 ≤ q → q ≤ length r.knowledge → (q
     → IsGreatestHeard c r.line.instance (length r.line.events) q (entry_of r.knowledge q)
 
 -- the clock has for each instance what the send knows of it
-abbrev pub IsClockOf : Chart → Place → List ℕ → Type 0
+abbrev pub IsClockOf : Chart → Place → Clock → Type 0
 IsClockOf c s clock = (q : ℕ) → 1 ≤ q → q ≤ length clock → IsKnown c s q (entry_of clock q)
 
 -- before the first event nothing is heard
@@ -44,26 +45,26 @@ NewRecorderLaw = (c : Chart) (p n : ℕ) → KnowsWhatItHeard c (new_recorder p 
 -- the clock of a send has what it knows: of its own line too, where the send is the last of it or the chart has no
 -- cycle
 abbrev pub SendClockLaw : Type 0
-SendClockLaw = (c : Chart) (r : RecorderView) (to : ℕ) (name : List ℕ) → IsOneOfItsOwn r
+SendClockLaw = (c : Chart) (r : RecorderView) (to : ℕ) (name : Name) → IsOneOfItsOwn r
     → HasLine c (after_send r to name).line → (length (c r.line.instance) ≡ length r.line.events + 1) ⊎ (IsCyclic c → ⊥)
     → KnowsWhatItHeard c r → IsClockOf c (next_place r) (send_clock r)
 
 -- after a send the knowledge has still what was heard
 abbrev pub SendKnowledgeLaw : Type 0
-SendKnowledgeLaw = (c : Chart) (r : RecorderView) (to : ℕ) (name : List ℕ) → HasLine c (after_send r to name).line
+SendKnowledgeLaw = (c : Chart) (r : RecorderView) (to : ℕ) (name : Name) → HasLine c (after_send r to name).line
     → KnowsWhatItHeard c r → KnowsWhatItHeard c (after_send r to name)
 
 -- after a receive it has what was heard, with what the message's send knows
 abbrev pub ReceiveKnowledgeLaw : Type 0
-ReceiveKnowledgeLaw = (c : Chart) (s : Place) (r : RecorderView) (from : ℕ) (name : List ℕ) (region : ℕ)
-    (clock : List ℕ) (report : ReportView) → length clock ≡ length r.knowledge → BelongsTo c s (next_place r)
+ReceiveKnowledgeLaw = (c : Chart) (s : Place) (r : RecorderView) (from : ℕ) (name : Name) (region : ℕ)
+    (clock : Clock) (report : ReportView) → length clock ≡ length r.knowledge → BelongsTo c s (next_place r)
     → IsClockOf c s clock → KnowsWhatItHeard c r
     → KnowsWhatItHeard c (after_receive r from name region clock report)
 
 -- the report of a receive is that of the chart, where the clock's own entry is what the message's send knows of the
 -- line
 abbrev pub ReceiveReportLaw : Type 0
-ReceiveReportLaw = (c : Chart) (s : Place) (r : RecorderView) (from : ℕ) (name : List ℕ) (region : ℕ) (clock : List ℕ)
+ReceiveReportLaw = (c : Chart) (s : Place) (r : RecorderView) (from : ℕ) (name : Name) (region : ℕ) (clock : Clock)
     (report : ReportView) → HasLine c (after_receive r from name region clock report).line
     → BelongsTo c s (next_place r)
     → IsKnown c s r.line.instance (entry_of clock r.line.instance)
@@ -82,19 +83,19 @@ CarriedManyLaw = (n : ℕ) (h : List Occurrence) (q p : ℕ) → length (clocks_
 
 -- it has an entry for each instance
 abbrev pub CarriedEntriesLaw : Type 0
-CarriedEntriesLaw = (n k : ℕ) (h : List Occurrence) → IsLegal n k h → (q p i : ℕ) (clock : List ℕ)
+CarriedEntriesLaw = (n k : ℕ) (h : List Occurrence) → IsLegal n k h → (q p i : ℕ) (clock : Clock)
     → slice_get (clocks_of n h q p) i ≡ Some clock → length clock ≡ n
 
 -- it is what the message's send knows
 abbrev pub CarriedClockLaw : Type 0
-CarriedClockLaw = (n k : ℕ) (h : List Occurrence) → IsLegal n k h → (q p i j : ℕ) (clock : List ℕ)
+CarriedClockLaw = (n k : ℕ) (h : List Occurrence) → IsLegal n k h → (q p i j : ℕ) (clock : Clock)
     → slice_get (clocks_of n h q p) i ≡ Some clock → IsSendAfter (chart_of h q) p i j
     → IsClockOf (chart_of h) (at q j) clock
 
 -- the report that is made by the clock of the first message that waits is the report of its receive
 abbrev pub CarriedReportLaw : Type 0
 CarriedReportLaw = (n k : ℕ) (h : List Occurrence) → IsLegal n k h → (p q c : ℕ) → 1 ≤ p → p ≤ n
-    → 0 < length (waiting h q p) → (clock : List ℕ) (rest : List (List ℕ)) → waiting_clocks n h q p ≡ clock ∷ rest
+    → 0 < length (waiting h q p) → (clock : Clock) (rest : List Clock) → waiting_clocks n h q p ≡ clock ∷ rest
     → (r : RecorderView) → r.line ≡ record { instance = p; events = chart_of h p } → (report : ReportView)
     → IsReportOf r q c clock report
     → IsReport (chart_of (Receive p q c ∷ h)) (next_place r) (map (λ race. race.index) report.earlier)

@@ -1,6 +1,7 @@
 -- What a recorder is to a contract, and what it is after each event (vector time as Fidge 1988 and Mattern 1989 have
 -- it; races as this project's profile has them).
 use Rattle.std.specs.Prelude.{◌≡◌, ℕ, ◌+◌, ◌-◌, List, [], ◌∷◌, ◌++◌, length, map, max, replicate, All}
+use Rattle.chart.specs.Words.{Instance, Name, Clock}
 use Rattle.chart.specs.declared.event.Event.{Event}
 use Rattle.chart.specs.Events.{send_event, receive_event}
 use Rattle.chart.specs.Charts.{LineView}
@@ -12,7 +13,7 @@ use Rattle.clock.specs.Clocks.{entry_of, with_entry, merged}
 -- room was made on the line
 pub record RecorderView : Type 0 where
   pub line : LineView
-  pub knowledge : List ℕ
+  pub knowledge : Clock
   pub reports : List ReportView
   pub room : ℕ
 
@@ -30,11 +31,11 @@ abbrev pub with_event : LineView → Event → LineView
 with_event l m = record { instance = l.instance; events = l.events ++ m ∷ [] }
 
 -- the clock of the next event, if it is a send: what is known, with the event itself
-abbrev pub send_clock : RecorderView → List ℕ
+abbrev pub send_clock : RecorderView → Clock
 send_clock r = with_entry r.knowledge r.line.instance (length r.line.events + 1)
 
 -- after a send, which is known from then on
-abbrev pub after_send : RecorderView → ℕ → List ℕ → RecorderView
+abbrev pub after_send : RecorderView → ℕ → Name → RecorderView
 after_send r to name = record {
   line = with_event r.line (send_event to name);
   knowledge = send_clock r;
@@ -52,7 +53,7 @@ begun_send r = record {
 }
 
 -- after that send is on the line too
-abbrev pub after_begun : RecorderView → ℕ → List ℕ → RecorderView
+abbrev pub after_begun : RecorderView → ℕ → Name → RecorderView
 after_begun r to name = record {
   line = with_event r.line (send_event to name);
   knowledge = r.knowledge;
@@ -61,7 +62,7 @@ after_begun r to name = record {
 }
 
 -- after a receive of which there is this report, before anything is known of its message
-abbrev pub after_report : RecorderView → ℕ → List ℕ → ℕ → ReportView → RecorderView
+abbrev pub after_report : RecorderView → ℕ → Name → ℕ → ReportView → RecorderView
 after_report r from name region report = record {
   line = with_event r.line (receive_event from name region);
   knowledge = r.knowledge;
@@ -70,7 +71,7 @@ after_report r from name region report = record {
 }
 
 -- after a receive of a message with this clock, of which there is this report
-abbrev pub after_receive : RecorderView → ℕ → List ℕ → ℕ → List ℕ → ReportView → RecorderView
+abbrev pub after_receive : RecorderView → Instance → Name → ℕ → Clock → ReportView → RecorderView
 after_receive r from name region clock report = record {
   line = with_event r.line (receive_event from name region);
   knowledge = merged r.knowledge clock;
@@ -86,19 +87,19 @@ pub record IsReportAbove (r : RecorderView) (from region entry : ℕ) (report : 
 
 -- the report of the next event, if it is a receive of a message with this clock: the races above the clock's own
 -- entry for this line
-pub record IsReportOf (r : RecorderView) (from region : ℕ) (clock : List ℕ) (report : ReportView) : Type 0 where
+pub record IsReportOf (r : RecorderView) (from region : ℕ) (clock : Clock) (report : ReportView) : Type 0 where
   pub receive : report.receive ≡ record { instance = r.line.instance; index = length r.line.events + 1 }
   pub races : IsRaces r.line.events (entry_of clock r.line.instance) from region
       (map (λ race. race.index) report.earlier)
   pub own : All (λ race. race.instance ≡ r.line.instance) report.earlier
 
 -- after a send of each name, one after another
-abbrev pub after_sends : RecorderView → ℕ → List (List ℕ) → RecorderView
+abbrev pub after_sends : RecorderView → ℕ → List Name → RecorderView
 after_sends r to [] = r
 after_sends r to (name ∷ names) = after_sends (after_send r to name) to names
 
 -- the clocks of those sends
-abbrev pub send_clocks : RecorderView → ℕ → List (List ℕ) → List (List ℕ)
+abbrev pub send_clocks : RecorderView → ℕ → List Name → List Clock
 send_clocks r to [] = []
 send_clocks r to (name ∷ names) = send_clock r ∷ send_clocks (after_send r to name) to names
 

@@ -1,5 +1,6 @@
 -- What the steps of carrying over tell each other (this project's profile).
 use Rattle.std.specs.Prelude.{◌≡◌, ℕ, suc, ◌<◌, ◌≤◌, max, List, length, slice_get, Some}
+use Rattle.chart.specs.Words.{Counts}
 use Rattle.chart.specs.declared.history.Occurrence.{Occurrence}
 use Rattle.chart.specs.Histories.{received, chart_of, IsLegal}
 use Rattle.board.specs.Views.{PostView}
@@ -32,7 +33,7 @@ pub record MayGoOn (n k : ℕ) (h g : List Occurrence) (old new : List PostView)
   pub room : HaveRoom g old
 
 -- the post has room for as many events as this list has for its instance, and nothing else has changed
-pub record HasReserved (sends : List ℕ) (old new : PostView) : Type 0 where
+pub record HasReserved (sends : Counts) (old new : PostView) : Type 0 where
   pub place : ℕ
   pub many : ℕ
   pub number : old.number ≡ suc place
@@ -40,12 +41,12 @@ pub record HasReserved (sends : List ℕ) (old new : PostView) : Type 0 where
   pub rest : new ≡ record old { room = new.room }
   pub room : new.room ≡ max old.room many
 
-pub record HaveReserved (sends : List ℕ) (old new : List PostView) : Type 0 where
+pub record HaveReserved (sends : Counts) (old new : List PostView) : Type 0 where
   pub as_many : length new ≡ length old
   pub each : (i : ℕ) (x y : PostView) → slice_get old i ≡ Some x → slice_get new i ≡ Some y → HasReserved sends x y
 
 -- room was made for the first so many, and nothing else has changed
-pub record AreReserved (sends : List ℕ) (many : ℕ) (old new : List PostView) : Type 0 where
+pub record AreReserved (sends : Counts) (many : ℕ) (old new : List PostView) : Type 0 where
   pub as_many : length new ≡ length old
   pub each : (i : ℕ) (x y : PostView) → i < many → slice_get old i ≡ Some x → slice_get new i ≡ Some y → HasReserved sends x y
   pub others : (i : ℕ) → many ≤ i → slice_get new i ≡ slice_get old i

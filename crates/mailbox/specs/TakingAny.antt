@@ -1,6 +1,7 @@
 -- What a receive from any instance answers (this project's profile).
 use Rattle.std.specs.Prelude.{◌≡◌, ℕ, ◌+◌, ◌-◌, ◌≤◌, ◌⊎◌, Bool, true, false, List, [], ◌∷◌, ◌++◌, map, drop}
 use Rattle.std.specs.Prelude.{All, Result, Ok, Err}
+use Rattle.chart.specs.Words.{Instance}
 use Rattle.chart.specs.declared.history.Occurrence.{Occurrence}
 use Rattle.chart.specs.Histories.{waiting, is_closed, Begins}
 use Rattle.chart.specs.Scans.{scan}
@@ -16,7 +17,7 @@ pub record Look : Type 0 where
   pub from : ℕ
   pub front : List Occurrence
 
-abbrev pub lanes_of : List Look → List ℕ
+abbrev pub lanes_of : List Look → List Instance
 lanes_of looks = map (λ (look : Look). look.from) looks
 
 -- At each of these looks no message waits for p. The history of each begins with that of the look before it, of the
@@ -28,8 +29,8 @@ NoneWaits p seen (look ∷ looks) after = Begins seen look.front × (waiting loo
 
 -- the lane from this instance is the first in this order on which a message was found: at a look at each lane before
 -- it none waited, and the history in which it was found comes after these looks
-abbrev pub IsFirst : PostView → List ℕ → ℕ → List Occurrence → Type 0
-IsFirst old order from found = (looks : List Look) × (rest : List ℕ) × (order ≡ lanes_of looks ++ from ∷ rest)
+abbrev pub IsFirst : PostView → List Instance → ℕ → List Occurrence → Type 0
+IsFirst old order from found = (looks : List Look) × (rest : List Instance) × (order ≡ lanes_of looks ++ from ∷ rest)
     × NoneWaits old.number old.seen looks found
 
 -- at one of these looks the lane was open
@@ -47,13 +48,13 @@ IsEnd true p looks new = All (IsDrained new) (lanes_of looks)
 IsEnd false p looks new = IsOneOpen p looks
 
 -- a look at each lane, in this order, found that no message waits, be it the end or not; none waited in what was seen
-pub record AreFoundEmpty (old : PostView) (order : List ℕ) (its_end : Bool) (new : PostView) : Type 0 where
+pub record AreFoundEmpty (old : PostView) (order : List Instance) (its_end : Bool) (new : PostView) : Type 0 where
   pub found : (looks : List Look) × (order ≡ lanes_of looks) × NoneWaits old.number old.seen looks new.seen
       × IsEnd its_end old.number looks new
   pub before : All (λ q. waiting old.seen q old.number ≡ []) order
 
 -- why the first message isn't received: F14 and F13 never come
-abbrev pub IsFirstUntaken : PostView → List ℕ → TakeError → PostView → Type 0
+abbrev pub IsFirstUntaken : PostView → List Instance → TakeError → PostView → Type 0
 IsFirstUntaken old order NoSuchInstance new = ⊥
 IsFirstUntaken old order ToItself new = ⊥
 IsFirstUntaken old order LineFull new = (from : ℕ) × IsFirst old order from new.seen × IsUntaken old from LineFull new
@@ -61,7 +62,7 @@ IsFirstUntaken old order Memory new = (from : ℕ) × IsFirst old order from new
 
 -- what a receive from the first of these lanes with a message answers; where it got one, the history in which it was
 -- found is what was seen before its receive
-abbrev pub TakesFirst : PostView → List ℕ → Result Taken TakeError → PostView → Type 0
+abbrev pub TakesFirst : PostView → List Instance → Result Taken TakeError → PostView → Type 0
 TakesFirst old order (Ok (Got arrival)) new = IsGot old arrival.from arrival new
     × IsFirst old order arrival.from (drop 1 new.seen)
 TakesFirst old order (Ok Nothing) new = Stays old new × AreFoundEmpty old order false new

@@ -1,6 +1,7 @@
 -- The text of a chart (a profile of the instance-oriented text of ITU-T Z.120).
 use Rattle.std.specs.Prelude.{ℕ, zero, suc, ◌==◌, ◌||◌, List, [], ◌∷◌, ◌++◌, codes, slice_get, unwrap_or, if◌then◌else◌}
 use Rattle.std.specs.List.{flat_map}
+use Rattle.chart.specs.Words.{Name, Text}
 use Rattle.chart.specs.declared.event.Event.{Event}
 use Rattle.chart.specs.declared.event.Event.TheVariants.{Send, Receive}
 use Rattle.chart.specs.Events.{region_of}
@@ -10,63 +11,63 @@ use Rattle.chart.specs.declared.keyword.Keyword.{Keyword}
 use Rattle.chart.specs.declared.keyword.Keyword.TheVariants as keywords
 
 -- the name of an instance, by its number from 1
-abbrev pub name_at : List (List ℕ) → ℕ → List ℕ
+abbrev pub name_at : List Name → ℕ → Name
 name_at names zero = []
 name_at names (suc place) = unwrap_or (slice_get names place) []
 
 -- a line of four words: in which direction goes the message, its name, and its partner behind a word of its own
-unfoldable pub event_line : Keyword → List ℕ → Keyword → List ℕ → List ℕ
+unfoldable pub event_line : Keyword → Text → Keyword → Text → Text
 event_line direction message side partner =
     spelled direction
     ++ (codes " " ++ (message ++ (codes " " ++ (spelled side ++ (codes " " ++ (partner ++ codes ";\n"))))))
 
 -- a line of one word
-unfoldable pub lone_line : Keyword → List ℕ
+unfoldable pub lone_line : Keyword → Text
 lone_line word = spelled word ++ codes ";\n"
 
 -- out MESSAGE to NAME; or in MESSAGE from NAME;
-unfoldable pub event_text : List (List ℕ) → Event → List ℕ
+unfoldable pub event_text : List Name → Event → Text
 event_text names (Send to name) = event_line keywords.Out name keywords.To (name_at names to)
 event_text names (Receive from name region) = event_line keywords.In name keywords.From (name_at names from)
 
 -- the line that ends the coregion r, where what comes next is in c
-unfoldable pub ending : ℕ → ℕ → List ℕ
+unfoldable pub ending : ℕ → ℕ → Text
 ending r c = if r == c || r == 0 then [] else lone_line keywords.EndConcurrent
 
 -- the line that begins the coregion c, where what came before was in r
-unfoldable pub beginning : ℕ → ℕ → List ℕ
+unfoldable pub beginning : ℕ → ℕ → Text
 beginning r c = if r == c || c == 0 then [] else lone_line keywords.Concurrent
 
 -- an event behind one that is in the coregion r
-unfoldable pub event_lines_text : List (List ℕ) → ℕ → Event → List ℕ
+unfoldable pub event_lines_text : List Name → ℕ → Event → Text
 event_lines_text names r m = ending r (region_of m) ++ (beginning r (region_of m) ++ event_text names m)
 
 -- the events of a line, of which those before are in the coregion r at last
-abbrev pub events_text : List (List ℕ) → ℕ → List Event → List ℕ
+abbrev pub events_text : List Name → ℕ → List Event → Text
 events_text names r [] = ending r 0
 events_text names r (m ∷ line) = event_lines_text names r m ++ events_text names (region_of m) line
 
 -- instance NAME;
-unfoldable pub head_text : List (List ℕ) → ℕ → List ℕ
+unfoldable pub head_text : List Name → ℕ → Text
 head_text names p = spelled keywords.Instance ++ (codes " " ++ (name_at names p ++ codes ";\n"))
 
-unfoldable pub foot_text : List ℕ
+unfoldable pub foot_text : Text
 foot_text = lone_line keywords.EndInstance
 
 -- an instance and the events of its line
-unfoldable pub line_text : List (List ℕ) → LineView → List ℕ
+unfoldable pub line_text : List Name → LineView → Text
 line_text names line = head_text names line.instance ++ (events_text names 0 line.events ++ foot_text)
 
 -- the name that each chart has in its text
-unfoldable pub chart_name : List ℕ
+unfoldable pub chart_name : Text
 chart_name = codes "run"
 
-unfoldable pub begin_text : List ℕ
+unfoldable pub begin_text : Text
 begin_text = spelled keywords.Msc ++ (codes " " ++ (chart_name ++ codes ";\n"))
 
-unfoldable pub end_text : List ℕ
+unfoldable pub end_text : Text
 end_text = lone_line keywords.EndMsc
 
 -- the text of the chart, whose instances have these names
-unfoldable pub chart_text : List (List ℕ) → List LineView → List ℕ
+unfoldable pub chart_text : List Name → List LineView → Text
 chart_text names lines = begin_text ++ (flat_map (line_text names) lines ++ end_text)

@@ -2,13 +2,14 @@
 use Rattle.std.specs.Prelude.{ℕ, ◌==◌, List, [], ◌∷◌, ◌++◌, length, Option, None, Some, Result, Ok, Err, bytes_eq}
 use Rattle.std.specs.Prelude.{if◌then◌else◌}
 use Rattle.std.specs.List.{list_any}
+use Rattle.chart.specs.Words.{Name}
 use Rattle.chart.specs.Names.{instance_of}
 use Rattle.chart.specs.declared.instance.TheConstants.{MAX_INSTANCES}
 use Rattle.msc_text.specs.declared.fault.Cause.{Cause}
 use Rattle.msc_text.specs.declared.fault.Cause.TheVariants.{Instances, Duplicate, UnknownInstance}
 
 -- a new name goes behind the names before it
-abbrev pub with_name : List (List ℕ) → List ℕ → Result (List (List ℕ)) Cause
+abbrev pub with_name : List Name → Name → Result (List Name) Cause
 with_name names name =
     if list_any (bytes_eq name) names then Err Duplicate else (
     if length names == MAX_INSTANCES then Err Instances else Ok (names ++ name ∷ []))
@@ -19,5 +20,5 @@ known None = Err UnknownInstance
 known (Some p) = Ok p
 
 -- the instance of the name
-unfoldable pub known_of : List (List ℕ) → List ℕ → Result ℕ Cause
+unfoldable pub known_of : List Name → Name → Result ℕ Cause
 known_of names name = known (instance_of names name)

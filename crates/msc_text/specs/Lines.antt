@@ -1,13 +1,14 @@
 -- The lines of a text, and the words of a line.
 use Rattle.std.specs.Prelude.{◌≡◌, ℕ, false, ◌==◌, List, [], ◌∷◌, ◌++◌, Result, Ok, Err}
 use Rattle.std.specs.List.{slice_split, AllByRecursion}
+use Rattle.chart.specs.Words.{Name, Text}
 use Rattle.chart.specs.Names.{name_of}
 use Rattle.chart.specs.declared.name.NameError.{NameError}
 use Rattle.msc_text.specs.declared.fault.Cause.{Cause}
 use Rattle.msc_text.specs.declared.fault.Cause.TheVariants.{Name}
 
 -- the parts round a byte
-abbrev pub parts : ℕ → List ℕ → List (List ℕ)
+abbrev pub parts : ℕ → Text → List Text
 parts byte bytes = slice_split (λ b. b == byte) bytes
 
 -- all but the last
@@ -17,46 +18,46 @@ all_but_last (x ∷ []) = []
 all_but_last (x ∷ y ∷ ys) = x ∷ all_but_last (y ∷ ys)
 
 -- the last, or nothing
-abbrev pub last_of : List (List ℕ) → List ℕ
+abbrev pub last_of : List Text → Text
 last_of [] = []
 last_of (x ∷ []) = x
 last_of (x ∷ y ∷ ys) = last_of (y ∷ ys)
 
 -- the whole lines of a text: those that a line feed ends
-unfoldable pub lines_of : List ℕ → List (List ℕ)
+unfoldable pub lines_of : Text → List Text
 lines_of bytes = all_but_last (parts 10 bytes)
 
 -- what follows the last line feed
-unfoldable pub end_of : List ℕ → List ℕ
+unfoldable pub end_of : Text → Text
 end_of bytes = last_of (parts 10 bytes)
 
 -- the words of a line: the parts round its spaces
-unfoldable pub words_of : List ℕ → List (List ℕ)
+unfoldable pub words_of : Text → List Text
 words_of line = parts 32 line
 
 -- the byte isn't there
-abbrev pub Lacks : ℕ → List ℕ → Type 0
+abbrev pub Lacks : ℕ → Text → Type 0
 Lacks byte bytes = AllByRecursion (λ b. (b == byte) ≡ false) bytes
 
 -- five words or more
-pub record FiveOrMore (words : List (List ℕ)) : Type 0 where
-  pub first : List ℕ
-  pub second : List ℕ
-  pub third : List ℕ
-  pub fourth : List ℕ
-  pub fifth : List ℕ
-  pub others : List (List ℕ)
+pub record FiveOrMore (words : List Text) : Type 0 where
+  pub first : Text
+  pub second : Text
+  pub third : Text
+  pub fourth : Text
+  pub fifth : Text
+  pub others : List Text
   pub are : words ≡ first ∷ second ∷ third ∷ fourth ∷ fifth ∷ others
 
 -- what is read as a name, with its fault as the line's
-abbrev pub named : Result (List ℕ) NameError → Result (List ℕ) Cause
+abbrev pub named : Result Name NameError → Result Name Cause
 named (Ok name) = Ok name
 named (Err fault) = Err (Name fault)
 
 -- the word as a name, or what is wrong with it
-abbrev pub name_or_cause : List ℕ → Result (List ℕ) Cause
+abbrev pub name_or_cause : Text → Result Name Cause
 name_or_cause word = named (name_of word)
 
 -- a line with its line feed
-abbrev pub ended : List ℕ → List ℕ
+abbrev pub ended : Text → Text
 ended line = line ++ 10 ∷ []

@@ -1,5 +1,6 @@
 -- A race line that is kept, for the events whose numbers differ from its event's in the last digit alone.
-use Rattle.std.specs.Prelude.{◌≡◌, ℕ, ◌+◌, ◌/◌, ◌^◌, ◌<◌, ◌≤◌, ◌⊎◌, List, length, decimal}
+use Rattle.std.specs.Prelude.{◌≡◌, ◌+◌, ◌/◌, ◌^◌, ◌<◌, ◌≤◌, ◌⊎◌, length, decimal}
+use Rattle.chart.specs.Words.{Text}
 use Rattle.chart.specs.declared.instance.EventNo.{EventNo}
 use Rattle.msc_text.specs.RaceText.{race_line}
 use Rattle.msc_text.specs.declared.held.TheConstants.{BUFFERED}
@@ -7,7 +8,7 @@ use Rattle.msc_text.specs.declared.race_text.TheConstants.{NO_TENS}
 use Rattle.msc_text.specs.declared.race_text.MadeLine.{MadeLine}
 
 -- it is the line of an event, with the last digit of the event's number at its place
-pub record IsLineOf (front end : List ℕ) (made : MadeLine) : Type 0 where
+pub record IsLineOf (front end : Text) (made : MadeLine) : Type 0 where
   pub event : EventNo
   pub small : event.index < 2 ^ 32
   pub begins : made.tens ≡ event.index / 10
@@ -17,5 +18,5 @@ pub record IsLineOf (front end : List ℕ) (made : MadeLine) : Type 0 where
   pub short : length made.line ≤ BUFFERED
 
 -- where a line is made, it is one
-abbrev pub IsMade : List ℕ → List ℕ → MadeLine → Type 0
+abbrev pub IsMade : Text → Text → MadeLine → Type 0
 IsMade front end made = (made.tens ≡ NO_TENS) ⊎ IsLineOf front end made

@@ -1,11 +1,12 @@
 -- The words of a line, told apart by how many there are.
-use Rattle.std.specs.Prelude.{◌≡◌, ℕ, List, [], ◌∷◌}
+use Rattle.std.specs.Prelude.{◌≡◌, List, [], ◌∷◌}
+use Rattle.chart.specs.Words.{Text}
 use Rattle.msc_text.specs.Lines.{FiveOrMore}
 use Rattle.msc_text.specs.declared.word.Words.{Words}
 use Rattle.msc_text.specs.declared.word.Words.TheVariants.{One, Two, Three, Four, More}
 
 -- these are the words, all of them
-abbrev pub AreWords : Words → List (List ℕ) → Type 0
+abbrev pub AreWords : Words → List Text → Type 0
 AreWords (One a) words = words ≡ a.now ∷ []
 AreWords (Two a b) words = words ≡ a.now ∷ b.now ∷ []
 AreWords (Three a b c) words = words ≡ a.now ∷ b.now ∷ c.now ∷ []

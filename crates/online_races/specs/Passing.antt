@@ -2,6 +2,7 @@
 -- events are no races is this project's profile).
 use Rattle.std.specs.Prelude.{◌≡◌, ℕ, ◌<◌, ◌≤◌, ◌↔◌, ◌⊎◌, true, false, List, length, take, map, All, AllPairs, Contains}
 use Rattle.std.specs.Prelude.{Some}
+use Rattle.chart.specs.Words.{Indices}
 use Rattle.chart.specs.declared.event.Event.{Event}
 use Rattle.online_races.specs.declared.Stretch.{Stretch}
 use Rattle.online_races.specs.declared.Stretch.TheVariants.{Passed, Races}
@@ -31,7 +32,7 @@ IsStretch line q region index (Passed start) = ArePassed line start index q regi
 IsStretch line q region index (Races start) = AreRaces line start index q region
 
 -- rising, the races later than the entry among the events after the first `start` ones
-pub record AreFound (line : List Event) (start entry q region : ℕ) (races : List ℕ) : Type 0 where
+pub record AreFound (line : List Event) (start entry q region : ℕ) (races : Indices) : Type 0 where
   pub rising : AllPairs (λ i j. i < j) races
   pub exact : (j : ℕ) → Contains races j ↔ ((start < j) × (entry < j) × IsRace line q region j)
 

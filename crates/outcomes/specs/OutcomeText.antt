@@ -1,6 +1,7 @@
 -- The text of an outcome.
-use Rattle.std.specs.Prelude.{ℕ, List, ◌++◌, codes, decimal}
+use Rattle.std.specs.Prelude.{◌++◌, codes, decimal}
 use Rattle.std.specs.List.{flat_map}
+use Rattle.chart.specs.Words.{Text}
 use Rattle.msc_text.specs.ChartText.{chart_text}
 use Rattle.msc_text.specs.RaceText.{races_text}
 use Rattle.schedule.specs.declared.command.Note.{Note}
@@ -9,7 +10,7 @@ use Rattle.schedule.specs.declared.command.Word.TheVariants.{Full, Nothing, Ende
 use Rattle.schedule.specs.declared.command.Word.TheVariants.{InCoregion}
 use Rattle.outcomes.specs.Outcomes.{OutcomeView}
 
-unfoldable pub word_text : Word → List ℕ
+unfoldable pub word_text : Word → Text
 word_text Full = codes "full"
 word_text Nothing = codes "nothing"
 word_text Ended = codes "ended"
@@ -20,9 +21,9 @@ word_text NotOpen = codes "notopen"
 word_text InCoregion = codes "incoregion"
 
 -- note LINE WORD
-unfoldable pub note_text : Note → List ℕ
+unfoldable pub note_text : Note → Text
 note_text note = codes "note " ++ (decimal note.line ++ (codes " " ++ (word_text note.word ++ codes "\n")))
 
 -- the chart, and then the races and the notes
-unfoldable pub outcome_text : OutcomeView → List ℕ
+unfoldable pub outcome_text : OutcomeView → Text
 outcome_text o = chart_text o.names o.chart ++ (races_text o.names o.reports ++ flat_map note_text o.notes)

@@ -1,5 +1,6 @@
 -- What a schedule comes to.
 use Rattle.std.specs.Prelude.{◌≡◌, ℕ, ◌≤◌, ◌==◌, List, length, filter, All, AllPairs}
+use Rattle.chart.specs.Words.{Name}
 use Rattle.chart.specs.Charts.{LineView, IsPossible, chart_lines}
 use Rattle.chart.specs.HistoryLines.{history_lines}
 use Rattle.chart.specs.Reports.{ReportView, AreReports}
@@ -9,13 +10,13 @@ use Rattle.schedule.specs.Meaning.{meaning}
 
 -- the instances' names, the chart's lines, the reports of its receives, and the notes
 pub record OutcomeView : Type 0 where
-  pub names : List (List ℕ)
+  pub names : List Name
   pub chart : List LineView
   pub reports : List ReportView
   pub notes : List Note
 
 -- what each outcome keeps: its chart has a line for each name, and the reports are those of its receives
-pub record FitTogether (names : List (List ℕ)) (lines : List LineView) (reports : List ReportView) : Type 0 where
+pub record FitTogether (names : List Name) (lines : List LineView) (reports : List ReportView) : Type 0 where
   pub as_many : length names ≡ length lines
   pub exact : AreReports lines reports
 

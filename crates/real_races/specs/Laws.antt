@@ -1,6 +1,7 @@
 -- What holds of other runs with a chart's events and causes: statements that `laws` proves (this project's profile,
 -- over the definitions that they cite).
 use Rattle.std.specs.Prelude.{◌≢◌, ℕ, ◌↔◌, List, All}
+use Rattle.chart.specs.Words.{Indices}
 use Rattle.chart.specs.declared.history.Occurrence.{Occurrence}
 use Rattle.chart.specs.Histories.{Begins}
 use Rattle.chart.specs.Charts.{Chart, Place, at, IsReceiveFrom, IsPossible}
@@ -28,12 +29,12 @@ TurningLaw = (n : ℕ) (c : Chart) → IsPossible n c → (q : ℕ) (r : Place) 
 -- a report is the earlier events of the line, outside of the coregion, that r can overtake
 abbrev pub ReportLaw : Type 0
 ReportLaw = (n : ℕ) (c : Chart) → IsPossible n c → (q : ℕ) (r : Place) → IsReceiveFrom c q r
-    → (report : List ℕ) → IsReport c r report ↔ AreOvertaken n c r report
+    → (report : Indices) → IsReport c r report ↔ AreOvertaken n c r report
 
 -- one run has r before all that its report lists
 abbrev pub OneRunLaw : Type 0
 OneRunLaw = (n : ℕ) (c : Chart) → IsPossible n c → (q : ℕ) (r : Place) → IsReceiveFrom c q r
-    → (report : List ℕ) → IsReport c r report
+    → (report : Indices) → IsReport c r report
     → (g : List Occurrence) × IsRunOf n c g × All (λ j. IsOvertaken c g (at r.instance j) r) report
 
 -- Where lanes have k slots.

@@ -5,6 +5,7 @@
 -- two runs are compared by counts, and no map between the places of two charts is needed.
 use Rattle.std.specs.Prelude.{◌≡◌, ℕ, ◌<◌, ◌≤◌, ◌↔◌, ◌⊎◌, ◌+◌, false, List, [], ◌∷◌, length, map, Some, count_by}
 use Rattle.std.specs.Prelude.{AllPairs, Contains, if◌then◌else◌, ◌==◌}
+use Rattle.chart.specs.Words.{Indices, Name}
 use Rattle.chart.specs.declared.history.Occurrence.{Occurrence}
 use Rattle.chart.specs.declared.event.Event.{Event}
 use Rattle.chart.specs.declared.event.Event.TheVariants.{Send, Receive}
@@ -23,7 +24,7 @@ pub data HasCome (c : Chart) (h : List Occurrence) (e : Place) : Type 0 where
       → tally (is_receive_from q) (c e.instance) e.index ≤ received h q e.instance → HasCome c h e
 
 -- the names of a line's sends to p, in their order
-abbrev pub names_to : ℕ → List Event → List (List ℕ)
+abbrev pub names_to : ℕ → List Event → List Name
 names_to p [] = []
 names_to p (Send to name ∷ line) = if to == p then name ∷ names_to p line else names_to p line
 names_to p (Receive from name region ∷ line) = names_to p line
@@ -96,7 +97,7 @@ abbrev pub IsOutside : Chart → Place → Place → Type 0
 IsOutside c r e = (m : Event) × (chart_event c e ≡ Some m) × (is_in (region_of_event (chart_event c r)) m ≡ false)
 
 -- the earlier events of the line of r, outside of its coregion, that r can overtake, rising
-pub record AreOvertaken (n : ℕ) (c : Chart) (r : Place) (report : List ℕ) : Type 0 where
+pub record AreOvertaken (n : ℕ) (c : Chart) (r : Place) (report : Indices) : Type 0 where
   pub rising : AllPairs (λ i j. i < j) report
   pub exact : (j : ℕ) → Contains report j
       ↔ ((j < r.index) × IsOutside c r (at r.instance j) × CanBeOvertaken n c (at r.instance j) r)

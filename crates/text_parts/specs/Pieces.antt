@@ -1,11 +1,12 @@
 -- What a text is put together from (this project's own; entities are those of XML 1.0).
-use Rattle.std.specs.Prelude.{ℕ, List, [], ◌∷◌, ◌&&◌, ◌==◌, nat_le, codes, decimal, if◌then◌else◌}
+use Rattle.std.specs.Prelude.{ℕ, [], ◌∷◌, ◌&&◌, ◌==◌, nat_le, codes, decimal, if◌then◌else◌}
 use Rattle.std.specs.List.{flat_map}
+use Rattle.chart.specs.Words.{Text}
 use Rattle.text_parts.specs.declared.pieces.Piece.{Piece}
 use Rattle.text_parts.specs.declared.pieces.Piece.TheVariants.{Bytes, Number, Escaped}
 
 -- a byte as it is spelled: what XML keeps for itself as an entity, and what is no printable ASCII character as ?
-abbrev pub escaped_byte : ℕ → List ℕ
+abbrev pub escaped_byte : ℕ → Text
 escaped_byte b =
     if b == 38 then codes "&amp;" else
     (if b == 60 then codes "&lt;" else
@@ -15,11 +16,11 @@ escaped_byte b =
     (if nat_le 32 b && nat_le b 126 then b ∷ [] else codes "?")))))
 
 -- bytes that may be any, as they are spelled
-abbrev pub escaped : List ℕ → List ℕ
+abbrev pub escaped : Text → Text
 escaped bytes = flat_map escaped_byte bytes
 
 -- a piece as it is written
-abbrev pub piece_text : Piece → List ℕ
+abbrev pub piece_text : Piece → Text
 piece_text (Bytes bytes) = bytes.now
 piece_text (Number n) = decimal n
 piece_text (Escaped bytes) = escaped bytes.now

@@ -1,6 +1,7 @@
 -- Runs as lists of steps, the first one first, and the histories that they make (this project's profile).
 use Rattle.std.specs.Prelude.{◌≡◌, ℕ, ◌+◌, ◌-◌, ◌<◌, ◌^◌, ◌⊎◌, ◌||◌, ◌==◌, nat_le, Bool, false, Option, None, List, []}
 use Rattle.std.specs.Prelude.{◌∷◌, length, take, slice_get, Some}
+use Rattle.chart.specs.Words.{Counts}
 use Rattle.chart.specs.declared.history.Occurrence.{Occurrence}
 use Rattle.chart.specs.declared.history.Occurrence.TheVariants as occurrences
 use Rattle.chart.specs.declared.event.Event.{Event}
@@ -50,7 +51,7 @@ pub record AreTurned (steps : List Step) (many : ℕ) (turned : List Turned) : T
       → (slice_get steps i ≡ Some t.step) × (t.turn ≡ turn_of (history_of (take i steps)) t.step)
 
 -- tables that have how many sends and receives each lane had
-pub record HavePassed (sends receives : List ℕ) (h : List Occurrence) : Type 0 where
+pub record HavePassed (sends receives : Counts) (h : List Occurrence) : Type 0 where
   pub sent : AreCounts sends (λ q p. length (sent h q p))
   pub received : AreCounts receives (received h)
 
@@ -59,7 +60,7 @@ abbrev pub HasTurns : List Occurrence → Type 0
 HasTurns h = (q p : ℕ) → (length (sent h q p) + 1 < 2 ^ 64) × (received h q p + 1 < 2 ^ 64)
 
 -- what was passed, so few that a number can tell the next turn
-abbrev pub HavePassedSome : List ℕ → List ℕ → Type 0
+abbrev pub HavePassedSome : Counts → Counts → Type 0
 HavePassedSome sends receives = (h : List Occurrence) × HavePassed sends receives h × HasTurns h
 
 -- the step outside of coregions
@@ -103,7 +104,7 @@ abbrev pub nothing : Wanted
 nothing = record { sends = λ q p. 0; receives = λ q p. 0; all = λ p. false }
 
 -- tables and flags that stand for what is wanted
-pub record StandFor (sends receives : List ℕ) (lines : List Bool) (w : Wanted) : Type 0 where
+pub record StandFor (sends receives : Counts) (lines : List Bool) (w : Wanted) : Type 0 where
   pub sent : AreCounts sends w.sends
   pub received : AreCounts receives w.receives
   pub all : AreFlags lines w.all

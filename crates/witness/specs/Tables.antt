@@ -1,5 +1,6 @@
 -- Tables with a number for each lane, and what they stand for (this project's own).
 use Rattle.std.specs.Prelude.{◌≡◌, ℕ, ◌+◌, ◌-◌, ◌*◌, ◌≤◌, false, Bool, List, slice_index, slice_index_or}
+use Rattle.chart.specs.Words.{Counts}
 use Rattle.chart.specs.declared.instance.TheConstants.{MAX_INSTANCES}
 
 -- where a table has the lane from q to p
@@ -11,7 +12,7 @@ abbrev pub IsInstance : ℕ → Type 0
 IsInstance p = (1 ≤ p) × (p ≤ MAX_INSTANCES)
 
 -- the table has the number of each lane
-abbrev pub AreCounts : List ℕ → (ℕ → ℕ → ℕ) → Type 0
+abbrev pub AreCounts : Counts → (ℕ → ℕ → ℕ) → Type 0
 AreCounts table numbers = (q p : ℕ) → IsInstance q → IsInstance p → slice_index table (slot_of q p) ≡ numbers q p
 
 -- the list has the flag of each instance

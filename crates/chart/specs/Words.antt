@@ -1,0 +1,30 @@
+-- What a number or a list of numbers is, where its type says no more. Each word unfolds to that type.
+use Rattle.std.specs.Prelude.{ℕ, List}
+
+-- the number of an instance, from 1
+abbrev pub Instance : Type 0
+Instance = ℕ
+
+-- an event's number on its line, from 1
+abbrev pub Index : Type 0
+Index = ℕ
+
+-- numbers of events of one line
+abbrev pub Indices : Type 0
+Indices = List Index
+
+-- the bytes of a name
+abbrev pub Name : Type 0
+Name = List ℕ
+
+-- the bytes of a text, or of a part of it
+abbrev pub Text : Type 0
+Text = List ℕ
+
+-- vector time: an entry for each instance (Fidge 1988, Mattern 1989)
+abbrev pub Clock : Type 0
+Clock = List ℕ
+
+-- a number for each line, the first instance's first
+abbrev pub Counts : Type 0
+Counts = List ℕ
