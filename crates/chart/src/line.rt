@@ -55,9 +55,9 @@ impl<T: Drop> From<AllocFailed<T>> for LineError {
 #[derive(Clone, Copy, Debug)]
 struct Starts {
     /// Of the neighbouring receives from its sender.
-    run: u32,
+    run: u16,
     /// Of the receives of its coregion.
-    region: u32,
+    region: u16,
 }
 
 /// The line of one instance while it grows: its events in their order, and room for more. A contract sees a record of
@@ -259,7 +259,7 @@ impl GrowingLine {
         }
         self.reserve(names.len())?;
         for name in names {
-            let all = self.events.len() as u32;
+            let all = self.events.len() as u16;
             self.starts.push_reserved(Starts {
                 run: all,
                 region: all,
@@ -367,7 +367,7 @@ fn receive_starts(events: &[Event], starts: &[Starts], sender: InstanceNo, regio
     ensures run { EndsWithRun (is_receive_from sender) events.now result.run }
     ensures region { EndsWithRun (is_in region) events.now result.region }
 {
-    let all = events.len() as u32;
+    let all = events.len() as u16;
     match events.last() {
         Some(last) => {
             let kept = starts[starts.len() - 1];
@@ -397,7 +397,7 @@ fn next_starts(events: &[Event], starts: &[Starts], event: Event) -> Starts
 {
     match event {
         Event::Send { .. } => {
-            let all = events.len() as u32;
+            let all = events.len() as u16;
             Starts {
                 run: all,
                 region: all,
