@@ -1,5 +1,5 @@
 //! What clocks do to their entries, as slices.
-ghost use Rattle.std.specs.Prelude.{◌≡◌, ◌≤◌, ℕ, length, take, All, IsSome, IfSome, OnOk};
+ghost use Rattle.std.specs.Prelude.{◌≡◌, ◌≤◌, ◌+◌, ℕ, true, length, take, slice_index, All, IsSome, IfSome, OnOk};
 ghost use Rattle.clock.specs.Clocks.{entry_of, merged};
 ghost use Rattle.clock.specs.Diffs.{IsDiff, apply_diff, AgreeBut};
 
@@ -38,6 +38,9 @@ pub(crate) fn find_few(
     ensures succeeds { length entries.now ≤ INLINE_ENTRIES → IsSome result }
     ensures alone { (p : ℕ) → AgreeBut p base.now entries.now → IsSome result }
 {
+    if INLINE_ENTRIES < entries.len() {
+        return find_by_fours(entries, base, few);
+    }
     let mut count = 0;
     for (place, entry) in entries.iter().enumerate() {
         if *entry != base[place] {
@@ -52,6 +55,58 @@ pub(crate) fn find_few(
         }
     }
     Some(count)
+}
+
+/// The same on larger boards: four entries at a time are passed by where none of them differs.
+#[inline(never)]
+fn find_by_fours(entries: &[u32], base: &[u32], few: &mut [Change; INLINE_ENTRIES]) -> Option<usize>
+    requires same_length { length entries.now ≡ length base.now }
+    requires limit { length entries.now ≤ MAX_INSTANCES }
+    ensures len { length few.new ≡ INLINE_ENTRIES }
+    ensures count { IfSome result (λ count. count ≤ INLINE_ENTRIES) }
+    ensures exact { IfSome result (λ count. IsDiff base.now entries.now (take count few.new)) }
+    ensures restores { IfSome result (λ count. apply_diff base.now (take count few.new) ≡ entries.now) }
+    ensures within { IfSome result (λ count.
+        All (λ change. change.instance ≤ length entries.now) (take count few.new)) }
+    ensures at_most { IfSome result (λ count. length (take count few.new) ≤ length entries.now) }
+    ensures alone { (p : ℕ) → AgreeBut p base.now entries.now → IsSome result }
+{
+    let mut found = 0;
+    let mut place = 0;
+    while place < entries.len() {
+        if place + 4 <= entries.len() && are_four_same(entries, base, place) {
+            place += 4;
+        } else if entries[place] == base[place] {
+            place += 1;
+        } else {
+            if found == INLINE_ENTRIES {
+                return None;
+            }
+            few[found] = Change {
+                instance: InstanceNo::at_place(place),
+                entry: entries[place],
+            };
+            found += 1;
+            place += 1;
+        }
+    }
+    Some(found)
+}
+
+/// Whether these four entries are the base's. All are compared, so that the compiler can do it at once.
+#[inline(always)]
+fn are_four_same(entries: &[u32], base: &[u32], first: usize) -> bool
+    requires same_length { length entries.now ≡ length base.now }
+    requires four { first + 4 ≤ length entries.now }
+    ensures first { result ≡ true → slice_index entries.now first ≡ slice_index base.now first }
+    ensures second { result ≡ true → slice_index entries.now (first + 1) ≡ slice_index base.now (first + 1) }
+    ensures third { result ≡ true → slice_index entries.now (first + 2) ≡ slice_index base.now (first + 2) }
+    ensures fourth { result ≡ true → slice_index entries.now (first + 3) ≡ slice_index base.now (first + 3) }
+{
+    (entries[first] == base[first])
+        & (entries[first + 1] == base[first + 1])
+        & (entries[first + 2] == base[first + 2])
+        & (entries[first + 3] == base[first + 3])
 }
 
 /// Makes the list that of the entries that differ from the base's, each with its instance. What it had is dropped.
