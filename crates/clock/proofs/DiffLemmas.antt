@@ -64,6 +64,20 @@ up_to_same base clock n diff within same entry h = record {
   count = omega (arith, h.count);
 }
 
+-- the next four instances have the same entries in both
+pub up_to_four : (base clock : List ℕ) (n : ℕ) (diff : List Change) → n + 4 ≤ length clock → length clock ≡ length base
+    → get_or clock n 0 ≡ get_or base n 0 → get_or clock (n + 1) 0 ≡ get_or base (n + 1) 0
+    → get_or clock (n + 2) 0 ≡ get_or base (n + 2) 0 → get_or clock (n + 3) 0 ≡ get_or base (n + 3) 0
+    → IsDiffUpTo base clock n diff → IsDiffUpTo base clock (n + 4) diff
+up_to_four base clock n diff within same first second third fourth h =
+    let two : n + 1 + 1 ≡ n + 2 = omega arith in
+    let three : n + 2 + 1 ≡ n + 3 = omega arith in
+    let four : n + 3 + 1 ≡ n + 4 = omega arith in
+    let at_1 : IsDiffUpTo base clock (n + 1) diff = up_to_same base clock n diff (omega arith) same first h in
+    let at_2 : IsDiffUpTo base clock (n + 2) diff = subst (λ m. IsDiffUpTo base clock m diff) two (up_to_same base clock (n + 1) diff (omega arith) same second at_1) in
+    let at_3 : IsDiffUpTo base clock (n + 3) diff = subst (λ m. IsDiffUpTo base clock m diff) three (up_to_same base clock (n + 2) diff (omega arith) same third at_2) in
+    subst (λ m. IsDiffUpTo base clock m diff) four (up_to_same base clock (n + 3) diff (omega arith) same fourth at_3)
+
 -- a number above the others is put last
 rising_push : (xs : List ℕ) (x : ℕ) → IsStrictlyIncreasing xs → All (λ y. y < x) xs → IsStrictlyIncreasing (xs ++ x ∷ [])
 rising_push xs x rising above k within = elim (cases_lt (k + 1) (length xs)) [

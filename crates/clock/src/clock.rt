@@ -6,14 +6,14 @@ ghost use Rattle.clock.specs.Clocks.{entry_of, with_entry, merged};
 ghost use Rattle.clock.specs.Diffs.{IsDiff, apply_diff, AgreeBut};
 
 use crate::Diff;
-use crate::entries::{entry_after, find_changes, raise, set_changes};
+use crate::entries::{entry_after, raise, set_changes};
 use arrayvec::ArrayVec;
 use chart::{InstanceNo, MAX_INSTANCES};
 use std::alloc::{AllocError, Global};
 use std::marker::Model;
 
 /// The most changes that a [`Diff`] holds in place. With more it takes memory. So up to so many instances nothing takes
-/// memory here.
+/// memory here, and on more of them differences of more changes alone do.
 pub const INLINE_ENTRIES: usize = 8;
 
 const _: () = prove!(INLINE_ENTRIES == 8);
@@ -41,8 +41,7 @@ impl Model for Clock {
 impl Clock {
     /// The clock of `n` instances of which no event is known.
     ///
-    /// F6: it fails only where there is no memory, and up to [`INLINE_ENTRIES`] instances it takes none. As it is, it
-    /// takes none at all.
+    /// It takes no memory, however many instances there are. So F6, which its type has room for, never comes.
     pub fn zero(_alloc: Global, n: usize) -> Result<Clock, AllocError>
         requires at_least_two { 2 ≤ n }
         requires at_most { n ≤ MAX_INSTANCES }
@@ -96,8 +95,7 @@ impl Clock {
 
     /// A copy.
     ///
-    /// F6: it fails only where there is no memory, and up to [`INLINE_ENTRIES`] instances it takes none. As it is, it
-    /// takes none at all.
+    /// It takes no memory, however many instances there are. So F6, which its type has room for, never comes.
     #[inline(always)]
     pub fn copied(&self, _alloc: Global) -> Result<Clock, AllocError>
         ensures value { IfOk result (λ clock. clock ≡ self.now) }
@@ -113,7 +111,7 @@ impl Clock {
 
     /// A copy whose entry for `p` is `index`, as the clock of the event of `p` with this number.
     ///
-    /// F6: it fails only where there is no memory, and up to [`INLINE_ENTRIES`] instances it takes none.
+    /// It takes no memory, as [`Clock::copied`].
     #[inline(always)]
     pub fn stamped(&self, alloc: Global, p: InstanceNo, index: u32) -> Result<Clock, AllocError>
         requires { p ≤ length self.now }
@@ -138,7 +136,7 @@ impl Clock {
 
     /// The entries that differ from `base`'s, rising by instance. Applied to `base` they give this clock.
     ///
-    /// F6: it fails only where there is no memory, and up to [`INLINE_ENTRIES`] instances it takes none.
+    /// F6: it fails only where there is no memory for more than [`INLINE_ENTRIES`] changes. With fewer it takes none.
     #[inline(always)]
     pub fn diff_from(&self, alloc: Global, base: &Clock) -> Result<Diff, AllocError>
         requires { length self.now ≡ length base.now }
@@ -156,8 +154,8 @@ impl Clock {
     /// Makes the difference that of the entries that differ from `base`'s, as [`Clock::diff_from`] answers it, in place.
     /// What it had is dropped, also where it is refused.
     ///
-    /// F6: it fails only where there is no memory. Up to [`INLINE_ENTRIES`] instances it takes none, and none where one
-    /// entry alone differs.
+    /// F6: it fails only where there is no memory for more than [`INLINE_ENTRIES`] changes. With fewer it takes none: up to
+    /// so many instances, and where one entry alone differs.
     #[inline(always)]
     pub fn diff_into(&self, base: &Clock, diff: &mut Diff) -> Result<(), AllocError>
         requires { length self.now ≡ length base.now }
@@ -168,11 +166,7 @@ impl Clock {
         ensures succeeds { length self.now ≤ INLINE_ENTRIES → IsOk result }
         ensures alone { (p : ℕ) → AgreeBut p base.now self.now → IsOk result }
     {
-        find_changes(
-            self.entries.as_slice(),
-            base.entries.as_slice(),
-            &mut diff.changes,
-        )
+        diff.find(self.entries.as_slice(), base.entries.as_slice())
     }
 
     /// Sets the entries that the difference lists. It takes no memory.

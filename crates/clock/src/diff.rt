@@ -1,10 +1,11 @@
 //! The differences between clocks.
-ghost use Rattle.std.specs.Prelude.{◌≡◌, ◌==◌, [], length};
+ghost use Rattle.std.specs.Prelude.{◌≡◌, ◌==◌, ◌≤◌, [], ◌∷◌, ℕ, length, All, IsOk, OnOk};
+ghost use Rattle.clock.specs.Diffs.{IsDiff, apply_diff, AgreeBut};
 
 use crate::INLINE_ENTRIES;
-use chart::InstanceNo;
-use smallvec::SmallVec;
-use std::alloc::Global;
+use crate::entries::{find_few, find_many};
+use chart::{InstanceNo, MAX_INSTANCES};
+use std::alloc::{AllocError, Global};
 use std::marker::Model;
 
 /// A changed entry of a clock.
@@ -16,7 +17,7 @@ pub struct Change {
     pub entry: u32,
 }
 
-/// A blank, which the unused inline places of a [`Diff`] hold.
+/// A blank, which the unused places of a [`Diff`] hold.
 impl Default for Change {
     fn default() -> Change {
         Change {
@@ -31,16 +32,25 @@ impl Default for Change {
 /// Up to [`INLINE_ENTRIES`] changes are held in place.
 #[derive(Debug, Drop)]
 pub struct Diff {
-    pub(crate) changes: SmallVec<Change, INLINE_ENTRIES>,
+    /// All changes, where none lies in place. Else it may have those of before.
+    more: Vec<Change>,
+    /// How many changes lie in place.
+    count: usize,
+    /// The changes that lie in place. Behind them are blanks, and changes of before.
+    few: [Change; INLINE_ENTRIES],
 }
 
 impl Model for Diff {
-    ghost use Rattle.std.specs.Prelude.{List};
+    ghost use Rattle.std.specs.Prelude.{List, ◌≡◌, ◌≤◌, length};
     ghost use Rattle.clock.specs.declared.diff.Change.{Change};
+    ghost use Rattle.clock.specs.declared.clock.TheConstants.{INLINE_ENTRIES};
+    ghost use Rattle.clock.specs.Places.{changes_of};
 
     ghost Value = { List Change };
 
-    ghost view = { λ diff. diff.changes.items };
+    ghost view = { λ diff. changes_of diff.count diff.few diff.more.items };
+
+    ghost invariant = { λ diff. (diff.count ≤ INLINE_ENTRIES) × (length diff.few ≡ INLINE_ENTRIES) };
 }
 
 impl Diff {
@@ -50,16 +60,22 @@ impl Diff {
         ensures { result ≡ [] }
     {
         Diff {
-            changes: SmallVec::new(alloc),
+            more: Vec::new(alloc),
+            count: 0,
+            few: [Change::default(); INLINE_ENTRIES],
         }
     }
 
     /// The changes, rising by instance.
     #[inline(always)]
+    #[tactic(auto, using(crate::proofs::PlaceLemmas::in_place))]
     pub fn changes(&self) -> &[Change]
         ensures { result.now ≡ self.now }
     {
-        self.changes.as_slice()
+        if self.count == 0 {
+            return all_of(&self.more);
+        }
+        &self.few[..self.count]
     }
 
     /// How many entries differ.
@@ -67,7 +83,7 @@ impl Diff {
     pub fn len(&self) -> usize
         ensures { result ≡ length self.now }
     {
-        self.changes.len()
+        self.changes().len()
     }
 
     /// Whether no entry differs.
@@ -75,8 +91,50 @@ impl Diff {
     pub fn is_empty(&self) -> bool
         ensures { result ≡ (length self.now == 0) }
     {
-        self.changes.is_empty()
+        self.len() == 0
     }
+
+    /// Makes it this change alone. What it had is dropped.
+    #[inline(always)]
+    pub(crate) fn become_one(&mut self, change: Change)
+        ensures { self.new ≡ change ∷ [] }
+    {
+        self.few[0] = change;
+        self.count = 1;
+    }
+
+    /// Makes it that of the entries that differ from the base's, each with its instance. What it had is dropped.
+    #[inline(always)]
+    #[tactic(auto, using(crate::proofs::PlaceLemmas::in_place))]
+    pub(crate) fn find(&mut self, entries: &[u32], base: &[u32]) -> Result<(), AllocError>
+        requires same_length { length entries.now ≡ length base.now }
+        requires limit { length entries.now ≤ MAX_INSTANCES }
+        ensures exact { OnOk result (IsDiff base.now entries.now self.new) }
+        ensures restores { OnOk result (apply_diff base.now self.new ≡ entries.now) }
+        ensures within { OnOk result (All (λ change. change.instance ≤ length entries.now) self.new) }
+        ensures at_most { OnOk result (length self.new ≤ length entries.now) }
+        ensures succeeds { length entries.now ≤ INLINE_ENTRIES → IsOk result }
+        ensures alone { (p : ℕ) → AgreeBut p base.now entries.now → IsOk result }
+    {
+        let Some(count) = find_few(entries, base, &mut self.few) else {
+            self.count = 0;
+            return find_many(entries, base, &mut self.more);
+        };
+        if count == 0 {
+            self.more.clear();
+        }
+        self.count = count;
+        Ok(())
+    }
+}
+
+/// The list's changes. Few differences have none, or more than lie in place.
+#[cold]
+#[inline(never)]
+fn all_of(more: &Vec<Change>) -> &[Change]
+    ensures { result.now ≡ more.now.items }
+{
+    more.as_slice()
 }
 
 impl PartialEq for Diff {

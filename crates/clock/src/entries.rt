@@ -1,12 +1,10 @@
 //! What clocks do to their entries, as slices.
-ghost use Rattle.std.specs.Prelude.{◌≡◌, ◌≤◌, ◌++◌, ◌∷◌, [], ℕ, length, All, IsOk, OnOk};
-ghost use Rattle.smallvec.specs.SmallVec.{small_vec_len, HasRoomFor};
+ghost use Rattle.std.specs.Prelude.{◌≡◌, ◌≤◌, ◌+◌, ℕ, true, length, take, slice_index, All, IsSome, IfSome, OnOk};
 ghost use Rattle.clock.specs.Clocks.{entry_of, merged};
 ghost use Rattle.clock.specs.Diffs.{IsDiff, apply_diff, AgreeBut};
 
 use crate::{Change, INLINE_ENTRIES};
 use chart::{InstanceNo, MAX_INSTANCES};
-use smallvec::SmallVec;
 use std::alloc::AllocError;
 
 /// Raises each entry to the other's, where that is greater.
@@ -20,67 +18,124 @@ pub(crate) fn raise(entries: &mut [u32], others: &[u32])
     }
 }
 
-/// Makes the list that of the entries that differ from the base's, each with its instance. What it had is dropped.
+/// Writes the entries that differ from the base's over the first places, each with its instance, and answers how many there
+/// are: none where they are more than the places.
 #[inline(always)]
-pub(crate) fn find_changes(
+pub(crate) fn find_few(
     entries: &[u32],
     base: &[u32],
-    changes: &mut SmallVec<Change, INLINE_ENTRIES>,
-) -> Result<(), AllocError>
+    few: &mut [Change; INLINE_ENTRIES],
+) -> Option<usize>
     requires same_length { length entries.now ≡ length base.now }
     requires limit { length entries.now ≤ MAX_INSTANCES }
-    ensures exact { OnOk result (IsDiff base.now entries.now changes.new.items) }
-    ensures restores { OnOk result (apply_diff base.now changes.new.items ≡ entries.now) }
-    ensures within { OnOk result (All (λ change. change.instance ≤ length entries.now) changes.new.items) }
-    ensures at_most { OnOk result (small_vec_len changes.new ≤ length entries.now) }
-    ensures succeeds { length entries.now ≤ INLINE_ENTRIES → IsOk result }
-    ensures alone { (p : ℕ) → AgreeBut p base.now entries.now → IsOk result }
+    ensures len { length few.new ≡ INLINE_ENTRIES }
+    ensures count { IfSome result (λ count. count ≤ INLINE_ENTRIES) }
+    ensures exact { IfSome result (λ count. IsDiff base.now entries.now (take count few.new)) }
+    ensures restores { IfSome result (λ count. apply_diff base.now (take count few.new) ≡ entries.now) }
+    ensures within { IfSome result (λ count.
+        All (λ change. change.instance ≤ length entries.now) (take count few.new)) }
+    ensures at_most { IfSome result (λ count. length (take count few.new) ≤ length entries.now) }
+    ensures succeeds { length entries.now ≤ INLINE_ENTRIES → IsSome result }
+    ensures alone { (p : ℕ) → AgreeBut p base.now entries.now → IsSome result }
 {
-    prove!(INLINE_ENTRIES <= changes.capacity());
-    changes.clear();
+    if INLINE_ENTRIES < entries.len() {
+        return find_by_fours(entries, base, few);
+    }
+    let mut count = 0;
     for (place, entry) in entries.iter().enumerate() {
         if *entry != base[place] {
-            let change = Change {
+            if count == INLINE_ENTRIES {
+                return None;
+            }
+            few[count] = Change {
                 instance: InstanceNo::at_place(place),
                 entry: *entry,
             };
-            add_change(changes, change)?;
+            count += 1;
         }
     }
-    Ok(())
+    Some(count)
 }
 
-/// Adds a change to the list. The compiler keeps a list's own push apart from where it is called.
-///
-/// F6: it fails only where there is no room and no memory.
-#[inline(always)]
-fn add_change(
-    changes: &mut SmallVec<Change, INLINE_ENTRIES>,
-    change: Change,
-) -> Result<(), AllocError>
-    ensures ok { OnOk result (changes.new.items ≡ changes.old.items ++ change ∷ []) }
-    ensures capacity { changes.old.capacity ≤ changes.new.capacity }
-    ensures succeeds { HasRoomFor changes.old 1 → IsOk result }
+/// The same on larger boards: four entries at a time are passed by where none of them differs.
+#[inline(never)]
+fn find_by_fours(entries: &[u32], base: &[u32], few: &mut [Change; INLINE_ENTRIES]) -> Option<usize>
+    requires same_length { length entries.now ≡ length base.now }
+    requires limit { length entries.now ≤ MAX_INSTANCES }
+    ensures len { length few.new ≡ INLINE_ENTRIES }
+    ensures count { IfSome result (λ count. count ≤ INLINE_ENTRIES) }
+    ensures exact { IfSome result (λ count. IsDiff base.now entries.now (take count few.new)) }
+    ensures restores { IfSome result (λ count. apply_diff base.now (take count few.new) ≡ entries.now) }
+    ensures within { IfSome result (λ count.
+        All (λ change. change.instance ≤ length entries.now) (take count few.new)) }
+    ensures at_most { IfSome result (λ count. length (take count few.new) ≤ length entries.now) }
+    ensures alone { (p : ℕ) → AgreeBut p base.now entries.now → IsSome result }
 {
-    if changes.len() == changes.capacity() {
-        return add_beyond(changes, change);
+    let mut found = 0;
+    let mut place = 0;
+    while place < entries.len() {
+        if place + 4 <= entries.len() && are_four_same(entries, base, place) {
+            place += 4;
+        } else if entries[place] == base[place] {
+            place += 1;
+        } else {
+            if found == INLINE_ENTRIES {
+                return None;
+            }
+            few[found] = Change {
+                instance: InstanceNo::at_place(place),
+                entry: entries[place],
+            };
+            found += 1;
+            place += 1;
+        }
     }
-    changes.push_reserved(change);
-    Ok(())
+    Some(found)
 }
 
-/// Adds a change to a list that may have no room.
+/// Whether these four entries are the base's. All are compared, so that the compiler can do it at once.
+#[inline(always)]
+fn are_four_same(entries: &[u32], base: &[u32], first: usize) -> bool
+    requires same_length { length entries.now ≡ length base.now }
+    requires four { first + 4 ≤ length entries.now }
+    ensures first { result ≡ true → slice_index entries.now first ≡ slice_index base.now first }
+    ensures second { result ≡ true → slice_index entries.now (first + 1) ≡ slice_index base.now (first + 1) }
+    ensures third { result ≡ true → slice_index entries.now (first + 2) ≡ slice_index base.now (first + 2) }
+    ensures fourth { result ≡ true → slice_index entries.now (first + 3) ≡ slice_index base.now (first + 3) }
+{
+    (entries[first] == base[first])
+        & (entries[first + 1] == base[first + 1])
+        & (entries[first + 2] == base[first + 2])
+        & (entries[first + 3] == base[first + 3])
+}
+
+/// Makes the list that of the entries that differ from the base's, each with its instance. What it had is dropped.
+///
+/// F6: it fails only where there is no memory.
 #[cold]
 #[inline(never)]
-fn add_beyond(
-    changes: &mut SmallVec<Change, INLINE_ENTRIES>,
-    change: Change,
+pub(crate) fn find_many(
+    entries: &[u32],
+    base: &[u32],
+    more: &mut Vec<Change>,
 ) -> Result<(), AllocError>
-    ensures ok { OnOk result (changes.new.items ≡ changes.old.items ++ change ∷ []) }
-    ensures capacity { changes.old.capacity ≤ changes.new.capacity }
-    ensures succeeds { HasRoomFor changes.old 1 → IsOk result }
+    requires same_length { length entries.now ≡ length base.now }
+    requires limit { length entries.now ≤ MAX_INSTANCES }
+    ensures exact { OnOk result (IsDiff base.now entries.now more.new.items) }
+    ensures restores { OnOk result (apply_diff base.now more.new.items ≡ entries.now) }
+    ensures within { OnOk result (All (λ change. change.instance ≤ length entries.now) more.new.items) }
+    ensures at_most { OnOk result (length more.new.items ≤ length entries.now) }
 {
-    changes.push(change)?;
+    more.clear();
+    more.reserve(entries.len())?;
+    for (place, entry) in entries.iter().enumerate() {
+        if *entry != base[place] {
+            more.push_reserved(Change {
+                instance: InstanceNo::at_place(place),
+                entry: *entry,
+            });
+        }
+    }
     Ok(())
 }
 

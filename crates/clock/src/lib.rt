@@ -9,7 +9,7 @@
 //! - A difference has exactly the entries that differ, and applied to its base it gives the clock back
 //!   ([`Clock::diff_from`], in place [`Clock::diff_into`], [`Clock::apply`]); an entry after a difference can be read before it is applied
 //!   ([`Clock::entry_after`]).
-//! - No call on a clock of at most [`INLINE_ENTRIES`] entries is refused.
+//! - No call on a clock of at most [`INLINE_ENTRIES`] entries is refused. A difference of more changes alone takes memory.
 #![tactic(auto)]
 
 mod clock;

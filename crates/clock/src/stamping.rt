@@ -3,7 +3,7 @@ ghost use Rattle.std.specs.Prelude.{◌≡◌, ◌≢◌, ◌≤◌, length, All
 ghost use Rattle.clock.specs.Clocks.{entry_of, with_entry};
 ghost use Rattle.clock.specs.Diffs.{IsDiff, apply_diff};
 
-use crate::{Change, Clock, Diff, INLINE_ENTRIES};
+use crate::{Change, Clock, Diff};
 use chart::InstanceNo;
 
 impl Clock {
@@ -19,9 +19,7 @@ impl Clock {
         ensures restores { apply_diff self.old diff.new ≡ self.new }
         ensures within { All (λ change. change.instance ≤ length self.old) diff.new }
     {
-        prove!(INLINE_ENTRIES <= diff.changes.capacity());
-        diff.changes.clear();
-        diff.changes.push_reserved(Change {
+        diff.become_one(Change {
             instance: p,
             entry: index,
         });

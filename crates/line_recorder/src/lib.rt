@@ -24,6 +24,7 @@
 mod error;
 pub mod laws;
 mod recorder;
+mod several;
 
 pub use error::RecordError;
 pub use recorder::Recorder;
