@@ -1,7 +1,11 @@
 -- Looks at one lane after another, of which none found a message so far.
-use Rattle.std.proofs.Common.{◌≡◌, ◌≢◌, ℕ, suc, ◌+◌, ◌<◌, ◌&&◌, Bool, true, false, List, [], ◌∷◌, ◌++◌, refl, sym, ap, ◌∙◌, subst, arith, append_assoc}
+use Rattle.std.proofs.Common.{◌≡◌, ◌≢◌, ℕ, zero, suc, ◌+◌, ◌-◌, ◌<◌, ◌≤◌, ◌==◌, ◌&&◌, not, Bool, true, false, cond, List, [], ◌∷◌, ◌++◌, refl, sym, ap, ◌∙◌, subst, arith, append_assoc}
+use Rattle.std.specs.Prelude.{filter}
+use Rattle.std.specs.List.{range_with_len}
+use Rattle.std.proofs.lemmas.List.Elements.{filter-append}
 use Rattle.std.proofs.lemmas.Bool.{eq-eqb, ne_eqb}
-use Rattle.chart.proofs.Histories.{begins_onward}
+use Rattle.chart.specs.Histories.{own}
+use Rattle.chart.proofs.Histories.{begins_onward, begins_same, none_begins}
 use Rattle.chart.proofs.Scans.{range-next}
 use Rattle.board.specs.Views.{PostView, Sound, Stays}
 use Rattle.board.specs.Taking.{IsFoundEmpty, Waits}
@@ -71,3 +75,103 @@ module _ (old mid : PostView) (order : List ℕ) (p a b : ℕ) (its_end : Bool) 
     first-there waits =
         let w = glanced.done in
         record { before = w.0; after = others p (a + 1) b; order_is = sym w.1 ∙ ap (λ rest. w.0 ++ rest) first; mid = mid; its_end = its_end; empty = w.2; later = later; stays = stays; waits = waits }
+
+-- the numbers from s on, in two parts
+range-cut : (s m k : ℕ) → range_with_len s m ++ range_with_len (s + m) k ≡ range_with_len s (m + k)
+range-cut s zero k =
+    let same : s + 0 ≡ s = omega arith in
+    let all : 0 + k ≡ k = omega arith in
+    ap (λ x. range_with_len x k) same ∙ sym (ap (range_with_len s) all)
+range-cut s (suc m) k =
+    let same : s + suc m ≡ s + 1 + m = omega arith in
+    let more : suc m + k ≡ suc (m + k) = omega arith in
+    ap (λ x. s ∷ (range_with_len (s + 1) m ++ range_with_len x k)) same ∙ ap (λ xs. s ∷ xs) (range-cut (s + 1) m k) ∙ sym (ap (range_with_len s) more)
+
+-- the lanes up to a number, and the rest
+pub others-cut : (p a r to : ℕ) → a ≤ r → r ≤ to → others p a r ++ others p r to ≡ others p a to
+others-cut p a r to low high =
+    let next : r + 1 ≡ a + 1 + (r - a) = omega (arith, low) in
+    let all : r - a + (to - r) ≡ to - a = omega (arith, low, high) in
+    sym (filter-append (λ q. not (q == p)) (range_with_len (a + 1) (r - a)) (range_with_len (r + 1) (to - r)))
+    ∙ ap (filter (λ q. not (q == p))) (ap (λ x. range_with_len (a + 1) (r - a) ++ range_with_len x (to - r)) next ∙ range-cut (a + 1) (r - a) (to - r) ∙ ap (range_with_len (a + 1)) all)
+
+-- the lane from the next number alone, which isn't p
+others-one : (p b : ℕ) → suc b ≢ p → others p b (suc b) ≡ suc b ∷ []
+others-one p b other =
+    let one : suc b - b ≡ 1 = omega arith in
+    let number : b + 1 ≡ suc b = omega arith in
+    let ne = ne_eqb (b + 1) p (λ same. other (omega (arith, same))) in
+    ap (λ m. filter (λ q. not (q == p)) (range_with_len (b + 1) m)) one ∙ ap (λ x. cond (not x) ((b + 1) ∷ []) []) ne ∙ ap (λ x. x ∷ []) number
+
+-- no lane
+others-none : (p a : ℕ) → others p a a ≡ []
+others-none p a = let none : a - a ≡ 0 = omega arith in ap (λ m. filter (λ q. not (q == p)) (range_with_len (a + 1) m)) none
+
+-- looks, and then more looks
+pub glanced-append : (old mid new : PostView) (order more : List ℕ) (e f : Bool) → AreGlanced old order e mid → AreGlanced mid more f new → AreGlanced old (order ++ more) (e && f) new
+glanced-append old mid new [] more e f done later = subst (λ b. AreGlanced old more b new) (ap (λ b. b && f) (sym done.1)) (subst (λ x. AreGlanced x more f new) done.0 later)
+glanced-append old mid new (x ∷ order) more e f done later =
+    (done.0, done.1, done.2 && f, done.3, done.4, done.5, glanced-append done.0 mid new order more done.2 f done.6 later, ap (λ b. b && f) done.7 ∙ and_assoc done.1 done.2 f)
+
+-- A post after looks at the lanes from the numbers above a and up to b, which aren't p: all found them open, with no
+-- message.
+pub record HasPassed (old : PostView) (p a b : ℕ) (now : PostView) : Type 0 where
+  pub sound : Sound old now
+  pub within : a ≤ b
+  pub glanced : AreGlanced old (others p a b) (b == a) now
+
+-- none yet
+pub passed-none : (old : PostView) (p a : ℕ) → Sound old old → HasPassed old p a a old
+passed-none old p a sound = record {
+  sound = sound;
+  within = omega arith;
+  glanced = subst (λ xs. AreGlanced old xs (a == a) old) (sym (others-none p a)) (refl, eq-eqb a a refl);
+}
+
+-- one lane more
+pub passed-next : (old mid new : PostView) (p a b c : ℕ) → HasPassed old p a b mid → suc b ≢ p → Sound mid new → Stays mid new → IsFoundEmpty mid (suc b) false new → c ≡ suc b → HasPassed old p a c new
+passed-next old mid new p a b c passed other later stays empty next =
+    let more : a ≤ suc b = omega (arith, passed.within) in
+    let open_ = glanced-next old mid new (others p a b) (b == a) (suc b) false passed.glanced later stays empty in
+    let lanes : others p a b ++ suc b ∷ [] ≡ others p a (suc b) = ap (λ xs. others p a b ++ xs) (sym (others-one p b other)) ∙ others-cut p a b (suc b) passed.within (omega arith) in
+    let ends : (b == a) && false ≡ (suc b == a) = and_false (b == a) ∙ sym (ne_eqb (suc b) a (λ same. absurd (omega (arith, same, passed.within)))) in
+    subst (λ x. HasPassed old p a x new) (sym next) (record {
+      sound = sound-onward old mid new passed.sound later;
+      within = more;
+      glanced = subst (λ e. AreGlanced old (others p a (suc b)) e new) ends (subst (λ xs. AreGlanced old xs ((b == a) && false) new) lanes open_);
+    })
+
+-- passed lanes among the rest of a scan's
+pub lanes-passed : (old mid new : PostView) (order : List ℕ) (p a b to : ℕ) (its_end : Bool) → HasGlanced old order (others p a to) its_end mid → Sound mid new → a ≤ b → b ≤ to → AreGlanced mid (others p a b) (b == a) new → HasGlanced old order (others p b to) (its_end && (b == a)) new
+lanes-passed old mid new order p a b to its_end glanced later low high passed =
+    let w = glanced.done in
+    record {
+      sound = sound-onward old mid new glanced.sound later;
+      done = (w.0 ++ others p a b, append_assoc w.0 (others p a b) (others p b to) ∙ ap (λ xs. w.0 ++ xs) (others-cut p a b to low high) ∙ w.1, glanced-append old mid new w.0 (others p a b) its_end (b == a) w.2 passed);
+    }
+
+-- a post is sound after itself
+pub sound-again : (old new : PostView) → Sound old new → Sound new new
+sound-again old new s = record { same = record { board = refl; number = refl }; later = begins_same new.seen; legal = s.legal; own = s.own; looks = omega arith }
+
+pub stays-again : (post : PostView) → Stays post post
+stays-again post = record { made = refl; region = refl; room = refl }
+
+-- what a look finds of a lane is so for whoever looked once more before
+module _ (old mid late new : PostView) (q : ℕ) (first : Sound old mid) (later : Sound mid late) (stays : Stays mid late) where
+  pub empty-since : (b : Bool) → IsFoundEmpty late q b new → IsFoundEmpty mid q b new
+  empty-since b empty =
+      let same : own late.seen mid.number ≡ own mid.seen mid.number = ap (own late.seen) (sym later.same.number) ∙ later.own ∙ stays.made ∙ sym first.own in
+      record {
+        two = rw (later.same.board, later.same.number) at empty.two;
+        waits = empty.waits;
+        closed = empty.closed;
+        before = none_begins mid.seen late.seen later.later q mid.number same (rw later.same.number at empty.before);
+        looked = omega (arith, later.looks, empty.looked);
+      }
+
+  pub waits-since : Waits late q new → Waits mid q new
+  waits-since w = record { two = rw (later.same.board, later.same.number) at w.two; waits = w.waits }
+
+  pub stays-since : Stays late new → Stays mid new
+  stays-since on = record { made = on.made ∙ stays.made; region = on.region ∙ stays.region; room = on.room ∙ stays.room }

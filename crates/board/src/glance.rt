@@ -1,16 +1,20 @@
 //! A post's looks at its lanes.
-ghost use Rattle.std.specs.Prelude.{◌≤◌, suc, Ok};
-ghost use Rattle.board.specs.Views.{Sound};
+ghost use Rattle.std.specs.Prelude.{◌≡◌, ◌≢◌, ℕ, ◌<◌, ◌≤◌, ◌==◌, suc, true, false, Ok};
+ghost use Rattle.board_table.specs.Layout.{put_word};
+ghost use Rattle.board.specs.Views.{PostView, Sound, Stays};
 ghost use Rattle.board.specs.Parked.{IsAtBoard};
-ghost use Rattle.board.specs.Taking.{IsLaneFrom};
-ghost use Rattle.board.specs.Glancing.{Glances, GlancesAmong, others};
+ghost use Rattle.board.specs.Taking.{IsLaneFrom, IsFoundEmpty};
+ghost use Rattle.board.specs.Glancing.{Glances, AreGlanced, GlancesAmong, others};
 
 use crate::answer::{Glance, Scan};
 use crate::error::TakeError;
 use crate::parked::Parked;
 use crate::post::Post;
-use board_table::{Lane, Words, look};
+use board_table::{Lane, Words, look, look_there};
 use chart::InstanceNo;
+
+/// So many lanes are looked at in a turn of the loop over lanes.
+const LANES_A_TURN: usize = 4;
 
 impl Parked {
     /// Whether a message waits on the lane from an instance, which it receives none of. F14 and F13 refuse it. It looks
@@ -52,7 +56,7 @@ impl Parked {
     }
 
     /// Whether a message waits on one of the lanes from the others among the instances with a number above `from` and
-    /// up to `to`, which it receives none of. It glances at them in turn, until it finds one. It takes no memory.
+    /// up to `to`, which it receives none of. It looks at them in turn, until it finds one. It takes no memory.
     #[inline(always)]
     pub fn glance_among(&mut self, words: &Words, from: usize, to: usize) -> Scan
         requires board { IsAtBoard words.now.key words.now.table_id self.old }
@@ -64,19 +68,86 @@ impl Parked {
         let number = self.number;
         let shape = self.shape;
         prove!(to <= shape.instances);
+        let own = number.place();
         let mut is_end = true;
-        for place in from..to {
-            let other = InstanceNo::at_place(place);
-            if other != number {
-                let lane = Lane::new(&shape, other, number);
-                match self.glance_at(words, &lane, place) {
-                    Glance::Message => return Scan::Message(other),
-                    Glance::Nothing => is_end = false,
-                    Glance::Ended => {}
+        let mut place = from;
+        while place < to {
+            if place == own {
+                place += 1;
+            } else {
+                let limit = if place < own { to.min(own) } else { to };
+                let next = self.pass_open(words, place, limit);
+                is_end = is_end & (next == place);
+                place = next;
+                if place < limit {
+                    let other = InstanceNo::at_place(place);
+                    let lane = Lane::new(&shape, other, number);
+                    match self.glance_at(words, &lane, place) {
+                        Glance::Message => return Scan::Message(other),
+                        Glance::Nothing => is_end = false,
+                        Glance::Ended => {}
+                    }
+                    place += 1;
                 }
             }
         }
         if is_end { Scan::Ended } else { Scan::Nothing }
+    }
+
+    /// Looks at the lanes from the instances with a number above `from` and up to `to`, which aren't the post itself, as
+    /// long as it finds them open and with no message. It answers how far it came.
+    ///
+    /// Several lanes are a turn of a loop that the compiler writes out.
+    #[inline(always)]
+    fn pass_open(&mut self, words: &Words, from: usize, to: usize) -> usize
+        requires board { IsAtBoard words.now.key words.now.table_id self.old }
+        requires order { from < to }
+        requires within { to ≤ self.old.board.size }
+        requires apart { (place : ℕ) → from ≤ place → place < to → suc place ≢ self.old.number }
+        ensures sound { Sound self.old self.new }
+        ensures within { (from ≤ result) × (result ≤ to) }
+        ensures open { (after : PostView) × Sound self.old after
+            × AreGlanced self.old (others self.old.number from result) (result == from) after
+            × Sound after self.new × Stays after self.new × (result ≡ to → after ≡ self.new) }
+    {
+        let number = self.number;
+        let shape = self.shape;
+        prove!(to <= shape.instances);
+        let mut place = from;
+        let mut word = Lane::new(&shape, InstanceNo::at_place(from), number).put_word();
+        while place + LANES_A_TURN <= to {
+            for _ in 0..LANES_A_TURN {
+                let lane = Lane::new(&shape, InstanceNo::at_place(place), number);
+                if !self.finds_nothing(words, &lane, place, word) {
+                    return place;
+                }
+                word = lane.put_word_after(word);
+                place += 1;
+            }
+        }
+        while place < to {
+            let lane = Lane::new(&shape, InstanceNo::at_place(place), number);
+            if !self.finds_nothing(words, &lane, place, lane.put_word()) {
+                return place;
+            }
+            place += 1;
+        }
+        place
+    }
+
+    /// Whether a look at this lane, from the instance at this place, finds it open and with no message. The word is the
+    /// lane's.
+    #[inline(always)]
+    fn finds_nothing(&mut self, words: &Words, lane: &Lane, place: usize, word: usize) -> bool
+        requires board { IsAtBoard words.now.key words.now.table_id self.old }
+        requires lane { IsLaneFrom self.old (suc place) lane.now }
+        requires word { word ≡ put_word lane.now.instances lane.now.sender lane.now.receiver }
+        ensures sound { Sound self.old self.new }
+        ensures stays { Stays self.old self.new }
+        ensures nothing { result ≡ true → IsFoundEmpty self.old (suc place) false self.new }
+    {
+        let taken = self.incoming[place].taken;
+        look_there(words, &mut self.seat, lane, word) == 2 * taken
     }
 }
 
@@ -92,7 +163,7 @@ impl<'a> Post<'a> {
     }
 
     /// Whether a message waits on one of the lanes from the others among the instances with a number above `from` and
-    /// up to `to`, which it receives none of. It glances at them in turn, until it finds one. It takes no memory.
+    /// up to `to`, which it receives none of. It looks at them in turn, until it finds one. It takes no memory.
     #[inline(always)]
     pub fn glance_among(&mut self, from: usize, to: usize) -> Scan
         requires order { from ≤ to }

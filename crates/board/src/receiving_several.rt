@@ -101,6 +101,8 @@ fn take_several(
         (length recorder.new.line.events) result }
 {
     let many = max.min(end.known_put - end.taken);
+    // Where there is no memory for all at once, there may still be some for the first ones.
+    let _ = arrivals.reserve(many as usize);
     for _ in 0..many {
         if recorder.line().len() >= MAX_EVENTS {
             return Stop::Refused(TakeError::LineFull);

@@ -1,5 +1,5 @@
 //! The lane from one instance of a board to another, and where its words and slots lie.
-ghost use Rattle.std.specs.Prelude.{◌≡◌, ◌≢◌, ℕ, ◌%◌, ◌≤◌, ◌<◌};
+ghost use Rattle.std.specs.Prelude.{◌≡◌, ◌≢◌, ℕ, suc, ◌%◌, ◌≤◌, ◌<◌};
 ghost use Rattle.chart.specs.Histories.{AreTwo};
 ghost use Rattle.chart.specs.declared.instance.TheConstants.{MAX_INSTANCES};
 ghost use Rattle.chart.specs.declared.history.TheConstants.{MAX_CAPACITY};
@@ -93,13 +93,22 @@ impl Lane {
 
     /// The word that has how many messages were sent, twice, and one more when the lane is closed.
     #[inline(always)]
-    pub(crate) fn put_word(&self) -> usize
+    pub fn put_word(&self) -> usize
         ensures value { result ≡ put_word self.now.instances self.now.sender self.now.receiver }
         ensures within { result < word_count self.now.instances }
         ensures two { AreTwo self.now.instances self.now.sender self.now.receiver }
         ensures some { 1 ≤ self.now.capacity }
     {
         self.sender.place() * (2 * self.shape.instances + 7) + self.receiver.place()
+    }
+
+    /// That word of the lane from the next instance to the same one, where this is the lane's own.
+    #[inline(always)]
+    pub fn put_word_after(&self, word: usize) -> usize
+        requires { word ≡ put_word self.now.instances self.now.sender self.now.receiver }
+        ensures { result ≡ put_word self.now.instances (suc self.now.sender) self.now.receiver }
+    {
+        word + (2 * self.shape.instances + 7)
     }
 
     /// The word that has how many messages were received.

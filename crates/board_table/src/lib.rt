@@ -35,7 +35,7 @@ pub use lane::Lane;
 pub use leaving::{draw, leave};
 pub use meeting::{meet_note, note};
 pub use packet::Packet;
-pub use receiver::{find_again, find_anew, free, give_back_full, look, take_recorded};
+pub use receiver::{find_again, find_anew, free, give_back_full, look, look_there, take_recorded};
 pub use rule::{BoardRule, Seat, Words};
 pub use sender::{claim_again, claim_anew, close, fill, fill_begun, give_back_vacant, publish};
 pub use shape::Shape;

@@ -4,7 +4,7 @@ ghost use Rattle.chart.specs.Events.{MayHaveRegion};
 ghost use Rattle.chart.specs.Histories.{received, chart_of};
 ghost use Rattle.chart.specs.declared.line.TheConstants.{MAX_EVENTS};
 ghost use Rattle.board_table.specs.declared.packet.Packet.{Packet};
-ghost use Rattle.board_table.specs.Layout.{IsBoard};
+ghost use Rattle.board_table.specs.Layout.{IsBoard, put_word};
 ghost use Rattle.board_table.specs.Knowing.{held, packets_out, vacant_out, emptied_base, Rests, IsEmptying};
 ghost use Rattle.board_table.specs.Plays.{FindsAnew, FindsAgain, LooksAt, Frees, PutsBack};
 ghost use Rattle.board_table.specs.Recording.{IsReady, IsRecorded};
@@ -50,19 +50,35 @@ pub fn look(words: &Words, seat: &mut Seat, lane: &Lane) -> u64
     ensures table { (seat.new.table_id ≡ seat.old.table_id) × (seat.new.id ≡ seat.old.id) }
     ensures looks { LooksAt lane.now seat.old.me result seat.new.me }
 {
-    look_at::<Brand>(words, seat, lane)
+    look_at::<Brand>(words, seat, lane, lane.put_word())
+}
+
+/// The same, at the word of the lane, which the caller knows.
+#[inline(always)]
+pub fn look_there(words: &Words, seat: &mut Seat, lane: &Lane, word: usize) -> u64
+    requires table { seat.old.table_id ≡ words.now.table_id }
+    requires board { IsBoard lane.now.instances lane.now.capacity words.now.key words.now.table_id }
+    requires rests { Rests lane.now.instances lane.now.capacity lane.now.receiver seat.old.me }
+    requires word { word ≡ put_word lane.now.instances lane.now.sender lane.now.receiver }
+    ensures table { (seat.new.table_id ≡ seat.old.table_id) × (seat.new.id ≡ seat.old.id) }
+    ensures looks { LooksAt lane.now seat.old.me result seat.new.me }
+{
+    look_at::<Brand>(words, seat, lane, word)
 }
 
 #[inline(always)]
-fn look_at<A: Site>(words: &Words, seat: &mut Seat, lane: &Lane) -> u64
+fn look_at<A: Site>(words: &Words, seat: &mut Seat, lane: &Lane, word: usize) -> u64
     requires site { lane.now ≡ A.lane }
     requires table { seat.old.table_id ≡ words.now.table_id }
     requires board { IsBoard lane.now.instances lane.now.capacity words.now.key words.now.table_id }
     requires rests { Rests lane.now.instances lane.now.capacity lane.now.receiver seat.old.me }
+    requires word { word ≡ put_word lane.now.instances lane.now.sender lane.now.receiver }
     ensures table { (seat.new.table_id ≡ seat.old.table_id) × (seat.new.id ≡ seat.old.id) }
     ensures looks { LooksAt lane.now seat.old.me result seat.new.me }
 {
-    words.load::<LookAt<A>>(seat, lane.put_word())
+    // (what is known of the lane's word is known where it is asked for)
+    let _ = lane.put_word();
+    words.load::<LookAt<A>>(seat, word)
 }
 
 /// Takes the slots of all messages that wait, by a load of the receiver's own word, which is no look.

@@ -1,8 +1,10 @@
 //! Receives from whichever instance has a message.
-ghost use Rattle.std.specs.Prelude.{◌≤◌, length, unwrap_or};
+ghost use Rattle.std.specs.Prelude.{◌≤◌, unwrap_or};
+ghost use Rattle.chart.specs.Scans.{scan};
 ghost use Rattle.board.specs.Views.{Sound};
-ghost use Rattle.board.specs.Glancing.{others};
-ghost use Rattle.mailbox.specs.TakingAny.{TakesFirst, LooksAtAll, TakesAny};
+ghost use Rattle.board.specs.Taking.{Takes};
+ghost use Rattle.board.specs.Glancing.{GlancesAmong};
+ghost use Rattle.mailbox.specs.TakingAny.{TakesAny};
 
 use board::{Post, Scan, TakeError, Taken};
 use chart::InstanceNo;
@@ -30,30 +32,39 @@ fn any_after(post: &mut Post, last: usize) -> Result<Taken, TakeError>
     ensures answer { TakesAny post.old last result post.new }
 {
     let size = post.board_size();
-    match any_among(post, last, size)? {
-        Taken::Got(arrival) => Ok(Taken::Got(arrival)),
-        Taken::Ended => any_among(post, 0, last),
-        Taken::Nothing => match any_among(post, 0, last)? {
-            Taken::Ended => Ok(Taken::Nothing),
-            taken => Ok(taken),
+    prove!(last <= size);
+    match scan_after(post, last) {
+        Scan::Message(other) => receive_found(post, other),
+        Scan::Nothing => Ok(Taken::Nothing),
+        Scan::Ended => Ok(Taken::Ended),
+    }
+}
+
+/// Whether a message waits on one of the lanes to a post, which it looks at in cyclic order after the instance of this
+/// number, until it finds one.
+fn scan_after(post: &mut Post, last: usize) -> Scan
+    requires known { last ≤ post.old.board.size }
+    ensures sound { Sound post.old post.new }
+    ensures answer { GlancesAmong post.old (scan post.old.board.size post.old.number last) result post.new }
+{
+    let size = post.board_size();
+    match post.glance_among(last, size) {
+        Scan::Message(other) => Scan::Message(other),
+        Scan::Ended => post.glance_among(0, last),
+        Scan::Nothing => match post.glance_among(0, last) {
+            Scan::Message(other) => Scan::Message(other),
+            Scan::Nothing => Scan::Nothing,
+            Scan::Ended => Scan::Nothing,
         },
     }
 }
 
-/// Receives the first message that waits on the lanes from the others among the instances with a number above `from`
-/// and up to `to`.
-fn any_among(post: &mut Post, from: usize, to: usize) -> Result<Taken, TakeError>
-    requires order { from ≤ to }
-    requires within { to ≤ post.old.board.size }
+/// Receives the message that was found on the lane from this instance. It stands apart, so a scan that finds none makes
+/// nothing that a receive needs.
+#[inline(never)]
+fn receive_found(post: &mut Post, from: InstanceNo) -> Result<Taken, TakeError>
     ensures sound { Sound post.old post.new }
-    ensures answer { TakesFirst post.old (others post.old.number from to) result post.new }
-    ensures looks { LooksAtAll (length (others post.old.number from to)) post.old result post.new }
+    ensures answer { Takes post.old from result post.new }
 {
-    let size = post.board_size();
-    prove!(to <= size);
-    match post.glance_among(from, to) {
-        Scan::Message(other) => post.receive(other),
-        Scan::Nothing => Ok(Taken::Nothing),
-        Scan::Ended => Ok(Taken::Ended),
-    }
+    post.receive(from)
 }

@@ -15,8 +15,8 @@ loop-init c =
     let r = c.args.recorder.now in
     record {
       table = c.requires.table;
-      taken = subst (λ (xs : List Arrival). AreTaken l c.args.region s u r xs s u r) (sym c.requires.none) (none_taken l c.args.region s u r c.requires.may_receive);
-      as_many = ap length c.requires.none;
+      taken = subst (λ (xs : List Arrival). AreTaken l c.args.region s u r xs s u r) (sym (c.reserve.ensures.items ∙ c.requires.none)) (none_taken l c.args.region s u r c.requires.may_receive);
+      as_many = ap length (c.reserve.ensures.items ∙ c.requires.none);
     }
 
 pub take_next-requires-clause-may_take : goal.take_next-requires-clause-may_take
@@ -39,7 +39,7 @@ loop-preserved c =
     record {
       table = c.take_next.ensures.table ∙ c.loop.invariant.table;
       taken = subst (λ (xs : List Arrival). AreTaken l c.args.region s u r xs t o v) (sym c.push_reserved.ensures.items)
-          (subst (λ (xs : List Arrival). AreTaken l c.args.region s u r (xs ++ c.in-Ok.arrival ∷ []) t o v) (sym c.reserve.ensures.items)
+          (subst (λ (xs : List Arrival). AreTaken l c.args.region s u r (xs ++ c.in-Ok.arrival ∷ []) t o v) (sym c.reserve-in-loop.ensures.items)
           (one_more l c.args.region s u r c.requires.may_receive c.loop.arrivals.items c.loop.seat.me c.loop.end c.loop.recorder c.loop.invariant.taken t o v c.in-Ok.arrival short c.in-Ok.ensures.ok));
       as_many = search rules;
     }
