@@ -5,7 +5,7 @@ use Rattle.chart.specs.Words.{Name, Text}
 use Rattle.chart.specs.Names.{name_of}
 use Rattle.chart.specs.declared.name.NameError.{NameError}
 use Rattle.msc_text.specs.declared.fault.Cause.{Cause}
-use Rattle.msc_text.specs.declared.fault.Cause.TheVariants.{Name}
+use Rattle.msc_text.specs.declared.fault.Cause.TheVariants as causes
 
 -- the parts round a byte
 abbrev pub parts : ℕ → Text → List Text
@@ -52,7 +52,7 @@ pub record FiveOrMore (words : List Text) : Type 0 where
 -- what is read as a name, with its fault as the line's
 abbrev pub named : Result Name NameError → Result Name Cause
 named (Ok name) = Ok name
-named (Err fault) = Err (Name fault)
+named (Err fault) = Err (causes.Name fault)
 
 -- the word as a name, or what is wrong with it
 abbrev pub name_or_cause : Text → Result Name Cause
