@@ -8,7 +8,7 @@ ghost use Rattle.handles.specs.Opening.{MakesPosts};
 use crate::came::Came;
 use crate::handle::Handle;
 use crate::kept::Kept;
-use crate::naming::any_name;
+use crate::naming::Known;
 use crate::refusal::Refusal;
 use crate::seat::Seat;
 use board::{BoardTable, Parked, open_parked};
@@ -38,7 +38,7 @@ fn boxed_post(alloc: Global, table: &Arc<BoardTable>, post: Parked) -> Result<Bo
         parked: post,
         last: None,
         came: Came::None,
-        known: any_name(),
+        known: Known::any(),
     };
     Ok(Box::new(alloc, Kept::Post(seat))?)
 }

@@ -64,8 +64,8 @@ impl Seat {
                     report,
                 } = arrival;
                 let message = as_recorded(&self.parked, message);
-                self.last = Some(from);
                 self.came.keep(from, message, report);
+                self.last = Some(from);
                 let Came::One(arrival) = &self.came else {
                     unreachable!()
                 };
