@@ -68,7 +68,7 @@ impl Chair {
             came,
         } = self;
         let mut kept = kept;
-        *kept = Kept::Post(Seat {
+        kept.put_seat(Seat {
             table,
             parked: post,
             last,

@@ -33,6 +33,7 @@ fn boxed_post(alloc: Global, table: &Arc<BoardTable>, post: Parked) -> Result<Bo
     requires { IsAtBoard table.now.value.shared.key table.now.value.shared.table_id post }
     ensures { IfOk result (λ kept. kept.value ≡ Post (seated post)) }
 {
+    let mut kept = Kept::away(alloc)?;
     let seat = Seat {
         table: Arc::try_clone(table)?,
         parked: post,
@@ -40,7 +41,8 @@ fn boxed_post(alloc: Global, table: &Arc<BoardTable>, post: Parked) -> Result<Bo
         came: Came::None,
         known: Known::any(),
     };
-    Ok(Box::new(alloc, Kept::Post(seat))?)
+    kept.put_seat(seat);
+    Ok(kept)
 }
 
 /// These posts, each in a box with its board's words.

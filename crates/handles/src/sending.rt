@@ -14,6 +14,9 @@ use std::alloc::{AllocError, Global};
 fn copied(alloc: Global, bytes: &[u8]) -> Result<Vec<u8>, AllocError>
     ensures { IfOk result (λ copy. copy.items ≡ bytes.now) }
 {
+    if bytes.is_empty() {
+        return Ok(Vec::new(alloc));
+    }
     let mut copy = Vec::with_capacity(alloc, bytes.len())?;
     copy.extend_from_slice(bytes)?;
     Ok(copy)
