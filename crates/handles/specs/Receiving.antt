@@ -4,6 +4,8 @@ use Rattle.std.specs.Prelude.{Result, Ok, Err}
 use Rattle.chart.specs.declared.event.Event.{Event}
 use Rattle.chart.specs.Events.{name_of}
 use Rattle.board.specs.declared.answer.Arrival.{Arrival}
+use Rattle.board.specs.declared.answer.Glance.{Glance}
+use Rattle.board.specs.declared.answer.Glance.TheVariants as glance
 use Rattle.board.specs.declared.answer.Taken.TheVariants as taken
 use Rattle.board.specs.Views.{PostView, Sound, Stays, line_of}
 use Rattle.board.specs.Taking.{IsGot, IsFoundEmpty, IsUntaken}
@@ -28,6 +30,20 @@ arrived_of arrival = record {
   body = length arrival.message.body;
   races = min (length arrival.report.earlier) (2 ^ 64 - 1);
 }
+
+-- what a receive finds, where what is told of the message stands in a place of its own
+abbrev pub found_with : Result Glance Refusal → Arrived → Result Found Refusal
+found_with (Ok glance.Message) told = Ok (Message told)
+found_with (Ok glance.Nothing) told = Ok Nothing
+found_with (Ok glance.Ended) told = Ok Ended
+found_with (Err refusal) told = Err refusal
+
+-- what is told after a receive: of the message that came, and else what was told before
+abbrev pub told_after : Arrived → Result Found Refusal → Arrived
+told_after before (Ok (Message arrived)) = arrived
+told_after before (Ok Nothing) = before
+told_after before (Ok Ended) = before
+told_after before (Err refusal) = before
 
 -- the last event of the post's line has this name
 abbrev pub IsLastNamed : PostView → List ℕ → Type 0

@@ -17,6 +17,7 @@ pub(crate) struct Returned {
 }
 
 /// Parks these posts, in their order.
+#[inline(never)]
 pub(crate) fn park_into(parked: &mut Vec<Parked>, posts: Vec<Post>)
     requires none { parked.old.items ≡ [] }
     requires room { length posts.items ≤ vec_capacity parked.old }

@@ -35,9 +35,9 @@ impl Came {
     {
         match self {
             Came::One(kept) => {
-                kept.from = from;
                 kept.message = message;
                 kept.report = report;
+                kept.from = from;
             }
             _ => {
                 *self = Came::One(Arrival {

@@ -5,7 +5,7 @@ ghost use Rattle.handles.specs.Chairs.{Fits, IsParted, is_post, seat_with};
 
 use crate::came::Came;
 use crate::kept::Kept;
-use crate::naming::any_name;
+use crate::naming::Known;
 use crate::seat::Seat;
 use board::{BoardTable, Parked};
 use chart::InstanceNo;
@@ -68,12 +68,12 @@ impl Chair {
             came,
         } = self;
         let mut kept = kept;
-        *kept = Kept::Post(Seat {
+        kept.put_seat(Seat {
             table,
             parked: post,
             last,
             came,
-            known: any_name(),
+            known: Known::any(),
         });
         kept
     }

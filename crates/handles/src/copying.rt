@@ -13,6 +13,7 @@ use chart::EventRanges;
 use std::alloc::Global;
 
 /// Writes the first of these bytes, as many as find room, and tells how many they are.
+#[inline(never)]
 pub fn copy_out(bytes: &[u8], out: &mut [u8]) -> usize
     ensures all { result ≡ length bytes.now }
     ensures copied { out.new ≡ put_over bytes.now out.old }

@@ -35,7 +35,7 @@ pub fn gather(alloc: Global, handles: &mut [Handle], board: &mut Handle) -> Resu
     if !board.is_empty() {
         return Err(Refusal::Misuse);
     }
-    let Ok(kept) = Box::new(alloc, Kept::Away) else {
+    let Ok(kept) = Kept::away(alloc) else {
         return Err(Refusal::Memory);
     };
     let Taken { chairs, posts } = take_posts(alloc, handles)?;

@@ -2,42 +2,84 @@
 ghost use Rattle.std.specs.Prelude.{◌≡◌, Err, IfErr, OnOk};
 ghost use Rattle.chart.specs.Names.{IsName, name_of};
 
-use chart::{Name, NameError};
+use chart::{MAX_NAME, Name, NameError};
+use std::marker::Model;
 
 /// Some name, for a post that has sent none.
-pub(crate) fn any_name() -> Name {
+fn any_name() -> Name {
     match Name::new(b"a") {
         Ok(name) => name,
         Err(_) => unreachable!(),
     }
 }
 
-/// Makes the name of these bytes the known one. The first of F1 to F4 refuses it.
-///
-/// Most posts send messages of few names. So the bytes are compared with the known name first, and looked at one by
-/// one only where they aren't those.
-#[inline(always)]
-pub(crate) fn know(known: &mut Name, bytes: &[u8]) -> Result<(), NameError>
-    ensures ok { OnOk result ((known.new ≡ bytes.now) × IsName bytes.now) }
-    ensures err { IfErr result (λ error. name_of bytes.now ≡ Err error) }
-{
-    if known.as_bytes() == bytes {
-        return Ok(());
-    }
-    learn(known, bytes)
+/// A name whose bytes lie at hand. A contract sees the name.
+#[derive(Drop)]
+pub(crate) struct Known {
+    pub(crate) name: Name,
+    length: usize,
+    /// The bytes of the name, and behind them any.
+    text: [u8; MAX_NAME],
 }
 
-/// Makes the name of these bytes the known one, which it isn't. The first of F1 to F4 refuses it.
-#[inline(never)]
-fn learn(known: &mut Name, bytes: &[u8]) -> Result<(), NameError>
-    ensures ok { OnOk result ((known.new ≡ bytes.now) × IsName bytes.now) }
-    ensures err { IfErr result (λ error. name_of bytes.now ≡ Err error) }
-{
-    match Name::new(bytes) {
-        Ok(name) => {
-            *known = name;
-            Ok(())
+impl Model for Known {
+    ghost use Rattle.std.specs.Prelude.{◌≡◌, ◌≤◌, ℕ, List, take};
+    ghost use Rattle.chart.specs.declared.name.TheConstants.{MAX_NAME};
+
+    ghost Value = { List ℕ };
+
+    ghost view = { λ known. known.name };
+
+    ghost invariant = { λ known. (take known.length known.text ≡ known.name) × (known.length ≤ MAX_NAME) };
+}
+
+impl Known {
+    /// This name.
+    fn of(name: Name) -> Known
+        ensures { result ≡ name }
+    {
+        let held = name.as_bytes();
+        let mut text = [0; MAX_NAME];
+        text[..held.len()].copy_from_slice(held);
+        Known {
+            name,
+            length: held.len(),
+            text,
         }
-        Err(error) => Err(error),
+    }
+
+    /// Some name, for a post that has sent none.
+    pub(crate) fn any() -> Known {
+        Known::of(any_name())
+    }
+
+    /// Makes the name of these bytes the known one. The first of F1 to F4 refuses it.
+    ///
+    /// Most posts send messages of few names. So the bytes are compared with the known name first, and looked at one
+    /// by one only where they aren't those.
+    #[inline(always)]
+    pub(crate) fn know(&mut self, bytes: &[u8]) -> Result<(), NameError>
+        ensures ok { OnOk result ((self.new ≡ bytes.now) × IsName bytes.now) }
+        ensures err { IfErr result (λ error. name_of bytes.now ≡ Err error) }
+    {
+        if self.length == bytes.len() && &self.text[..self.length] == bytes {
+            return Ok(());
+        }
+        self.learn(bytes)
+    }
+
+    /// Makes the name of these bytes the known one, which it isn't. The first of F1 to F4 refuses it.
+    #[inline(never)]
+    fn learn(&mut self, bytes: &[u8]) -> Result<(), NameError>
+        ensures ok { OnOk result ((self.new ≡ bytes.now) × IsName bytes.now) }
+        ensures err { IfErr result (λ error. name_of bytes.now ≡ Err error) }
+    {
+        match Name::new(bytes) {
+            Ok(name) => {
+                *self = Known::of(name);
+                Ok(())
+            }
+            Err(error) => Err(error),
+        }
     }
 }

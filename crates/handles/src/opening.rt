@@ -8,7 +8,7 @@ ghost use Rattle.handles.specs.Opening.{MakesPosts};
 use crate::came::Came;
 use crate::handle::Handle;
 use crate::kept::Kept;
-use crate::naming::any_name;
+use crate::naming::Known;
 use crate::refusal::Refusal;
 use crate::seat::Seat;
 use board::{BoardTable, Parked, open_parked};
@@ -33,14 +33,16 @@ fn boxed_post(alloc: Global, table: &Arc<BoardTable>, post: Parked) -> Result<Bo
     requires { IsAtBoard table.now.value.shared.key table.now.value.shared.table_id post }
     ensures { IfOk result (λ kept. kept.value ≡ Post (seated post)) }
 {
+    let mut kept = Kept::away(alloc)?;
     let seat = Seat {
         table: Arc::try_clone(table)?,
         parked: post,
         last: None,
         came: Came::None,
-        known: any_name(),
+        known: Known::any(),
     };
-    Ok(Box::new(alloc, Kept::Post(seat))?)
+    kept.put_seat(seat);
+    Ok(kept)
 }
 
 /// These posts, each in a box with its board's words.

@@ -1,7 +1,7 @@
 //! Receives over a handle.
 ghost use Rattle.std.specs.Prelude.{◌≡◌, ◌≤◌};
 ghost use Rattle.handles.specs.Receiving.{arrived_of, SeatTakes, SeatTakesAny, KeptTakes, KeptTakesAny};
-ghost use Rattle.handles.specs.Receiving.{HandleTakes, HandleTakesAny, IsLastNamed};
+ghost use Rattle.handles.specs.Receiving.{HandleTakes, HandleTakesAny, IsLastNamed, found_with, told_after};
 
 use crate::any::any_after;
 use crate::came::Came;
@@ -10,7 +10,7 @@ use crate::handle::Handle;
 use crate::kept::Kept;
 use crate::refusal::Refusal;
 use crate::seat::Seat;
-use board::{Arrival, Parked, Taken};
+use board::{Arrival, Glance, Parked, Taken};
 use chart::{InstanceNo, Message};
 use std::alloc::Global;
 
@@ -47,10 +47,11 @@ fn as_recorded(post: &Parked, message: Message) -> Message
 }
 
 impl Seat {
-    /// Receives the first message that waits on the lane from an instance.
+    /// Receives the first message that waits on the lane from an instance, and tells of it.
     #[inline(always)]
-    fn receive(&mut self, from: u32) -> Result<Found, Refusal>
-        ensures { SeatTakes self.old from result self.new }
+    fn receive(&mut self, from: u32, told: &mut Arrived) -> Result<Glance, Refusal>
+        ensures answer { SeatTakes self.old from (found_with result told.new) self.new }
+        ensures told { told.new ≡ told_after told.old (found_with result told.new) }
     {
         let Some(from) = InstanceNo::new(from as usize) else {
             return Err(Refusal::NoInstance);
@@ -64,15 +65,16 @@ impl Seat {
                     report,
                 } = arrival;
                 let message = as_recorded(&self.parked, message);
-                self.last = Some(from);
                 self.came.keep(from, message, report);
+                self.last = Some(from);
                 let Came::One(arrival) = &self.came else {
                     unreachable!()
                 };
-                Ok(Found::Message(arrived_of(arrival)))
+                *told = arrived_of(arrival);
+                Ok(Glance::Message)
             }
-            Ok(Taken::Nothing) => Ok(Found::Nothing),
-            Ok(Taken::Ended) => Ok(Found::Ended),
+            Ok(Taken::Nothing) => Ok(Glance::Nothing),
+            Ok(Taken::Ended) => Ok(Glance::Ended),
             Err(error) => Err(Refusal::Taking(error)),
         }
     }
@@ -104,11 +106,12 @@ impl Seat {
 impl Kept {
     /// Receives over the post that it is.
     #[inline(always)]
-    fn receive(&mut self, from: u32) -> Result<Found, Refusal>
-        ensures { KeptTakes self.old from result self.new }
+    fn receive(&mut self, from: u32, told: &mut Arrived) -> Result<Glance, Refusal>
+        ensures answer { KeptTakes self.old from (found_with result told.new) self.new }
+        ensures told { told.new ≡ told_after told.old (found_with result told.new) }
     {
         match self {
-            Kept::Post(seat) => seat.receive(from),
+            Kept::Post(seat) => seat.receive(from, told),
             _ => Err(Refusal::Misuse),
         }
     }
@@ -125,15 +128,23 @@ impl Kept {
 }
 
 impl Handle {
-    /// Receives the first message that waits on the lane from an instance. It stays in the handle until the next one
-    /// comes, and nothing but a number that no instance has refuses it before the post does.
-    pub fn receive(&mut self, alloc: Global, from: u32) -> Result<Found, Refusal>
-        ensures { HandleTakes self.old.slot.value from result self.new.slot.value }
+    /// Receives the first message that waits on the lane from an instance, and tells of it. It stays in the handle
+    /// until the next one comes, and nothing but a number that no instance has refuses it before the post does.
+    ///
+    /// What is told is written where the caller reads it: what goes through an answer goes through memory twice.
+    pub fn receive(
+        &mut self,
+        alloc: Global,
+        from: u32,
+        told: &mut Arrived,
+    ) -> Result<Glance, Refusal>
+        ensures answer { HandleTakes self.old.slot.value from (found_with result told.new) self.new.slot.value }
+        ensures told { told.new ≡ told_after told.old (found_with result told.new) }
     {
         let Some(mut kept) = self.take(alloc) else {
             return Err(Refusal::Misuse);
         };
-        let result = kept.receive(from);
+        let result = kept.receive(from, told);
         self.put(kept);
         result
     }

@@ -38,6 +38,7 @@ pub enum Refusal {
     Region(RegionError),
 }
 
+#[inline(always)]
 fn name_number(error: NameError) -> u32
     ensures value { result ≡ of_name error }
     ensures small { result ≤ 100 }
@@ -50,6 +51,7 @@ fn name_number(error: NameError) -> u32
     }
 }
 
+#[inline(always)]
 fn board_number(error: BoardError) -> u32
     ensures value { result ≡ of_board error }
     ensures small { result ≤ 100 }
@@ -61,6 +63,7 @@ fn board_number(error: BoardError) -> u32
     }
 }
 
+#[inline(always)]
 fn send_number(error: SendError) -> u32
     ensures value { result ≡ of_send error }
     ensures small { result ≤ 100 }
@@ -77,6 +80,7 @@ fn send_number(error: SendError) -> u32
     }
 }
 
+#[inline(always)]
 fn take_number(error: TakeError) -> u32
     ensures value { result ≡ of_take error }
     ensures small { result ≤ 100 }
@@ -89,6 +93,7 @@ fn take_number(error: TakeError) -> u32
     }
 }
 
+#[inline(always)]
 fn close_number(error: CloseError) -> u32
     ensures value { result ≡ of_close error }
     ensures small { result ≤ 100 }
@@ -100,6 +105,7 @@ fn close_number(error: CloseError) -> u32
     }
 }
 
+#[inline(always)]
 fn region_number(error: RegionError) -> u32
     ensures value { result ≡ of_region error }
     ensures small { result ≤ 100 }
@@ -112,6 +118,7 @@ fn region_number(error: RegionError) -> u32
 
 impl Refusal {
     /// Its number, as in `docs/FORMATS.md`; 100 for a misuse and for posts of two boards.
+    #[inline(always)]
     pub fn number(self) -> u32
         ensures value { result ≡ number_of self }
         ensures small { result ≤ 100 }

@@ -1,7 +1,8 @@
 //! A post with its board's words.
 use crate::came::Came;
+use crate::naming::Known;
 use board::{BoardTable, Parked};
-use chart::{InstanceNo, Name};
+use chart::InstanceNo;
 use std::marker::Model;
 use std::sync::Arc;
 
@@ -13,7 +14,7 @@ pub struct Seat {
     pub(crate) parked: Parked,
     pub(crate) last: Option<InstanceNo>,
     pub(crate) came: Came,
-    pub(crate) known: Name,
+    pub(crate) known: Known,
 }
 
 impl Model for Seat {

@@ -5,7 +5,6 @@ ghost use Rattle.handles.specs.Sending.{SeatSends, KeptSends, HandleSends, Makes
 
 use crate::handle::Handle;
 use crate::kept::Kept;
-use crate::naming::know;
 use crate::refusal::Refusal;
 use crate::seat::Seat;
 use chart::{EventNo, InstanceNo, MAX_BODY, Message, Name};
@@ -15,6 +14,9 @@ use std::alloc::{AllocError, Global};
 fn copied(alloc: Global, bytes: &[u8]) -> Result<Vec<u8>, AllocError>
     ensures { IfOk result (λ copy. copy.items ≡ bytes.now) }
 {
+    if bytes.is_empty() {
+        return Ok(Vec::new(alloc));
+    }
     let mut copy = Vec::with_capacity(alloc, bytes.len())?;
     copy.extend_from_slice(bytes)?;
     Ok(copy)
@@ -55,7 +57,7 @@ impl Seat {
         let Some(to) = InstanceNo::new(to as usize) else {
             return Err(Refusal::NoInstance);
         };
-        if let Err(error) = know(&mut self.known, name) {
+        if let Err(error) = self.known.know(name) {
             return Err(Refusal::Naming(error));
         }
         if body.len() > MAX_BODY {
@@ -64,7 +66,7 @@ impl Seat {
         let Ok(body) = copied(alloc, body) else {
             return Err(Refusal::Memory);
         };
-        let Ok(message) = Message::new(self.known, body) else {
+        let Ok(message) = Message::new(self.known.name, body) else {
             unreachable!()
         };
         let words = &(*self.table).shared;

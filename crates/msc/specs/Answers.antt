@@ -13,7 +13,7 @@ use Rattle.handles.specs.Refusals.{number_of}
 use Rattle.handles.specs.Sending.{HandleSends}
 use Rattle.handles.specs.SendingAll.{HandleSendsAll}
 use Rattle.chart.specs.Messages.{Content}
-use Rattle.handles.specs.Receiving.{HandleTakes, HandleTakesAny}
+use Rattle.handles.specs.Receiving.{HandleTakes, HandleTakesAny, told_after}
 use Rattle.handles.specs.Closing.{HandleCloses}
 use Rattle.handles.specs.Copying as races
 use Rattle.handles.specs.Copying.{CopiesOut, picked_in}
@@ -50,13 +50,6 @@ found_code (Ok (Message arrived)) = pos 0
 found_code (Ok Nothing) = pos 1
 found_code (Ok Ended) = pos 2
 found_code (Err refusal) = code_of refusal
-
--- what is told after a receive: of the message that came, and else what was told before
-abbrev pub told_after : Arrived → Result Found Refusal → Arrived
-told_after before (Ok (Message arrived)) = arrived
-told_after before (Ok Nothing) = before
-told_after before (Ok Ended) = before
-told_after before (Err refusal) = before
 
 -- the number of the event, and else what was there before
 abbrev pub event_after : ℕ → Result EventNo Refusal → ℕ

@@ -1,15 +1,18 @@
 //! Answers as numbers.
 ghost use Rattle.std.specs.Prelude.{◌≡◌};
-ghost use Rattle.msc.specs.Answers.{code_of, done_code, found_code, told_after, number_after};
+ghost use Rattle.handles.specs.Receiving.{found_with, told_after};
+ghost use Rattle.handles.specs.declared.found.Arrived.{Arrived};
+ghost use Rattle.msc.specs.Answers.{code_of, done_code, found_code, number_after};
 ghost use Rattle.msc.specs.Answers.{event_from, told_event, report_from, told_report, left_from, waiting_code};
 ghost use Rattle.msc.specs.Answers.{told_left};
 
 use crate::answers::{MscEvent, MscLeft, MscReport};
+use board::Glance;
 use board_handles::{Reported, Waiting};
 use handles::{Arrived, Found, Refusal, Told};
 
 /// The number of a refusal, below 0.
-#[inline(never)]
+#[inline(always)]
 pub(crate) fn code_of(refusal: Refusal) -> i32
     ensures { result ≡ code_of refusal }
 {
@@ -29,6 +32,19 @@ pub(crate) fn found_code(answer: Result<Found, Refusal>, told: &mut Arrived) -> 
         }
         Ok(Found::Nothing) => 1,
         Ok(Found::Ended) => 2,
+        Err(refusal) => code_of(refusal),
+    }
+}
+
+/// The number of what a receive answers that has told of its message elsewhere.
+#[inline(always)]
+pub(crate) fn glance_code(answer: Result<Glance, Refusal>) -> i32
+    ensures { (told : Arrived) → result ≡ found_code (found_with answer told) }
+{
+    match answer {
+        Ok(Glance::Message) => 0,
+        Ok(Glance::Nothing) => 1,
+        Ok(Glance::Ended) => 2,
         Err(refusal) => code_of(refusal),
     }
 }

@@ -6,7 +6,7 @@ ghost use Rattle.msc.specs.Answers.{ShutsRegion, TellsEvent, Reserves, SendsAll}
 ghost use Rattle.handles.specs.SendingAll.{contents_in};
 
 use crate::answers::MscEvent;
-use crate::codes::{code_of, done_code, event_code, first_code, found_code};
+use crate::codes::{code_of, done_code, event_code, first_code, found_code, glance_code};
 use handles::{Arrived, Handle, MessageLengths, open};
 use std::alloc::Global;
 
@@ -63,7 +63,7 @@ pub extern "C" fn msc_receive_(
     ensures { Takes post.old.slot.value from (record { code = result; before = arrival.old; told = arrival.new })
         post.new.slot.value }
 {
-    found_code(post.receive(alloc, from), arrival)
+    glance_code(post.receive(alloc, from, arrival))
 }
 
 #[unsafe(no_mangle)]
