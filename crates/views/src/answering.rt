@@ -9,6 +9,7 @@ ghost use Rattle.views.specs.Answers.{error_said, refusal_text, told_of_hidden};
 use crate::error::ViewError;
 use crate::verdict::{Verdict, Witnessed};
 use files::{Answer, refused_by, tell};
+use named_refusals::refused_missing;
 use msc_text::{Out, TextBuffer, WriteError};
 
 /// Prints the line of a refusal, and answers the exit status, which is 2 whether or not the line could be written.
@@ -18,8 +19,9 @@ pub fn refused<V: Out>(error: &ViewError, err: &mut V) -> u8
 {
     match error {
         ViewError::Program(cause) => files::refused(cause, err),
-        ViewError::NoSuchEvent => refused_by(b"F31 NoSuchEvent", None, err),
-        ViewError::NotAPair => refused_by(b"F32 NotAPair", None, err),
+        ViewError::NoSuchEvent(missing) => refused_missing(missing, err),
+        ViewError::NotEarlier => refused_by(b"F32 NotAPair", None, err),
+        ViewError::NotAReceive(receive) => refused_by(b"F32 NotAPair", Some(*receive), err),
         ViewError::ManySlots(slots) => refused_by(b"F33 ManySlots", Some(*slots), err),
     }
 }
