@@ -9,8 +9,8 @@ ghost use Rattle.views.specs.Answers.{error_said, refusal_text, told_of_hidden};
 use crate::error::ViewError;
 use crate::verdict::{Verdict, Witnessed};
 use files::{Answer, refused_by, tell};
-use named_refusals::refused_missing;
 use msc_text::{Out, TextBuffer, WriteError};
+use named_refusals::refused_missing;
 
 /// Prints the line of a refusal, and answers the exit status, which is 2 whether or not the line could be written.
 pub fn refused<V: Out>(error: &ViewError, err: &mut V) -> u8
