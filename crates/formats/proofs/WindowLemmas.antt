@@ -1,5 +1,5 @@
 -- That each event of a chart has a row of its layout.
-use Rattle.std.proofs.Common.{◌≡◌, ℕ, ◌≤◌, Bool, true, false, cond, List, length, Option, None, Some, refl, sym, ap, ◌∙◌, subst, arith}
+use Rattle.std.proofs.Common.{◌≡◌, ℕ, ◌≤◌, Bool, true, false, cond, List, length, Option, None, Some, Result, Ok, Err, refl, sym, ap, ◌∙◌, subst, arith}
 use Rattle.std.specs.Prelude.{nat_le}
 use Rattle.std.specs.List.{range_with_len}
 use Rattle.std.proofs.lemmas.Bool.{leb-true, and_parts}
@@ -15,22 +15,24 @@ use Rattle.formats.specs.Windows.{has_event, event_at, event_said}
 use Rattle.layout.specs.declared.row.Row.{Row}
 use Rattle.layout.specs.Layouts.{drawn, row_of, AreInOrder, IsDrawing}
 use Rattle.layout.proofs.BegunLemmas.{row_of_drawn}
+use Rattle.named_refusals.specs.declared.missing.Missing.{Missing}
+use Rattle.named_refusals.specs.NamedRefusals.{missing_on}
 
 -- a test that was passed
-passed : (b : Bool) (e event : EventNo) → cond b (Some e) None ≡ Some event → (b ≡ true) × (e ≡ event)
-passed true e event is = (refl, cc)
-passed false e event is = absurd (none-some event is)
+passed : (b : Bool) (e event : EventNo) (missing : Missing) → cond b (Ok e) (Err missing) ≡ Ok event → (b ≡ true) × (e ≡ event)
+passed true e event missing is = (refl, cc)
+passed false e event missing is = cc
 
 -- an event that is named and there has a row
-pub has_row : (named : Named) (layout : List Row) (around : Around) (event : EventNo) → IsDrawing named.1 layout → event_said named around ≡ Some event → row_of layout (place_of event) ≡ None → ⊥
+pub has_row : (named : Named) (layout : List Row) (around : Around) (event : EventNo) → IsDrawing named.1 layout → event_said named around ≡ Ok event → row_of layout (place_of event) ≡ None → ⊥
 has_row named layout around event drawing said none = on_line (instance_said named.0 around.instance.now) said
   where
-    on_line : (p : Option ℕ) → event_at p named.1 around.event ≡ Some event → ⊥
-    on_line None is = none-some event is
+    on_line : (p : Option ℕ) → event_at named.0 p named.1 around.event ≡ Ok event → ⊥
+    on_line None is = cc
     on_line (Some p) is =
         let events = chart_lines named.1 p in
         let n = around.event in
-        let a = passed (has_event events n) (record { instance = p; index = n }) event is in
+        let a = passed (has_event events n) (record { instance = p; index = n }) event (missing_on named.0 p events) is in
         let parts = and_parts (nat_le 1 n) (nat_le n (length events)) a.0 in
         let begun : 1 ≤ n = leb-true 1 n parts.0 in
         let within : n ≤ length events = leb-true n (length events) parts.1 in

@@ -2,6 +2,7 @@
 use Rattle.std.specs.Prelude.{ℕ, List, None, codes, Result}
 use Rattle.files.specs.Answers.{Said, refusal, said_of}
 use Rattle.files.specs.Refusals as refusals
+use Rattle.named_refusals.specs.NamedRefusals.{missing_text}
 use Rattle.formats.specs.declared.error.DrawError.{DrawError}
 use Rattle.formats.specs.declared.error.DrawError.TheVariants.{Format, NoSuchEvent}
 use Rattle.formats.specs.declared.error.FormatError.{FormatError}
@@ -19,7 +20,7 @@ error_said error = refusal (refusal_text error)
 -- the same of a picture
 abbrev pub picture_refusal_text : DrawError → List ℕ
 picture_refusal_text (Format error) = refusal_text error
-picture_refusal_text NoSuchEvent = refusals.labelled_text (codes "F31 NoSuchEvent") None
+picture_refusal_text (NoSuchEvent missing) = missing_text missing
 
 abbrev pub picture_error_said : DrawError → Said
 picture_error_said error = refusal (picture_refusal_text error)

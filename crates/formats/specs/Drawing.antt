@@ -61,8 +61,9 @@ module _ {S : Type 0} (sink : S → Sink) where
       × IsWanted wanted turns notes named picture × Breaks sink old new (picture_text picture)
   Draws old new (Err (Format (Program error))) wanted turns notes named = (columns : List ℕ)
       × AreColumns named.0 (only_of wanted) columns × IsRefused error named × (new ≡ old)
-  Draws old new (Err NoSuchEvent) wanted turns notes named = (columns : List ℕ) × AreColumns named.0 (only_of wanted) columns
-      × IsPossible (length named.1) (chart_lines named.1) × HasNoWindow named wanted.rows × (new ≡ old)
+  Draws old new (Err (NoSuchEvent missing)) wanted turns notes named = (columns : List ℕ)
+      × AreColumns named.0 (only_of wanted) columns × IsPossible (length named.1) (chart_lines named.1)
+      × HasNoWindow named wanted.rows missing × (new ≡ old)
 
   -- the same for the chart that the bytes say; or nothing was written, where the bytes have a fault
   abbrev pub DrawsText : S → S → Wanted → List ℕ → Result (Unit {0}) DrawError → Type 0

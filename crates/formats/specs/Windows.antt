@@ -1,5 +1,6 @@
 -- Which rows of a picture are chosen (this project's profile).
-use Rattle.std.specs.Prelude.{◌≡◌, ℕ, ◌+◌, ◌-◌, ◌^◌, min, Bool, ◌&&◌, nat_le, List, length, Option, None, Some}
+use Rattle.std.specs.Prelude.{◌≡◌, ℕ, ◌+◌, ◌-◌, ◌^◌, min, Bool, ◌&&◌, nat_le, List, length, Option, None, Some, Result}
+use Rattle.std.specs.Prelude.{Ok, Err}
 use Rattle.std.specs.Prelude.{if◌then◌else◌}
 use Rattle.chart.specs.declared.event.Event.{Event}
 use Rattle.chart.specs.declared.instance.EventNo.{EventNo}
@@ -13,21 +14,25 @@ use Rattle.formats.specs.declared.windows.Window.{Window}
 use Rattle.formats.specs.Columns.{instance_said}
 use Rattle.layout.specs.declared.row.Row.{Row}
 use Rattle.layout.specs.Layouts.{row_of}
+use Rattle.named_refusals.specs.declared.missing.Missing.{Missing}
+use Rattle.named_refusals.specs.declared.missing.Missing.TheVariants.{Instance}
+use Rattle.named_refusals.specs.NamedRefusals.{missing_on}
 
 -- the line has an event of this number
 abbrev pub has_event : List Event → ℕ → Bool
 has_event events n = nat_le 1 n && nat_le n (length events)
 
-abbrev pub event_on : ℕ → List Event → ℕ → Option EventNo
-event_on p events n = if has_event events n then Some (record { instance = p; index = n }) else None
+abbrev pub event_on : List (List ℕ) → ℕ → List Event → ℕ → Result EventNo Missing
+event_on names p events n =
+    if has_event events n then Ok (record { instance = p; index = n }) else Err (missing_on names p events)
 
-abbrev pub event_at : Option ℕ → List LineView → ℕ → Option EventNo
-event_at None lines n = None
-event_at (Some p) lines n = event_on p (chart_lines lines p) n
+abbrev pub event_at : List (List ℕ) → Option ℕ → List LineView → ℕ → Result EventNo Missing
+event_at names None lines n = Err Instance
+event_at names (Some p) lines n = event_on names p (chart_lines lines p) n
 
--- the event of this number on the line of the instance that has this name, if the chart has it
-abbrev pub event_said : Named → arounds.Around → Option EventNo
-event_said named around = event_at (instance_said named.0 around.instance.now) named.1 around.event
+-- the event of this number on the line of the instance that has this name, or what the chart lacks of it
+abbrev pub event_said : Named → arounds.Around → Result EventNo Missing
+event_said named around = event_at named.0 (instance_said named.0 around.instance.now) named.1 around.event
 
 -- a row with twelve above it and twelve below it, as far as there are so many; what is more than 64 bits hold isn't
 -- counted
@@ -38,10 +43,10 @@ round row = record { top = row - 12; bottom = min (row + 12) (2 ^ 64 - 1) }
 -- of an event
 abbrev pub IsWindow : Named → List Row → Rows → Window → Type 0
 IsWindow named layout (Between rows) window = window ≡ record { top = rows.first - 1; bottom = rows.last - 1 }
-IsWindow named layout (Around around) window = (event : EventNo) × (row : ℕ) × (event_said named around ≡ Some event)
+IsWindow named layout (Around around) window = (event : EventNo) × (row : ℕ) × (event_said named around ≡ Ok event)
     × (row_of layout (place_of event) ≡ Some row) × (window ≡ round row)
 
--- they stand round an event that the chart doesn't have
-abbrev pub HasNoWindow : Named → Rows → Type 0
-HasNoWindow named (Between rows) = ⊥
-HasNoWindow named (Around around) = event_said named around ≡ None
+-- they stand round an event that the chart doesn't have, of which this is missing
+abbrev pub HasNoWindow : Named → Rows → Missing → Type 0
+HasNoWindow named (Between rows) missing = ⊥
+HasNoWindow named (Around around) missing = event_said named around ≡ Err missing

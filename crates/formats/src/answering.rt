@@ -6,6 +6,7 @@ ghost use Rattle.formats.specs.Answers.{refusal_text, error_said, picture_refusa
 use crate::error::{DrawError, FormatError};
 use files::{Answer, refused_by};
 use msc_text::Out;
+use named_refusals::refused_missing;
 
 /// Prints the line of a refusal, and answers the exit status, which is 2 whether or not the line could be written.
 pub fn refused<V: Out>(error: &FormatError, err: &mut V) -> u8
@@ -38,7 +39,7 @@ pub fn refused_picture<V: Out>(error: &DrawError, err: &mut V) -> u8
 {
     match error {
         DrawError::Format(cause) => refused(cause, err),
-        DrawError::NoSuchEvent => refused_by(b"F31 NoSuchEvent", None, err),
+        DrawError::NoSuchEvent(missing) => refused_missing(missing, err),
     }
 }
 

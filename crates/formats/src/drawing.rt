@@ -72,9 +72,7 @@ fn draw_columns<W: Out>(
     let Ok(prepared) = prepare_by(alloc, closure, subject.turns) else {
         return Err(DrawError::Format(FormatError::Program(ProgramError::Memory)));
     };
-    let Some(window) = window_in(names, closure.lines(), &prepared.layout, &wanted.rows) else {
-        return Err(DrawError::NoSuchEvent);
-    };
+    let window = window_in(names, closure.lines(), &prepared.layout, &wanted.rows)?;
     let drawn = pictures::Source {
         title: wanted.title,
         names,

@@ -1,6 +1,7 @@
 //! What is refused.
 
 use files::ProgramError;
+use named_refusals::Missing;
 use thiserror::Error;
 
 /// Why nothing was drawn, exported or shown: the first of these that applies.
@@ -22,7 +23,7 @@ pub enum DrawError {
     Format(FormatError),
     /// F31: `--around` names an instance that the chart doesn't have, or an event that its line doesn't have.
     #[error("there is no such event")]
-    NoSuchEvent,
+    NoSuchEvent(Missing),
 }
 
 impl From<ProgramError> for FormatError {
@@ -56,5 +57,16 @@ impl From<ProgramError> for DrawError {
 
     fn from(cause: ProgramError) -> DrawError {
         DrawError::Format(FormatError::Program(cause))
+    }
+}
+
+impl From<Missing> for DrawError {
+    ghost use Rattle.std.specs.Prelude.{◌≡◌};
+    ghost use Rattle.formats.specs.declared.error.DrawError.TheVariants.{NoSuchEvent};
+
+    ghost from_gives = { λ missing e. e ≡ NoSuchEvent missing };
+
+    fn from(missing: Missing) -> DrawError {
+        DrawError::NoSuchEvent(missing)
     }
 }

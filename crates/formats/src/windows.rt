@@ -1,5 +1,5 @@
 //! Which rows of a picture are chosen.
-ghost use Rattle.std.specs.Prelude.{◌≡◌, ◌≤◌, ◌-◌, length, MatchOption};
+ghost use Rattle.std.specs.Prelude.{◌≡◌, ◌≤◌, ◌-◌, length, MatchResult};
 ghost use Rattle.chart.specs.declared.line.TheConstants.{MAX_EVENTS};
 ghost use Rattle.chart.specs.Charts.{chart_lines};
 ghost use Rattle.formats.specs.Windows.{has_event, event_on, event_said, round, IsWindow, HasNoWindow};
@@ -10,6 +10,7 @@ use crate::columns::instance_said;
 use crate::events::Events;
 use chart::{Event, EventNo, InstanceNo, Line, Names};
 use layout::Layout;
+use named_refusals::{Missing, missing_on};
 
 /// An event: the name of its instance, and its number on the line, from 1.
 #[derive(Clone, Copy, Debug)]
@@ -59,26 +60,32 @@ fn has_event(events: &[Event], number: u64) -> bool
 }
 
 /// The event of this number, if the instance's line has it.
-fn event_on(instance: InstanceNo, events: &[Event], number: u64) -> Option<EventNo>
-    requires { length events.now ≤ MAX_EVENTS }
-    ensures { result ≡ event_on instance events.now number }
+fn event_on(
+    names: &Names,
+    instance: InstanceNo,
+    events: &[Event],
+    number: u64,
+) -> Result<EventNo, Missing>
+    requires instance { instance ≤ length names.now }
+    requires short { length events.now ≤ MAX_EVENTS }
+    ensures { result ≡ event_on names.now instance events.now number }
 {
     if !has_event(events, number) {
-        return None;
+        return Err(missing_on(names, instance, events));
     }
-    Some(EventNo {
+    Ok(EventNo {
         instance,
         index: number as u32,
     })
 }
 
-/// The event that is named, if the chart has it.
-fn event_said(names: &Names, lines: &[Line], around: &Around<'_>) -> Option<EventNo>
+/// The event that is named, or what the chart lacks of it.
+fn event_said(names: &Names, lines: &[Line], around: &Around<'_>) -> Result<EventNo, Missing>
     ensures { result ≡ event_said (names.now, lines.now) around.now }
 {
     match instance_said(names, around.instance) {
-        None => None,
-        Some(instance) => event_on(instance, events_of(lines, instance), around.event),
+        None => Err(Missing::Instance),
+        Some(instance) => event_on(names, instance, events_of(lines, instance), around.event),
     }
 }
 
@@ -92,31 +99,38 @@ fn round(row: usize) -> Window
     }
 }
 
-/// The rows round an event, if the chart has it.
+/// The rows round an event, or what the chart lacks of it.
 fn window_round(
     names: &Names,
     lines: &[Line],
     layout: &Layout,
     around: &Around<'_>,
-) -> Option<Window>
+) -> Result<Window, Missing>
     requires { IsDrawing lines.now layout.now }
-    ensures { MatchOption result (event_said (names.now, lines.now) around.now ≡ None)
-        (IsWindow (names.now, lines.now) layout.now (rows.Around around.now)) }
+    ensures { MatchResult result (IsWindow (names.now, lines.now) layout.now (rows.Around around.now))
+        (λ missing. event_said (names.now, lines.now) around.now ≡ Err missing) }
 {
     let event = event_said(names, lines, around)?;
-    let row = layout.row_of(&event)?;
-    Some(round(row))
+    match layout.row_of(&event) {
+        Some(row) => Ok(round(row)),
+        None => unreachable!(),
+    }
 }
 
 /// The rows that are chosen of a chart's layout. There are none exactly where they stand round an event that the chart
-/// doesn't have.
-pub fn window_in(names: &Names, lines: &[Line], layout: &Layout, rows: &Rows<'_>) -> Option<Window>
+/// doesn't have, and then it's told what is missing.
+pub fn window_in(
+    names: &Names,
+    lines: &[Line],
+    layout: &Layout,
+    rows: &Rows<'_>,
+) -> Result<Window, Missing>
     requires { IsDrawing lines.now layout.now }
-    ensures { MatchOption result (HasNoWindow (names.now, lines.now) rows.now)
-        (IsWindow (names.now, lines.now) layout.now rows.now) }
+    ensures { MatchResult result (IsWindow (names.now, lines.now) layout.now rows.now)
+        (HasNoWindow (names.now, lines.now) rows.now) }
 {
     match rows {
-        Rows::Between(rows) => Some(Window {
+        Rows::Between(rows) => Ok(Window {
             top: place_of(rows.first),
             bottom: place_of(rows.last),
         }),

@@ -6,8 +6,10 @@ use Rattle.chart.specs.Events.{ith}
 use Rattle.chart.specs.Charts.{LineView, chart_lines, IsPossible}
 use Rattle.files.specs.Files.{Named}
 use Rattle.msc_text.specs.Outs.{Sink}
+use Rattle.named_refusals.specs.declared.missing.Missing.TheVariants.{Instance}
+use Rattle.named_refusals.specs.NamedRefusals.{missing_on}
 use Rattle.views.specs.declared.error.ViewError.{ViewError}
-use Rattle.views.specs.declared.error.ViewError.TheVariants.{NoSuchEvent, NotAPair}
+use Rattle.views.specs.declared.error.ViewError.TheVariants.{Program, NoSuchEvent, NotEarlier, NotAReceive, ManySlots}
 use Rattle.views.specs.declared.pair.Asked.{Asked}
 use Rattle.views.specs.declared.pair.Pair.{Pair}
 use Rattle.views.specs.Pairs.{instance_said, has_event, receives, pair_on, pair_at, pair_of}
@@ -29,7 +31,9 @@ failed false x e error is = inr (same_error error e (sym is))
 
 -- there is no such event, or the two are no pair
 abbrev IsNoPair : ViewError → Type 0
-IsNoPair error = (error ≡ NoSuchEvent) ⊎ (error ≡ NotAPair)
+IsNoPair (Program cause) = ⊥
+IsNoPair (ManySlots slots) = ⊥
+IsNoPair error = Unit {0}
 
 -- a test that decides
 by_test : (b : Bool) (x : Result Pair ViewError) (e error : ViewError) → IsNoPair e → cond b x (Err e) ≡ Err error → (x ≡ Err error → IsNoPair error) → IsNoPair error
@@ -38,24 +42,28 @@ by_test b x e error kind is inner = elim (failed b x e error is) [
   | inr same ↦ subst IsNoPair (sym same) kind
 ]
 
-on_line : (p : ℕ) (events : List Event) (e r : ℕ) (error : ViewError) → pair_on p events e r ≡ Err error → IsNoPair error
-on_line p events e r error is =
-    by_test (has_event events e) _ NoSuchEvent error (inl refl) is (λ first.
-    by_test (has_event events r) _ NoSuchEvent error (inl refl) first (λ second.
-    by_test (nat_lt e r) _ NotAPair error (inr refl) second (λ third.
-    by_test (receives (ith events r)) _ NotAPair error (inr refl) third (λ fourth. cc))))
+on_line : (names : List (List ℕ)) (p : ℕ) (events : List Event) (e r : ℕ) (error : ViewError) → pair_on names p events e r ≡ Err error → IsNoPair error
+on_line names p events e r error is =
+    let missing = NoSuchEvent (missing_on names p events) in
+    by_test (has_event events e) _ missing error tt is (λ first.
+    by_test (has_event events r) _ missing error tt first (λ second.
+    by_test (nat_lt e r) _ NotEarlier error tt second (λ third.
+    by_test (receives (ith events r)) _ (NotAReceive r) error tt third (λ fourth. cc))))
 
 no_pair : (names : List (List ℕ)) (lines : List LineView) (asked : Asked) (error : ViewError) → pair_of names lines asked ≡ Err error → IsNoPair error
 no_pair names lines asked error is = by_instance (instance_said names asked.instance.now) is
   where
-    by_instance : (found : Option ℕ) → pair_at found lines asked.earlier asked.receive ≡ Err error → IsNoPair error
-    by_instance None h = inl (same_error error NoSuchEvent (sym h))
-    by_instance (Some p) h = on_line p (chart_lines lines p) asked.earlier asked.receive error h
+    by_instance : (found : Option ℕ) → pair_at names found lines asked.earlier asked.receive ≡ Err error → IsNoPair error
+    by_instance None h = subst IsNoPair (same_error (NoSuchEvent Instance) error h) tt
+    by_instance (Some p) h = on_line names p (chart_lines lines p) asked.earlier asked.receive error h
 
 -- then nothing is written
 pub not_paired : {S : Type 0} (sink : S → Sink) (old : S) (named : Named) (wanted : Wanted) (error : ViewError) → pair_of named.0 named.1 wanted.asked ≡ Err error → IsPossible (length named.1) (chart_lines named.1) → Shows sink old old (Err (View error)) wanted named
-not_paired sink old named wanted error is possible = by (no_pair named.0 named.1 wanted.asked error is)
+not_paired sink old named wanted error is possible = by error (no_pair named.0 named.1 wanted.asked error is) is
   where
-    by : IsNoPair error → Shows sink old old (Err (View error)) wanted named
-    by (inl absent) = subst (λ (e : ViewError). Shows sink old old (Err (View e)) wanted named) (sym absent) (subst (λ (e : ViewError). pair_of named.0 named.1 wanted.asked ≡ Err e) absent is, possible, refl)
-    by (inr absent) = subst (λ (e : ViewError). Shows sink old old (Err (View e)) wanted named) (sym absent) (subst (λ (e : ViewError). pair_of named.0 named.1 wanted.asked ≡ Err e) absent is, possible, refl)
+    by : (error : ViewError) → IsNoPair error → pair_of named.0 named.1 wanted.asked ≡ Err error → Shows sink old old (Err (View error)) wanted named
+    by (Program cause) kind same = absurd kind
+    by (ManySlots slots) kind same = absurd kind
+    by (NoSuchEvent missing) kind same = (same, possible, refl)
+    by NotEarlier kind same = (same, possible, refl)
+    by (NotAReceive receive) kind same = (same, possible, refl)

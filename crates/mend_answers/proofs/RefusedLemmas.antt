@@ -6,7 +6,7 @@ use Rattle.files.specs.declared.error.ProgramError.TheVariants.{Usage, File, Mem
 use Rattle.files.specs.Files.{Named, IsRefused}
 use Rattle.msc_text.specs.Outs.{Sink}
 use Rattle.views.specs.declared.error.ViewError.{ViewError}
-use Rattle.views.specs.declared.error.ViewError.TheVariants.{Program, NoSuchEvent, NotAPair, ManySlots}
+use Rattle.views.specs.declared.error.ViewError.TheVariants.{Program}
 use Rattle.views.specs.Pairs.{pair_of}
 use Rattle.mend_answers.specs.Answers.{by_program}
 use Rattle.mend_answers.specs.declared.error.MendRefusal.TheVariants.{View}

@@ -8,7 +8,7 @@ use Rattle.mending.specs.declared.error.MendError.TheVariants as fulls
 use Rattle.mending.specs.declared.mending.Mending.{Mending}
 use Rattle.mending.specs.Mends.{Fails}
 use Rattle.msc_text.specs.Outs.{Sink}
-use Rattle.views.specs.declared.error.ViewError.TheVariants.{Program, NoSuchEvent, NotAPair, ManySlots}
+use Rattle.views.specs.declared.error.ViewError.TheVariants.{Program, NoSuchEvent, NotEarlier, NotAReceive, ManySlots}
 use Rattle.views.specs.declared.pair.Pair.{Pair}
 use Rattle.views.specs.Pairs.{pair_of}
 use Rattle.mend_answers.specs.declared.answering.Outcome.{Outcome}
@@ -29,8 +29,9 @@ module _ {S : Type 0} (sink : S → Sink) (names : List (List ℕ)) (lines : Lis
   came_so old new pair name mending (Err (View (Program (ReceiveWithoutSend p i)))) are w = absurd w
   came_so old new pair name mending (Err (View (Program (NameMismatch p i)))) are w = absurd w
   came_so old new pair name mending (Err (View (Program Cyclic))) are w = absurd w
-  came_so old new pair name mending (Err (View NoSuchEvent)) are w = absurd w
-  came_so old new pair name mending (Err (View NotAPair)) are w = absurd w
+  came_so old new pair name mending (Err (View (NoSuchEvent missing))) are w = absurd w
+  came_so old new pair name mending (Err (View NotEarlier)) are w = absurd w
+  came_so old new pair name mending (Err (View (NotAReceive receive))) are w = absurd w
   came_so old new pair name mending (Err (View (ManySlots k))) are w = absurd w
   came_so old new pair name mending (Err (LineFull full)) are w = absurd w
 

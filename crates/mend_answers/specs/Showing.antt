@@ -16,7 +16,7 @@ use Rattle.mending.specs.Mends.{Mends, IsFull}
 use Rattle.msc_text.specs.ChartText.{name_at, chart_text}
 use Rattle.msc_text.specs.Outs.{Sink}
 use Rattle.msc_text.specs.Writing.{Puts, Breaks}
-use Rattle.views.specs.declared.error.ViewError.TheVariants.{Program, NoSuchEvent, NotAPair, ManySlots}
+use Rattle.views.specs.declared.error.ViewError.TheVariants.{Program, ManySlots}
 use Rattle.views.specs.declared.pair.Pair.{Pair}
 use Rattle.views.specs.Pairs.{pair_of}
 use Rattle.mend_answers.specs.Answers.{by_program}
@@ -85,11 +85,9 @@ module _ {S : Type 0} (sink : S → Sink) where
   Shows old new (Err (View (Program errors.Usage))) wanted named =
       ((name : List ℕ) → IsMessageName named.1 (name_asked wanted) name → ⊥) × (new ≡ old)
   Shows old new (Err (View (Program error))) wanted named = IsRefused error named × (new ≡ old)
-  Shows old new (Err (View NoSuchEvent)) wanted named = (pair_of named.0 named.1 wanted.asked ≡ Err NoSuchEvent)
-      × IsPossible (length named.1) (chart_lines named.1) × (new ≡ old)
-  Shows old new (Err (View NotAPair)) wanted named = (pair_of named.0 named.1 wanted.asked ≡ Err NotAPair)
-      × IsPossible (length named.1) (chart_lines named.1) × (new ≡ old)
   Shows old new (Err (View (ManySlots slots))) wanted named = ⊥
+  Shows old new (Err (View error)) wanted named = (pair_of named.0 named.1 wanted.asked ≡ Err error)
+      × IsPossible (length named.1) (chart_lines named.1) × (new ≡ old)
   Shows old new (Err (LineFull full)) wanted named = (pair : Pair) × (p : ℕ)
       × (pair_of named.0 named.1 wanted.asked ≡ Ok pair) × (full ≡ name_at named.0 p)
       × IsFull (chart_lines named.1) (place_of pair.earlier) (place_of pair.receive) p × (new ≡ old)

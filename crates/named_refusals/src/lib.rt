@@ -1,9 +1,12 @@
-//! Refusals that name an instance of the chart.
+//! Refusals that name an instance of the chart: what is missing, and the line.
 //!
-//! What is promised ([`refused_at`]): the line has the refusal's number and name, then the name of the instance, and then a
-//! number where there is one. It was written, or a beginning of it where a put failed. Nothing here takes memory.
+//! What is promised ([`refused_at`], [`refused_missing`]): the line has the refusal's number and name, then the name of the
+//! instance, and then a number where there is one. It was written, or a beginning of it where a put failed. Nothing here
+//! takes memory.
 #![tactic(auto)]
 
 mod line;
+mod missing;
 
 pub use line::refused_at;
+pub use missing::{Missing, missing_on, refused_missing};

@@ -6,8 +6,9 @@ use Rattle.chart.specs.declared.event.Event.{Event}
 use Rattle.chart.specs.declared.event.Event.TheVariants.{Send, Receive}
 use Rattle.chart.specs.Events.{ith}
 use Rattle.chart.specs.Charts.{Chart, Place, at, chart_event, LineView, IsReceiveFrom, chart_lines}
+use Rattle.named_refusals.specs.NamedRefusals.{missing_on}
 use Rattle.views.specs.declared.error.ViewError.{ViewError}
-use Rattle.views.specs.declared.error.ViewError.TheVariants.{NoSuchEvent, NotAPair}
+use Rattle.views.specs.declared.error.ViewError.TheVariants.{NoSuchEvent, NotEarlier, NotAReceive}
 use Rattle.views.specs.declared.pair.Asked.{Asked}
 use Rattle.views.specs.declared.pair.Pair.{Pair}
 use Rattle.views.specs.Pairs.{instance_said, has_event, receives, pair_on, pair_at, pair_of}
@@ -25,14 +26,14 @@ received c r (Some (Send to name)) is fails = absurd (false≢true fails)
 received c r (Some (Receive from name region)) is passes = (from, (Receive from name region, is, eq-eqb from from refl))
 
 -- on a line
-on_line : (c : Chart) (p e r : ℕ) (pair : Pair) → pair_on p (c p) e r ≡ Ok pair → IsPair c pair
-on_line c p e r pair is =
+on_line : (names : List (List ℕ)) (c : Chart) (p e r : ℕ) (pair : Pair) → pair_on names p (c p) e r ≡ Ok pair → IsPair c pair
+on_line names c p e r pair is =
     let events = c p in
     let right : Pair = record { earlier = record { instance = p; index = e }; receive = record { instance = p; index = r } } in
-    let a = passed (has_event events e) _ NoSuchEvent pair is in
-    let b = passed (has_event events r) _ NoSuchEvent pair a.1 in
-    let d = passed (nat_lt e r) _ NotAPair pair b.1 in
-    let f = passed (receives (ith events r)) (Ok right) NotAPair pair d.1 in
+    let a = passed (has_event events e) _ (NoSuchEvent (missing_on names p events)) pair is in
+    let b = passed (has_event events r) _ (NoSuchEvent (missing_on names p events)) pair a.1 in
+    let d = passed (nat_lt e r) _ NotEarlier pair b.1 in
+    let f = passed (receives (ith events r)) (Ok right) (NotAReceive r) pair d.1 in
     let same : right ≡ pair = cc in
     subst (λ (x : Pair). IsPair c x) same (record {
       earlier = record { line = refl; begun = leb-true 1 e (and_parts (nat_le 1 e) (nat_le e (length events)) a.0).0; less = ltb-true e r d.0 };
@@ -43,6 +44,6 @@ on_line c p e r pair is =
 pub IsPair-from_words : (names : List (List ℕ)) (lines : List LineView) (asked : Asked) (pair : Pair) → pair_of names lines asked ≡ Ok pair → IsPair (chart_lines lines) pair
 IsPair-from_words names lines asked pair is = by_instance (instance_said names asked.instance.now) is
   where
-    by_instance : (found : Option ℕ) → pair_at found lines asked.earlier asked.receive ≡ Ok pair → IsPair (chart_lines lines) pair
+    by_instance : (found : Option ℕ) → pair_at names found lines asked.earlier asked.receive ≡ Ok pair → IsPair (chart_lines lines) pair
     by_instance None h = cc
-    by_instance (Some p) h = on_line (chart_lines lines) p asked.earlier asked.receive pair h
+    by_instance (Some p) h = on_line names (chart_lines lines) p asked.earlier asked.receive pair h

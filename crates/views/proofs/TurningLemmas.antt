@@ -19,8 +19,9 @@ use Rattle.turned_runs.specs.declared.turning.Turned.TheVariants as turns
 use Rattle.witness.specs.Orders.{IsInOrder}
 use Rattle.turned_runs.specs.declared.showing.Shown.{Shown}
 use Rattle.turned_runs.specs.declared.showing.Shown.TheVariants as founds
+use Rattle.named_refusals.specs.NamedRefusals.{missing_on}
 use Rattle.views.specs.declared.error.ViewError.{ViewError}
-use Rattle.views.specs.declared.error.ViewError.TheVariants.{Program, NoSuchEvent, NotAPair, ManySlots}
+use Rattle.views.specs.declared.error.ViewError.TheVariants.{Program, NoSuchEvent, NotEarlier, NotAReceive, ManySlots}
 use Rattle.views.specs.declared.finding.Found.{Found}
 use Rattle.views.specs.declared.pair.Asked.{Asked}
 use Rattle.views.specs.declared.pair.Pair.{Pair}
@@ -65,8 +66,9 @@ found_from named origin asked pair (Err (Program (ReceiveWithoutSend p index))) 
 found_from named origin asked pair (Err (Program (NameMismatch p index))) is so = absurd so
 found_from named origin asked pair (Err (Program Cyclic)) is so = absurd so
 found_from named origin asked pair (Err (Program Write)) is so = absurd so
-found_from named origin asked pair (Err NoSuchEvent) is so = absurd so
-found_from named origin asked pair (Err NotAPair) is so = absurd so
+found_from named origin asked pair (Err (NoSuchEvent missing)) is so = absurd so
+found_from named origin asked pair (Err NotEarlier) is so = absurd so
+found_from named origin asked pair (Err (NotAReceive receive)) is so = absurd so
 found_from named origin asked pair (Err (ManySlots k)) is so = absurd so
 
 module _ {S : Type 0} (sink : S → Sink) (old new : S) (asked : Asked) (source : Source) (pair : Pair) (is_pair : pair_of (named_of source).0 (named_of source).1 asked ≡ Ok pair) (possible : IsPossible (length (named_of source).1) (chart_lines (named_of source).1)) where
@@ -95,20 +97,20 @@ failed : (b : Bool) (x : Result Pair ViewError) (error other : ViewError) → (e
 failed true x error other differs is = is
 failed false x error other differs is = let same : error ≡ other = cc in absurd (differs same)
 
-slots_on : (p : ℕ) (events : List Event) (e r k : ℕ) → pair_on p events e r ≡ Err (ManySlots k) → ⊥
-slots_on p events e r k is =
-    let a = failed (has_event events e) _ NoSuchEvent (ManySlots k) (λ h. cc) is in
-    let b = failed (has_event events r) _ NoSuchEvent (ManySlots k) (λ h. cc) a in
-    let d = failed (nat_lt e r) _ NotAPair (ManySlots k) (λ h. cc) b in
-    let f = failed (receives (ith events r)) _ NotAPair (ManySlots k) (λ h. cc) d in
+slots_on : (names : List (List ℕ)) (p : ℕ) (events : List Event) (e r k : ℕ) → pair_on names p events e r ≡ Err (ManySlots k) → ⊥
+slots_on names p events e r k is =
+    let a = failed (has_event events e) _ (NoSuchEvent (missing_on names p events)) (ManySlots k) (λ h. cc) is in
+    let b = failed (has_event events r) _ (NoSuchEvent (missing_on names p events)) (ManySlots k) (λ h. cc) a in
+    let d = failed (nat_lt e r) _ NotEarlier (ManySlots k) (λ h. cc) b in
+    let f = failed (receives (ith events r)) _ (NotAReceive r) (ManySlots k) (λ h. cc) d in
     cc
 
 pub no_slots : (names : List (List ℕ)) (lines : List LineView) (asked : Asked) (k : ℕ) → pair_of names lines asked ≡ Err (ManySlots k) → ⊥
 no_slots names lines asked k is = by_instance (instance_said names asked.instance.now) is
   where
-    by_instance : (found : Option ℕ) → pair_at found lines asked.earlier asked.receive ≡ Err (ManySlots k) → ⊥
+    by_instance : (found : Option ℕ) → pair_at names found lines asked.earlier asked.receive ≡ Err (ManySlots k) → ⊥
     by_instance None h = cc
-    by_instance (Some p) h = slots_on p (chart_lines lines p) asked.earlier asked.receive k h
+    by_instance (Some p) h = slots_on names p (chart_lines lines p) asked.earlier asked.receive k h
 
 -- where the pair isn't found, nothing is written
 pub not_found : {S : Type 0} (sink : S → Sink) (old : S) (named : Named) (origin : Origin) (asked : Asked) (error : ViewError) → IsAskedFor named asked (Err error) → Finds sink old old (Err error) named origin asked
@@ -120,6 +122,7 @@ not_found sink old named origin asked (Program (ReceiveWithoutSend p index)) is 
 not_found sink old named origin asked (Program (NameMismatch p index)) is = (is, refl)
 not_found sink old named origin asked (Program Cyclic) is = (is, refl)
 not_found sink old named origin asked (Program Write) is = absurd is
-not_found sink old named origin asked NoSuchEvent is = (is.0, refl)
-not_found sink old named origin asked NotAPair is = (is.0, refl)
+not_found sink old named origin asked (NoSuchEvent missing) is = (is.0, refl)
+not_found sink old named origin asked NotEarlier is = (is.0, refl)
+not_found sink old named origin asked (NotAReceive receive) is = (is.0, refl)
 not_found sink old named origin asked (ManySlots k) is = absurd (no_slots named.0 named.1 asked k is.0)

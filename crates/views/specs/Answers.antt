@@ -2,8 +2,10 @@
 use Rattle.std.specs.Prelude.{ℕ, Bool, true, false, List, ◌++◌, Option, None, Some, codes, Result}
 use Rattle.files.specs.Answers.{Said, refusal, said_of}
 use Rattle.files.specs.Refusals as refusals
+use Rattle.named_refusals.specs.NamedRefusals.{missing_text}
 use Rattle.views.specs.declared.error.ViewError.{ViewError}
-use Rattle.views.specs.declared.error.ViewError.TheVariants.{Program, NoSuchEvent, NotAPair, ManySlots}
+use Rattle.views.specs.declared.error.ViewError.TheVariants.{Program, NoSuchEvent, NotEarlier, NotAReceive}
+use Rattle.views.specs.declared.error.ViewError.TheVariants.{ManySlots}
 use Rattle.views.specs.declared.verdict.Verdict.{Verdict}
 use Rattle.views.specs.declared.verdict.Verdict.TheVariants.{Enforced, Race, Hidden}
 use Rattle.views.specs.declared.verdict.Witnessed.{Witnessed}
@@ -12,8 +14,9 @@ use Rattle.views.specs.Verdicts.{code_of}
 -- the line of a refusal
 abbrev pub refusal_text : ViewError → List ℕ
 refusal_text (Program cause) = refusals.refusal_text cause
-refusal_text NoSuchEvent = refusals.labelled_text (codes "F31 NoSuchEvent") None
-refusal_text NotAPair = refusals.labelled_text (codes "F32 NotAPair") None
+refusal_text (NoSuchEvent missing) = missing_text missing
+refusal_text NotEarlier = refusals.labelled_text (codes "F32 NotAPair") None
+refusal_text (NotAReceive receive) = refusals.labelled_text (codes "F32 NotAPair") (Some receive)
 refusal_text (ManySlots slots) = refusals.labelled_text (codes "F33 ManySlots") (Some slots)
 
 unfoldable pub hidden_text : List ℕ

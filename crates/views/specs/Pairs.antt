@@ -8,8 +8,10 @@ use Rattle.chart.specs.Charts.{LineView, chart_lines}
 use Rattle.chart.specs.Names.{instance_of}
 use Rattle.msc_text.specs.Lines.{name_or_cause}
 use Rattle.msc_text.specs.declared.fault.Cause.{Cause}
+use Rattle.named_refusals.specs.declared.missing.Missing.TheVariants.{Instance}
+use Rattle.named_refusals.specs.NamedRefusals.{missing_on}
 use Rattle.views.specs.declared.error.ViewError.{ViewError}
-use Rattle.views.specs.declared.error.ViewError.TheVariants.{NoSuchEvent, NotAPair}
+use Rattle.views.specs.declared.error.ViewError.TheVariants.{NoSuchEvent, NotEarlier, NotAReceive}
 use Rattle.views.specs.declared.pair.Asked.{Asked}
 use Rattle.views.specs.declared.pair.Pair.{Pair}
 
@@ -36,17 +38,18 @@ receives None = false
 receives (Some m) = is_receive m
 
 -- the events of p's line with these numbers
-abbrev pub pair_on : ℕ → List Event → ℕ → ℕ → Result Pair ViewError
-pair_on p events e r =
+abbrev pub pair_on : List (List ℕ) → ℕ → List Event → ℕ → ℕ → Result Pair ViewError
+pair_on names p events e r =
     if has_event events e then (if has_event events r then (if nat_lt e r then (if receives (ith events r)
     then Ok (record { earlier = record { instance = p; index = e }; receive = record { instance = p; index = r } })
-    else Err NotAPair) else Err NotAPair) else Err NoSuchEvent) else Err NoSuchEvent
+    else Err (NotAReceive r)) else Err NotEarlier) else Err (NoSuchEvent (missing_on names p events)))
+    else Err (NoSuchEvent (missing_on names p events))
 
 -- the same where there is such an instance
-abbrev pub pair_at : Option ℕ → List LineView → ℕ → ℕ → Result Pair ViewError
-pair_at None lines e r = Err NoSuchEvent
-pair_at (Some p) lines e r = pair_on p (chart_lines lines p) e r
+abbrev pub pair_at : List (List ℕ) → Option ℕ → List LineView → ℕ → ℕ → Result Pair ViewError
+pair_at names None lines e r = Err (NoSuchEvent Instance)
+pair_at names (Some p) lines e r = pair_on names p (chart_lines lines p) e r
 
 -- the two events that are asked about, by an instance's name and two numbers
 abbrev pub pair_of : List (List ℕ) → List LineView → Asked → Result Pair ViewError
-pair_of names lines asked = pair_at (instance_said names asked.instance.now) lines asked.earlier asked.receive
+pair_of names lines asked = pair_at names (instance_said names asked.instance.now) lines asked.earlier asked.receive

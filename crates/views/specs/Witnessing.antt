@@ -11,7 +11,7 @@ use Rattle.files.specs.Texts.{OfFile, named_of}
 use Rattle.turned_runs.specs.declared.showing.Shown.{Shown}
 use Rattle.turned_runs.specs.declared.showing.Shown.TheVariants as founds
 use Rattle.views.specs.declared.error.ViewError.{ViewError}
-use Rattle.views.specs.declared.error.ViewError.TheVariants.{Program, NoSuchEvent, NotAPair}
+use Rattle.views.specs.declared.error.ViewError.TheVariants.{Program, ManySlots}
 use Rattle.views.specs.declared.pair.Asked.{Asked}
 use Rattle.views.specs.declared.pair.Pair.{Pair}
 use Rattle.views.specs.declared.verdict.Verdict.{Verdict}
@@ -38,12 +38,11 @@ module _ {S : Type 0} (sink : S → Sink) where
       × IsPossible (length named.1) (chart_lines named.1) × Shows sink old new
       (Err (Program errors.Write)) named origin pair
   Finds old new (Err (Program error)) named origin asked = IsRefused error named × (new ≡ old)
-  Finds old new (Err NoSuchEvent) named origin asked = (pair_of named.0 named.1 asked ≡ Err NoSuchEvent)
-      × (new ≡ old)
-  Finds old new (Err NotAPair) named origin asked = (pair_of named.0 named.1 asked ≡ Err NotAPair)
-      × (new ≡ old)
-  Finds old new done named origin asked = (pair : Pair) × (pair_of named.0 named.1 asked ≡ Ok pair)
-      × IsPossible (length named.1) (chart_lines named.1) × Shows sink old new done named origin pair
+  Finds old new (Err (ManySlots slots)) named origin asked = (pair : Pair) × (pair_of named.0 named.1 asked ≡ Ok pair)
+      × IsPossible (length named.1) (chart_lines named.1) × Shows sink old new (Err (ManySlots slots)) named origin pair
+  Finds old new (Err error) named origin asked = (pair_of named.0 named.1 asked ≡ Err error) × (new ≡ old)
+  Finds old new (Ok verdict) named origin asked = (pair : Pair) × (pair_of named.0 named.1 asked ≡ Ok pair)
+      × IsPossible (length named.1) (chart_lines named.1) × Shows sink old new (Ok verdict) named origin pair
 
 module _ {S : Type 0} (sink : S → Sink) where
   -- the same for two events of a file's chart, with what is left out of it

@@ -10,6 +10,7 @@ use crate::error::ViewError;
 use crate::verdict::{Verdict, Witnessed};
 use files::{Answer, refused_by, tell};
 use msc_text::{Out, TextBuffer, WriteError};
+use named_refusals::refused_missing;
 
 /// Prints the line of a refusal, and answers the exit status, which is 2 whether or not the line could be written.
 pub fn refused<V: Out>(error: &ViewError, err: &mut V) -> u8
@@ -18,8 +19,9 @@ pub fn refused<V: Out>(error: &ViewError, err: &mut V) -> u8
 {
     match error {
         ViewError::Program(cause) => files::refused(cause, err),
-        ViewError::NoSuchEvent => refused_by(b"F31 NoSuchEvent", None, err),
-        ViewError::NotAPair => refused_by(b"F32 NotAPair", None, err),
+        ViewError::NoSuchEvent(missing) => refused_missing(missing, err),
+        ViewError::NotEarlier => refused_by(b"F32 NotAPair", None, err),
+        ViewError::NotAReceive(receive) => refused_by(b"F32 NotAPair", Some(*receive), err),
         ViewError::ManySlots(slots) => refused_by(b"F33 ManySlots", Some(*slots), err),
     }
 }

@@ -1,6 +1,7 @@
 //! What the program refuses.
 
 use files::ProgramError;
+use named_refusals::Missing;
 use thiserror::Error;
 
 /// Why the program did not do what it was asked to: the first of these that applies.
@@ -11,10 +12,13 @@ pub enum ViewError {
     Program(ProgramError),
     /// F31: the chart has no instance of this name, or its line has no event of one of these numbers.
     #[error("there is no such event")]
-    NoSuchEvent,
-    /// F32: the second event is a send, or the first isn't an earlier one.
-    #[error("the two are no receive and an earlier event")]
-    NotAPair,
+    NoSuchEvent(Missing),
+    /// F32: the first event isn't an earlier one.
+    #[error("the first of the two isn't earlier")]
+    NotEarlier,
+    /// F32: the second event is a send. This is its number.
+    #[error("event {0} is a send")]
+    NotAReceive(u64),
     /// F33: the only runs that turn the pair round need more than 64 slots a lane, so many at least.
     #[error("a run that turns the pair round needs {0} slots a lane")]
     ManySlots(u64),

@@ -7,6 +7,7 @@ ghost use Rattle.views.specs.Pairs.{instance_said, has_event, is_receive, pair_o
 use crate::error::ViewError;
 use chart::{Event, EventNo, InstanceNo, Line, Names};
 use msc_text::name_in;
+use named_refusals::{Missing, missing_on};
 
 /// The words of a `race` line: an instance's name, and the numbers of two events of its line.
 #[derive(Clone, Copy, Debug)]
@@ -59,28 +60,30 @@ fn is_receive(event: &Event) -> bool
     }
 }
 
-/// The events of a line with these numbers. F31: there is no such event. F32: the second is a send, or the first isn't
-/// an earlier one.
+/// The events of an instance's line with these numbers. F31: there is no such event. F32: the second is a send, or the
+/// first isn't an earlier one.
 fn pair_on(
+    names: &Names,
     instance: InstanceNo,
     events: &[Event],
     earlier: u64,
     receive: u64,
 ) -> Result<Pair, ViewError>
-    requires { length events.now ≤ MAX_EVENTS }
-    ensures { result ≡ pair_on instance events.now earlier receive }
+    requires instance { instance ≤ length names.now }
+    requires short { length events.now ≤ MAX_EVENTS }
+    ensures { result ≡ pair_on names.now instance events.now earlier receive }
 {
     if !has_event(events, earlier) {
-        return Err(ViewError::NoSuchEvent);
+        return Err(ViewError::NoSuchEvent(missing_on(names, instance, events)));
     }
     if !has_event(events, receive) {
-        return Err(ViewError::NoSuchEvent);
+        return Err(ViewError::NoSuchEvent(missing_on(names, instance, events)));
     }
     if earlier >= receive {
-        return Err(ViewError::NotAPair);
+        return Err(ViewError::NotEarlier);
     }
     if !is_receive(&events[receive as usize - 1]) {
-        return Err(ViewError::NotAPair);
+        return Err(ViewError::NotAReceive(receive));
     }
     Ok(Pair {
         earlier: EventNo {
@@ -100,8 +103,9 @@ pub fn pair_in(names: &Names, lines: &[Line], asked: &Asked<'_>) -> Result<Pair,
     ensures { result ≡ pair_of names.now lines.now asked.now }
 {
     match instance_said(names, asked.instance) {
-        None => Err(ViewError::NoSuchEvent),
+        None => Err(ViewError::NoSuchEvent(Missing::Instance)),
         Some(instance) => pair_on(
+            names,
             instance,
             events_of(lines, instance),
             asked.earlier,

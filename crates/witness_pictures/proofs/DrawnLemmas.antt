@@ -126,8 +126,9 @@ not_found sink old asked wanted source columns (pairs.Program (Text fault)) are 
 not_found sink old asked wanted source columns (pairs.Program (ReceiveWithoutSend p index)) are is = (columns, are, is, refl)
 not_found sink old asked wanted source columns (pairs.Program (NameMismatch p index)) are is = (columns, are, is, refl)
 not_found sink old asked wanted source columns (pairs.Program Cyclic) are is = (columns, are, is, refl)
-not_found sink old asked wanted source columns pairs.NoSuchEvent are is = (columns, are, is, refl)
-not_found sink old asked wanted source columns pairs.NotAPair are is = (columns, are, is, refl)
+not_found sink old asked wanted source columns (pairs.NoSuchEvent missing) are is = (columns, are, is, refl)
+not_found sink old asked wanted source columns pairs.NotEarlier are is = (columns, are, is, refl)
+not_found sink old asked wanted source columns (pairs.NotAReceive receive) are is = (columns, are, is, refl)
 not_found sink old asked wanted source columns (pairs.ManySlots k) are is = absurd (no_slots (named_of source).0 (named_of source).1 asked k is.0)
 
 -- there are no such columns

@@ -1,4 +1,5 @@
-use Rattle.std.proofs.Common.{◌≡◌, ℕ, List, length, subst}
+use Rattle.std.proofs.Common.{◌≡◌, ℕ, List, length, refl, subst}
+use Rattle.std.proofs.lemmas.Result.{err_from_is_err_and}
 use Rattle.std.specs.Prelude.{Option}
 use Rattle.chart.specs.declared.instance.EventNo.{EventNo}
 use Rattle.chart.specs.Charts.{LineView, chart_lines, IsPossible}
@@ -13,7 +14,7 @@ use Rattle.formats.specs.declared.windows.Window.{Window}
 use Rattle.formats.specs.Columns.{AreColumns}
 use Rattle.formats.specs.Drawing.{only_of, IsWanted}
 use Rattle.formats.specs.Preparing.{IsPrepared}
-use Rattle.formats.specs.Windows.{IsWindow}
+use Rattle.formats.specs.Windows.{IsWindow, HasNoWindow}
 use Rattle.formats.proofs.drawing.draw_columns.Goals as goal
 
 -- the picture of a window of a possible chart
@@ -43,18 +44,30 @@ is_wanted wanted turns notes names lines lines' columns rows ends reports window
   drawn = drawn;
 }
 
+pub returns-in_err-window : goal.returns-in_err-window
+returns-in_err-window g c =
+    let p = err_from_is_err_and c.from_residual.result c.from_residual.ensures.1 in
+    let missing = c.in_err-window.field-0.0 in
+    rw (p.1, p.2) (
+      c.args.columns.now,
+      c.requires.columns,
+      c.requires.possible,
+      subst (λ (ls : List LineView). HasNoWindow (c.args.subject.now.names.now, ls) c.args.wanted.now.rows missing) c.lines.ensures c.in_err-window.ensures,
+      refl,
+    )
+
 pub returns-in-Ok-write_picture : goal.returns-in-Ok-write_picture
 returns-in-Ok-write_picture g c = (
   c.in-Ok-of.picture,
-  is_wanted c.args.wanted.now c.args.subject.now.turns.now c.args.subject.now.notes.now c.args.subject.now.names.now c.args.subject.now.closure.now c.lines.result.now c.args.columns.now c.in-Ok.prepared.layout c.in-Ok.prepared.ends c.args.subject.now.reports.now c.in-Some.window c.in-Ok-of.picture
-      c.requires.columns c.requires.possible c.in-Ok.ensures c.requires.reports c.lines.ensures c.in-Some.ensures c.in-Ok-of.ensures,
+  is_wanted c.args.wanted.now c.args.subject.now.turns.now c.args.subject.now.notes.now c.args.subject.now.names.now c.args.subject.now.closure.now c.lines.result.now c.args.columns.now c.in-Ok.prepared.layout c.in-Ok.prepared.ends c.args.subject.now.reports.now c.in_ok-window.window c.in-Ok-of.picture
+      c.requires.columns c.requires.possible c.in-Ok.ensures c.requires.reports c.lines.ensures c.in_ok-window.ensures c.in-Ok-of.ensures,
   c.in-Ok-write_picture.ensures,
 )
 
 pub returns : goal.returns
 returns g c = (
   c.in-Ok-of.picture,
-  is_wanted c.args.wanted.now c.args.subject.now.turns.now c.args.subject.now.notes.now c.args.subject.now.names.now c.args.subject.now.closure.now c.lines.result.now c.args.columns.now c.in-Ok.prepared.layout c.in-Ok.prepared.ends c.args.subject.now.reports.now c.in-Some.window c.in-Ok-of.picture
-      c.requires.columns c.requires.possible c.in-Ok.ensures c.requires.reports c.lines.ensures c.in-Some.ensures c.in-Ok-of.ensures,
+  is_wanted c.args.wanted.now c.args.subject.now.turns.now c.args.subject.now.notes.now c.args.subject.now.names.now c.args.subject.now.closure.now c.lines.result.now c.args.columns.now c.in-Ok.prepared.layout c.in-Ok.prepared.ends c.args.subject.now.reports.now c.in_ok-window.window c.in-Ok-of.picture
+      c.requires.columns c.requires.possible c.in-Ok.ensures c.requires.reports c.lines.ensures c.in_ok-window.ensures c.in-Ok-of.ensures,
   c.in-Err.ensures,
 )
