@@ -3,9 +3,10 @@ use Rattle.std.proofs.Common.{◌≡◌, ℕ, zero, suc, ◌+◌, ◌-◌, ◌<�
 use Rattle.std.proofs.lemmas.List.{drop_all, append-nil}
 use Rattle.diagrams.specs.declared.left_out.LeftOut.{LeftOut}
 use Rattle.diagrams.specs.declared.place.Place.{Place}
+use Rattle.line_statements.specs.Lines.{line_length}
 use Rattle.joined_diagrams.specs.declared.moves.Overtaking.{Overtaking}
 use Rattle.diagram_imports.specs.Importing.{with_place, first_place, first_overtaking}
-use Rattle.diagram_imports.specs.Shown.{behind_line, without_lines}
+use Rattle.diagram_imports.specs.Shown.{without_lines}
 use Rattle.diagram_imports.specs.Skipping.{read_byte, line_behind, blanked_from, lines_from}
 use Rattle.diagram_imports.specs.declared.skipping.Skip.{Skip}
 
@@ -14,7 +15,7 @@ pub from_byte : (bytes : List ℕ) (n : ℕ) → n < length bytes → drop n byt
 from_byte bytes n within = rw add-one (drop-cons bytes n 0 within)
 
 -- one line more
-pub line_more : (count n : ℕ) (rest next : List ℕ) → n < count → next ≡ behind_line rest → without_lines (count - (n + 1)) next ≡ without_lines (count - n) rest
+pub line_more : (count n : ℕ) (rest next : List ℕ) → n < count → next ≡ drop (suc (line_length rest)) rest → without_lines (count - (n + 1)) next ≡ without_lines (count - n) rest
 unfolding without_lines
 line_more count n rest next less e =
     let left : count - n ≡ suc (count - (n + 1)) = omega arith in

@@ -28,7 +28,7 @@ pub struct Options<'a> {
 
 /// The text behind its byte order mark, if it begins with one.
 #[tactic(auto, unfolding(crate::specs::Importing::behind_mark))]
-pub(crate) fn behind_mark(text: &[u8]) -> &[u8]
+pub fn behind_mark(text: &[u8]) -> &[u8]
     ensures { result.now ≡ behind_mark text.now }
 {
     if text.starts_with(&[0xef, 0xbb, 0xbf]) {

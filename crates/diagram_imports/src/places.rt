@@ -1,8 +1,9 @@
 //! The words that are told of a place.
-ghost use Rattle.std.specs.Prelude.{◌≡◌, ◌<◌, ◌-◌, ◌==◌, length, position, drop, IfOk, IfSome};
-ghost use Rattle.diagram_imports.specs.Shown.{before, behind_line, without_lines, shown_from, words_at};
+ghost use Rattle.std.specs.Prelude.{◌≡◌, ◌<◌, ◌-◌, ◌==◌, length, position, IfOk, IfSome};
+ghost use Rattle.diagram_imports.specs.Shown.{before, without_lines, from_column, shown_from, words_at};
 
 use diagrams::Place;
+use line_statements::behind_line;
 use mscgen_text::printable;
 use std::alloc::{AllocError, Global};
 
@@ -25,19 +26,8 @@ fn before(text: &[u8], byte: u8) -> &[u8]
     }
 }
 
-/// What stands behind the first line.
-#[tactic(auto, unfolding(crate::specs::Shown::behind_line))]
-fn behind_line(text: &[u8]) -> &[u8]
-    ensures { result.now ≡ behind_line text.now }
-{
-    match place_of(text, b'\n') {
-        Some(place) => &text[place + 1..],
-        None => &[],
-    }
-}
-
 /// The text without so many lines.
-fn without_lines(text: &[u8], count: u64) -> &[u8]
+pub fn without_lines(text: &[u8], count: u64) -> &[u8]
     ensures { result.now ≡ without_lines count text.now }
 {
     let mut rest = text;
@@ -59,9 +49,9 @@ fn shown(alloc: Global, bytes: &[u8]) -> Result<Vec<u8>, AllocError>
         .collect(alloc)
 }
 
-/// The line from this column on.
-fn from_column(line: &[u8], column: u64) -> &[u8]
-    ensures { result.now ≡ drop (column - 1) line.now }
+/// The line from this column on, the first of which is 1.
+pub fn from_column(line: &[u8], column: u64) -> &[u8]
+    ensures { result.now ≡ from_column column line.now }
 {
     let behind = column.saturating_sub(1);
     if behind < line.len() as u64 {

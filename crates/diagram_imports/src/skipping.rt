@@ -69,7 +69,7 @@ pub(crate) fn count_of_lines(text: &[u8]) -> Result<u64, AllocError>
 }
 
 /// The text with blanks for the lines that are skipped. Where a line's number would not fit, the answer is F6.
-pub(crate) fn blanked(alloc: Global, skips: &[Skip], text: &[u8]) -> Result<Vec<u8>, AllocError>
+pub fn blanked(alloc: Global, skips: &[Skip], text: &[u8]) -> Result<Vec<u8>, AllocError>
     ensures { IfOk result (λ bytes. bytes.items ≡ blanked_from skips.now 1 text.now) }
 {
     let mut bytes = Vec::new(alloc);

@@ -10,7 +10,6 @@ use Rattle.diagram_imports.specs.Skipping.{read_byte, line_behind, blanked_from}
 use Rattle.diagram_imports.specs.declared.skipping.Skip.{Skip}
 use Rattle.line_statements.specs.Lines.{line_length}
 use Rattle.diagram_notes.specs.Plain.{plain_step, waits, ended, plain_from}
-use Rattle.diagram_notes.specs.Sources.{lines_behind}
 
 -- the view of one element more
 pub view_more : {A B : Type 0} (v : A → B) (xs : List A) (n : ℕ) (x : A) → n < length xs → x ≡ get_or xs n x
@@ -59,28 +58,6 @@ plain_more escaped next n raw done more within e f = rw (from_byte raw n within,
 
 pub plain_end : (escaped : Bool) (n : ℕ) (raw done : List ℕ) → length raw ≤ n → done ++ plain_from escaped (drop n raw) ≡ done ++ ended escaped
 plain_end escaped n raw done past = rw (drop_all n raw past) refl
-
--- one byte more of a text with skipped lines
-pub byte_kept : (skips : List Skip) (line next n : ℕ) (bytes done more : List ℕ) (b : ℕ) → n < length bytes
-    → b ≡ read_byte skips line (get_or bytes n 0) → more ≡ done ++ b ∷ [] → next ≡ line_behind line (get_or bytes n 0)
-    → more ++ blanked_from skips next (drop (n + 1) bytes) ≡ done ++ blanked_from skips line (drop n bytes)
-unfolding blanked_from
-byte_kept skips line next n bytes done more b within shown e f = rw (from_byte bytes n within, e, shown, f) (append_assoc done (read_byte skips line (get_or bytes n 0) ∷ []) _)
-
-pub kept_end : (skips : List Skip) (line n : ℕ) (bytes done : List ℕ) → length bytes ≤ n → done ++ blanked_from skips line (drop n bytes) ≡ done
-unfolding blanked_from
-kept_end skips line n bytes done past = rw (drop_all n bytes past) (append-nil done)
-
--- one line more that is behind
-pub line_more : (count n : ℕ) (rest next : List ℕ) → n < count → next ≡ drop (suc (line_length rest)) rest → lines_behind (count - (n + 1)) next ≡ lines_behind (count - n) rest
-unfolding lines_behind
-line_more count n rest next less e =
-    let left : count - n ≡ suc (count - (n + 1)) = omega arith in
-    rw (left, e) refl
-
-pub lines_all : (count n : ℕ) (rest : List ℕ) → count ≤ n → lines_behind (count - n) rest ≡ rest
-unfolding lines_behind
-lines_all count n rest past = let left : count - n ≡ 0 = omega arith in rw left refl
 
 -- the view of a list behind which one element was put
 pub pushed : {A B : Type 0} (v : A → B) (old new : List A) (x : A) (y : B) → new ≡ old ++ x ∷ [] → v x ≡ y → map v new ≡ map v old ++ y ∷ []

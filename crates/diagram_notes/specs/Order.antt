@@ -1,6 +1,7 @@
 -- Remarks and messages in the order of their lines.
-use Rattle.std.specs.Prelude.{ℕ, Bool, false, List, [], ◌∷◌, ◌++◌, map, fold, nat_lt, Option, None, Some, option_map, if◌then◌else◌}
+use Rattle.std.specs.Prelude.{ℕ, Bool, false, List, ◌++◌, map, Option, None, Some, option_map}
 use Rattle.diagrams.specs.declared.message.Message.{Message}
+use Rattle.stable_order.specs.Order.{in_order_by}
 use Rattle.diagram_notes.specs.Remarks.{RemarkView}
 use Rattle.diagram_notes.specs.declared.order.Thing.{Thing}
 
@@ -19,14 +20,9 @@ remark_thing r = record { line = r.line; words = Some r.text; divides = r.divide
 abbrev pub message_thing : Message → ThingView
 message_thing m = record { line = m.place.line; words = None; divides = false }
 
--- the thing among those of earlier lines, and those of its own that stand before it
-unfoldable pub put : List ThingView → ThingView → List ThingView
-put [] e = e ∷ []
-put (x ∷ xs) e = if nat_lt e.line x.line then e ∷ x ∷ xs else x ∷ put xs e
-
 -- things by their lines, those of one line as they come
-unfoldable pub in_order : List ThingView → List ThingView
-in_order things = fold put [] things
+abbrev pub in_order : List ThingView → List ThingView
+in_order things = in_order_by (λ (t : ThingView). t.line) things
 
 -- remarks and messages by their lines, in one line remarks first
 unfoldable pub things_of : List RemarkView → List Message → List ThingView

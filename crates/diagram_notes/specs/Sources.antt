@@ -1,6 +1,7 @@
 -- The words of notes and dividers that a reader of statements passes over, as they stand in the text (PlantUML, Mermaid).
-use Rattle.std.specs.Prelude.{ℕ, zero, suc, ◌+◌, ◌-◌, min, Bool, not, ◌==◌, ◌||◌, List, [], ◌∷◌, length, fold, take, drop, codes, position}
+use Rattle.std.specs.Prelude.{ℕ, ◌+◌, ◌-◌, min, Bool, not, ◌==◌, ◌||◌, List, [], ◌∷◌, length, fold, take, drop, codes, position}
 use Rattle.std.specs.Prelude.{Option, None, Some}
+use Rattle.diagram_imports.specs.Shown.{without_lines, from_column}
 use Rattle.line_statements.specs.Lines.{line_length}
 use Rattle.line_statements.specs.Words.{is_blank, first_place, place_of}
 use Rattle.line_statements.specs.declared.statement.Place.{Place}
@@ -17,18 +18,13 @@ least text n known = least_at n (place_of known text)
 unfoldable pub up_to : List (List ℕ) → List ℕ → List ℕ
 up_to ends text = take (fold (least text) (length text) ends) text
 
--- the text without so many lines
-unfoldable pub lines_behind : ℕ → List ℕ → List ℕ
-lines_behind zero text = text
-lines_behind (suc n) text = lines_behind n (drop (suc (line_length text)) text)
-
 -- what stands before the first line feed
 abbrev pub first_line : List ℕ → List ℕ
 first_line text = take (line_length text) text
 
 -- what stands in the line of a place, from there on
 unfoldable pub words_at : List ℕ → Place → List ℕ
-words_at text place = drop (place.column - 1) (first_line (lines_behind (place.line - 1) text))
+words_at text place = from_column place.column (first_line (without_lines (place.line - 1) text))
 
 -- the words that end a note of several lines
 abbrev pub note_ends : List (List ℕ)
@@ -36,7 +32,7 @@ note_ends =
     codes "end note" ∷ codes "endnote" ∷ codes "end hnote" ∷ codes "endhnote" ∷ codes "end rnote" ∷ codes "endrnote" ∷ []
 
 abbrev pub note_words_at : List ℕ → Place → List ℕ → Option ℕ → List ℕ
-note_words_at text place words None = up_to note_ends (lines_behind place.line text)
+note_words_at text place words None = up_to note_ends (without_lines place.line text)
 note_words_at text place words (Some colon) = drop (colon + 1) words
 
 -- the words of a note that begins at a place: what stands behind its colon (byte 58), or in the lines below it

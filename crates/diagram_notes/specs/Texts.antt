@@ -1,6 +1,7 @@
 -- The notes and dividers of another tool's text, and where they stand.
-use Rattle.std.specs.Prelude.{◌≡◌, ℕ, false, List, [], ◌++◌, Option, None, Some, Result, Ok, Err}
+use Rattle.std.specs.Prelude.{ℕ, List, [], ◌++◌, length, Option, None, Some, Result, Ok, Err, if◌then◌else◌}
 use Rattle.diagrams.specs.Diagrams.{DiagramView}
+use Rattle.diagrams.specs.Drawing.{has_no_chart}
 use Rattle.diagram_imports.specs.Importing.{OptionsView, behind_mark}
 use Rattle.diagram_imports.specs.Readers.{tool_in}
 use Rattle.diagram_imports.specs.Reading.{diagram_of_text}
@@ -50,13 +51,20 @@ all_remarks tool text d = own_remarks d.participants d.items ++ text_remarks too
 abbrev pub body_of : List ℕ → OptionsView → List ℕ
 body_of text options = behind_mark (blanked_from options.skipped 1 text)
 
-abbrev pub notes_by : Result Tool Refusal → List ℕ → OptionsView → DiagramView → List NoteView
-notes_by (Ok tool) body options d = placed (all_remarks tool body d) (messages_of d options.joins)
-notes_by (Err refusal) body options d = []
+-- the tool that was found
+abbrev pub tool_by : Result Tool Refusal → Option Tool
+tool_by (Ok tool) = Some tool
+tool_by (Err refusal) = None
 
--- the notes and dividers of a text of which this is the diagram
+abbrev pub notes_by : Option Tool → List ℕ → OptionsView → DiagramView → List NoteView
+notes_by (Some tool) body options d = placed (all_remarks tool body d) (messages_of d options.joins)
+notes_by None body options d = []
+
+-- the notes and dividers of a text of which this is the diagram: none where no chart has so few participants, or so many
 abbrev pub notes_of : Option Tool → List ℕ → OptionsView → DiagramView → List NoteView
-notes_of tool text options d = notes_by (tool_in tool (body_of text options)) (body_of text options) options d
+notes_of tool text options d =
+    if has_no_chart (length d.participants) then []
+    else notes_by (tool_by (tool_in tool (body_of text options))) (body_of text options) options d
 
 abbrev pub notes_read : Option Tool → List ℕ → OptionsView → Result DiagramView Refusal → List NoteView
 notes_read tool text options (Ok d) = notes_of tool text options d
@@ -65,8 +73,3 @@ notes_read tool text options (Err refusal) = []
 -- the notes and dividers of a text: each above the first message of its chart that stands in its line or below it
 unfoldable pub notes_of_text : Option Tool → List ℕ → OptionsView → List NoteView
 notes_of_text tool text options = notes_read tool text options (diagram_of_text tool text options)
-
--- what was found is the tool
-abbrev pub IsTool : Option Tool → Result Tool Refusal → Type 0
-IsTool (Some tool) read = read ≡ Ok tool
-IsTool None read = Unit {0}

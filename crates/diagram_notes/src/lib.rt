@@ -12,7 +12,6 @@ mod own;
 mod placing;
 mod plain;
 mod remark;
-mod skipping;
 mod source;
 mod statements;
 

@@ -1,11 +1,13 @@
 //! The notes of a text.
-ghost use Rattle.std.specs.Prelude.{◌≡◌, ◌++◌, map, IfOk};
+ghost use Rattle.std.specs.Prelude.{◌≡◌, ◌++◌, false, length, map, IfOk};
 ghost use Rattle.diagram_imports.specs.Importing.{options_view};
+ghost use Rattle.diagram_imports.specs.Readers.{tool_in};
 ghost use Rattle.diagrams.specs.Diagrams.{diagram_view};
+ghost use Rattle.diagrams.specs.Drawing.{has_no_chart};
 ghost use Rattle.line_diagrams.specs.declared.labels.Breaks.TheVariants.{Mermaid, PlantUml};
 ghost use Rattle.margin_notes.specs.Notes.{note_view};
 ghost use Rattle.diagram_notes.specs.Remarks.{remark_view};
-ghost use Rattle.diagram_notes.specs.Texts.{mscgen_remarks, line_remarks, text_remarks, all_remarks, notes_of, notes_of_text};
+ghost use Rattle.diagram_notes.specs.Texts.{tool_by, mscgen_remarks, line_remarks, text_remarks, all_remarks, notes_of, notes_of_text};
 ghost use Rattle.mermaid_text.specs.Diagrams.{diagram_of as mermaid_of};
 ghost use Rattle.plantuml_text.specs.Diagrams.{diagram_of as plantuml_of};
 ghost use Rattle.plantuml_text.specs.Joints.{joined_text};
@@ -14,26 +16,41 @@ use crate::arcs::arc_remarks;
 use crate::own::own_remarks;
 use crate::placing::placed;
 use crate::remark::Remark;
-use crate::skipping::{behind_mark, blanked, tool_of};
 use crate::statements::{add_all, statement_remarks};
-use diagram_imports::{Options, diagram_of_text};
+use diagram_imports::{ImportError, Options, behind_mark, blanked, diagram_of_text};
 use diagram_turns::messages_of;
-use diagrams::Diagram;
+use diagrams::{Diagram, has_no_chart};
 use line_diagrams::Breaks;
 use margin_notes::MarginNote;
+use mscgen_text::MscgenError;
 use std::alloc::{AllocError, Global};
+use told_tools::told_tool;
 use tool_text::Tool;
 
-/// What a text of mscgen remarks beside the items of its diagram. It fails only where there is no memory, or where the text
-/// isn't read.
+/// The tool of a text, if it is named or the text tells it.
+#[tactic(auto, unfolding(diagram_imports::specs::Readers::tool_in))]
+fn tool_of(tool: Option<Tool>, text: &[u8]) -> Option<Tool>
+    ensures { result ≡ tool_by (tool_in tool text.now) }
+{
+    if let Some(tool) = tool {
+        return Some(tool);
+    }
+    match told_tool(text) {
+        Ok(tool) => Some(tool),
+        Err(_) => None,
+    }
+}
+
+/// What a text of mscgen remarks beside the items of its diagram: nothing where the text isn't read.
 #[tactic(auto, unfolding(crate::specs::Texts::mscgen_remarks))]
 fn mscgen_remarks(alloc: Global, text: &[u8]) -> Result<Vec<Remark>, AllocError>
     ensures { IfOk result (λ remarks. map remark_view remarks.items ≡ mscgen_remarks text.now) }
 {
-    let Ok(msc) = mscgen_text::read(alloc, text) else {
-        return Err(AllocError);
-    };
-    arc_remarks(alloc, &msc.arcs)
+    match mscgen_text::read(alloc, text) {
+        Ok(msc) => arc_remarks(alloc, &msc.arcs),
+        Err(MscgenError::Memory) => Err(AllocError),
+        Err(MscgenError::Fault(_)) => Ok(Vec::new(alloc)),
+    }
 }
 
 /// The same of a text of Mermaid.
@@ -73,6 +90,7 @@ fn all_remarks(
     text: &[u8],
     diagram: &Diagram,
 ) -> Result<Vec<Remark>, AllocError>
+    requires { has_no_chart (length (diagram_view diagram.now).participants) ≡ false }
     ensures { IfOk result (λ remarks. map remark_view remarks.items ≡ all_remarks tool text.now (diagram_view diagram.now)) }
 {
     let mut remarks = own_remarks(alloc, &diagram.participants, &diagram.items)?;
@@ -81,7 +99,14 @@ fn all_remarks(
     Ok(remarks)
 }
 
-/// The notes and dividers of a text of which this is the diagram.
+/// Whether no chart has so few participants, or so many.
+fn is_without_chart(diagram: &Diagram) -> bool
+    ensures { result ≡ has_no_chart (length (diagram_view diagram.now).participants) }
+{
+    has_no_chart(diagram.participants.len())
+}
+
+/// The notes and dividers of a text of which this is the diagram: none where no chart has so few participants, or so many.
 fn notes_of(
     alloc: Global,
     tool: Option<Tool>,
@@ -92,10 +117,13 @@ fn notes_of(
     ensures { IfOk result (λ notes. map note_view notes.items
         ≡ notes_of tool text.now (options_view options.now) (diagram_view diagram)) }
 {
+    if is_without_chart(&diagram) {
+        return Ok(Vec::new(alloc));
+    }
     let bytes = blanked(alloc, options.skipped, text)?;
     let body = behind_mark(&bytes);
     let Some(tool) = tool_of(tool, body) else {
-        return Err(AllocError);
+        return Ok(Vec::new(alloc));
     };
     let remarks = all_remarks(alloc, tool, body, &diagram)?;
     let messages = messages_of(alloc, diagram, options.joins)?;
@@ -103,9 +131,10 @@ fn notes_of(
 }
 
 /// The notes and dividers of a text, each with the number of the messages of its chart that stand above it. What stands
-/// between two messages is one note. It fails only where there is no memory, or where the text says no diagram. It takes
-/// time in proportion to n log n for a text of n bytes, and for each note that isn't in one line with its participant the
-/// time to read the text up to there.
+/// between two messages is one note. A text that says no diagram has none. F6: it fails only where there is no memory. It
+/// takes time in proportion to n log n for a text of n bytes, and for each note that isn't in one line with its participant
+/// the time to read the text up to there.
+#[tactic(auto, unfolding(crate::specs::Texts::notes_of_text))]
 pub fn notes_of_text(
     alloc: Global,
     tool: Option<Tool>,
@@ -114,8 +143,9 @@ pub fn notes_of_text(
 ) -> Result<Vec<MarginNote>, AllocError>
     ensures { IfOk result (λ notes. map note_view notes.items ≡ notes_of_text tool text.now (options_view options.now)) }
 {
-    let Ok(diagram) = diagram_of_text(alloc, tool, text, options) else {
-        return Err(AllocError);
-    };
-    notes_of(alloc, tool, text, options, diagram)
+    match diagram_of_text(alloc, tool, text, options) {
+        Ok(diagram) => notes_of(alloc, tool, text, options, diagram),
+        Err(ImportError::Memory) => Err(AllocError),
+        Err(_) => Ok(Vec::new(alloc)),
+    }
 }

@@ -1,6 +1,7 @@
 //! The notes of a diagram that are no sends and no receives.
-ghost use Rattle.std.specs.Prelude.{◌≡◌, ◌++◌, map, IfOk, OnOk};
+ghost use Rattle.std.specs.Prelude.{◌≡◌, ◌≤◌, ◌++◌, length, map, IfOk, OnOk};
 ghost use Rattle.std.specs.List.{flat_map};
+ghost use Rattle.chart.specs.declared.instance.TheConstants.{MAX_INSTANCES};
 ghost use Rattle.diagrams.specs.Diagrams.{item_view, participant_view};
 ghost use Rattle.diagram_notes.specs.Owns.{comes_to_nothing, own_remark, own_remarks};
 ghost use Rattle.diagram_notes.specs.Remarks.{remark_view};
@@ -62,6 +63,7 @@ pub(crate) fn own_remarks(
     participants: &[Participant],
     items: &[Item],
 ) -> Result<Vec<Remark>, AllocError>
+    requires { length participants.now ≤ MAX_INSTANCES }
     ensures { IfOk result (λ remarks. map remark_view remarks.items
         ≡ own_remarks (map participant_view participants.now) (map item_view items.now)) }
 {

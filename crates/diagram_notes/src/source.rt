@@ -1,8 +1,9 @@
 //! The words of notes and dividers that a reader of statements passes over, as they stand in the text.
-ghost use Rattle.std.specs.Prelude.{◌≡◌, ◌≤◌, ◌-◌, length, drop, map, not, position, IfSome};
-ghost use Rattle.diagram_notes.specs.Sources.{least, up_to, lines_behind, first_line, words_at, note_words, is_sign, behind_signs, divider_words};
+ghost use Rattle.std.specs.Prelude.{◌≡◌, ◌≤◌, length, map, not, position, IfSome};
+ghost use Rattle.diagram_notes.specs.Sources.{least, up_to, first_line, words_at, note_words, is_sign, behind_signs, divider_words};
 
-use line_statements::{Place, behind_line, first_place, is_blank, line_length, place_of};
+use diagram_imports::{from_column, without_lines};
+use line_statements::{Place, first_place, is_blank, line_length, place_of};
 
 /// The words that end a note of several lines.
 const NOTE_ENDS: [&[u8]; 6] = [
@@ -41,36 +42,12 @@ fn up_to<'a>(ends: &[&[u8]], text: &'a [u8]) -> &'a [u8]
     &text[..length]
 }
 
-/// The text without so many lines.
-fn lines_behind(text: &[u8], count: u64) -> &[u8]
-    ensures { result.now ≡ lines_behind count text.now }
-{
-    let mut rest = text;
-    for line in 0..count {
-        let _ = line;
-        rest = behind_line(rest);
-    }
-    rest
-}
-
-/// The line from this column on.
-fn from_column(line: &[u8], column: u64) -> &[u8]
-    ensures { result.now ≡ drop (column - 1) line.now }
-{
-    let behind = column.saturating_sub(1);
-    if behind < line.len() as u64 {
-        &line[behind as usize..]
-    } else {
-        &line[line.len()..]
-    }
-}
-
 /// What stands in the line of this place, from there on.
 #[tactic(auto, unfolding(crate::specs::Sources::words_at))]
 fn words_at(text: &[u8], place: Place) -> &[u8]
     ensures { result.now ≡ words_at text.now place }
 {
-    let rest = lines_behind(text, place.line.saturating_sub(1));
+    let rest = without_lines(text, place.line.saturating_sub(1));
     from_column(&rest[..line_length(rest)], place.column)
 }
 
@@ -82,7 +59,7 @@ pub(crate) fn note_words(text: &[u8], place: Place) -> &[u8]
     let words = words_at(text, place);
     match first_place(b':', words) {
         Some(colon) => &words[colon + 1..],
-        None => up_to(&NOTE_ENDS, lines_behind(text, place.line)),
+        None => up_to(&NOTE_ENDS, without_lines(text, place.line)),
     }
 }
 

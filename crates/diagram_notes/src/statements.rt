@@ -11,7 +11,7 @@ use crate::remark::Remark;
 use crate::source::{divider_words, note_words};
 use diagrams::{Item, Note};
 use line_diagrams::{Breaks, diagram_of};
-use line_statements::{NoteAt, Place, ReadText, Said, Statement};
+use line_statements::{NoteAt, Place, ReadError, ReadText, Said, Statement};
 use std::alloc::{AllocError, Global};
 
 /// Whether a note is an item of its diagram: it stands at one participant, and has a text in its line.
@@ -134,8 +134,7 @@ fn all_restated<'a>(
     Ok(all)
 }
 
-/// The dividers of these statements, or the notes that are no items. It fails only where there is no memory, or where a
-/// branch or an end stands outside of a group.
+/// The dividers of these statements, or the notes that are no items: none where a branch or an end stands outside of a group.
 #[tactic(auto, unfolding(crate::specs::Statements::restated_remarks))]
 fn restated_remarks<'a>(
     alloc: Global,
@@ -151,14 +150,15 @@ fn restated_remarks<'a>(
         statements: all_restated(alloc, divides, text, statements)?,
         fault: None,
     };
-    let Ok(diagram) = diagram_of(alloc, breaks, &read) else {
-        return Err(AllocError);
-    };
-    items_remarked(alloc, divides, &diagram.items)
+    match diagram_of(alloc, breaks, &read) {
+        Ok(diagram) => items_remarked(alloc, divides, &diagram.items),
+        Err(ReadError::Memory) => Err(AllocError),
+        Err(ReadError::Fault(_)) => Ok(Vec::new(alloc)),
+    }
 }
 
-/// The notes of these statements that are no items, and their dividers. It fails only where there is no memory, or where a
-/// branch or an end stands outside of a group.
+/// The notes of these statements that are no items, and their dividers: none where a branch or an end stands outside of a
+/// group.
 #[tactic(auto, unfolding(crate::specs::Statements::statement_remarks))]
 pub(crate) fn statement_remarks<'a>(
     alloc: Global,

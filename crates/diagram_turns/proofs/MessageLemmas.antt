@@ -1,7 +1,8 @@
 -- The messages of a diagram's chart, step by step.
-use Rattle.std.proofs.Common.{◌≡◌, ℕ, ◌<◌, ◌≤◌, List, [], ◌∷◌, length, map, refl, sym, arith}
+use Rattle.std.proofs.Common.{◌≡◌, ℕ, ◌<◌, ◌≤◌, true, false, List, [], ◌∷◌, length, map, refl, sym, arith}
 use Rattle.diagrams.specs.Collecting.{CollectedView, collected}
 use Rattle.diagrams.specs.Diagrams.{ParticipantView, DiagramView}
+use Rattle.diagrams.specs.Drawing.{has_no_chart}
 use Rattle.diagrams.specs.Losing.{kept}
 use Rattle.diagrams.specs.Naming.{names_from}
 use Rattle.diagrams.specs.declared.left_out.LeftOut.{LeftOut}
@@ -23,7 +24,12 @@ with_joins f participants lines messages left_out (j ∷ joins) some = refl
 
 -- step by step
 pub steps : (d : DiagramView) (joins : List JoinView) (lines : List (List ℕ)) (c : CollectedView) (stay : List Message)
-    → lines ≡ names_from [] d.participants → c ≡ collected lines d.items d.left_out
+    → has_no_chart (length d.participants) ≡ false → lines ≡ names_from [] d.participants → c ≡ collected lines d.items d.left_out
     → stay ≡ messages_by d.participants joins lines c.messages c.left_out → stay ≡ messages_of d joins
 unfolding messages_of
-steps d joins lines c stay e f g = rw (sym e, sym f) g
+steps d joins lines c stay several e f g = rw (several, sym e, sym f) g
+
+-- no chart, and so no messages
+pub nothing : (d : DiagramView) (joins : List JoinView) → has_no_chart (length d.participants) ≡ true → [] ≡ messages_of d joins
+unfolding messages_of
+nothing d joins none = rw none refl

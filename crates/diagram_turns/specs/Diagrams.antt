@@ -1,7 +1,8 @@
 -- Whose events stand in a diagram whose lines may be joined.
-use Rattle.std.specs.Prelude.{ℕ, List, [], ◌∷◌, Result, Ok, Err}
+use Rattle.std.specs.Prelude.{ℕ, List, [], ◌∷◌, length, Result, Ok, Err, if◌then◌else◌}
 use Rattle.diagrams.specs.Collecting.{CollectedView, collected}
 use Rattle.diagrams.specs.Diagrams.{DiagramView, ParticipantView}
+use Rattle.diagrams.specs.Drawing.{has_no_chart}
 use Rattle.diagrams.specs.Losing.{kept}
 use Rattle.diagrams.specs.Naming.{names_from}
 use Rattle.diagrams.specs.declared.left_out.LeftOut.{LeftOut}
@@ -28,9 +29,11 @@ messages_from d joins lines c = messages_by d.participants joins lines c.message
 abbrev pub messages_named : DiagramView → List JoinView → List (List ℕ) → List Message
 messages_named d joins lines = messages_from d joins lines (collected lines d.items d.left_out)
 
--- the messages of the chart that the diagram comes to, where these lines are joined
+-- the messages of the chart that the diagram comes to, where these lines are joined: none where no chart has so few
+-- participants, or so many
 unfoldable pub messages_of : DiagramView → List JoinView → List Message
-messages_of d joins = messages_named d joins (names_from [] d.participants)
+messages_of d joins =
+    if has_no_chart (length d.participants) then [] else messages_named d joins (names_from [] d.participants)
 
 -- whose events they are, from the top on
 abbrev pub turns_in : DiagramView → List JoinView → List ℕ

@@ -8,7 +8,9 @@ ghost use Rattle.diagram_turns.specs.Diagrams.{stay_of, messages_by, messages_of
 
 use crate::moments::turns_of;
 use chart::{InstanceNo, Names};
-use diagrams::{Diagram, LeftOut, Message, Participant, collect, names_of, without_lost};
+use diagrams::{
+    Diagram, LeftOut, Message, Participant, collect, has_no_chart, names_of, without_lost,
+};
 use joined_diagrams::{Join, JoinError, join_lines};
 use std::alloc::{AllocError, Global};
 
@@ -62,8 +64,8 @@ fn messages_by(
     }
 }
 
-/// The messages of the chart that a diagram comes to, where these lines are joined, in the order of its text. F6: it fails
-/// only where there is no memory.
+/// The messages of the chart that a diagram comes to, where these lines are joined, in the order of its text: none of a
+/// diagram with too few participants for a chart, or too many. F6: it fails only where there is no memory.
 pub fn messages_of(
     alloc: Global,
     diagram: Diagram,
@@ -76,6 +78,9 @@ pub fn messages_of(
         items,
         left_out,
     } = diagram;
+    if has_no_chart(participants.len()) {
+        return Ok(Vec::new(alloc));
+    }
     let names = names_of(alloc, &participants)?;
     let (messages, left_out, _fault) = collect(alloc, &names, &items, left_out)?.into_parts();
     let stay = messages_by(alloc, &participants, &names, joins, &messages, left_out)?;

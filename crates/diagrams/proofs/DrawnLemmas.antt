@@ -1,10 +1,14 @@
 -- The names that are told, one after the other; and a diagram's chart, of its parts.
-use Rattle.std.proofs.Common.{◌≡◌, ℕ, ◌+◌, ◌<◌, ◌≤◌, inl, inr, List, [], ◌∷◌, None, Some, Result, Ok, false, length, map, drop, get_or, refl, sym, ap, ◌∙◌}
-use Rattle.std.specs.Prelude.{slice_get}
-use Rattle.std.proofs.lemmas.List.{drop_all}
+use Rattle.std.proofs.Common.{◌≡◌, ℕ, ◌+◌, ◌<◌, ◌≤◌, inl, inr, List, [], ◌∷◌, ◌++◌, None, Some, Result, Ok, Bool, true, false, ◌||◌, length, map, drop, get_or, refl, sym, ap, ◌∙◌, arith}
+use Rattle.std.specs.Prelude.{slice_get, nat_lt}
+use Rattle.std.proofs.lemmas.Bool.{ltb-false}
+use Rattle.std.proofs.lemmas.List.{drop_all, length-append}
 use Rattle.std.proofs.lemmas.Option.{slice_get_within, get_or_from_slice_get, slice_get_cases}
 use Rattle.chart.specs.Charts.{LineView}
+use Rattle.chart.specs.declared.instance.TheConstants.{MAX_INSTANCES}
+use Rattle.label_names.specs.Giving.{called}
 use Rattle.label_names.specs.Labels.{none}
+use Rattle.label_names.specs.Spelling.{spelled}
 use Rattle.diagrams.specs.Collecting.{CollectedView, collected}
 use Rattle.diagrams.specs.Diagrams.{ParticipantView, ItemView, DiagramView, participant_view}
 use Rattle.diagrams.specs.Drawing.{DrawnView, with_renamed, renamed_from, staying, drawn_of, drawn_by, has_no_chart, drawn, Fails, ◌>>=◌}
@@ -73,6 +77,23 @@ pub as_many_names : (v : DrawnView) (participants : List ParticipantView) (items
 unfolding drawn_of
 as_many_names v participants items names stay is =
     ap (λ (w : DrawnView). length w.names) is ∙ sym (length-lines (all_ends (named_from none items stay.0)) 1 (length names)) ∙ sym (ap (λ (w : DrawnView). length w.lines) is)
+
+-- a chart has so many participants
+pub has_chart : (n : ℕ) → has_no_chart n ≡ false → (2 ≤ n) × (n ≤ MAX_INSTANCES)
+has_chart n has = go (nat_lt n 2) (nat_lt MAX_INSTANCES n) refl refl has
+  where
+    go : (few many : Bool) → nat_lt n 2 ≡ few → nat_lt MAX_INSTANCES n ≡ many → few || many ≡ false → (2 ≤ n) × (n ≤ MAX_INSTANCES)
+    go true many e f h = absurd (cc h)
+    go false true e f h = absurd (cc h)
+    go false false e f h = (ltb-false n 2 e, ltb-false MAX_INSTANCES n f)
+
+-- each participant has a name
+pub length-names : (names : List (List ℕ)) (participants : List ParticipantView) → length (names_from names participants) ≡ length names + length participants
+unfolding names_from
+length-names names [] = omega arith
+length-names names (p ∷ participants) =
+    let name = called names (spelled p.label) in
+    omega (arith, length-names (names ++ name ∷ []) participants, length-append names (name ∷ []))
 
 -- a diagram's chart, step by step
 pub draw_steps : (d : DiagramView) (names : List (List ℕ)) (c : CollectedView) (stay : List Message × List LeftOut)

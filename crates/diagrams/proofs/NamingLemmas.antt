@@ -1,7 +1,9 @@
 -- Names of participants and of messages, one after the other.
-use Rattle.std.proofs.Common.{◌≡◌, ℕ, ◌+◌, ◌<◌, ◌≤◌, List, [], ◌∷◌, ◌++◌, length, map, drop, get_or, refl, append_assoc}
+use Rattle.std.proofs.Common.{◌≡◌, ℕ, ◌+◌, ◌<◌, ◌≤◌, Bool, true, false, List, [], ◌∷◌, ◌++◌, length, map, drop, get_or, refl, ap, ◌∙◌, append_assoc}
 use Rattle.std.proofs.lemmas.List.{drop_all, append-nil}
-use Rattle.label_names.specs.Giving.{called}
+use Rattle.std.specs.Prelude.{MatchBool, Contains}
+use Rattle.chart.proofs.NameLists.{not_there}
+use Rattle.label_names.specs.Giving.{is_given, called, IsFreeNumbered, IsCalled}
 use Rattle.label_names.specs.Labels.{Labelling, with_label, name_of}
 use Rattle.label_names.specs.Spelling.{spelled}
 use Rattle.diagrams.specs.Diagrams.{ItemView, participant_view}
@@ -10,6 +12,15 @@ use Rattle.diagrams.specs.declared.diagram.Participant.{Participant}
 use Rattle.diagrams.specs.declared.message.Message.{Message}
 use Rattle.message_charts.specs.declared.message.Named.{Named}
 use Rattle.message_charts.proofs.ListLemmas.{from_here}
+
+-- a name that a new label is called is none of those that were given
+pub not_among : (names : List (List ℕ)) (word name : List ℕ) → IsCalled names word name → Contains names name → ⊥
+not_among names word name called among =
+    not_there names name (fresh (is_given names word) refl called) among
+  where
+    fresh : (b : Bool) → is_given names word ≡ b → MatchBool b (IsFreeNumbered names word name) (name ≡ word) → is_given names name ≡ false
+    fresh true e h = ap (is_given names) h.1 ∙ h.2.free
+    fresh false e h = ap (is_given names) h ∙ e
 
 -- one participant more
 pub name_more : (names more : List (List ℕ)) (n : ℕ) (participants : List Participant) (p : Participant) → n < length participants → p ≡ get_or participants n p

@@ -1,9 +1,12 @@
 //! The chart of a diagram.
-ghost use Rattle.std.specs.Prelude.{◌≡◌, length, map, IfOk};
+ghost use Rattle.std.specs.Prelude.{◌≡◌, ◌≤◌, length, map, IfOk};
 ghost use Rattle.chart.specs.Charts.{chart_lines, IsPossible};
 ghost use Rattle.diagrams.specs.Diagrams.{diagram_view, participant_view, item_view};
 ghost use Rattle.diagrams.specs.Drawing.{Gives, staying, drawn_view, has_no_chart, drawn_of, drawn};
+ghost use Rattle.diagrams.specs.Naming.{named_from};
 ghost use Rattle.diagrams.specs.declared.drawn.DrawError.TheVariants.{Memory};
+ghost use Rattle.label_names.specs.Labels.{none};
+ghost use Rattle.message_charts.specs.Following.{AreDrawn};
 
 use crate::collecting::collect;
 use crate::crossing::first_fault;
@@ -94,8 +97,11 @@ fn drawn_of(
     messages: &[Message],
     left_out: Vec<LeftOut>,
 ) -> Result<Drawn, AllocError>
-    ensures { IfOk result (λ d. drawn_view d ≡ drawn_of (map participant_view participants.now)
+    requires several { 2 ≤ length names }
+    requires drawn { AreDrawn (length names) (named_from none (map item_view items.now) messages.now) }
+    ensures drawn { IfOk result (λ d. drawn_view d ≡ drawn_of (map participant_view participants.now)
         (map item_view items.now) names (messages.now, left_out.items)) }
+    ensures possible { IfOk result (λ d. IsPossible (length d.chart) (chart_lines d.chart)) }
 {
     let mut labels = LabelNames::new(alloc);
     let named = name_messages(alloc, items, messages, &mut labels)?;

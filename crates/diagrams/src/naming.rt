@@ -1,5 +1,6 @@
 //! The names of participants and of messages.
-ghost use Rattle.std.specs.Prelude.{◌≡◌, ◌++◌, ◌∷◌, [], map, IfOk, OnOk};
+ghost use Rattle.std.specs.Prelude.{◌≡◌, ◌≤◌, ◌<◌, ◌++◌, ◌∷◌, [], length, map, Contains, IfOk, OnOk};
+ghost use Rattle.chart.specs.declared.instance.TheConstants.{MAX_INSTANCES};
 ghost use Rattle.label_names.specs.Labels.{with_label, name_of};
 ghost use Rattle.diagrams.specs.Diagrams.{participant_view, item_view};
 ghost use Rattle.diagrams.specs.Naming.{names_from, label_of, label_at, named_as, labels_from, named_from};
@@ -7,23 +8,27 @@ ghost use Rattle.diagrams.specs.Naming.{names_from, label_of, label_at, named_as
 use crate::diagram::{Item, Participant};
 use crate::message::Message;
 use crate::note_event::message_said;
-use chart::{Name, Names};
+use chart::{Name, Names, NamesError};
 use label_names::{GivenNames, LabelNames, spelled};
 use message_charts::Named;
 use std::alloc::{AllocError, Global};
 
 /// One name more, which no participant has.
 fn add_name(names: &mut Names, name: Name) -> Result<(), AllocError>
+    requires free { Contains names.old name → ⊥ }
+    requires room { length names.old < MAX_INSTANCES }
     ensures { OnOk result (names.new ≡ names.old ++ name ∷ []) }
 {
     match names.add(name) {
         Ok(_) => Ok(()),
-        Err(_) => Err(AllocError),
+        Err(NamesError::Memory) => Err(AllocError),
+        Err(NamesError::Duplicate | NamesError::Instances) => unreachable!(),
     }
 }
 
-/// The names of the participants, of which there are no more than a chart has.
+/// The names of the participants, of which there are no more than a chart has. F6: it fails only where there is no memory.
 pub fn names_of(alloc: Global, participants: &[Participant]) -> Result<Names, AllocError>
+    requires { length participants.now ≤ MAX_INSTANCES }
     ensures { IfOk result (λ names. names ≡ names_from [] (map participant_view participants.now)) }
 {
     let mut given = GivenNames::new(alloc);

@@ -1,11 +1,13 @@
 -- Each line's instance is one of those that have names.
 use Rattle.std.proofs.Common.{◌≡◌, ℕ, zero, suc, ◌+◌, ◌-◌, ◌<◌, ◌≤◌, Bool, true, false, not, ◌||◌, cond, List, [], ◌∷◌, ◌++◌, Option, None, Some, length, get_or, refl, sym, ap, ◌∙◌, arith}
-use Rattle.std.specs.Prelude.{nat_lt, bytes_eq, slice_get, option_map, option_and_then, unwrap_or, is_some}
+use Rattle.std.specs.Prelude.{Contains, nat_lt, bytes_eq, slice_get, option_map, option_and_then, unwrap_or, is_some}
 use Rattle.std.specs.List.{list_any, position, position_or_len}
-use Rattle.std.specs.Cmp.Lexicographic.{bytes_decides}
+use Rattle.std.specs.Cmp.Lexicographic.{bytes_decides, nat_list_eq_equiv}
 use Rattle.std.proofs.lemmas.Bool.{ltb-true, ltb-false}
 use Rattle.std.proofs.lemmas.List.Folds.{list_any-append}
 use Rattle.std.proofs.lemmas.Option.{slice_get-get_or}
+use Rattle.std.proofs.lemmas.Map.Views.{list_any-from_Contains}
+use Rattle.chart.proofs.NameLists.{Contains-found}
 use Rattle.chart.specs.Names.{instance_of}
 use Rattle.joined_diagrams.specs.Joins.{names_from}
 use Rattle.joined_diagrams.specs.Moves.{instance_at}
@@ -37,6 +39,21 @@ there_if names name e = go (list_any (bytes_eq name) names) refl (nat_lt (positi
     go true f b g h = refl
     go false f true g h = let within = ltb-true (position_or_len (bytes_eq name) names) (length names) g in absurd (omega (arith, within, nowhere (bytes_eq name) names f))
     go false f false g h = absurd (cc h)
+
+-- a name is an instance's exactly where it is there
+pub named_if : (names : List (List ℕ)) (name : List ℕ) → Contains names name → is_some (instance_of names name) ≡ true
+named_if names name there = go (nat_lt (position_or_len (bytes_eq name) names) (length names)) refl
+  where
+    go : (b : Bool) → nat_lt (position_or_len (bytes_eq name) names) (length names) ≡ b → is_some (option_map suc (cond b (Some (position_or_len (bytes_eq name) names)) None)) ≡ true
+    go true e = refl
+    go false e = let past = ltb-false (position_or_len (bytes_eq name) names) (length names) e in absurd (omega (arith, past, somewhere (bytes_eq name) names (list_any-from_Contains nat_list_eq_equiv name names there)))
+
+pub unnamed_if : (names : List (List ℕ)) (name : List ℕ) → (Contains names name → ⊥) → is_some (instance_of names name) ≡ false
+unnamed_if names name absent = go (is_some (instance_of names name)) refl
+  where
+    go : (b : Bool) → is_some (instance_of names name) ≡ b → b ≡ false
+    go true e = absurd (absent (Contains-found names name (there_if names name e)))
+    go false e = refl
 
 -- a name stays
 kept_in : (names processes : List (List ℕ)) (name : List ℕ) → list_any (bytes_eq name) names ≡ true → list_any (bytes_eq name) (names_from names processes) ≡ true

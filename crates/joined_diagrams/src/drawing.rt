@@ -1,11 +1,15 @@
 //! The chart of a diagram whose lines are joined.
-ghost use Rattle.std.specs.Prelude.{◌≡◌, length, map, IfOk};
+ghost use Rattle.std.specs.Prelude.{◌≡◌, ◌≤◌, length, map, IfOk};
 ghost use Rattle.chart.specs.Charts.{chart_lines, IsPossible};
 ghost use Rattle.diagrams.specs.Diagrams.{diagram_view, participant_view, item_view};
 ghost use Rattle.diagrams.specs.Drawing.{drawn};
+ghost use Rattle.diagrams.specs.Naming.{named_from};
+ghost use Rattle.joined_diagrams.specs.Coregions.{cut_from};
 ghost use Rattle.joined_diagrams.specs.Drawing.{joined_drawn_view, alone, checked, joined_drawn_of, lines_joined, drawn_joined};
 ghost use Rattle.joined_diagrams.specs.Joined.{Gives, joined_view};
 ghost use Rattle.joined_diagrams.specs.Joins.{join_view};
+ghost use Rattle.label_names.specs.Labels.{none};
+ghost use Rattle.message_charts.specs.Following.{AreDrawn};
 
 use crate::error::{JoinError, join_error};
 use crate::join::Join;
@@ -75,8 +79,12 @@ fn joined_drawn_of(
     lines: &Names,
     joined: Joined,
 ) -> Result<JoinedDrawn, AllocError>
-    ensures { IfOk result (λ d. joined_drawn_view d ≡ joined_drawn_of (map participant_view participants.now)
+    requires several { 2 ≤ length joined.names }
+    requires drawn { AreDrawn (length joined.names) (named_from none (map item_view items.now)
+        (cut_from joined.messages.items 0 joined.messages.items)) }
+    ensures drawn { IfOk result (λ d. joined_drawn_view d ≡ joined_drawn_of (map participant_view participants.now)
         (map item_view items.now) lines.now (joined_view joined)) }
+    ensures possible { IfOk result (λ d. IsPossible (length d.drawn.chart) (chart_lines d.drawn.chart)) }
 {
     let Joined {
         names,

@@ -1,11 +1,12 @@
 //! The instances of lines that are joined.
-ghost use Rattle.std.specs.Prelude.{◌≡◌, ◌<◌, length, slice_index_or, map, position, IfOk, Some, OnOk, is_some, if◌then◌else◌, ◌++◌, ◌∷◌, []};
+ghost use Rattle.std.specs.Prelude.{◌≡◌, ◌≤◌, ◌<◌, ◌+◌, length, slice_index_or, map, position, IfOk, Some, OnOk, is_some, if◌then◌else◌, ◌++◌, ◌∷◌, []};
 ghost use Rattle.chart.specs.Names.{instance_of};
+ghost use Rattle.chart.specs.declared.instance.TheConstants.{MAX_INSTANCES};
 ghost use Rattle.diagrams.specs.Diagrams.{participant_view};
 ghost use Rattle.joined_diagrams.specs.Joins.{join_view, has_part, process_of, names_from, all_parts, is_line, is_unknown, count_in, is_twice, is_misnamed, takes, text_line, other_with, taken_from};
 
 use crate::join::Join;
-use chart::{InstanceNo, MAX_INSTANCES, Name, Names};
+use chart::{InstanceNo, MAX_INSTANCES, Name, Names, NamesError};
 use diagrams::Participant;
 use std::alloc::{AllocError, Global};
 
@@ -14,19 +15,18 @@ fn add_listed(listed: &mut Vec<Name>, names: &Names, place: usize) -> Result<(),
     requires { place < length names.now }
     ensures { OnOk result (listed.new.items ≡ listed.old.items ++ slice_index_or names.now place [] ∷ []) }
 {
-    if place >= MAX_INSTANCES {
-        return Err(AllocError);
-    }
+    prove!(names.len() <= MAX_INSTANCES);
     let Some(name) = names.name(InstanceNo::at_place(place)) else {
-        return Err(AllocError);
+        unreachable!()
     };
     listed.push(name)?;
     Ok(())
 }
 
-/// The names of the lines.
+/// The names of the lines, of which there are no more than a chart has instances.
 pub(crate) fn listed(alloc: Global, names: &Names) -> Result<Vec<Name>, AllocError>
-    ensures { IfOk result (λ listed. listed.items ≡ names.now) }
+    ensures few { length names.now ≤ MAX_INSTANCES }
+    ensures value { IfOk result (λ listed. listed.items ≡ names.now) }
 {
     let mut listed = Vec::new(alloc);
     for place in 0..names.len() {
@@ -73,20 +73,22 @@ pub(crate) fn processes_of(
 
 /// A line's instance has a name, which it gets with the first of its lines.
 fn add_name(names: &mut Names, process: Name) -> Result<(), AllocError>
-    ensures { OnOk result (names.new ≡ (if is_some (instance_of names.old process) then names.old else names.old ++ process ∷ [])) }
+    requires { length names.old < MAX_INSTANCES }
+    ensures value { OnOk result (names.new ≡ (if is_some (instance_of names.old process) then names.old else names.old ++ process ∷ [])) }
+    ensures count { OnOk result (length names.new ≤ length names.old + 1) }
 {
-    if names.instance(process).is_some() {
-        return Ok(());
-    }
     match names.add(process) {
         Ok(_) => Ok(()),
-        Err(_) => Err(AllocError),
+        Err(NamesError::Duplicate) => Ok(()),
+        Err(NamesError::Memory) => Err(AllocError),
+        Err(NamesError::Instances) => unreachable!(),
     }
 }
 
-/// The names of the instances, each once.
+/// The names of the instances, each once: there are no more lines than a chart has instances.
 #[tactic(auto, unfolding(crate::specs::Joins::names_from))]
 pub(crate) fn names_of(alloc: Global, processes: &[Name]) -> Result<Names, AllocError>
+    requires { length processes.now ≤ MAX_INSTANCES }
     ensures { IfOk result (λ names. names ≡ names_from [] processes.now) }
 {
     let mut names = Names::new(alloc);

@@ -1,5 +1,6 @@
 //! The messages of lines that are joined.
-ghost use Rattle.std.specs.Prelude.{◌≡◌, map, IfOk};
+ghost use Rattle.std.specs.Prelude.{◌≡◌, ◌≤◌, length, map, IfOk};
+ghost use Rattle.chart.specs.declared.instance.TheConstants.{MAX_INSTANCES};
 ghost use Rattle.diagrams.specs.Diagrams.{participant_view};
 ghost use Rattle.joined_diagrams.specs.Joins.{join_view};
 ghost use Rattle.joined_diagrams.specs.Joined.{joined_view, joined_of, joined, Gives};
@@ -33,6 +34,7 @@ fn joined_of(
     messages: &[Message],
     left_out: Vec<LeftOut>,
 ) -> Result<Joined, AllocError>
+    requires { length processes.now ≤ MAX_INSTANCES }
     ensures { IfOk result (λ j. joined_view j ≡ joined_of processes.now messages.now left_out.items) }
 {
     let names = names_of(alloc, processes)?;

@@ -5,48 +5,51 @@ use Rattle.std.proofs.lemmas.Bool.{and_parts}
 use Rattle.std.proofs.lemmas.List.{map-append}
 use Rattle.chart.specs.Messages.{Content}
 use Rattle.chart.specs.Histories.{is_lane}
-use Rattle.message_charts.specs.Turns.{send_end, receive_end, all_ends, own_ends, put, in_turn}
+use Rattle.message_charts.specs.Turns.{send_end, receive_end, all_ends, own_ends, in_turn}
 use Rattle.message_charts.specs.declared.end.End.{End}
 use Rattle.message_charts.specs.declared.message.Named.{Named}
 use Rattle.message_charts.specs.Each.{Each, Pairs}
 use Rattle.message_charts.specs.Following.{Follows}
 use Rattle.message_charts.proofs.EachLemmas.{each_weaker, each_filter, each_passing, pairs_weaker, pairs_passing, filter_swap}
 use Rattle.message_charts.proofs.HistoryLemmas.{content_of, is_of, lane_ends, Fifo}
-use Rattle.message_charts.proofs.TurnLemmas.{turn_of, turns_rise, turns_kept}
-use Rattle.stable_order.proofs.OrderLemmas.{Least, Rising, of_key, least_filter, rising_filter, same_by_key}
+use Rattle.stable_order.specs.Order.{put_by, in_order_by}
+use Rattle.stable_order.proofs.OrderLemmas.{Least, Rising, of_key, least_filter, rising_filter, order_rises, order_kept, same_by_key}
 
 -- Some of the ends that stand by their turns.
 
+abbrev turn_of : End → ℕ
+turn_of e = e.turn
+
 -- an instance's ends by their turns
 pub own_in_turn : (p : ℕ) (came : List End) → own_ends p (in_turn came) ≡ in_turn (own_ends p came)
-own_in_turn p came = same_by_key turn_of (own_ends p (in_turn came)) (in_turn (own_ends p came)) (rising_filter turn_of (λ (e : End). e.instance == p) (in_turn came) (turns_rise came)) (turns_rise (own_ends p came))
-    (λ t. filter_swap (λ (e : End). e.turn == t) (λ (e : End). e.instance == p) (in_turn came) ∙ ap (own_ends p) (turns_kept t came)
-    ∙ sym (filter_swap (λ (e : End). e.turn == t) (λ (e : End). e.instance == p) came) ∙ sym (turns_kept t (own_ends p came)))
+own_in_turn p came = same_by_key turn_of (own_ends p (in_turn came)) (in_turn (own_ends p came)) (rising_filter turn_of (λ (e : End). e.instance == p) (in_turn came) (order_rises turn_of came)) (order_rises turn_of (own_ends p came))
+    (λ t. filter_swap (λ (e : End). e.turn == t) (λ (e : End). e.instance == p) (in_turn came) ∙ ap (own_ends p) (order_kept turn_of t came)
+    ∙ sym (filter_swap (λ (e : End). e.turn == t) (λ (e : End). e.instance == p) came) ∙ sym (order_kept turn_of t (own_ends p came)))
 
 -- those that pass two tests, where they come by their turns
 twice_kept : (f g : End → Bool) (came : List End) → Rising turn_of (filter f (filter g came)) → filter f (filter g (in_turn came)) ≡ filter f (filter g came)
-twice_kept f g came rising = same_by_key turn_of (filter f (filter g (in_turn came))) (filter f (filter g came)) (rising_filter turn_of f (filter g (in_turn came)) (rising_filter turn_of g (in_turn came) (turns_rise came))) rising
-    (λ t. through t (in_turn came) ∙ ap (λ l. filter f (filter g l)) (turns_kept t came) ∙ sym (through t came))
+twice_kept f g came rising = same_by_key turn_of (filter f (filter g (in_turn came))) (filter f (filter g came)) (rising_filter turn_of f (filter g (in_turn came)) (rising_filter turn_of g (in_turn came) (order_rises turn_of came))) rising
+    (λ t. through t (in_turn came) ∙ ap (λ l. filter f (filter g l)) (order_kept turn_of t came) ∙ sym (through t came))
   where
     through : (t : ℕ) (xs : List End) → of_key turn_of t (filter f (filter g xs)) ≡ filter f (filter g (of_key turn_of t xs))
     through t xs = filter_swap (λ (e : End). e.turn == t) f (filter g xs) ∙ ap (filter f) (filter_swap (λ (e : End). e.turn == t) g xs)
 
 module _ (P : End → Type 0) where
-  put_each : (xs : List End) (e : End) → Each P xs → P e → Each P (put xs e)
-  unfolding put
+  put_each : (xs : List End) (e : End) → Each P xs → P e → Each P (put_by turn_of xs e)
+  unfolding put_by
   put_each [] e all its = (its, tt)
   put_each (x ∷ xs) e all its = go (nat_lt e.turn x.turn) (put_each xs e all.1 its)
     where
-      go : (less : Bool) → Each P (put xs e) → Each P (cond less (e ∷ x ∷ xs) (x ∷ put xs e))
+      go : (less : Bool) → Each P (put_by turn_of xs e) → Each P (cond less (e ∷ x ∷ xs) (x ∷ put_by turn_of xs e))
       go true more = (its, all)
       go false more = (all.0, more)
 
-  fold_each : (acc ends : List End) → Each P acc → Each P ends → Each P (fold put acc ends)
+  fold_each : (acc ends : List End) → Each P acc → Each P ends → Each P (fold (put_by turn_of) acc ends)
   fold_each acc [] all more = all
-  fold_each acc (e ∷ ends) all more = fold_each (put acc e) ends (put_each acc e all more.0) more.1
+  fold_each acc (e ∷ ends) all more = fold_each (put_by turn_of acc e) ends (put_each acc e all more.0) more.1
 
   pub turn_each : (ends : List End) → Each P ends → Each P (in_turn ends)
-  unfolding in_turn
+  unfolding in_order_by
   turn_each ends all = fold_each [] ends tt all
 
 -- Messages that follow each other.
@@ -185,7 +188,7 @@ is_false false e = refl
 -- each lane of such messages
 pub lane_fifo : (messages : List Named) → Pairs Follows messages → Each (λ m. m.is_lost ≡ false → m.begins ≤ m.ends) messages → (q p : ℕ) → Fifo [] (lane_ends q p (in_turn (all_ends messages)))
 lane_fifo messages follow down q p =
-    first_out first.0 (lane_ends q p (in_turn (all_ends messages))) (rising_filter turn_of (is_of q p) (in_turn (all_ends messages)) (turns_rise (all_ends messages))) [] own (received_of own)
+    first_out first.0 (lane_ends q p (in_turn (all_ends messages))) (rising_filter turn_of (is_of q p) (in_turn (all_ends messages)) (order_rises turn_of (all_ends messages))) [] own (received_of own)
     (twice_kept (λ (e : End). e.sends) (is_of q p) (all_ends messages) (subst (Rising turn_of) (sym (lane_sends q p messages)) (sends_rise own sent_so)) ∙ lane_sends q p messages)
     (twice_kept (λ (e : End). not e.sends) (is_of q p) (all_ends messages) (subst (Rising turn_of) (sym (lane_receives q p messages)) (receives_rise (received_of own) received_so)) ∙ lane_receives q p messages)
     first.1 in_time

@@ -5,4 +5,4 @@ pub mod LineLemmas
 pub mod LinesLemmas
 pub mod ListLemmas
 pub mod PossibleLemmas
-pub mod TurnLemmas
+pub mod RoomLemmas

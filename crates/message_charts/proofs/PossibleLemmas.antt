@@ -1,11 +1,11 @@
 -- The lines of messages that follow each other are a possible chart's.
-use Rattle.std.proofs.Common.{◌≡◌, ℕ, zero, suc, ◌≤◌, Bool, true, false, cond, List, [], ◌∷◌, ◌++◌, length, map, None, refl, sym, ap, ◌∙◌, arith, add-one}
+use Rattle.std.proofs.Common.{◌≡◌, ℕ, zero, suc, ◌≤◌, Bool, true, false, cond, List, [], ◌∷◌, ◌++◌, length, map, None, refl, sym, ap, ◌∙◌, subst, arith, add-one}
 use Rattle.std.specs.List.{range_with_len}
 use Rattle.chart.specs.declared.history.Occurrence.{Occurrence}
 use Rattle.chart.specs.Histories.{chart_of, AreTwo, IsLegal}
-use Rattle.chart.specs.HistoryLines.{history_line}
-use Rattle.chart.specs.Charts.{chart_lines, IsPossible}
-use Rattle.chart.proofs.HistoryLines.{chart-is}
+use Rattle.chart.specs.HistoryLines.{history_line, history_lines}
+use Rattle.chart.specs.Charts.{chart_lines, HasPartners, IsPossible}
+use Rattle.chart.proofs.HistoryLines.{chart-is, lines-partnered}
 use Rattle.message_charts.specs.Lines.{lines_from}
 use Rattle.message_charts.specs.Regions.{with_ends, line_of}
 use Rattle.message_charts.specs.Turns.{send_end, receive_end, all_ends, own_ends, in_turn}
@@ -15,12 +15,12 @@ use Rattle.message_charts.specs.Each.{Each}
 use Rattle.message_charts.proofs.EachLemmas.{each_weaker}
 use Rattle.message_charts.specs.Following.{IsMessage, AreDrawn}
 use Rattle.message_charts.proofs.FifoLemmas.{own_in_turn, turn_each, lane_fifo}
-use Rattle.message_charts.proofs.TurnLemmas.{turn_length}
+use Rattle.stable_order.proofs.OrderLemmas.{order_length}
 use Rattle.message_charts.proofs.HistoryLemmas.{Stands, history_from, history_legal, history_chart}
 use Rattle.message_charts.proofs.LineLemmas.{open_none}
 
 -- the ends of two instances
-ends_two : (n : ℕ) (messages : List Named) → Each (IsMessage n) messages → Each (λ e. AreTwo n e.instance e.partner) (all_ends messages)
+pub ends_two : (n : ℕ) (messages : List Named) → Each (IsMessage n) messages → Each (λ e. AreTwo n e.instance e.partner) (all_ends messages)
 unfolding all_ends
 ends_two n [] all = tt
 ends_two n (m ∷ messages) all = go m.is_lost (ends_two n messages all.1)
@@ -40,7 +40,7 @@ begins n messages are = record {
   opened = λ q p. refl;
   slots = omega arith;
   two = turn_each (λ e. AreTwo n e.instance e.partner) (all_ends messages) (ends_two n messages are.each);
-  room = λ p. omega (arith, are.room p, ap length (own_in_turn p (all_ends messages)), turn_length (own_ends p (all_ends messages)));
+  room = λ p. omega (arith, are.room p, ap length (own_in_turn p (all_ends messages)), order_length (λ (e : End). e.turn) (own_ends p (all_ends messages)));
   is_open = λ p. open_none (own_ends p (in_turn (all_ends messages)));
   fifo = lane_fifo messages are.follow (each_weaker (IsMessage n) (λ m. m.is_lost ≡ false → m.begins ≤ m.ends) (λ m is. is.down) messages are.each);
 }
@@ -52,17 +52,30 @@ unfolding lines_from line_of
 same_lines ends h are p zero = refl
 same_lines ends h are p (suc n) = rw (add-one p, sym (are p)) (ap (λ l. history_line h p ∷ l) (same_lines ends h are (suc p) n))
 
-pub possible_lines : (n : ℕ) (messages : List Named) → AreDrawn n messages → IsPossible n (chart_lines (lines_from (all_ends messages) 1 n))
-possible_lines n messages are = (h, k, legal, λ p. ap (λ c. c p) (chart-is n k h legal) ∙ ap (λ lines. chart_lines lines p) (sym (same_lines (all_ends messages) h line 1 n)))
+-- the history whose chart they are
+abbrev slots_for : List Named → ℕ
+slots_for messages = suc (length (in_turn (all_ends messages)))
+
+abbrev drawn_by : List Named → List Occurrence
+drawn_by messages = history_from [] (λ p. None) (in_turn (all_ends messages))
+
+drawn_legal : (n : ℕ) (messages : List Named) → AreDrawn n messages → IsLegal n (slots_for messages) (drawn_by messages)
+drawn_legal n messages are = history_legal n (slots_for messages) [] (λ p. None) (in_turn (all_ends messages)) (begins n messages are)
+
+drawn_lines : (n : ℕ) (messages : List Named) → AreDrawn n messages → lines_from (all_ends messages) 1 n ≡ history_lines n (drawn_by messages)
+drawn_lines n messages are = same_lines (all_ends messages) (drawn_by messages) line 1 n
   where
-    k : ℕ
-    k = suc (length (in_turn (all_ends messages)))
+    line : (p : ℕ) → chart_of (drawn_by messages) p ≡ with_ends None [] (in_turn (own_ends p (all_ends messages)))
+    line p = history_chart n (slots_for messages) [] (λ p. None) (in_turn (all_ends messages)) (begins n messages are) p ∙ ap (with_ends None []) (own_in_turn p (all_ends messages))
 
-    h : List Occurrence
-    h = history_from [] (λ p. None) (in_turn (all_ends messages))
+pub possible_lines : (n : ℕ) (messages : List Named) → AreDrawn n messages → IsPossible n (chart_lines (lines_from (all_ends messages) 1 n))
+possible_lines n messages are = (
+  drawn_by messages,
+  slots_for messages,
+  drawn_legal n messages are,
+  λ p. ap (λ c. c p) (chart-is n (slots_for messages) (drawn_by messages) (drawn_legal n messages are)) ∙ ap (λ lines. chart_lines lines p) (sym (drawn_lines n messages are)),
+)
 
-    legal : IsLegal n k h
-    legal = history_legal n k [] (λ p. None) (in_turn (all_ends messages)) (begins n messages are)
-
-    line : (p : ℕ) → chart_of h p ≡ with_ends None [] (in_turn (own_ends p (all_ends messages)))
-    line p = history_chart n k [] (λ p. None) (in_turn (all_ends messages)) (begins n messages are) p ∙ ap (with_ends None []) (own_in_turn p (all_ends messages))
+-- each event's partner is one of the instances
+pub partnered_lines : (n : ℕ) (messages : List Named) → AreDrawn n messages → HasPartners n (lines_from (all_ends messages) 1 n)
+partnered_lines n messages are = subst (HasPartners n) (sym (drawn_lines n messages are)) (lines-partnered n (slots_for messages) (drawn_by messages) (drawn_legal n messages are))

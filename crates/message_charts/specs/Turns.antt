@@ -1,6 +1,7 @@
 -- The ends of messages, and the order in which they stand on an instance's line: by their rows, and in a row the sends
 -- first, in the order of the text, and then the receives.
-use Rattle.std.specs.Prelude.{ℕ, ◌+◌, ◌*◌, true, false, ◌==◌, nat_lt, List, [], ◌∷◌, ◌++◌, filter, fold, if◌then◌else◌}
+use Rattle.std.specs.Prelude.{ℕ, ◌+◌, ◌*◌, true, false, ◌==◌, List, [], ◌∷◌, ◌++◌, filter, if◌then◌else◌}
+use Rattle.stable_order.specs.Order.{in_order_by}
 use Rattle.message_charts.specs.declared.message.Named.{Named}
 use Rattle.message_charts.specs.declared.end.End.{End}
 
@@ -25,11 +26,6 @@ all_ends (m ∷ messages) = ends_of m ++ all_ends messages
 abbrev pub own_ends : ℕ → List End → List End
 own_ends p ends = filter (λ e. e.instance == p) ends
 
--- the end among those of earlier turns, and of its own turn that stand before it
-unfoldable pub put : List End → End → List End
-put [] e = e ∷ []
-put (x ∷ xs) e = if nat_lt e.turn x.turn then e ∷ x ∷ xs else x ∷ put xs e
-
 -- the ends by their turns, those of one turn in the order of the text
-unfoldable pub in_turn : List End → List End
-in_turn ends = fold put [] ends
+abbrev pub in_turn : List End → List End
+in_turn ends = in_order_by (λ (e : End). e.turn) ends

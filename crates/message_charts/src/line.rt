@@ -1,12 +1,14 @@
 //! The lines of a chart, of the ends of its messages.
-ghost use Rattle.std.specs.Prelude.{◌≡◌, ◌<◌, ◌≤◌, ◌+◌, ◌++◌, ◌∷◌, [], length, drop, IfOk, OnOk};
-ghost use Rattle.chart.specs.Events.{greatest_region, MayHaveRegion};
+ghost use Rattle.std.specs.Prelude.{◌≡◌, ◌≢◌, ◌<◌, ◌≤◌, ◌+◌, ◌++◌, ◌∷◌, [], length, drop, IfOk, OnOk};
+ghost use Rattle.chart.specs.Events.{greatest_region, partner_of, MayHaveRegion};
 ghost use Rattle.chart.specs.Events.{region_of as chart_region_of};
+ghost use Rattle.chart.specs.declared.line.TheConstants.{MAX_EVENTS};
 ghost use Rattle.message_charts.specs.Regions.{are_together, goes_on, begins, region_of, event_of, line_of};
-ghost use Rattle.message_charts.specs.Opening.{IsOpen};
+ghost use Rattle.message_charts.specs.Opening.{HasRoom, IsOpen};
+ghost use Rattle.message_charts.specs.Turns.{own_ends};
 
 use crate::end::{End, ends_in_turn};
-use chart::{Event, InstanceNo, Line};
+use chart::{Event, InstanceNo, Line, LineError};
 use std::alloc::{AllocError, Global};
 
 /// Whether both are receives of one row.
@@ -70,12 +72,15 @@ fn event_of(end: &End, region: u32) -> Event
 
 /// One event more, which the line takes.
 fn push(line: &mut Line, event: Event) -> Result<(), AllocError>
-    requires { MayHaveRegion line.old.events (chart_region_of event) }
+    requires region { MayHaveRegion line.old.events (chart_region_of event) }
+    requires apart { partner_of event ≢ line.old.instance }
+    requires room { length line.old.events < MAX_EVENTS }
     ensures { OnOk result (line.new ≡ record line.old { events = line.old.events ++ event ∷ [] }) }
 {
     match line.push(event) {
         Ok(()) => Ok(()),
-        Err(_) => Err(AllocError),
+        Err(LineError::Memory) => Err(AllocError),
+        Err(LineError::ToItself | LineError::LineFull) => unreachable!(),
     }
 }
 
@@ -100,7 +105,8 @@ fn behind(ends: &[End], place: usize) -> &[End]
 
 /// An end goes behind the events of a line.
 fn add_end(line: &mut Line, last: Option<End>, end: &End, others: &[End]) -> Result<(), AllocError>
-    requires { IsOpen last line.old.events (end.now ∷ others.now) }
+    requires coregion { IsOpen last line.old.events (end.now ∷ others.now) }
+    requires room { HasRoom line.old.instance line.old.events (end.now ∷ others.now) }
     ensures { OnOk result (line.new ≡ record line.old {
       events = line.old.events ++ event_of end.now (region_of last (greatest_region line.old.events) end.now others.now) ∷ [];
     }) }
@@ -109,8 +115,9 @@ fn add_end(line: &mut Line, last: Option<End>, end: &End, others: &[End]) -> Res
     push(line, event_of(end, region))
 }
 
-/// The line of an instance, of the ends of all messages.
+/// The line of an instance, of the ends of all messages, for which it has room.
 pub(crate) fn line_of(alloc: Global, instance: InstanceNo, ends: &[End]) -> Result<Line, AllocError>
+    requires { HasRoom instance [] (own_ends instance ends.now) }
     ensures { IfOk result (λ line. line ≡ line_of instance ends.now) }
 {
     let in_turn = ends_in_turn(alloc, instance, ends)?;

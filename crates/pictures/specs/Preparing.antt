@@ -25,13 +25,14 @@ pub record PartView : Type 0 where
   -- what stands in its margin
   pub notes : List MarginNote
 
-abbrev pub plan_of : List (List ℕ) → List LineView → List ReportView → PartView → PlanView
-plan_of names lines reports part = record {
+-- what its columns are placed by
+abbrev pub plan_of : List (List ℕ) → List LineView → List ReportView → List ℕ → Bool → PlanView
+plan_of names lines reports drawn numbers = record {
   names = names;
   lines = lines;
   reports = reports;
-  drawn = part.drawn;
-  numbers = part.numbers;
+  drawn = drawn;
+  numbers = numbers;
 }
 
 -- the picture of a part of a chart
@@ -45,7 +46,7 @@ pub record IsPictureOf (title : List ℕ) (names : List (List ℕ)) (lines : Lis
   pub choice_is : v.choice ≡ record {
     rows = rows;
     ends = ends;
-    columns = columns_of (plan_of names lines reports part);
+    columns = columns_of (plan_of names lines reports part.drawn part.numbers);
     first = part.first;
     last = part.last;
     top = part.top;
@@ -55,4 +56,4 @@ pub record IsPictureOf (title : List ℕ) (names : List (List ℕ)) (lines : Lis
   pub count_is : v.count ≡ count_from v.choice 0 rows
   pub sends_are : v.sends ≡ filter (has_send lines) rows
   pub notes_are : v.notes ≡ part.notes
-  pub width_is : v.width ≡ with_margin (width_of (plan_of names lines reports part) v.choice.columns (length title)) part.notes
+  pub width_is : v.width ≡ with_margin (width_of (plan_of names lines reports part.drawn part.numbers) v.choice.columns (length title)) part.notes

@@ -1,12 +1,48 @@
 //! What a picture is made of.
-ghost use Rattle.std.specs.Prelude.{IfOk};
-ghost use Rattle.pictures.specs.Preparing.{IsPictureOf};
+ghost use Rattle.std.specs.Prelude.{◌≡◌, IfOk};
+ghost use Rattle.pictures.specs.Preparing.{plan_of, IsPictureOf};
 
 use crate::margin::{sends_in, with_margin};
 use crate::part::{Part, Source};
 use crate::picture::Picture;
-use picture_columns::{Choice, Plan, columns_of, places_of, width_of};
+use picture_columns::{Choice, Column, Plan, columns_of, places_of, width_of};
 use std::alloc::{AllocError, Global};
+
+/// What the columns of a part are placed by.
+fn plan_of<'a>(source: &Source<'a>, part: &Part<'a>) -> Plan<'a>
+    ensures { result ≡ plan_of source.now.names.now source.now.closure.now source.now.reports.now part.now.drawn.now part.now.numbers }
+{
+    Plan {
+        names: source.names,
+        lines: source.closure.lines(),
+        reports: source.reports,
+        drawn: part.drawn,
+        numbers: part.numbers,
+    }
+}
+
+/// Which events are drawn of a part in these columns.
+fn choice_of<'a>(source: &Source<'a>, part: &Part<'a>, columns: Vec<Column>) -> Choice<'a>
+    ensures { result ≡ record {
+      rows = source.now.layout.now;
+      ends = source.now.ends.now;
+      columns = columns.items;
+      first = part.now.first;
+      last = part.now.last;
+      top = part.now.top;
+      bottom = part.now.bottom;
+    } }
+{
+    Choice {
+        layout: source.layout,
+        ends: source.ends,
+        columns,
+        first: part.first,
+        last: part.last,
+        top: part.top,
+        bottom: part.bottom,
+    }
+}
 
 impl<'a> Picture<'a> {
     /// The picture of a part of a chart.
@@ -24,32 +60,18 @@ impl<'a> Picture<'a> {
               notes = part.entry.notes.now;
             })) }
     {
-        let lines = source.closure.lines();
-        let plan = Plan {
-            names: source.names,
-            lines,
-            reports: source.reports,
-            drawn: part.drawn,
-            numbers: part.numbers,
-        };
+        let rows = source.layout.rows();
+        let plan = plan_of(&source, &part);
         let columns = columns_of(alloc, &plan)?;
         let drawn = width_of(&plan, columns.as_slice(), source.title.len());
         let width = with_margin(drawn, part.notes);
-        let sends = sends_in(alloc, lines, source.layout.rows())?;
-        let choice = Choice {
-            layout: source.layout,
-            ends: source.ends,
-            columns,
-            first: part.first,
-            last: part.last,
-            top: part.top,
-            bottom: part.bottom,
-        };
-        let (places, count) = places_of(alloc, &choice, source.layout.rows())?;
+        let sends = sends_in(alloc, plan.lines, rows)?;
+        let choice = choice_of(&source, &part, columns);
+        let (places, count) = places_of(alloc, &choice, rows)?;
         Ok(Picture {
             title: source.title,
             names: source.names,
-            lines,
+            lines: plan.lines,
             reports: source.reports,
             choice,
             numbers: part.numbers,

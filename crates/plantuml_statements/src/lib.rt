@@ -12,5 +12,6 @@ mod said;
 mod telling;
 
 pub use look::{Block, ends_with_brace};
+pub use participant::last_place;
 pub use said::{Meaning, Reading, reading_of};
 pub use telling::{add_meaning, add_one};

@@ -31,7 +31,7 @@ pub(crate) struct Declared<'a> {
 
 /// The place where these bytes last stand.
 #[tactic(auto, unfolding(crate::specs::Participants::last_place), using(crate::proofs::PlaceLoops::later))]
-fn last_place(known: &[u8], bytes: &[u8]) -> Option<usize>
+pub fn last_place(known: &[u8], bytes: &[u8]) -> Option<usize>
     ensures value { result ≡ last_place known.now bytes.now }
     ensures within { IfSome result (λ place. place + length known.now ≤ length bytes.now) }
 {

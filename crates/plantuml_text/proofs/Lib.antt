@@ -1,4 +1,3 @@
 pub mod CommentLoops
 pub mod JointLoops
-pub mod PlaceLoops
 pub mod TextLoops

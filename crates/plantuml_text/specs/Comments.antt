@@ -4,13 +4,8 @@ use Rattle.std.specs.Prelude.{Option, None, Some, option_map, bytes_eq, nat_eq, 
 use Rattle.std.specs.List.{starts_with}
 use Rattle.line_statements.specs.Lines.{after, front_of, stripped_line}
 use Rattle.line_statements.specs.Statements.{LineView}
-use Rattle.line_statements.specs.Words.{place_of, or_else}
-
--- the place where the bytes that begin a comment last stand
-unfoldable pub last_place : List ℕ → Option ℕ
-last_place [] = None
-last_place (b ∷ bs) =
-    or_else (option_map suc (last_place bs)) (if starts_with nat_eq (b ∷ bs) (codes "/'") then Some 0 else None)
+use Rattle.line_statements.specs.Words.{place_of}
+use Rattle.plantuml_statements.specs.Participants.{last_place}
 
 -- the bytes end with those that end a comment
 unfoldable pub ends_comment : List ℕ → Bool
@@ -43,9 +38,9 @@ last_by l None = l
 last_by l (Some place) =
     if nat_lt (place + 3) (length l.words) && ends_comment l.words then front_of place l else l
 
--- a line without the comment with which it ends, which no other begins within
+-- a line without the comment with which it ends: the last that begins in it
 unfoldable pub without_last : LineView → LineView
-without_last l = last_by l (last_place l.words)
+without_last l = last_by l (last_place (codes "/'") l.words)
 
 -- a line without the comments at its ends
 unfoldable pub uncommented : LineView → LineView

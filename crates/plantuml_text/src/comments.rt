@@ -2,30 +2,10 @@
 ghost use Rattle.std.specs.Prelude.{◌≡◌, ◌≤◌, ◌<◌, ◌+◌, ◌^◌, ◌-◌, length, IfSome, drop};
 ghost use Rattle.line_statements.specs.Words.{Finds};
 ghost use Rattle.line_statements.specs.Statements.{line_view};
-ghost use Rattle.plantuml_text.specs.Comments.{last_place, ends_comment, behind_comment, behind_comments, without_last, uncommented};
+ghost use Rattle.plantuml_text.specs.Comments.{ends_comment, behind_comment, behind_comments, without_last, uncommented};
 
 use line_statements::{Line, begins_with, place_of};
-
-/// The place where the bytes that begin a comment last stand.
-#[tactic(auto, unfolding(crate::specs::Comments::last_place), using(crate::proofs::PlaceLoops::later))]
-fn last_place(bytes: &[u8]) -> Option<usize>
-    ensures value { result ≡ last_place bytes.now }
-    ensures within { IfSome result (λ place. place + 2 ≤ length bytes.now) }
-{
-    let mut last = None;
-    let mut passed = 0;
-    let mut rest = bytes;
-    'bytes: while let [_, others @ ..] = rest {
-        last = if begins_with(rest, b"/'") {
-            Some(passed)
-        } else {
-            last
-        };
-        passed += 1;
-        rest = others;
-    }
-    last
-}
+use plantuml_statements::last_place;
 
 /// Whether the bytes end with those that end a comment.
 #[tactic(auto, unfolding(crate::specs::Comments::ends_comment))]
@@ -71,7 +51,7 @@ fn without_last(line: Line<'_>) -> Line<'_>
     requires { line.column + length line.words.now < 2 ^ 64 }
     ensures { line_view result ≡ without_last (line_view line.entry) }
 {
-    match last_place(line.words) {
+    match last_place(b"/'", line.words) {
         Some(place) if place + 3 < line.words.len() && ends_comment(line.words) => line.front(
             place,
         ),

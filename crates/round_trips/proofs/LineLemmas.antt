@@ -18,7 +18,7 @@ use Rattle.diagrams.specs.Naming.{label_of, label_at, named_as, named_from}
 use Rattle.diagrams.specs.declared.left_out.LeftOut.{LeftOut}
 use Rattle.diagrams.specs.declared.message.Message.{Message}
 use Rattle.message_charts.specs.Regions.{goes_on, begins, region_of, event_of, with_ends, line_of}
-use Rattle.message_charts.specs.Turns.{send_end, receive_end, all_ends, own_ends, put, in_turn}
+use Rattle.message_charts.specs.Turns.{send_end, receive_end, all_ends, own_ends}
 use Rattle.message_charts.specs.declared.end.End.{End}
 use Rattle.message_charts.specs.declared.message.Named.{Named}
 use Rattle.mscgen_text.specs.declared.place.Place.{Place}
@@ -27,6 +27,7 @@ use Rattle.round_trips.proofs.DrawnLemmas.{Own, still_own, named_itself, message
 use Rattle.round_trips.proofs.Lists.{Each, get_seam}
 use Rattle.round_trips.proofs.MscLemmas.{Placed}
 use Rattle.round_trips.proofs.Said.{Said, Sent, Told}
+use Rattle.stable_order.specs.Order.{put_by, in_order_by}
 
 -- No message crosses another.
 
@@ -234,13 +235,16 @@ ends_on p k said = own_ends p (all_ends (named_in k said))
 abbrev Before : ℕ → List End → Type 0
 Before t ends = Each (λ (e : End). e.turn < t) ends
 
-puts_last : (t : ℕ) (ends : List End) (e : End) → Before t ends → t ≤ e.turn → put ends e ≡ ends ++ e ∷ []
-unfolding put
+abbrev turn_of : End → ℕ
+turn_of e = e.turn
+
+puts_last : (t : ℕ) (ends : List End) (e : End) → Before t ends → t ≤ e.turn → put_by turn_of ends e ≡ ends ++ e ∷ []
+unfolding put_by
 puts_last t [] e all le = refl
 puts_last t (x ∷ ends) e all le =
     let before = all.0 in
     let no_less : nat_lt e.turn x.turn ≡ false = grind (arith, nat_tests) in
-    rw no_less (ap (λ l. x ∷ l) (puts_last t ends e all.1 le))
+    subst (λ less. cond less (e ∷ x ∷ ends) (x ∷ put_by turn_of ends e) ≡ x ∷ ends ++ e ∷ []) (sym no_less) (ap (λ l. x ∷ l) (puts_last t ends e all.1 le))
 
 before_push : (t u : ℕ) (ends : List End) (e : End) → Before t ends → t ≤ u → e.turn < u → Before u (ends ++ e ∷ [])
 before_push t u [] e all le lt = (lt, tt)
@@ -251,7 +255,7 @@ before_later t u [] all le = tt
 before_later t u (x ∷ ends) all le = let one = all.0 in (omega arith, before_later t u ends all.1 le)
 
 -- they stand in turn
-stand_in_turn : (p n k : ℕ) (said : List Said) (ends : List End) → Each (IsSaid n) said → Before (2 * k) ends → fold put ends (ends_on p k said) ≡ ends ++ ends_on p k said
+stand_in_turn : (p n k : ℕ) (said : List Said) (ends : List End) → Each (IsSaid n) said → Before (2 * k) ends → fold (put_by turn_of) ends (ends_on p k said) ≡ ends ++ ends_on p k said
 unfolding all_ends
 stand_in_turn p n k [] ends all before = sym (append-nil ends)
 stand_in_turn p n k (s ∷ said) ends all before = elim (its_end p k n s all.0) [
@@ -259,8 +263,8 @@ stand_in_turn p n k (s ∷ said) ends all before = elim (its_end p k n s all.0) 
       let its = one.1 in
       let low = its.low in
       let high = its.high in
-      ap (fold put ends) (its.own (named_in (k + 1) said))
-      ∙ ap (λ l. fold put l (ends_on p (k + 1) said)) (puts_last (2 * k) ends one.0 before low)
+      ap (fold (put_by turn_of) ends) (its.own (named_in (k + 1) said))
+      ∙ ap (λ l. fold (put_by turn_of) l (ends_on p (k + 1) said)) (puts_last (2 * k) ends one.0 before low)
       ∙ stand_in_turn p n (k + 1) said (ends ++ one.0 ∷ []) all.1 (before_push (2 * k) (2 * (k + 1)) ends one.0 before (omega arith) high)
       ∙ append_assoc ends (one.0 ∷ []) (ends_on p (k + 1) said)
       ∙ ap (λ l. ends ++ l) (sym (its.own (named_in (k + 1) said)))
@@ -315,7 +319,7 @@ events_are p n k (s ∷ said) last line all past = elim (its_end p k n s all.0) 
 
 -- the line of an instance
 pub line_is : (p n : ℕ) (said : List Said) → Each (IsSaid n) said → line_of p (all_ends (named_in 0 said)) ≡ record { instance = p; events = events_on p said }
-unfolding line_of in_turn
+unfolding line_of in_order_by
 line_is p n said all =
     ap (λ l. record { instance = p; events = with_ends None [] l }) (stand_in_turn p n 0 said [] all tt)
     ∙ ap (λ l. record { instance = p; events = l }) (events_are p n 0 said None [] all tt)

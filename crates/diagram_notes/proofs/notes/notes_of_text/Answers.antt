@@ -7,8 +7,8 @@ use Rattle.margin_notes.specs.Notes.{note_view}
 use Rattle.diagram_notes.specs.Texts.{notes_read, notes_of_text}
 use Rattle.diagram_notes.proofs.notes.notes_of_text.Goals as goal
 
-pub returns : goal.returns
+pub returns-in-Ok : goal.returns-in-Ok
 unfolding notes_of_text
-returns c =
+returns-in-Ok c =
     subst (λ (read : Result DiagramView Refusal). IfOk c.notes_of.result (λ notes. map note_view notes.items ≡ notes_read c.args.tool c.args.text.now (options_view c.args.options.now) read))
     (sym c.in-Ok.ensures) c.notes_of.ensures

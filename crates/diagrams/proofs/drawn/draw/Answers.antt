@@ -1,10 +1,27 @@
-use Rattle.std.proofs.Common.{◌≡◌, Ok, length, false, ap, sym, ◌∙◌}
+use Rattle.std.proofs.Common.{◌≡◌, Ok, [], length, false, ap, sym, ◌∙◌, arith}
 use Rattle.std.proofs.lemmas.List.{length-map}
 use Rattle.diagrams.specs.Diagrams.{diagram_view, participant_view}
 use Rattle.diagrams.specs.Drawing.{drawn_view, has_no_chart}
-use Rattle.diagrams.proofs.ChartLemmas.{drawn_possible}
-use Rattle.diagrams.proofs.DrawnLemmas.{as_many_names, draw_steps}
+use Rattle.diagrams.proofs.ChartLemmas.{messages_drawn}
+use Rattle.diagrams.proofs.DrawnLemmas.{as_many_names, draw_steps, has_chart, length-names}
 use Rattle.diagrams.proofs.drawn.draw.Goals as goal
+
+pub names_of-requires : goal.names_of-requires
+names_of-requires c = omega (arith, c.len.ensures, c.deref.ensures.len, (has_chart c.len.result (sym c.has_no_chart.ensures ∙ c.if-has_no_chart.false)).1)
+
+pub drawn_of-requires-clause-several : goal.drawn_of-requires-clause-several
+drawn_of-requires-clause-several c =
+    let d = diagram_view c.args.diagram in
+    let names = rw c.deref.ensures.value at c.in_ok-names.ensures in
+    omega (arith, ap length names, length-names [] d.participants, length-map c.args.diagram.participants.items participant_view, ap length c.deref.ensures.value, c.len.ensures, c.deref.ensures.len, (has_chart c.len.result (sym c.has_no_chart.ensures ∙ c.if-has_no_chart.false)).0)
+
+pub drawn_of-requires-clause-drawn : goal.drawn_of-requires-clause-drawn
+drawn_of-requires-clause-drawn c =
+    let d = diagram_view c.args.diagram in
+    let collected = rw c.deref-2.ensures.value at c.in_ok-collect.ensures in
+    let parts = c.into_parts-messages.ensures in
+    let stay = rw (c.deref-3.ensures.value, parts.messages, parts.left_out, parts.fault) at c.in_ok-messages.ensures in
+    rw (c.deref-5.ensures.value, c.deref-6.ensures.value) (messages_drawn c.in_ok-names.names d.items d.left_out c.in_ok-collect.field-0 (c.in_ok-messages.messages.items, c.staying.new.left_out.items) collected stay)
 
 pub returns-clause-drawn : goal.returns-clause-drawn
 returns-clause-drawn c =
@@ -16,12 +33,9 @@ returns-clause-drawn c =
     let collected = rw c.deref-2.ensures.value at c.in_ok-collect.ensures in
     let parts = c.into_parts-messages.ensures in
     let stay = rw (c.deref-3.ensures.value, parts.messages, parts.left_out, parts.fault) at c.in_ok-messages.ensures in
-    let drawn = rw (c.deref-4.ensures.value, c.deref-5.ensures.value, c.deref-6.ensures.value) at c.in_ok-drawn.ensures in
+    let drawn = rw (c.deref-4.ensures.value, c.deref-5.ensures.value, c.deref-6.ensures.value) at c.in_ok-drawn.ensures.drawn in
     draw_steps d c.in_ok-names.names c.in_ok-collect.field-0 (c.in_ok-messages.messages.items, c.staying.new.left_out.items) several names collected stay
     ∙ ap Ok (sym drawn)
 
-pub returns-clause-possible : goal.returns-clause-possible
-returns-clause-possible c = drawn_possible (diagram_view c.args.diagram) (drawn_view c.in_ok-drawn.drawn) (returns-clause-drawn c)
-
 pub returns-clause-named : goal.returns-clause-named
-returns-clause-named c = as_many_names (drawn_view c.in_ok-drawn.drawn) _ _ _ _ c.in_ok-drawn.ensures
+returns-clause-named c = as_many_names (drawn_view c.in_ok-drawn.drawn) _ _ _ _ c.in_ok-drawn.ensures.drawn

@@ -3,17 +3,24 @@ use Rattle.chart.specs.Charts.{LineView}
 use Rattle.chart.specs.Events.{greatest_region}
 use Rattle.message_charts.specs.Regions.{with_ends, line_of, event_of, region_of}
 use Rattle.message_charts.proofs.LineLemmas.{open_none, end_here, line_more, open_more, line_end, whole_line}
+use Rattle.message_charts.proofs.RoomLemmas.{room_in_turn, room_here, room_more}
 use Rattle.message_charts.proofs.line.line_of.Goals as goal
 
-pub add_end-requires : goal.add_end-requires
-add_end-requires c =
+pub add_end-requires-clause-coregion : goal.add_end-requires-clause-coregion
+add_end-requires-clause-coregion c =
     rw c.behind-others.ensures (end_here c.as_slice-own.result.now c.loop-place.place c.index-own-place.result c.loop-place.last c.loop-place.line.events
     c.loop-place-test.true c.index-own-place.is c.loop-place.invariant.is_open)
+
+pub add_end-requires-clause-room : goal.add_end-requires-clause-room
+add_end-requires-clause-room c =
+    rw (c.behind-others.ensures, c.loop-place.invariant.instance) (room_here c.args.instance c.loop-place.line.events c.as_slice-own.result.now c.loop-place.place c.index-own-place.result
+    c.loop-place-test.true c.index-own-place.is c.loop-place.invariant.room)
 
 pub loop-place-init : goal.loop-place-init
 loop-place-init c = record {
   instance = ap (λ (l : LineView). l.instance) c.new-line.ensures;
   is_open = rw c.new-line.ensures (open_none c.as_slice-own.result.now);
+  room = rw (c.new-line.ensures, c.as_slice-own.ensures.value, c.in_ok-in_turn.ensures) (room_in_turn c.args.instance _ c.requires);
   so_far = rw c.new-line.ensures refl;
 }
 
@@ -30,6 +37,7 @@ loop-place-preserved c =
     record {
       instance = ap (λ (l : LineView). l.instance) more ∙ c.loop-place.invariant.instance;
       is_open = open_more c.loop-place.last line.events _ own c.loop-place.place e is_open events;
+      room = room_more c.args.instance line.events _ _ e others (room_here c.args.instance line.events own c.loop-place.place e c.loop-place-test.true c.index-own-place.is c.loop-place.invariant.room) events;
       so_far = line_more c.loop-place.last line.events _ own c.loop-place.place e c.loop-place-test.true c.index-own-place.is events ∙ c.loop-place.invariant.so_far;
     }
 

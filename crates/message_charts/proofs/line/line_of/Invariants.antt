@@ -1,5 +1,5 @@
 use Rattle.std.proofs.Common.{◌≡◌, [], None, drop}
-use Rattle.message_charts.specs.Opening.{IsOpen}
+use Rattle.message_charts.specs.Opening.{HasRoom, IsOpen}
 use Rattle.message_charts.specs.Regions.{with_ends}
 use Rattle.message_charts.proofs.line.line_of.Given as goal
 
@@ -7,5 +7,6 @@ abbrev pub invariant-loop-place : goal.invariant-loop-place
 invariant-loop-place l = record {
   instance : l.line.instance ≡ l.fn.instance;
   is_open : IsOpen l.last l.line.events (drop l.place l.own);
+  room : HasRoom l.fn.instance l.line.events (drop l.place l.own);
   so_far : with_ends l.last l.line.events (drop l.place l.own) ≡ with_ends None [] l.own;
 }

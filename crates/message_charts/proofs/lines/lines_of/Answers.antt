@@ -1,4 +1,4 @@
-use Rattle.std.proofs.Common.{sym, ◌∙◌, ap}
+use Rattle.std.proofs.Common.{suc, sym, ◌∙◌, ap, add-one}
 use Rattle.message_charts.specs.Regions.{line_of}
 use Rattle.message_charts.proofs.LinesLemmas.{lines_more, lines_end}
 use Rattle.message_charts.proofs.lines.lines_of.Goals as goal
@@ -6,7 +6,7 @@ use Rattle.message_charts.proofs.lines.lines_of.Goals as goal
 pub loop-place-preserved : goal.loop-place-preserved
 loop-place-preserved c =
     lines_more c.args.ends.now c.loop-place.place c.args.count _ _ c.in_ok-line_of.field-0 c.loop-place-test.true
-    (c.in_ok-line_of.ensures ∙ ap (λ p. line_of p c.args.ends.now) c.in-Some.ensures.1) c.in_ok-push.ensures.items
+    (c.in_ok-line_of.ensures ∙ ap (λ p. line_of p c.args.ends.now) (c.at_place.ensures ∙ sym (add-one c.loop-place.place))) c.in_ok-push.ensures.items
     ∙ c.loop-place.invariant
 
 pub returns : goal.returns
