@@ -5,9 +5,8 @@ ghost use Rattle.board.specs.Meeting.{AreOfOneBoard};
 use crate::load::{Load, events_of};
 use crate::timing::nanoseconds_since;
 use anyhow::bail;
-use behaviour::Act;
+use behaviour::{Act, BareAct};
 use board::{Board, Post, SendError, Taken, gather};
-use schedule::Action;
 use std::alloc::Global;
 use std::thread;
 use std::thread::Threads;
@@ -26,10 +25,10 @@ enum Tried {
 }
 
 /// Tries an act, with an empty body.
-fn try_act(alloc: Global, post: &mut Post, act: &Action) -> Tried
+fn try_act(alloc: Global, post: &mut Post, act: &BareAct) -> Tried
     ensures { post.new.board ≡ post.old.board }
 {
-    match Act::of(alloc, act) {
+    match act.with_empty_body(alloc) {
         Act::Send(to, message) => match post.send(to, message) {
             Ok(_) => Tried::Done,
             Err((_message, error)) => {
@@ -50,7 +49,7 @@ fn try_act(alloc: Global, post: &mut Post, act: &Action) -> Tried
 }
 
 /// Does an act, as soon as it can be done. Answers whether it was.
-fn do_act(alloc: Global, post: &mut Post, act: &Action) -> bool
+fn do_act(alloc: Global, post: &mut Post, act: &BareAct) -> bool
     ensures { post.new.board ≡ post.old.board }
 {
     for _ in 0..LOOKS {
@@ -64,7 +63,7 @@ fn do_act(alloc: Global, post: &mut Post, act: &Action) -> bool
 }
 
 /// Does the acts of the post's instance, up to one that is refused.
-fn do_all<'a>(alloc: Global, mut post: Post<'a>, lists: &[Vec<Action>]) -> Post<'a>
+fn do_all<'a>(alloc: Global, mut post: Post<'a>, lists: &[Vec<BareAct>]) -> Post<'a>
     ensures { result.board ≡ post.entry.board }
 {
     if let Some(acts) = lists.get(post.number().place()) {
@@ -78,7 +77,7 @@ fn do_all<'a>(alloc: Global, mut post: Post<'a>, lists: &[Vec<Action>]) -> Post<
 }
 
 /// The acts of each instance.
-fn lists(alloc: Global, load: Load) -> anyhow::Result<Vec<Vec<Action>>> {
+fn lists(alloc: Global, load: Load) -> anyhow::Result<Vec<Vec<BareAct>>> {
     let mut lists = Vec::new(alloc);
     for place in 0..load.instances {
         lists.push(load.acts(alloc, place)?)?;
@@ -101,7 +100,7 @@ fn time_lists<R: Threads + Sync + Clock>(
     rt: &R,
     alloc: Global,
     posts: Vec<Post>,
-    lists: &[Vec<Action>],
+    lists: &[Vec<BareAct>],
     events: usize,
 ) -> anyhow::Result<u64>
     requires { AreOfOneBoard posts.items }
