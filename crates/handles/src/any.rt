@@ -1,11 +1,14 @@
 //! Receives from whichever instance has a message, by a post that borrows nothing.
-ghost use Rattle.std.specs.Prelude.{◌≤◌, length};
+ghost use Rattle.std.specs.Prelude.{◌≤◌};
+ghost use Rattle.chart.specs.Scans.{scan};
 ghost use Rattle.board.specs.Views.{Sound};
 ghost use Rattle.board.specs.Parked.{IsAtBoard};
-ghost use Rattle.board.specs.Glancing.{others};
-ghost use Rattle.mailbox.specs.TakingAny.{TakesFirst, LooksAtAll, TakesAny};
+ghost use Rattle.board.specs.Taking.{Takes};
+ghost use Rattle.board.specs.Glancing.{GlancesAmong};
+ghost use Rattle.mailbox.specs.TakingAny.{TakesAny};
 
 use board::{Parked, Scan, TakeError, Taken, Words};
+use chart::InstanceNo;
 
 /// Receives the first message that waits on the lanes to a post, which are looked at in cyclic order after the lane
 /// from the instance of this number, 0 for none, as [`mailbox::any_from`] does.
@@ -16,31 +19,41 @@ pub(crate) fn any_after(post: &mut Parked, words: &Words, last: usize) -> Result
     ensures answer { TakesAny post.old last result post.new }
 {
     let size = post.board_size();
-    match any_among(post, words, last, size)? {
-        Taken::Got(arrival) => Ok(Taken::Got(arrival)),
-        Taken::Ended => any_among(post, words, 0, last),
-        Taken::Nothing => match any_among(post, words, 0, last)? {
-            Taken::Ended => Ok(Taken::Nothing),
-            taken => Ok(taken),
+    prove!(last <= size);
+    match scan_after(post, words, last) {
+        Scan::Message(other) => receive_found(post, words, other),
+        Scan::Nothing => Ok(Taken::Nothing),
+        Scan::Ended => Ok(Taken::Ended),
+    }
+}
+
+/// Whether a message waits on one of the lanes to a post, which it looks at in cyclic order after the instance of this
+/// number, until it finds one.
+fn scan_after(post: &mut Parked, words: &Words, last: usize) -> Scan
+    requires known { last ≤ post.old.board.size }
+    requires board { IsAtBoard words.now.key words.now.table_id post.old }
+    ensures sound { Sound post.old post.new }
+    ensures answer { GlancesAmong post.old (scan post.old.board.size post.old.number last) result post.new }
+{
+    let size = post.board_size();
+    match post.glance_among(words, last, size) {
+        Scan::Message(other) => Scan::Message(other),
+        Scan::Ended => post.glance_among(words, 0, last),
+        Scan::Nothing => match post.glance_among(words, 0, last) {
+            Scan::Message(other) => Scan::Message(other),
+            Scan::Nothing => Scan::Nothing,
+            Scan::Ended => Scan::Nothing,
         },
     }
 }
 
-/// Receives the first message that waits on the lanes from the others among the instances with a number above `from`
-/// and up to `to`.
-fn any_among(post: &mut Parked, words: &Words, from: usize, to: usize) -> Result<Taken, TakeError>
-    requires order { from ≤ to }
-    requires within { to ≤ post.old.board.size }
+/// Receives the message that was found on the lane from this instance. It stands apart, so a scan that finds none makes
+/// nothing that a receive needs.
+#[inline(never)]
+fn receive_found(post: &mut Parked, words: &Words, from: InstanceNo) -> Result<Taken, TakeError>
     requires board { IsAtBoard words.now.key words.now.table_id post.old }
     ensures sound { Sound post.old post.new }
-    ensures answer { TakesFirst post.old (others post.old.number from to) result post.new }
-    ensures looks { LooksAtAll (length (others post.old.number from to)) post.old result post.new }
+    ensures answer { Takes post.old from result post.new }
 {
-    let size = post.board_size();
-    prove!(to <= size);
-    match post.glance_among(words, from, to) {
-        Scan::Message(other) => post.receive(words, other),
-        Scan::Nothing => Ok(Taken::Nothing),
-        Scan::Ended => Ok(Taken::Ended),
-    }
+    post.receive(words, from)
 }
