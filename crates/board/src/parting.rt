@@ -18,7 +18,7 @@ use crate::meeting::place_of;
 use crate::parked::Parked;
 use crate::post::Post;
 use board_table::{Lane, Seat, Words, draw, leave};
-use chart::{InstanceNo, Line, Message, Report};
+use chart::{MAX_EVENTS, InstanceNo, Line, Message, Report};
 
 /// Room for the messages of a lane that wait.
 #[derive(Drop)]
@@ -60,7 +60,8 @@ impl Parked {
             ..
         } = self;
         leave(words, &mut seat);
-        let (line, reports) = recorder.into_parts();
+        let Ok(events) = Vec::with_capacity(recorder.alloc(), MAX_EVENTS) else { unreachable!() };
+        let (line, reports) = recorder.into_parts(events);
         (line, reports, Leaver { number, seat })
     }
 }

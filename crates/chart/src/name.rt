@@ -170,6 +170,7 @@ impl PartialEq for Name {
 
     ghost laws = { partial_equiv_from_equiv nat_list_eq_equiv };
 
+    #[inline(always)]
     fn eq(&self, other: &Name) -> bool {
         self.bytes == other.bytes
     }
