@@ -34,11 +34,12 @@ fn races_start(line: &GrowingLine, index: usize, region: u32) -> usize
     ensures { (sender : ℕ) → IsRace line.now.line.events sender region index
         → AreRaces line.now.line.events result index sender region }
 {
-    if region == 0 && line.is_receive(index - 1) {
-        line.run_start(index)
-    } else {
-        index - 1
+    if region == 0 {
+        if line.is_receive(index - 1) {
+            return line.run_start(index);
+        }
     }
+    index - 1
 }
 
 /// What the events are that end with the one of this index.
