@@ -24,6 +24,7 @@ pub mod ReportLists
 pub mod Reports
 pub mod Rising
 pub mod Runs
+pub mod SameBytes
 pub mod Scans
 pub mod Sends
 pub mod Steps

@@ -33,10 +33,10 @@ mod report;
 
 pub use chart::{Chart, LinesError};
 pub use event::Event;
+pub use growing_line::GrowingLine;
 pub use history::MAX_CAPACITY;
 pub use instance::{EventNo, InstanceNo, MAX_INSTANCES};
 pub use keyword::Keyword;
-pub use growing_line::GrowingLine;
 pub use line::{Line, LineError, MAX_EVENTS};
 pub use message::{MAX_BODY, Message};
 pub use name::{MAX_NAME, Name, NameError};

@@ -12,9 +12,7 @@ ghost use Rattle.chart.specs.Ranges.{IsRange, events_of, events_in};
 ghost use Rattle.chart.specs.declared.line.TheConstants.{MAX_EVENTS};
 ghost use Rattle.online_races.specs.Passing.{IsRace, AreRaces, IsStretch, HasFound};
 
-use chart::{
-    EventNo, EventRange, EventRanges, GrowingLine, InstanceNo, Line, RangesBuilder,
-};
+use chart::{EventNo, EventRange, EventRanges, GrowingLine, InstanceNo, Line, RangesBuilder};
 use std::alloc::{AllocError, Global};
 
 /// Neighbouring events of a line that end with one event: all but the first so many, up to it.
