@@ -1,6 +1,7 @@
 -- What a gathering has in hand before its posts meet (this project's profile).
-use Rattle.std.specs.Prelude.{◌≡◌, ℕ, ◌≤◌, List, [], length, vec_capacity}
+use Rattle.std.specs.Prelude.{◌≡◌, ℕ, ◌≤◌, List, [], length, vec_capacity, All}
 use Rattle.chart.specs.declared.history.Occurrence.{Occurrence}
+use Rattle.chart.specs.declared.line.TheConstants.{MAX_EVENTS}
 use Rattle.board.specs.declared.gathering.Provision.{Provision}
 use Rattle.board.specs.Views.{PostView}
 use Rattle.board.specs.Gathering.{AreJoint, all_lanes}
@@ -9,6 +10,7 @@ use Rattle.board.specs.Parting.{AreOf, HaveRooms, AreClosed, receives_until}
 -- there is room for the lines and the reports of n instances, by whatever history their posts have in common, and for
 -- what waits on each of their lanes; and there are the lanes that were closed
 pub record IsProvision (n : ℕ) (posts : List PostView) (it : Provision) : Type 0 where
+  pub own_events : (length it.own_events.items ≡ n) × All (λ events. (events.items ≡ []) × (MAX_EVENTS ≤ vec_capacity events)) it.own_events.items
   pub lines : it.lines.items ≡ []
   pub reports : it.reports.items ≡ []
   pub leavers : it.leavers.items ≡ []

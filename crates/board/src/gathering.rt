@@ -1,6 +1,7 @@
 //! How a whole board is gathered.
 
-ghost use Rattle.std.specs.Prelude.{◌≡◌, ◌≤◌, IfOk, length};
+ghost use Rattle.std.specs.Prelude.{◌≡◌, ◌≤◌, [], IfOk, All, length, vec_capacity};
+ghost use Rattle.chart.specs.declared.line.TheConstants.{MAX_EVENTS};
 ghost use Rattle.chart.specs.declared.history.Occurrence.{Occurrence};
 ghost use Rattle.chart.specs.declared.instance.TheConstants.{MAX_INSTANCES};
 ghost use Rattle.chart.specs.Charts.{HasPartners, IsNumbered};
@@ -15,7 +16,7 @@ use crate::parting::{Leaver, Room, draw_lanes, part_all};
 use crate::post::Post;
 use crate::reserving::{count_receives, make_rooms};
 use board_table::Words;
-use chart::{Chart, InstanceNo, Line, Message, Report};
+use chart::{Chart, Event, InstanceNo, Line, MAX_EVENTS, Message, Report};
 use std::alloc::{AllocError, Global};
 
 /// What a whole board came to.
@@ -56,6 +57,8 @@ pub struct GatherError<'a> {
 /// Room for all that a board comes to.
 #[derive(Drop)]
 pub(crate) struct Provision {
+    /// For each instance a list for the events of its line.
+    pub own_events: Vec<Vec<Event>>,
     pub lines: Vec<Line>,
     pub reports: Vec<Report>,
     pub leavers: Vec<Leaver>,
@@ -73,6 +76,20 @@ impl<'a> Post<'a> {
     }
 }
 
+/// A list for the events of each line, so many lines.
+///
+/// F6: it fails only where there is no memory.
+fn make_own_events(alloc: Global, instances: usize) -> Result<Vec<Vec<Event>>, AllocError>
+    ensures { IfOk result (λ lists. (length lists.items ≡ instances)
+        × All (λ events. (events.items ≡ []) × (MAX_EVENTS ≤ vec_capacity events)) lists.items) }
+{
+    let mut lists = Vec::with_capacity(alloc, instances)?;
+    for _ in 0..instances {
+        lists.push(Vec::with_capacity(alloc, MAX_EVENTS)?)?;
+    }
+    Ok(lists)
+}
+
 /// Makes room for all that a board comes to. F6: it fails only where there is no memory.
 fn make_provision(alloc: Global, posts: &[Post]) -> Result<Provision, AllocError>
     requires board { AreOfOneBoard posts.now }
@@ -84,6 +101,7 @@ fn make_provision(alloc: Global, posts: &[Post]) -> Result<Provision, AllocError
     let rooms = make_rooms(alloc, posts, instances)?;
     let closed = find_closed(alloc, posts, instances)?;
     Ok(Provision {
+        own_events: make_own_events(alloc, instances)?,
         lines: Vec::with_capacity(alloc, instances)?,
         reports: Vec::with_capacity(alloc, receives)?,
         leavers: Vec::with_capacity(alloc, instances)?,
@@ -114,6 +132,7 @@ fn gather_all(posts: Vec<Post>, provision: Provision) -> Gathered
     ensures { IsWhole posts.entry.items result }
 {
     let Provision {
+        own_events,
         lines,
         reports,
         leavers,
@@ -129,7 +148,14 @@ fn gather_all(posts: Vec<Post>, provision: Provision) -> Gathered
     let instances = posts[0].board_size();
     let words = posts[0].words();
     meet(&mut posts);
-    part_all(posts, instances, &mut lines, &mut reports, &mut leavers);
+    part_all(
+        posts,
+        instances,
+        own_events,
+        &mut lines,
+        &mut reports,
+        &mut leavers,
+    );
     draw_lanes(words, &mut leavers, rooms, &mut left);
     Gathered {
         chart: whole_chart(lines),
