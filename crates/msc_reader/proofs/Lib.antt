@@ -1,4 +1,6 @@
+pub mod Ahead
 pub mod ChartPaths
+pub mod EventLines
 pub mod EventPaths
 pub mod Coregions
 pub mod Builders
@@ -6,6 +8,7 @@ pub mod Found
 pub mod LastWords
 pub mod Looks
 pub mod Moves
+pub mod OneLook
 pub mod Onward
 pub mod Paths
 pub mod Sayings

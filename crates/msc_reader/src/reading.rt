@@ -1,18 +1,21 @@
-//! Charts' texts, read whole: two looks at their lines.
-ghost use Rattle.std.specs.Prelude.{◌≡◌, ℕ, List, [], Ok, IfOk};
+//! Charts' texts, read whole.
+ghost use Rattle.std.specs.Prelude.{◌≡◌, ℕ, ◌+◌, ◌<◌, ◌^◌, List, [], length, Ok, IfOk};
 ghost use Rattle.chart.specs.Charts.{LineView, IsNumbered};
 ghost use Rattle.msc_text.specs.ChartText.{chart_text};
 ghost use Rattle.msc_text.specs.Faults.{Gives, in_line};
 ghost use Rattle.msc_text.specs.Lines.{lines_of, end_of};
 ghost use Rattle.msc_reader.specs.HasText.{HasText};
-ghost use Rattle.msc_reader.specs.Reading.{names_after, finished, names_in, lines_in, are_read, chart_of};
+ghost use Rattle.msc_reader.specs.Reading.{names_after, finished, look_from, are_read, chart_of};
 
+use crate::ahead::names_ahead;
 use crate::builder::Builder;
+use crate::event_line::event_in;
 use crate::state::{Saying, State};
 use crate::step::step_in;
 use chart::{Chart, Line, Names};
-use msc_text::{Cause, Fault, TextError, add_name, at_line, fault_at, next_line};
+use msc_text::{Cause, Fault, TextError, add_name, at_line, fault_at};
 use std::alloc::Global;
+use text_reading::{Guesses, next_line};
 
 /// The names with what one more line says. F22 and F8 refuse an instance, and F8 an end.
 fn add_names(number: u64, names: &mut Names, saying: Saying) -> Result<(), TextError>
@@ -36,14 +39,16 @@ fn finish(number: u64, names: Names, state: State, rest: &[u8]) -> Result<Names,
     }
 }
 
-/// The first look: the names of the instances, or the first fault of a line by itself and those before it.
-fn names_in(alloc: Global, bytes: &[u8]) -> Result<Names, TextError>
-    ensures { Gives (λ n. n) result (names_in bytes.now) }
+/// The names with those of the lines that are left, from this number on, or the first fault of one of them by itself and
+/// those before it.
+fn names_from(names: Names, state: State, number: u64, bytes: &[u8]) -> Result<Names, TextError>
+    requires { number + length bytes.now < 2 ^ 64 }
+    ensures { Gives (λ n. n) result (look_from names state number (lines_of bytes.now) (end_of bytes.now)) }
 {
-    let mut names = Names::new(alloc);
-    let mut state = State::Start;
+    let mut names = names;
+    let mut state = state;
     let mut rest = bytes;
-    let mut number = 1;
+    let mut number = number;
     'lines: loop {
         match next_line(rest) {
             None => return finish(number, names, state, rest),
@@ -58,40 +63,46 @@ fn names_in(alloc: Global, bytes: &[u8]) -> Result<Names, TextError>
     }
 }
 
-/// The second look, at a text of which the first look found these names: the lines of the instances, or the first line
-/// whose partner is no instance.
-fn lines_in(alloc: Global, names: &Names, bytes: &[u8]) -> Result<Vec<Line>, TextError>
-    requires { names_in bytes.now ≡ Ok names.now }
-    ensures lines { Gives (λ l. l.items) result (lines_in names.now bytes.now) }
-    ensures numbered { IfOk result (λ l. IsNumbered l.items) }
+/// The names of the instances and their lines. Both are read at one look, in which an event whose partner is no instance
+/// is the text's fault only where none comes behind it.
+fn parts_in(alloc: Global, bytes: &[u8]) -> Result<(Names, Vec<Line>), TextError>
+    ensures parts { Gives (λ parts. (parts.0, parts.1.items)) result (chart_of bytes.now) }
+    ensures numbered { IfOk result (λ parts. IsNumbered parts.1.items) }
 {
+    let known = names_ahead(alloc, bytes)?;
+    let mut guesses = Guesses::new();
+    let mut names = Names::new(alloc);
     let mut builder = Builder::new(alloc);
     let mut state = State::Start;
     let mut rest = bytes;
     let mut number = 1;
     'lines: loop {
-        match next_line(rest) {
-            None => return Ok(builder.into_lines()),
-            Some((line, after)) => {
-                let (saying, next) = at_line(number, step_in(state, line))?;
-                builder = builder.with(alloc, names, number, saying)?;
+        let Some((line, after)) = next_line(rest) else {
+            let names = finish(number, names, state, rest)?;
+            return Ok((names, builder.into_lines()));
+        };
+        match event_in(&known, &mut guesses, state, builder.open_region(), line) {
+            Some((event, next)) => {
+                builder = builder.with_event(event)?;
                 state = next;
-                rest = after;
-                number += 1;
+            }
+            None => {
+                let (saying, next) = at_line(number, step_in(state, line))?;
+                add_names(number, &mut names, saying)?;
+                match builder.with(alloc, &known, number, saying) {
+                    Ok(more) => builder = more,
+                    Err(TextError::Memory) => return Err(TextError::Memory),
+                    Err(error) => {
+                        names_from(names, next, number + 1, after)?;
+                        return Err(error);
+                    }
+                }
+                state = next;
             }
         }
+        rest = after;
+        number += 1;
     }
-}
-
-/// Both looks.
-#[tactic(auto, unfolding(crate::specs::Reading::chart_of))]
-fn parts_in(alloc: Global, bytes: &[u8]) -> Result<(Names, Vec<Line>), TextError>
-    ensures parts { Gives (λ parts. (parts.0, parts.1.items)) result (chart_of bytes.now) }
-    ensures numbered { IfOk result (λ parts. IsNumbered parts.1.items) }
-{
-    let names = names_in(alloc, bytes)?;
-    let lines = lines_in(alloc, &names, bytes)?;
-    Ok((names, lines))
 }
 
 /// The names and the chart that the text says, or its first fault. It takes time in proportion to the text.

@@ -29,10 +29,10 @@ use Rattle.msc_text.proofs.Spacing.{IsPlain, ArePlain, plain_name, spaced_again,
 first_empty : (x : Bool) → x ≡ false → (x || false) ≡ false
 first_empty x a = rw a refl
 
-not_empty_three : (x y : Bool) → x ≡ false → y ≡ false → (x || y) ≡ false
+pub not_empty_three : (x y : Bool) → x ≡ false → y ≡ false → (x || y) ≡ false
 not_empty_three x y a b = rw (a, b) refl
 
-not_empty_four : (x y z w : Bool) → x ≡ false → y ≡ false → z ≡ false → w ≡ true → (x || y || z || not w) ≡ false
+pub not_empty_four : (x y z w : Bool) → x ≡ false → y ≡ false → z ≡ false → w ≡ true → (x || y || z || not w) ≡ false
 not_empty_four x y z w a b c d = rw (a, b, c, d) refl
 
 -- ---- names of instances

@@ -6,8 +6,8 @@ pub mod Commands
 pub mod CommandsAgain
 pub mod FirstFault
 pub mod InstanceLine
+pub mod KnownLines
 pub mod Legal
-pub mod NamedWords
 pub mod Numbers
 pub mod PlainWords
 pub mod Read

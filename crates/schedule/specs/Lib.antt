@@ -10,8 +10,8 @@ pub use Rattle.msc_text.specs.Lines
 pub mod ActionLines
 pub mod FirstLines
 pub mod Keywords
+pub mod KnownLines
 pub mod Meaning
-pub mod NamedWords
 pub mod Plans
 pub mod Reading
 pub mod ScheduleText

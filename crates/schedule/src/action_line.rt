@@ -4,10 +4,11 @@ ghost use Rattle.schedule.specs.ActionLines.{both_of, partners_of, send_of, rece
 ghost use Rattle.schedule.specs.ActionLines.{by_three, action_of};
 
 use crate::command::Action;
-use crate::guesses::Guesses;
 use crate::keyword::ScheduleWord;
+use crate::known_line::known_action;
 use chart::{InstanceNo, Name, Names};
 use msc_text::{Cause, Words, known_in, name_in, words_in};
+use text_reading::Guesses;
 
 /// Two instances that were found, or the first one's F23, and F13 where they are the same.
 fn read_pair(
@@ -34,8 +35,8 @@ fn read_partners(
 ) -> Result<(InstanceNo, InstanceNo), Cause>
     ensures { result ≡ partners_of names.now actor.now partner.now }
 {
-    let actor = guesses.named(names, actor)?;
-    let partner = guesses.named(names, partner)?;
+    let actor = guesses.instance(names, actor)?;
+    let partner = guesses.instance(names, partner)?;
     read_pair(actor, partner)
 }
 
@@ -50,9 +51,9 @@ fn read_send(
 ) -> Result<(InstanceNo, Action), Cause>
     ensures { result ≡ send_of names.now actor.now partner.now message.now }
 {
-    let actor = guesses.named(names, actor)?;
-    let partner = guesses.named(names, partner)?;
-    let name = name_in(message)?;
+    let actor = guesses.instance(names, actor)?;
+    let partner = guesses.instance(names, partner)?;
+    let name = guesses.name(message)?;
     let (actor, to) = read_pair(actor, partner)?;
     Ok((actor, Action::Send { to, name }))
 }
@@ -132,9 +133,9 @@ fn by_three(
     Err(Cause::Syntax)
 }
 
-/// What a command's line says, or the first of its faults.
+/// What a command's line says, or the first of its faults, word by word.
 #[tactic(auto, unfolding(crate::specs::ActionLines::action_of))]
-pub(crate) fn read_action(
+fn read_words(
     names: &Names,
     guesses: &mut Guesses,
     line: &[u8],
@@ -154,5 +155,19 @@ pub(crate) fn read_action(
             read_send(names, guesses, actor, partner, message)
         }
         _ => Err(Cause::Syntax),
+    }
+}
+
+/// What a command's line says, or the first of its faults.
+pub(crate) fn read_action(
+    names: &Names,
+    guesses: &mut Guesses,
+    line: &[u8],
+) -> Result<(InstanceNo, Action), Cause>
+    ensures { result ≡ action_of names.now line.now }
+{
+    match known_action(names, guesses, line) {
+        Some(found) => Ok(found),
+        None => read_words(names, guesses, line),
     }
 }

@@ -12,8 +12,8 @@
 mod action_line;
 mod command;
 mod first_lines;
-mod guesses;
 mod keyword;
+mod known_line;
 pub mod laws;
 mod reading;
 mod schedule;

@@ -9,11 +9,11 @@ ghost use Rattle.schedule.specs.ScheduleText.{schedule_text, HasText};
 use crate::action_line::read_action;
 use crate::command::Command;
 use crate::first_lines::{capacity_in, names_in};
-use crate::guesses::Guesses;
 use crate::schedule::{Capacity, Schedule};
 use chart::Names;
-use msc_text::{Fault, TextError, at_line, next_line};
+use msc_text::{Fault, TextError, at_line};
 use std::alloc::Global;
+use text_reading::{Guesses, next_line};
 
 /// The next line, and what follows it, or F21.
 fn next_in(bytes: &[u8]) -> Result<(&[u8], &[u8]), TextError>

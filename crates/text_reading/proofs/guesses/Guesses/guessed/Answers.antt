@@ -1,7 +1,7 @@
 use Rattle.std.proofs.Common.{◌∙◌, sym}
 use Rattle.msc_text.proofs.Results.{name_again}
-use Rattle.schedule.proofs.NamedWords.{found_at}
-use Rattle.schedule.proofs.guesses.Guesses.guessed.Goals as goal
+use Rattle.text_reading.proofs.NamedWords.{found_at}
+use Rattle.text_reading.proofs.guesses.Guesses.guessed.Goals as goal
 
 pub returns-in-Some : goal.returns-in-Some
 returns-in-Some c = (
