@@ -1,7 +1,9 @@
 -- What the line of an event says, and that it is built.
-use Rattle.std.proofs.Common.{◌≡◌, ℕ, ◌+◌, ◌<◌, true, List, [], ◌∷◌, ◌++◌, Option, Some, None, Ok, inl, inr, ◌⊎◌, refl, sym, ap, ◌∙◌, subst}
+use Rattle.std.proofs.Common.{◌≡◌, ℕ, ◌+◌, ◌<◌, true, List, [], ◌∷◌, ◌++◌, Option, Some, None, Result, Ok, Err, inl, inr, ◌⊎◌, refl, sym, ap, ◌∙◌, subst}
 use Rattle.std.specs.List.{join_with_byte}
+use Rattle.std.specs.Prelude.{codes}
 use Rattle.chart.specs.Events.{partner_of, region_of}
+use Rattle.chart.specs.Keywords.{spelled}
 use Rattle.chart.specs.Names.{IsName, instance_of}
 use Rattle.chart.specs.declared.event.Event.{Event}
 use Rattle.chart.specs.declared.event.Event.TheVariants as line_events
@@ -9,12 +11,15 @@ use Rattle.chart.specs.declared.keyword.Keyword.TheVariants as keywords
 use Rattle.chart.specs.declared.line.TheConstants.{MAX_EVENTS}
 use Rattle.msc_text.specs.ChartText.{name_at}
 use Rattle.msc_text.specs.Instances.{known, known_of}
-use Rattle.msc_text.specs.Lines.{words_of}
+use Rattle.msc_text.specs.Lines.{words_of, name_or_cause}
+use Rattle.msc_text.specs.declared.fault.Cause.{Cause}
+use Rattle.text_reading.specs.NamedWords.{IsNamed as IsNamedWord}
 use Rattle.msc_text.proofs.Lookups.{IsNamed, instance_is}
 use Rattle.msc_text.proofs.Parts.{Cons, words_cons, words_joined}
 use Rattle.msc_text.proofs.Results.{bind_at, name_is}
 use Rattle.msc_reader.specs.Builders.{BuilderView, built, with_event, with_send, with_receive}
 use Rattle.msc_reader.specs.EventLines.{event_words, AreFound, saying_of, IsInOpen, IsEventLine}
+use Rattle.msc_reader.specs.LastWords.{semi}
 use Rattle.msc_reader.specs.Steps.{after_receive, is_closed, step_of}
 use Rattle.msc_reader.specs.declared.state.State.TheVariants as states
 use Rattle.msc_reader.specs.declared.state.Region.{Region}
@@ -32,6 +37,27 @@ pub word_rest : (line word rest : List ℕ) → words_of line ≡ word ∷ words
 word_rest line word rest e =
     sym (words_joined line) ∙ ap (join_with_byte 32) e ∙ joined-cons word (words_of rest) (words_cons rest) ∙ ap (λ l. word ++ 32 ∷ l) (words_joined rest)
 
+-- the words of an event's line, one behind the other
+pub out_line : (line rest message side word partner : List ℕ) → line ≡ codes "out " ++ rest → words_of rest ≡ message ∷ words_of side → side ≡ codes "to " ++ word → word ≡ semi partner → line ≡ event_words keywords.Out message keywords.To partner
+unfolding spelled
+out_line line rest message side word partner a b c d =
+    a ∙ ap (λ r. codes "out " ++ r) (word_rest rest message side b) ∙ ap (λ r. codes "out " ++ (message ++ 32 ∷ r)) (c ∙ ap (λ r. codes "to " ++ r) d)
+
+pub in_line_is : (line rest message side word partner : List ℕ) → line ≡ codes "in " ++ rest → words_of rest ≡ message ∷ words_of side → side ≡ codes "from " ++ word → word ≡ semi partner → line ≡ event_words keywords.In message keywords.From partner
+unfolding spelled
+in_line_is line rest message side word partner a b c d =
+    a ∙ ap (λ r. codes "in " ++ r) (word_rest rest message side b) ∙ ap (λ r. codes "in " ++ (message ++ 32 ∷ r)) (c ∙ ap (λ r. codes "from " ++ r) d)
+
+-- two words whose instance and name were found
+pub are_found : (names : List (List ℕ)) (own message partner : List ℕ) (found : Result (Result ℕ Cause) Cause) (number : ℕ) (name : List ℕ) → IsNamedWord names partner found → found ≡ Ok (Ok number) → name_or_cause message ≡ Ok name → ((own ≡ partner) → ⊥)
+    → AreFound names own message partner number name
+are_found names own message partner (Ok (Ok q)) number name h e named other =
+    let is = name_is partner h.0 h.1 in
+    let same : q ≡ number = cc in
+    record { message_named = named; partner_named = h.1 ∙ ap Ok is.0; partner_known = ap (known_of names) (sym is.0) ∙ h.2 ∙ ap Ok same; other = other }
+are_found names own message partner (Ok (Err cause)) number name h e named other = cc
+are_found names own message partner (Err cause) number name h e named other = cc
+
 found_event : {names : List (List ℕ)} {own message partner name : List ℕ} {number events : ℕ} → AreFound names own message partner number name → events < MAX_EVENTS → IsEvent own events partner name
 found_event {message = message} {partner = partner} {name = name} f room =
     let named = name_is message name f.message_named in
@@ -44,7 +70,7 @@ found_event {message = message} {partner = partner} {name = name} f room =
 
 known_is : (names : List (List ℕ)) (partner : List ℕ) (number : ℕ) (o : Option ℕ) → instance_of names partner ≡ o → known o ≡ Ok number → instance_of names partner ≡ Some number
 known_is names partner number None is e = cc
-known_is names partner number (Some other) is e = is ∙ cc
+known_is names partner number (Some other) is e = let same : other ≡ number = cc in is ∙ ap Some same
 
 has_name : (names : List (List ℕ)) (partner : List ℕ) (number : ℕ) → known_of names partner ≡ Ok number → name_at names number ≡ partner
 unfolding known_of

@@ -1,4 +1,3 @@
-pub mod Ahead
 pub mod ChartPaths
 pub mod EventLines
 pub mod EventPaths
@@ -6,6 +5,7 @@ pub mod Coregions
 pub mod Builders
 pub mod Found
 pub mod LastWords
+pub mod Heads
 pub mod Looks
 pub mod Moves
 pub mod OneLook

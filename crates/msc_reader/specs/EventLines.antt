@@ -1,5 +1,5 @@
 -- The line of an event, as an event whose partner is an instance that is known.
-use Rattle.std.specs.Prelude.{◌≡◌, ℕ, List, [], ◌∷◌, Unit, Ok}
+use Rattle.std.specs.Prelude.{◌≡◌, ℕ, List, [], ◌∷◌, Ok}
 use Rattle.std.specs.List.{join_with_byte}
 use Rattle.chart.specs.Events.{partner_of}
 use Rattle.chart.specs.Keywords.{spelled}

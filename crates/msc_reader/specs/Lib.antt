@@ -10,5 +10,6 @@ pub mod Builders
 pub mod EventLines
 pub mod HasText
 pub mod LastWords
+pub mod OneLook
 pub mod Reading
 pub mod Steps

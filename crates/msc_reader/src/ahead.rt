@@ -28,8 +28,9 @@ fn give(names: &mut Names, name: Name) -> Result<(), AllocError>
 {
     match names.add(name) {
         Ok(_) => Ok(()),
+        Err(NamesError::Duplicate) => Ok(()),
+        Err(NamesError::Instances) => Ok(()),
         Err(NamesError::Memory) => Err(AllocError),
-        Err(NamesError::Duplicate | NamesError::Instances) => Ok(()),
     }
 }
 

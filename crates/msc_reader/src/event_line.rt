@@ -4,27 +4,36 @@ ghost use Rattle.std.specs.Prelude.{◌≡◌, ℕ, ◌<◌, IfSome};
 ghost use Rattle.chart.specs.declared.keyword.Keyword.TheVariants as keywords;
 ghost use Rattle.chart.specs.declared.line.TheConstants.{MAX_EVENTS};
 ghost use Rattle.msc_reader.specs.EventLines.{event_words, AreFound, IsEventLine};
+ghost use Rattle.msc_reader.specs.LastWords.{semi};
 ghost use Rattle.msc_reader.specs.declared.state.State.TheVariants as states;
 
 use crate::state::{Region, State};
 use crate::step::{after_receive, inside, is_closed};
 use chart::{Event, InstanceNo, MAX_EVENTS, Name, Names};
 use msc_text::next_word;
-use text_reading::Guesses;
+use text_reading::{Guesses, behind};
+
+/// What stands before the last byte, where that is a semicolon.
+fn before_semicolon(word: &[u8]) -> Option<&[u8]>
+    ensures { IfSome result (λ name. word.now ≡ semi name.now) }
+{
+    match word {
+        [name @ .., last] if *last == b';' => Some(name),
+        _ => None,
+    }
+}
 
 /// Message and partner of `out MESSAGE to NAME;`.
 fn send_words(line: &[u8]) -> Option<(&[u8], &[u8])>
     ensures { IfSome result (λ words. line.now ≡ event_words keywords.Out words.0.now keywords.To words.1.now) }
 {
-    let [b'o', b'u', b't', b' ', rest @ ..] = line else {
+    let rest = behind(b"out ", line)?;
+    let (message, side) = next_word(rest);
+    let Some(side) = side else {
         return None;
     };
-    let (message, Some(rest)) = next_word(rest) else {
-        return None;
-    };
-    let [b't', b'o', b' ', partner @ .., b';'] = rest else {
-        return None;
-    };
+    let word = behind(b"to ", side)?;
+    let partner = before_semicolon(word)?;
     Some((message, partner))
 }
 
@@ -32,15 +41,13 @@ fn send_words(line: &[u8]) -> Option<(&[u8], &[u8])>
 fn receive_words(line: &[u8]) -> Option<(&[u8], &[u8])>
     ensures { IfSome result (λ words. line.now ≡ event_words keywords.In words.0.now keywords.From words.1.now) }
 {
-    let [b'i', b'n', b' ', rest @ ..] = line else {
+    let rest = behind(b"in ", line)?;
+    let (message, side) = next_word(rest);
+    let Some(side) = side else {
         return None;
     };
-    let (message, Some(rest)) = next_word(rest) else {
-        return None;
-    };
-    let [b'f', b'r', b'o', b'm', b' ', partner @ .., b';'] = rest else {
-        return None;
-    };
+    let word = behind(b"from ", side)?;
+    let partner = before_semicolon(word)?;
     Some((message, partner))
 }
 
@@ -119,11 +126,11 @@ fn receive_in(
 pub(crate) fn event_in(
     names: &Names,
     guesses: &mut Guesses,
-    state: State,
+    state: &State,
     open_region: u32,
     line: &[u8],
 ) -> Option<(Event, State)>
-    ensures { IfSome result (λ r. IsEventLine names.now open_region state line.now r.0 r.1) }
+    ensures { IfSome result (λ r. IsEventLine names.now open_region state.now line.now r.0 r.1) }
 {
     let State::Inside {
         own,
@@ -133,12 +140,15 @@ pub(crate) fn event_in(
     else {
         return None;
     };
-    if events >= MAX_EVENTS {
+    if *events >= MAX_EVENTS {
         return None;
     }
     match line {
-        [b'i', ..] => receive_in(names, guesses, own, events, region, open_region, line),
-        [b'o', ..] => send_in(names, guesses, own, events, region, line),
+        [b'i', ..] => receive_in(names, guesses, *own, *events, *region, open_region, line),
+        [b'o', ..] => {
+            let (event, next) = send_in(names, guesses, *own, *events, *region, line)?;
+            Some((event, next))
+        }
         _ => None,
     }
 }

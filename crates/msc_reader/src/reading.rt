@@ -1,11 +1,13 @@
 //! Charts' texts, read whole.
-ghost use Rattle.std.specs.Prelude.{◌≡◌, ℕ, ◌+◌, ◌<◌, ◌^◌, List, [], length, Ok, IfOk};
+ghost use Rattle.std.specs.Prelude.{◌≡◌, ℕ, List, [], Ok, IfOk};
 ghost use Rattle.chart.specs.Charts.{LineView, IsNumbered};
 ghost use Rattle.msc_text.specs.ChartText.{chart_text};
 ghost use Rattle.msc_text.specs.Faults.{Gives, in_line};
 ghost use Rattle.msc_text.specs.Lines.{lines_of, end_of};
 ghost use Rattle.msc_reader.specs.HasText.{HasText};
-ghost use Rattle.msc_reader.specs.Reading.{names_after, finished, look_from, are_read, chart_of};
+ghost use Rattle.msc_reader.specs.Ahead.{names_ahead};
+ghost use Rattle.msc_reader.specs.OneLook.{MayBeBuilt, line_read, Looks};
+ghost use Rattle.msc_reader.specs.Reading.{names_after, finished, names_in, are_read, chart_of};
 
 use crate::ahead::names_ahead;
 use crate::builder::Builder;
@@ -39,16 +41,14 @@ fn finish(number: u64, names: Names, state: State, rest: &[u8]) -> Result<Names,
     }
 }
 
-/// The names with those of the lines that are left, from this number on, or the first fault of one of them by itself and
-/// those before it.
-fn names_from(names: Names, state: State, number: u64, bytes: &[u8]) -> Result<Names, TextError>
-    requires { number + length bytes.now < 2 ^ 64 }
-    ensures { Gives (λ n. n) result (look_from names state number (lines_of bytes.now) (end_of bytes.now)) }
+/// The first look: the names of the instances, or the first fault of a line by itself and those before it.
+fn names_in(alloc: Global, bytes: &[u8]) -> Result<Names, TextError>
+    ensures { Gives (λ n. n) result (names_in bytes.now) }
 {
-    let mut names = names;
-    let mut state = state;
+    let mut names = Names::new(alloc);
+    let mut state = State::Start;
     let mut rest = bytes;
-    let mut number = number;
+    let mut number = 1;
     'lines: loop {
         match next_line(rest) {
             None => return finish(number, names, state, rest),
@@ -63,13 +63,37 @@ fn names_from(names: Names, state: State, number: u64, bytes: &[u8]) -> Result<N
     }
 }
 
-/// The names of the instances and their lines. Both are read at one look, in which an event whose partner is no instance
-/// is the text's fault only where none comes behind it.
-fn parts_in(alloc: Global, bytes: &[u8]) -> Result<(Names, Vec<Line>), TextError>
-    ensures parts { Gives (λ parts. (parts.0, parts.1.items)) result (chart_of bytes.now) }
+/// The names and what is built with one more line, its number before it, and the next state.
+fn with_line(
+    alloc: Global,
+    known: &Names,
+    guesses: &mut Guesses,
+    names: &mut Names,
+    builder: Builder,
+    state: State,
+    line: (u64, &[u8]),
+) -> Result<(Builder, State), TextError>
+    requires { MayBeBuilt known.now names.old builder state line.1.now }
+    ensures { Gives (λ r. (names.new, r.0, r.1)) result (line_read known.now names.old builder state line.0 line.1.now) }
+{
+    let (number, line) = line;
+    if let Some((event, next)) = event_in(known, guesses, &state, builder.open_region(), line) {
+        let builder = builder.with_event(event)?;
+        return Ok((builder, next));
+    }
+    let (saying, next) = at_line(number, step_in(state, line))?;
+    add_names(number, names, saying)?;
+    let builder = builder.with(alloc, known, number, saying)?;
+    Ok((builder, next))
+}
+
+/// One look: the names and the lines of the instances, where the text has these names. Of a fault it says no more than that
+/// one of the two looks finds it.
+fn one_look(alloc: Global, known: &Names, bytes: &[u8]) -> Result<(Names, Vec<Line>), TextError>
+    requires { known.now ≡ names_ahead bytes.now }
+    ensures looks { Looks known.now bytes.now (λ parts. (parts.0, parts.1.items)) result }
     ensures numbered { IfOk result (λ parts. IsNumbered parts.1.items) }
 {
-    let known = names_ahead(alloc, bytes)?;
     let mut guesses = Guesses::new();
     let mut names = Names::new(alloc);
     let mut builder = Builder::new(alloc);
@@ -77,31 +101,45 @@ fn parts_in(alloc: Global, bytes: &[u8]) -> Result<(Names, Vec<Line>), TextError
     let mut rest = bytes;
     let mut number = 1;
     'lines: loop {
-        let Some((line, after)) = next_line(rest) else {
-            let names = finish(number, names, state, rest)?;
-            return Ok((names, builder.into_lines()));
-        };
-        match event_in(&known, &mut guesses, state, builder.open_region(), line) {
-            Some((event, next)) => {
-                builder = builder.with_event(event)?;
-                state = next;
-            }
+        match next_line(rest) {
             None => {
-                let (saying, next) = at_line(number, step_in(state, line))?;
-                add_names(number, &mut names, saying)?;
-                match builder.with(alloc, &known, number, saying) {
-                    Ok(more) => builder = more,
-                    Err(TextError::Memory) => return Err(TextError::Memory),
-                    Err(error) => {
-                        names_from(names, next, number + 1, after)?;
-                        return Err(error);
-                    }
-                }
+                let names = finish(number, names, state, rest)?;
+                return Ok((names, builder.into_lines()));
+            }
+            Some((line, after)) => {
+                let numbered = (number, line);
+                let (more, next) = with_line(
+                    alloc,
+                    known,
+                    &mut guesses,
+                    &mut names,
+                    builder,
+                    state,
+                    numbered,
+                )?;
+                builder = more;
                 state = next;
+                rest = after;
+                number += 1;
             }
         }
-        rest = after;
-        number += 1;
+    }
+}
+
+/// What both looks come to. Only where a line has a fault is the text looked at again: an event whose partner is no
+/// instance is the text's fault only where no line has one by itself.
+fn parts_in(alloc: Global, bytes: &[u8]) -> Result<(Names, Vec<Line>), TextError>
+    ensures parts { Gives (λ parts. (parts.0, parts.1.items)) result (chart_of bytes.now) }
+    ensures numbered { IfOk result (λ parts. IsNumbered parts.1.items) }
+{
+    let known = names_ahead(alloc, bytes)?;
+    match one_look(alloc, &known, bytes) {
+        Ok(parts) => Ok(parts),
+        Err(TextError::Memory) => Err(TextError::Memory),
+        Err(TextError::Fault(fault)) => {
+            names_in(alloc, bytes)?;
+            Err(TextError::Fault(fault))
+        }
     }
 }
 
@@ -111,8 +149,7 @@ fn parts_in(alloc: Global, bytes: &[u8]) -> Result<(Names, Vec<Line>), TextError
 /// F1 to F4 that applies refuses a word that is no name, F22 an instance's name that was given before, F8 the 33rd
 /// instance, F13 an event whose partner is its own instance, F7 the 4,097th event of an instance, F8 the end of a
 /// chart of fewer than two instances, and F20 whatever follows the end. Where no line has a fault and the chart
-/// didn't end, the answer is F21. Last, at a second look from the top, F23 refuses the first event whose partner is
-/// no instance. F6 may come at any point.
+/// didn't end, the answer is F21. Last F23 refuses the first event whose partner is no instance. F6 may come at any point.
 pub fn read(alloc: Global, bytes: &[u8]) -> Result<(Names, Chart), TextError>
     ensures found { IfOk result (λ read. HasText read.0 read.1 × (bytes.now ≡ chart_text read.0 read.1)) }
     ensures only { (names : List (List ℕ)) (lines : List LineView) → HasText names lines

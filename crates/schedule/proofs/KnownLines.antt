@@ -1,19 +1,30 @@
 -- Commands whose names were found are what their lines say: laws about lists alone.
-use Rattle.std.proofs.Common.{◌≡◌, ◌≢◌, ℕ, true, false, cond, eqb, List, [], ◌∷◌, length, Ok, Err, refl, sym, ap, ◌∙◌, ◌||◌, not}
+use Rattle.std.proofs.Common.{◌≡◌, ◌≢◌, ℕ, true, false, cond, eqb, List, [], ◌∷◌, length, Result, Ok, Err, refl, sym, ap, ◌∙◌, ◌||◌, not}
 use Rattle.std.proofs.lemmas.Bool.{ne_eqb, cond-false}
 use Rattle.chart.specs.Names.{IsName}
 use Rattle.msc_text.specs.Faults.{◌>>=◌}
 use Rattle.msc_text.specs.Instances.{known_of}
 use Rattle.msc_text.specs.Lines.{words_of, name_or_cause}
+use Rattle.msc_text.specs.declared.fault.Cause.{Cause}
 use Rattle.msc_text.specs.declared.fault.Cause.TheVariants.{Syntax, ToItself}
+use Rattle.text_reading.specs.NamedWords.{IsNamed}
 use Rattle.msc_text.proofs.Results.{bind_at, name_is, name_some}
 use Rattle.msc_text.proofs.Spacing.{plain_name, spaced_again}
-use Rattle.schedule.specs.ActionLines.{pair_of, partners_of, send_of, receive_of, by_three, action_by}
+use Rattle.schedule.specs.ActionLines.{pair_of, partners_of, send_of, receive_of, by_three, action_by, action_of}
 use Rattle.schedule.specs.Keywords.{written, is_written}
 use Rattle.schedule.specs.KnownLines.{IsInstance}
 use Rattle.schedule.specs.declared.keyword.ScheduleWord.TheVariants as keywords
 use Rattle.schedule.specs.declared.command.Action.TheVariants.{Send, Receive}
 use Rattle.schedule.proofs.CommandsAgain.{not_empty_three, not_empty_four}
+
+-- a word whose instance was found
+pub is_instance : (names : List (List ℕ)) (word : List ℕ) (found : Result (Result ℕ Cause) Cause) (p : ℕ) → IsNamed names word found → found ≡ Ok (Ok p) → IsInstance names word p
+is_instance names word (Ok (Ok q)) p h e =
+    let named = name_is word h.0 h.1 in
+    let same : q ≡ p = cc in
+    record { named = h.1 ∙ ap Ok named.0; known = ap (known_of names) (sym named.0) ∙ h.2 ∙ ap Ok same }
+is_instance names word (Ok (Err cause)) p h e = cc
+is_instance names word (Err cause) p h e = cc
 
 -- what stands behind a word and its space are the other words
 pub behind_send : (rest : List ℕ) → words_of (115 ∷ 101 ∷ 110 ∷ 100 ∷ 32 ∷ rest) ≡ written keywords.Send ∷ words_of rest
@@ -23,6 +34,11 @@ behind_send rest = refl
 pub behind_receive : (rest : List ℕ) → words_of (114 ∷ 101 ∷ 99 ∷ 101 ∷ 105 ∷ 118 ∷ 101 ∷ 32 ∷ rest) ≡ written keywords.Receive ∷ words_of rest
 unfolding words_of written
 behind_receive rest = refl
+
+-- what a line says, by its first word and the others
+pub action_is : (names : List (List ℕ)) (line actor rest : List ℕ) → words_of line ≡ actor ∷ words_of rest → action_of names line ≡ action_by names (actor ∷ words_of rest)
+unfolding action_of
+action_is names line actor rest e = ap (action_by names) e
 
 -- a name is one word
 one_word : (word name : List ℕ) → name_or_cause word ≡ Ok name → words_of word ≡ word ∷ []

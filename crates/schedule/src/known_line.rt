@@ -10,17 +10,16 @@ ghost use Rattle.schedule.specs.declared.keyword.ScheduleWord.TheVariants as key
 use crate::command::Action;
 use chart::{InstanceNo, Names};
 use msc_text::next_word;
-use text_reading::Guesses;
+use text_reading::{Guesses, behind};
 
 /// Receiver and message of `send NAME MESSAGE`.
 fn send_words(bytes: &[u8]) -> Option<(&[u8], &[u8])>
     ensures { IfSome result (λ words. words_of bytes.now
         ≡ written keywords.Send ∷ words.0.now ∷ words_of words.1.now) }
 {
-    let [b's', b'e', b'n', b'd', b' ', rest @ ..] = bytes else {
-        return None;
-    };
-    let (to, Some(message)) = next_word(rest) else {
+    let rest = behind(b"send ", bytes)?;
+    let (to, message) = next_word(rest);
+    let Some(message) = message else {
         return None;
     };
     Some((to, message))
@@ -30,9 +29,7 @@ fn send_words(bytes: &[u8]) -> Option<(&[u8], &[u8])>
 fn receive_word(bytes: &[u8]) -> Option<&[u8]>
     ensures { IfSome result (λ from. words_of bytes.now ≡ written keywords.Receive ∷ words_of from.now) }
 {
-    let [b'r', b'e', b'c', b'e', b'i', b'v', b'e', b' ', from @ ..] = bytes else {
-        return None;
-    };
+    let from = behind(b"receive ", bytes)?;
     Some(from)
 }
 
@@ -94,7 +91,8 @@ pub(crate) fn known_action(
 ) -> Option<(InstanceNo, Action)>
     ensures { IfSome result (λ r. action_of names.now line.now ≡ Ok r) }
 {
-    let (actor, Some(rest)) = next_word(line) else {
+    let (actor, rest) = next_word(line);
+    let Some(rest) = rest else {
         return None;
     };
     match rest {

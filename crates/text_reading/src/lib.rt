@@ -1,6 +1,7 @@
 //! What the readers of charts' and schedules' texts share, so that a long text is read quickly.
 //!
-//! What is promised: a line's end is found many bytes at a time ([`next_line`]), and a word that was read before is known
+//! What is promised: a line's end is found many bytes at a time ([`next_line`]), what begins as expected goes on behind
+//! that ([`behind`]), and a word that was read before is known
 //! again without a look at each of its bytes ([`Guesses`]). What a word is, or what is wrong with it, is what `msc_text`
 //! says.
 #![tactic(auto)]
@@ -9,4 +10,4 @@ mod guesses;
 mod lines;
 
 pub use guesses::Guesses;
-pub use lines::next_line;
+pub use lines::{behind, next_line};

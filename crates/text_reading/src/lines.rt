@@ -1,5 +1,5 @@
-//! Lines whose ends are found many bytes at a time.
-ghost use Rattle.std.specs.Prelude.{◌≡◌, ◌<◌, ◌==◌, ◌∷◌, [], length, position, IfSome, IfNone};
+//! Lines whose ends are found many bytes at a time, and what stands behind bytes that are known.
+ghost use Rattle.std.specs.Prelude.{◌≡◌, ◌<◌, ◌==◌, ◌++◌, ◌∷◌, [], length, position, IfSome, IfNone};
 ghost use Rattle.msc_text.specs.Lines.{lines_of, end_of};
 
 use memchr::memchr;
@@ -22,5 +22,16 @@ pub fn next_line(bytes: &[u8]) -> Option<(&[u8], &[u8])>
     match place_of_line_feed(bytes) {
         None => None,
         Some(place) => Some((&bytes[..place], &bytes[place + 1..])),
+    }
+}
+
+/// What stands behind these bytes, where the others begin with them.
+#[inline(always)]
+pub fn behind<'a>(front: &[u8], bytes: &'a [u8]) -> Option<&'a [u8]>
+    ensures { IfSome result (λ rest. bytes.now ≡ front.now ++ rest.now) }
+{
+    match bytes.strip_prefix(front) {
+        None => None,
+        Some(rest) => Some(rest),
     }
 }

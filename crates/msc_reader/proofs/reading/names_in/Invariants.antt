@@ -1,11 +1,11 @@
 use Rattle.std.proofs.Common.{◌≡◌, ◌+◌, ◌≤◌, length}
 use Rattle.msc_text.specs.Lines.{lines_of, end_of}
-use Rattle.msc_reader.proofs.OneLook.{Goes}
-use Rattle.msc_reader.proofs.reading.parts_in.Given as goal
+use Rattle.msc_reader.specs.Reading.{look_from, names_in}
+use Rattle.msc_reader.proofs.reading.names_in.Given as goal
 
 abbrev pub invariant-lines : goal.invariant-lines
 invariant-lines l = record {
-  goes : Goes l.known l.names l.state l.builder l.number (lines_of l.rest) (end_of l.rest) l.bytes;
+  so_far : look_from l.names l.state l.number (lines_of l.rest) (end_of l.rest) ≡ names_in l.bytes;
   number : l.number + length l.rest ≤ 1 + length l.bytes;
 }
 

@@ -1,0 +1,11 @@
+use Rattle.std.proofs.Common.{sym, ap, ◌∙◌, ◌∷◌}
+use Rattle.std.proofs.lemmas.Bool.{eqb-false}
+use Rattle.schedule.specs.ActionLines.{action_by}
+use Rattle.schedule.proofs.KnownLines.{send_known}
+use Rattle.schedule.proofs.known_line.send_by.Goals as goal
+
+pub returns : goal.returns
+returns c =
+    let other = eqb-false _ _ (sym c.if-eq.ensures) in
+    ap (λ l. action_by c.args.names.now (c.args.actor.now ∷ l)) c.in_ok-to.ensures
+    ∙ send_known c.args.names.now c.args.actor.now c.in_ok-to.to.now c.in_ok-to.message.now c.in-Ok.name _ _ c.in_ok-actor.ensures c.in_ok-to-2.ensures (sym c.name.ensures ∙ c.in-Ok.is) other
