@@ -2,7 +2,7 @@
 //! event is read.
 ghost use Rattle.std.specs.Prelude.{◌≡◌, IfOk};
 ghost use Rattle.msc_text.specs.Instances.{with_name};
-ghost use Rattle.msc_reader.specs.Ahead.{begins, given_or, with_step, names_ahead};
+ghost use Rattle.msc_reader.specs.Ahead.{begins, given_or, with_head, with_step, names_ahead};
 ghost use Rattle.msc_reader.specs.Steps.{step_of};
 ghost use Rattle.msc_reader.specs.declared.state.State.TheVariants.{Outside};
 
@@ -34,6 +34,16 @@ fn give(names: &mut Names, name: Name) -> Result<(), AllocError>
     }
 }
 
+/// The names with that of the instance that begins, if one does.
+fn add_begun(names: &mut Names, saying: Saying) -> Result<(), AllocError>
+    ensures { IfOk result (λ _. names.new ≡ with_head names.old saying) }
+{
+    match saying {
+        Saying::Head(own) => give(names, own),
+        _ => Ok(()),
+    }
+}
+
 /// The names with that of the instance that the line begins, if it begins one.
 fn add_head(names: &mut Names, line: &[u8]) -> Result<(), AllocError>
     ensures { IfOk result (λ _. names.new ≡ with_step names.old (step_of Outside line.now)) }
@@ -42,8 +52,8 @@ fn add_head(names: &mut Names, line: &[u8]) -> Result<(), AllocError>
         return Ok(());
     }
     match step_in(State::Outside, line) {
-        Ok((Saying::Head(own), _)) => give(names, own),
-        _ => Ok(()),
+        Ok((saying, _)) => add_begun(names, saying),
+        Err(_) => Ok(()),
     }
 }
 

@@ -20,11 +20,11 @@ use std::alloc::Global;
 use text_reading::{Guesses, next_line};
 
 /// The names with what one more line says. F22 and F8 refuse an instance, and F8 an end.
-fn add_names(number: u64, names: &mut Names, saying: Saying) -> Result<(), TextError>
-    ensures { Gives (λ _. names.new) result (in_line number (names_after names.old saying)) }
+fn add_names(number: u64, names: &mut Names, saying: &Saying) -> Result<(), TextError>
+    ensures { Gives (λ _. names.new) result (in_line number (names_after names.old saying.now)) }
 {
     match saying {
-        Saying::Head(own) => add_name(number, names, own),
+        Saying::Head(own) => add_name(number, names, *own),
         Saying::End if names.len() < 2 => Err(fault_at(number, Cause::Instances)),
         _ => Ok(()),
     }
@@ -54,7 +54,7 @@ fn names_in(alloc: Global, bytes: &[u8]) -> Result<Names, TextError>
             None => return finish(number, names, state, rest),
             Some((line, after)) => {
                 let (saying, next) = at_line(number, step_in(state, line))?;
-                add_names(number, &mut names, saying)?;
+                add_names(number, &mut names, &saying)?;
                 state = next;
                 rest = after;
                 number += 1;
@@ -69,20 +69,20 @@ fn with_line(
     known: &Names,
     guesses: &mut Guesses,
     names: &mut Names,
-    builder: Builder,
-    state: State,
-    line: (u64, &[u8]),
+    before: (Builder, State),
+    number: u64,
+    line: &[u8],
 ) -> Result<(Builder, State), TextError>
-    requires { MayBeBuilt known.now names.old builder state line.1.now }
-    ensures { Gives (λ r. (names.new, r.0, r.1)) result (line_read known.now names.old builder state line.0 line.1.now) }
+    requires { MayBeBuilt known.now names.old before.0 before.1 line.now }
+    ensures { Gives (λ r. (names.new, r.0, r.1)) result (line_read known.now names.old before.0 before.1 number line.now) }
 {
-    let (number, line) = line;
+    let (builder, state) = before;
     if let Some((event, next)) = event_in(known, guesses, &state, builder.open_region(), line) {
         let builder = builder.with_event(event)?;
         return Ok((builder, next));
     }
     let (saying, next) = at_line(number, step_in(state, line))?;
-    add_names(number, names, saying)?;
+    add_names(number, names, &saying)?;
     let builder = builder.with(alloc, known, number, saying)?;
     Ok((builder, next))
 }
@@ -107,15 +107,15 @@ fn one_look(alloc: Global, known: &Names, bytes: &[u8]) -> Result<(Names, Vec<Li
                 return Ok((names, builder.into_lines()));
             }
             Some((line, after)) => {
-                let numbered = (number, line);
+                let before = (builder, state);
                 let (more, next) = with_line(
                     alloc,
                     known,
                     &mut guesses,
                     &mut names,
-                    builder,
-                    state,
-                    numbered,
+                    before,
+                    number,
+                    line,
                 )?;
                 builder = more;
                 state = next;
