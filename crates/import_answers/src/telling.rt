@@ -202,9 +202,10 @@ fn add_told<V: Out>(
     add_all_renamed(text, renamed)
 }
 
-/// Writes what is told of a chart.
+/// Writes what is told of a chart or of its picture: what is left out, the messages that overtake another one, and each name
+/// that isn't its label's words.
 #[tactic(auto, using(msc_text::proofs::Writes::joining))]
-pub(crate) fn write_told<V: Out>(
+pub fn write_told<V: Out>(
     left_out: &[LeftOut],
     overtaking: &[Overtaking],
     renamed: &[Renamed],

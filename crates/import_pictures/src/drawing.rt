@@ -3,10 +3,13 @@ ghost use Rattle.std.specs.Prelude.{◌≡◌, IfOk};
 ghost use Rattle.files.specs.Answers.{Answers};
 ghost use Rattle.diagram_imports.specs.Importing.{options_view};
 ghost use Rattle.import_pictures.specs.Drawing.{DrawsDrawing, undrawn_said, picture_said};
+ghost use Rattle.diagram_imports.specs.declared.error.ImportError.TheVariants.{Memory};
+ghost use Rattle.import_pictures.specs.Told.{IsToldOf};
 ghost use Rattle.import_pictures.specs.Turns.{turns_of_text};
+ghost use Rattle.import_pictures.specs.declared.drawing.Undrawn.TheVariants.{Drawing};
 
 use crate::told::{Told, undrawn};
-use chart::InstanceNo;
+use chart::{Chart, InstanceNo, Names};
 use diagram_imports::{ImportError, Options, diagram_of_text, import_text};
 use diagram_notes::notes_of_text;
 use diagram_turns::turns_in;
@@ -28,8 +31,17 @@ pub enum Undrawn {
     Picture(DrawError),
 }
 
-/// Whose events stand in the diagram that a text says, from the top on. It fails only where there is no memory, or where the
-/// text says no diagram.
+impl From<AllocError> for Undrawn {
+    ghost from_gives = { λ _ e. e ≡ Drawing Memory };
+
+    fn from(_e: AllocError) -> Undrawn {
+        Undrawn::Drawing(ImportError::Memory)
+    }
+}
+
+/// Whose events stand in the diagram that a text says, from the top on: none where it says no diagram. F6: it fails only
+/// where there is no memory.
+#[tactic(auto, unfolding(crate::specs::Turns::turns_of_text))]
 pub fn turns_of_text(
     alloc: Global,
     tool: Option<Tool>,
@@ -38,11 +50,39 @@ pub fn turns_of_text(
 ) -> Result<Vec<InstanceNo>, AllocError>
     ensures { IfOk result (λ turns. turns.items ≡ turns_of_text tool text.now (options_view options.now)) }
 {
-    let Ok(diagram) = diagram_of_text(alloc, tool, text, options) else {
-        return Err(AllocError);
+    match diagram_of_text(alloc, tool, text, options) {
+        Ok(diagram) => turns_in(alloc, diagram, options.joins),
+        Err(ImportError::Memory) => Err(AllocError),
+        Err(_) => Ok(Vec::new(alloc)),
+    }
+}
+
+/// What is drawn of a chart, and what is told of it.
+struct Shown {
+    names: Names,
+    chart: Chart,
+    told: Told,
+}
+
+/// The chart that was drawn, and what is told of its picture.
+fn shown_of(alloc: Global, imported: JoinedDrawn) -> Result<Shown, AllocError>
+    ensures { IfOk result (λ shown. (shown.names ≡ imported.drawn.names) × (shown.chart ≡ imported.drawn.chart)
+        × IsToldOf shown.told imported) }
+{
+    let JoinedDrawn { drawn, overtaking } = imported;
+    let Drawn {
+        names,
+        chart,
+        left_out,
+        renamed,
+    } = drawn;
+    let left_out = undrawn(alloc, &left_out)?;
+    let told = Told {
+        left_out,
+        overtaking,
+        renamed,
     };
-    let turns = turns_in(alloc, diagram, options.joins)?;
-    Ok(turns)
+    Ok(Shown { names, chart, told })
 }
 
 /// Reads the text and draws what is wanted of its chart, in the rows of the diagram, with its notes and dividers. All memory
@@ -61,27 +101,9 @@ fn draw_text<W: Out>(
         Ok(imported) => imported,
         Err(error) => return Err(Undrawn::Drawing(error)),
     };
-    let Ok(turns) = turns_of_text(alloc, tool, text, &options) else {
-        return Err(Undrawn::Drawing(ImportError::Memory));
-    };
-    let Ok(notes) = notes_of_text(alloc, tool, text, &options) else {
-        return Err(Undrawn::Drawing(ImportError::Memory));
-    };
-    let JoinedDrawn { drawn, overtaking } = imported;
-    let Drawn {
-        names,
-        chart,
-        left_out,
-        renamed,
-    } = drawn;
-    let Ok(left_out) = undrawn(alloc, &left_out) else {
-        return Err(Undrawn::Drawing(ImportError::Memory));
-    };
-    let told = Told {
-        left_out,
-        overtaking,
-        renamed,
-    };
+    let turns = turns_of_text(alloc, tool, text, &options)?;
+    let notes = notes_of_text(alloc, tool, text, &options)?;
+    let Shown { names, chart, told } = shown_of(alloc, imported)?;
     match draw_chart(
         alloc,
         &names,

@@ -1,16 +1,13 @@
 //! What is told of a picture beside its text.
 ghost use Rattle.std.specs.Prelude.{◌≡◌, filter, not, IfOk};
-ghost use Rattle.std.specs.List.{flat_map};
 ghost use Rattle.import_answers.specs.Order.{in_order};
-ghost use Rattle.import_answers.specs.Telling.{left_out_line, overtaking_line, told_text};
 ghost use Rattle.import_pictures.specs.Told.{is_drawn, undrawn, pictured_said};
-ghost use Rattle.msc_text.specs.Writing.{Wrote, Adds};
 
 use diagrams::{Kind, LeftOut, Renamed};
 use files::Answer;
-use import_answers::{add_all_renamed, add_left_out, add_overtaking, in_order};
+use import_answers::{in_order, write_told};
 use joined_diagrams::Overtaking;
-use msc_text::{Out, TextBuffer, WriteError};
+use msc_text::Out;
 use std::alloc::{AllocError, Global};
 
 /// What is told of a picture: what is left out of it, in the order of the first places, the messages that overtake another
@@ -42,59 +39,6 @@ pub(crate) fn undrawn(alloc: Global, left_out: &[LeftOut]) -> Result<Vec<LeftOut
         .filter(|kind| !is_drawn(kind.kind))
         .collect(alloc)?;
     in_order(alloc, &kinds)
-}
-
-fn add_all_left_out<V: Out>(
-    text: &mut TextBuffer<'_, V>,
-    left_out: &[LeftOut],
-) -> Result<(), WriteError>
-    ensures { Adds V.sink text.old text.new result (flat_map left_out_line left_out.now) }
-{
-    for kind in left_out {
-        add_left_out(text, kind)?;
-    }
-    Ok(())
-}
-
-fn add_all_overtaking<V: Out>(
-    text: &mut TextBuffer<'_, V>,
-    overtaking: &[Overtaking],
-) -> Result<(), WriteError>
-    ensures { Adds V.sink text.old text.new result (flat_map overtaking_line overtaking.now) }
-{
-    for message in overtaking {
-        add_overtaking(text, message)?;
-    }
-    Ok(())
-}
-
-#[tactic(auto, using(msc_text::proofs::Writes::joining), unfolding(import_answers::specs::Telling::told_text))]
-fn add_told<V: Out>(
-    text: &mut TextBuffer<'_, V>,
-    left_out: &[LeftOut],
-    overtaking: &[Overtaking],
-    renamed: &[Renamed],
-) -> Result<(), WriteError>
-    ensures { Adds V.sink text.old text.new result (told_text left_out.now overtaking.now renamed.now) }
-{
-    add_all_left_out(text, left_out)?;
-    add_all_overtaking(text, overtaking)?;
-    add_all_renamed(text, renamed)
-}
-
-/// Writes what is told of a picture.
-#[tactic(auto, using(msc_text::proofs::Writes::joining))]
-fn write_told<V: Out>(
-    left_out: &[LeftOut],
-    overtaking: &[Overtaking],
-    renamed: &[Renamed],
-    err: &mut V,
-) -> Result<(), WriteError>
-    ensures { Wrote V.sink err.old err.new result (told_text left_out.now overtaking.now renamed.now) }
-{
-    let mut text = TextBuffer::new(err);
-    add_told(&mut text, left_out, overtaking, renamed)?;
-    text.finish()
 }
 
 /// What is left out, and each name that isn't its label's words, with status 0.
