@@ -1,9 +1,10 @@
 //! What a behaviour does.
 ghost use Rattle.std.specs.Prelude.{◌≡◌};
-ghost use Rattle.behaviour.specs.Bare.{bare_act};
+ghost use Rattle.behaviour.specs.Bare.{action_of, with_empty_body};
 
-use crate::bare_act::BareAct;
 use chart::{InstanceNo, Message};
+use schedule::Action;
+use std::alloc::Global;
 
 /// One act of an instance: a call of its mailbox, or the last one, that it stops.
 #[derive(Debug, Drop)]
@@ -25,18 +26,38 @@ pub enum Act {
 }
 
 impl Act {
-    /// The act without its message's body.
-    pub fn bare(&self) -> BareAct
-        ensures { result ≡ bare_act self.now }
+    /// The act of an action, whose message has an empty body. It takes no memory.
+    pub fn of(alloc: Global, action: &Action) -> Act
+        ensures { result ≡ with_empty_body action.now }
+    {
+        match action {
+            Action::Send { to, name } => match Message::new(*name, Vec::new(alloc)) {
+                Ok(message) => Act::Send(*to, message),
+                Err(_) => unreachable!(),
+            },
+            Action::Receive { from } => Act::Receive(*from),
+            Action::Any => Act::Any,
+            Action::Close { to } => Act::Close(*to),
+            Action::Open => Act::Open,
+            Action::Shut => Act::Shut,
+        }
+    }
+
+    /// The act without its message's body, as a schedule has it: none where it stops.
+    pub fn action(&self) -> Option<Action>
+        ensures { result ≡ action_of self.now }
     {
         match self {
-            Act::Send(to, message) => BareAct::Send(*to, message.name()),
-            Act::Receive(from) => BareAct::Receive(*from),
-            Act::Any => BareAct::Any,
-            Act::Close(to) => BareAct::Close(*to),
-            Act::Open => BareAct::Open,
-            Act::Shut => BareAct::Shut,
-            Act::Stop => BareAct::Stop,
+            Act::Send(to, message) => Some(Action::Send {
+                to: *to,
+                name: message.name(),
+            }),
+            Act::Receive(from) => Some(Action::Receive { from: *from }),
+            Act::Any => Some(Action::Any),
+            Act::Close(to) => Some(Action::Close { to: *to }),
+            Act::Open => Some(Action::Open),
+            Act::Shut => Some(Action::Shut),
+            Act::Stop => None,
         }
     }
 }

@@ -4,19 +4,20 @@ ghost use Rattle.behaviour.specs.Scripts.{script_act, script_next};
 
 use crate::act::Act;
 use crate::answer::Answer;
-use crate::bare_act::BareAct;
 use crate::bare_answer::BareAnswer;
 use crate::behaviour::Behaviour;
 use board::{SendError, TakeError};
+use schedule::Action;
 use std::marker::Model;
 
-/// A behaviour that does these acts in their order, whose messages have empty bodies, and then stops.
+/// A behaviour that does these acts in their order, as a schedule has them, and then stops. Its messages have empty
+/// bodies.
 ///
 /// It does an act again where its lane was full (F11) or nothing waited, stops where memory was refused (F6), and goes
 /// on to the next act after every other answer. A contract sees its acts and at which of them it is, from 0.
 #[derive(Debug, Drop)]
 pub struct Script {
-    acts: Vec<BareAct>,
+    acts: Vec<Action>,
     place: usize,
 }
 
@@ -49,7 +50,7 @@ pub fn next_place(acts: usize, place: usize, last: BareAnswer) -> usize
 
 impl Script {
     /// A script that is at the first of these acts. It takes no memory.
-    pub fn new(acts: Vec<BareAct>) -> Script
+    pub fn new(acts: Vec<Action>) -> Script
         ensures { result ≡ record { acts = acts.items; place = 0 } }
     {
         Script { acts, place: 0 }
@@ -67,7 +68,7 @@ impl Script {
         ensures { result ≡ script_act self.now }
     {
         match self.acts.get(self.place) {
-            Some(act) => act.with_empty_body(*self.acts.allocator()),
+            Some(action) => Act::of(*self.acts.allocator(), action),
             None => Act::Stop,
         }
     }

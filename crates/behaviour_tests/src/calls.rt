@@ -1,9 +1,10 @@
 //! Scripts that drive mailboxes, and boards that are run, as tests make them.
-use behaviour::{BareAct, BareAnswer, Behaviour, Script};
+use behaviour::{BareAnswer, Behaviour, Script};
 use board::{Board, RegionError, SendError};
 use chart::{EventNo, InstanceNo, Name};
 use instances::{End, Gate, Open, Run, Trace, drive, run};
 use mailbox::Mailbox;
+use schedule::Action;
 use std::alloc::Global;
 use std::process::Abort;
 use std::thread::Threads;
@@ -35,15 +36,23 @@ pub enum Does {
     Stop,
 }
 
-pub fn act(rt: &impl Abort, does: Does) -> BareAct {
+/// The act, as a schedule has it; stopping is none.
+pub fn act(rt: &impl Abort, does: Does) -> Option<Action> {
     match does {
-        Does::Send(to, letter) => BareAct::Send(instance(rt, to), name(rt, letter)),
-        Does::Receive(from) => BareAct::Receive(instance(rt, from)),
-        Does::Any => BareAct::Any,
-        Does::Close(to) => BareAct::Close(instance(rt, to)),
-        Does::Open => BareAct::Open,
-        Does::Shut => BareAct::Shut,
-        Does::Stop => BareAct::Stop,
+        Does::Send(to, letter) => Some(Action::Send {
+            to: instance(rt, to),
+            name: name(rt, letter),
+        }),
+        Does::Receive(from) => Some(Action::Receive {
+            from: instance(rt, from),
+        }),
+        Does::Any => Some(Action::Any),
+        Does::Close(to) => Some(Action::Close {
+            to: instance(rt, to),
+        }),
+        Does::Open => Some(Action::Open),
+        Does::Shut => Some(Action::Shut),
+        Does::Stop => None,
     }
 }
 
@@ -83,7 +92,8 @@ fn answer(rt: &impl Abort, says: Says) -> Option<BareAnswer> {
 pub fn script(rt: &impl Abort, alloc: Global, acts: &[Does]) -> Script {
     let mut list = Vec::new(alloc);
     for does in acts {
-        assert!(rt; list.push(act(rt, *does)).is_ok());
+        let action = act(rt, *does).expect(rt, "an act of a script");
+        assert!(rt; list.push(action).is_ok());
     }
     Script::new(list)
 }

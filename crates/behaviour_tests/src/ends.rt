@@ -61,13 +61,13 @@ static SPENT: [Driven; 4] = [
         end: End::TurnsSpent,
     },
     Driven {
-        acts: &[Does::Any, Does::Stop],
+        acts: &[Does::Any],
         most: 1_000_000,
         trace: &[(1_000_000, Does::Any, Says::Nothing)],
         end: End::TurnsSpent,
     },
     Driven {
-        acts: &[Does::Stop, Does::Send(2, b'x')],
+        acts: &[],
         most: 9,
         trace: &[(1, Does::Stop, Says::Stopped)],
         end: End::Stopped,

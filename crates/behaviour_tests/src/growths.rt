@@ -2,11 +2,12 @@
 //! it says. A test ends with a growth of its own, whose refusal tells that each one before it was refused in an
 //! earlier run of the test.
 use crate::calls::{instance, name};
-use behaviour::{BareAct, BareAnswer, Behaviour, Script};
+use behaviour::{BareAnswer, Behaviour, Script};
 use board::{Board, SendError};
 use chart::Line;
 use instances::{End, Open, Run, RunError, Trace, drive, run};
 use mailbox::Mailbox;
+use schedule::Action;
 use std::alloc::Global;
 use std::process::Abort;
 use std::test::Fail;
@@ -30,7 +31,10 @@ fn sent(rt: &impl Abort, trace: &Trace) -> usize {
 
 /// A script of sends to the instance of this number.
 fn script(rt: &impl Abort, alloc: Global, to: usize) -> Option<Script> {
-    let send = BareAct::Send(instance(rt, to), name(rt, b'x'));
+    let send = Action::Send {
+        to: instance(rt, to),
+        name: name(rt, b'x'),
+    };
     let acts = [send; MESSAGES].to_vec(alloc);
     match acts {
         Ok(acts) => Some(Script::new(acts)),
@@ -52,9 +56,7 @@ fn is_driven(rt: &impl Abort, alloc: Global, mailbox: Mailbox, mut script: Scrip
 /// Whether the last turn is a single one of stopping.
 fn stops_last(trace: &Trace) -> bool {
     match trace.stretches().last() {
-        Some(last) => {
-            last.count == 1 && last.turn.act == BareAct::Stop && last.turn.answer.is_none()
-        }
+        Some(last) => last.count == 1 && last.turn.act.is_none() && last.turn.answer.is_none(),
         None => false,
     }
 }

@@ -1,13 +1,10 @@
 -- What a whole board came to is a possible chart with its reports.
-use Rattle.std.proofs.Common.{◌≡◌, List, [], ◌∷◌, length, refl, sym, ap, ◌∙◌, subst}
+use Rattle.std.proofs.Common.{◌≡◌, [], ◌∷◌, length, refl, sym, ap, ◌∙◌, subst}
 use Rattle.chart.specs.Charts.{Chart, IsPossible, chart_lines}
 use Rattle.chart.specs.Histories.{chart_of}
 use Rattle.chart.specs.Reports.{AreReports}
 use Rattle.chart.proofs.HistoryLines.{chart-is, length-history_lines}
-use Rattle.board.specs.declared.gathering.Gathered.{Gathered}
-use Rattle.board.specs.Views.{PostView}
-use Rattle.board.specs.Gathering.{IsWhole}
-use Rattle.instances.specs.Laws.{IsAccepted, GatheredLaw}
+use Rattle.instances.specs.Laws.{GatheredLaw}
 
 pub gathered-law : GatheredLaw
 gathered-law [] it whole = absurd whole.all

@@ -13,14 +13,14 @@ use Rattle.mailbox.specs.Mailboxes.{MailboxView}
 use Rattle.behaviour.specs.declared.act.Act.{Act}
 use Rattle.behaviour.specs.declared.act.Act.TheVariants as act
 use Rattle.behaviour.specs.declared.answer.Answer.{Answer}
-use Rattle.behaviour.specs.declared.bare_act.BareAct.{BareAct}
-use Rattle.behaviour.specs.declared.bare_act.BareAct.TheVariants.{Send, Receive, Any, Close, Open, Shut}
-use Rattle.behaviour.specs.Bare.{bare_act, bare_answer}
+use Rattle.schedule.specs.declared.command.Action.{Action}
+use Rattle.schedule.specs.declared.command.Action.TheVariants.{Send, Receive, Any, Close, Open, Shut}
+use Rattle.behaviour.specs.Bare.{action_of, bare_answer}
 use Rattle.instances.specs.Answering.{SendResult, TakeResult, CloseResult, RegionResult, send_answer, take_answer, close_answer, region_answer, IsSendResult, IsReceiveResult, IsAnyResult, IsCloseResult, IsOpenResult, IsShutResult, in_region, Allows}
 use Rattle.instances.specs.Driving.{Made}
 use Rattle.instances.specs.Traces.{made_by, accepted}
 
-pub record Leaves (old : MailboxView) (acts : List BareAct) (new : MailboxView) : Type 0 where
+pub record Leaves (old : MailboxView) (acts : List Action) (new : MailboxView) : Type 0 where
   pub same : IsSamePost old.post new.post
   pub later : Begins old.post.seen new.post.seen
   pub made : Made old acts new
@@ -32,7 +32,7 @@ leaves-none view = record {
   made = ([], refl, refl);
 }
 
-pub leaves-onward : (old mid new : MailboxView) (acts more : List BareAct) → Leaves old acts mid
+pub leaves-onward : (old mid new : MailboxView) (acts more : List Action) → Leaves old acts mid
     → Leaves mid more new → Leaves old (acts ++ more) new
 leaves-onward old mid new acts more before after =
     let first = before.made.0 in
@@ -48,7 +48,7 @@ leaves-onward old mid new acts more before after =
       );
     }
 
-leaves-sound : (old new : MailboxView) (acts : List BareAct) → Sound old.post new.post → Made old acts new
+leaves-sound : (old new : MailboxView) (acts : List Action) → Sound old.post new.post → Made old acts new
     → Leaves old acts new
 leaves-sound old new acts sound made = record { same = sound.same; later = sound.later; made = made }
 
@@ -68,8 +68,8 @@ leaves-region old new region is = subst (λ view. Leaves old [] view) (sym is) (
 })
 
 -- what an answer says that was made
-abbrev made_of : BareAct → Answer → List BareAct
-made_of a answer = accepted a (Some (bare_answer answer))
+abbrev made_of : Action → Answer → List Action
+made_of a answer = accepted (Some a) (Some (bare_answer answer))
 
 leaves-send : (old new : MailboxView) (to : ℕ) (message : Content) (result : SendResult)
     → IsSendResult old to message result new → Leaves old (made_of (Send to message.name) (send_answer result)) new
@@ -115,13 +115,13 @@ leaves-shut old new (Ok done) is = leaves-region old new _ is.1
 leaves-shut old new (Err CoregionOpen) is = absurd is
 leaves-shut old new (Err CoregionNotOpen) is = leaves-same old new is.1
 
-told : (old new : MailboxView) (a : BareAct) (answer of : Answer) → answer ≡ of → Leaves old (made_of a of) new
+told : (old new : MailboxView) (a : Action) (answer of : Answer) → answer ≡ of → Leaves old (made_of a of) new
     → Leaves old (made_of a answer) new
 told old new a answer of is leaves = subst (λ x. Leaves old (made_of a x) new) (sym is) leaves
 
 -- what an answer that is allowed leaves
 pub leaves-act : (old : MailboxView) (a : Act) (answer : Answer) (new : MailboxView) → Allows old a answer new
-    → Leaves old (made_of (bare_act a) answer) new
+    → Leaves old (accepted (action_of a) (Some (bare_answer answer))) new
 leaves-act old (act.Send to message) answer new (result, of, is) =
     told old new (Send to message.name) answer (send_answer result) of (leaves-send old new to message result is)
 leaves-act old (act.Receive from) answer new (result, of, is) =

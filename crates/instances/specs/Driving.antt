@@ -8,7 +8,7 @@ use Rattle.behaviour.specs.declared.act.Act.{Act}
 use Rattle.behaviour.specs.declared.act.Act.TheVariants as act
 use Rattle.behaviour.specs.declared.answer.Answer.{Answer}
 use Rattle.behaviour.specs.declared.answer.Answer.TheVariants.{Start}
-use Rattle.behaviour.specs.declared.bare_act.BareAct.{BareAct}
+use Rattle.schedule.specs.declared.command.Action.{Action}
 use Rattle.instances.specs.declared.end.End.{End}
 use Rattle.instances.specs.declared.end.End.TheVariants.{Stopped, TurnsSpent, Memory}
 use Rattle.instances.specs.declared.turn.Turn.{Turn}
@@ -57,7 +57,7 @@ Ends m most start trace Memory left = (now : _)
     × (length trace < most) × Leads m start trace now × (left.state ≡ now.state) × (left.view ≡ now.view)
 
 -- What was made is just what these acts made, in their order.
-abbrev pub Made : MailboxView → List BareAct → MailboxView → Type 0
+abbrev pub Made : MailboxView → List Action → MailboxView → Type 0
 Made old acts new = (events : List Occurrence) × (new.post.made ≡ events ++ old.post.made)
     × (map made_by (reverse events) ≡ acts)
 

@@ -1,5 +1,5 @@
 -- That a board's running reports are those which a search finds that reads no clock (this project's profile).
-use Rattle.std.specs.Prelude.{ℕ, List, length}
+use Rattle.std.specs.Prelude.{List, length}
 use Rattle.chart.specs.Charts.{IsPossible, chart_lines}
 use Rattle.chart.specs.Reports.{AreReports}
 use Rattle.board.specs.declared.gathering.Gathered.{Gathered}

@@ -34,15 +34,15 @@ pub fn drive<'a, G: Gate>(
             return (mailbox, Trace::of(stretches), End::Memory);
         }
         let act = behaviour.next(&last);
-        let bare = act.bare();
+        let action = act.action();
         gate.before(mailbox.number(), turn + 1);
         match perform(&mut mailbox, act) {
             Some(answer) => {
-                add_turn(&mut stretches, bare, Some(answer.bare()));
+                add_turn(&mut stretches, action, Some(answer.bare()));
                 last = answer;
             }
             None => {
-                add_turn(&mut stretches, bare, None);
+                add_turn(&mut stretches, action, None);
                 return (mailbox, Trace::of(stretches), End::Stopped);
             }
         }

@@ -3,7 +3,8 @@ ghost use Rattle.std.specs.Prelude.{◌≡◌, ◌<◌, ◌++◌, ◌∷◌, [],
 ghost use Rattle.instances.specs.Traces.{turns_of};
 
 use crate::turn::Turn;
-use behaviour::{BareAct, BareAnswer};
+use behaviour::BareAnswer;
+use schedule::Action;
 use std::marker::Model;
 
 /// One turn and equal ones directly after it, so many in all.
@@ -47,7 +48,11 @@ impl Trace {
 }
 
 /// Adds a turn, for which there is room.
-pub(crate) fn add_turn(stretches: &mut Vec<Stretch>, act: BareAct, answer: Option<BareAnswer>)
+pub(crate) fn add_turn(
+    stretches: &mut Vec<Stretch>,
+    act: Option<Action>,
+    answer: Option<BareAnswer>,
+)
     requires { vec_len stretches.old < vec_capacity stretches.old }
     ensures { turns_of stretches.new.items
         ≡ turns_of stretches.old.items ++ record { act = act; answer = answer } ∷ [] }

@@ -5,8 +5,9 @@ ghost use Rattle.board.specs.Meeting.{AreOfOneBoard};
 use crate::load::{Load, events_of};
 use crate::timing::nanoseconds_since;
 use anyhow::bail;
-use behaviour::{Act, BareAct};
+use behaviour::Act;
 use board::{Board, Post, SendError, Taken, gather};
+use schedule::Action;
 use std::alloc::Global;
 use std::thread;
 use std::thread::Threads;
@@ -25,10 +26,10 @@ enum Tried {
 }
 
 /// Tries an act, with an empty body.
-fn try_act(alloc: Global, post: &mut Post, act: &BareAct) -> Tried
+fn try_act(alloc: Global, post: &mut Post, act: &Action) -> Tried
     ensures { post.new.board ≡ post.old.board }
 {
-    match act.with_empty_body(alloc) {
+    match Act::of(alloc, act) {
         Act::Send(to, message) => match post.send(to, message) {
             Ok(_) => Tried::Done,
             Err((_message, error)) => {
@@ -49,7 +50,7 @@ fn try_act(alloc: Global, post: &mut Post, act: &BareAct) -> Tried
 }
 
 /// Does an act, as soon as it can be done. Answers whether it was.
-fn do_act(alloc: Global, post: &mut Post, act: &BareAct) -> bool
+fn do_act(alloc: Global, post: &mut Post, act: &Action) -> bool
     ensures { post.new.board ≡ post.old.board }
 {
     for _ in 0..LOOKS {
@@ -63,7 +64,7 @@ fn do_act(alloc: Global, post: &mut Post, act: &BareAct) -> bool
 }
 
 /// Does the acts of the post's instance, up to one that is refused.
-fn do_all<'a>(alloc: Global, mut post: Post<'a>, lists: &[Vec<BareAct>]) -> Post<'a>
+fn do_all<'a>(alloc: Global, mut post: Post<'a>, lists: &[Vec<Action>]) -> Post<'a>
     ensures { result.board ≡ post.entry.board }
 {
     if let Some(acts) = lists.get(post.number().place()) {
@@ -77,7 +78,7 @@ fn do_all<'a>(alloc: Global, mut post: Post<'a>, lists: &[Vec<BareAct>]) -> Post
 }
 
 /// The acts of each instance.
-fn lists(alloc: Global, load: Load) -> anyhow::Result<Vec<Vec<BareAct>>> {
+fn lists(alloc: Global, load: Load) -> anyhow::Result<Vec<Vec<Action>>> {
     let mut lists = Vec::new(alloc);
     for place in 0..load.instances {
         lists.push(load.acts(alloc, place)?)?;
@@ -100,7 +101,7 @@ fn time_lists<R: Threads + Sync + Clock>(
     rt: &R,
     alloc: Global,
     posts: Vec<Post>,
-    lists: &[Vec<BareAct>],
+    lists: &[Vec<Action>],
     events: usize,
 ) -> anyhow::Result<u64>
     requires { AreOfOneBoard posts.items }

@@ -1,7 +1,7 @@
 //! Which messages are passed, among how many instances, on lanes of how many slots.
 use anyhow::bail;
-use behaviour::BareAct;
 use chart::{Chart, InstanceNo, MAX_EVENTS, Name};
+use schedule::Action;
 use std::alloc::Global;
 use std::fmt;
 
@@ -107,27 +107,29 @@ impl Load {
     }
 
     /// The sends to all others, and then the receives from all of them.
-    fn with_all(self, alloc: Global, place: usize, name: Name) -> anyhow::Result<Vec<BareAct>> {
+    fn with_all(self, alloc: Global, place: usize, name: Name) -> anyhow::Result<Vec<Action>> {
         let mut acts = Vec::new(alloc);
         for other in 0..self.instances {
             if other != place {
-                acts.push(BareAct::Send(instance(other)?, name))?;
+                let to = instance(other)?;
+                acts.push(Action::Send { to, name })?;
             }
         }
         for other in 0..self.instances {
             if other != place {
-                acts.push(BareAct::Receive(instance(other)?))?;
+                let from = instance(other)?;
+                acts.push(Action::Receive { from })?;
             }
         }
         Ok(acts)
     }
 
     /// What the instance at a place does in a round.
-    fn round(self, alloc: Global, place: usize) -> anyhow::Result<Vec<BareAct>> {
+    fn round(self, alloc: Global, place: usize) -> anyhow::Result<Vec<Action>> {
         let name = Name::new(b"m")?;
         let partner = Load::partner(place)?;
-        let send = BareAct::Send(partner, name);
-        let receive = BareAct::Receive(partner);
+        let send = Action::Send { to: partner, name };
+        let receive = Action::Receive { from: partner };
         match self.pattern {
             Pattern::OneWay if place % 2 == 0 => Ok([send].to_vec(alloc)?),
             Pattern::OneWay => Ok([receive].to_vec(alloc)?),
@@ -138,7 +140,7 @@ impl Load {
     }
 
     /// What the instance at a place does.
-    pub fn acts(self, alloc: Global, place: usize) -> anyhow::Result<Vec<BareAct>> {
+    pub fn acts(self, alloc: Global, place: usize) -> anyhow::Result<Vec<Action>> {
         let round = self.round(alloc, place)?;
         let mut acts = Vec::new(alloc);
         for _ in 0..self.rounds() {

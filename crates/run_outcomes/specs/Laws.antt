@@ -1,13 +1,12 @@
 -- That a run has one outcome, and that a note is given to the command that left it (this project's profile).
-use Rattle.std.specs.Prelude.{◌≡◌, ℕ, List, [], ◌∷◌, length, slice_index_or}
+use Rattle.std.specs.Prelude.{◌≡◌, ℕ, List, [], ◌∷◌, length, slice_get}
 use Rattle.behaviour.specs.Scripts.{ScriptView, script_act, script_after}
-use Rattle.behaviour.specs.declared.bare_act.BareAct.{BareAct}
-use Rattle.behaviour.specs.declared.bare_act.BareAct.TheVariants.{Stop}
 use Rattle.instances.specs.Driving.{Meaning, meaning, IsRun}
 use Rattle.instances.specs.declared.end.End.{End}
 use Rattle.instances.specs.declared.outcome.Run.{Run}
 use Rattle.instances.specs.declared.turn.Turn.{Turn}
 use Rattle.mailbox.specs.Mailboxes.{MailboxView}
+use Rattle.schedule.specs.declared.command.Action.{Action}
 use Rattle.schedule.specs.declared.command.Command.{Command}
 use Rattle.schedule.specs.Plans.{Plan}
 use Rattle.schedule_scripts.specs.InstanceScripts.{acts_of, script_of}
@@ -24,10 +23,10 @@ script_meaning = meaning (λ script last. script_act (script_after script last))
 
 -- Each of these turns does the act of the command at the place to which the answers before it have led, of so many
 -- commands, and past the last one it stops.
-abbrev pub AreOf : List BareAct → ℕ → ℕ → List Turn → Type 0
+abbrev pub AreOf : List Action → ℕ → ℕ → List Turn → Type 0
 AreOf acts many place [] = Unit {0}
 AreOf acts many place (turn ∷ turns) =
-    (turn.act ≡ slice_index_or acts place Stop) × AreOf acts many (next_place many place turn.answer) turns
+    (turn.act ≡ slice_get acts place) × AreOf acts many (next_place many place turn.answer) turns
 
 -- In a run of an instance's script each turn is one of the command to which its note is given: the acts and the lines
 -- of the instance's commands have the same places.

@@ -1,16 +1,42 @@
 //! Runs of schedules.
-ghost use Rattle.std.specs.Prelude.{IfOk, IfErr, length};
+ghost use Rattle.std.specs.Prelude.{◌≡◌, IfOk, IfErr, length, false};
+ghost use Rattle.board.specs.Boards.{IsNewBoard, AreNewPosts};
 ghost use Rattle.instances.specs.Driving.{meaning};
 ghost use Rattle.instances.specs.Whole.{DrivenBy, IsUnrun};
 ghost use Rattle.run_outcomes.specs.OwnBoards.{AreRunsOf, AreFitFor, AreUnfitFor};
 ghost use Rattle.run_outcomes.specs.RunOutcomes.{IsRunOf};
 
 use behaviour::Behaviour;
-use board::Board;
+use board::{Board, BoardError, Post, PostsError};
 use instances::{MAX_TURNS, Open, Run, RunError, run};
 use schedule::Schedule;
-use std::alloc::Global;
+use std::alloc::{AllocError, Global};
 use std::thread::Threads;
+
+/// A board for the schedule's instances, with lanes of its capacity: no schedule has a count of instances, or a capacity,
+/// that a board refuses.
+fn board_for(alloc: Global, schedule: &Schedule) -> Result<Board, AllocError>
+    ensures { IfOk result (IsNewBoard (length schedule.now.names) schedule.now.capacity) }
+{
+    let instances = schedule.names().len();
+    match Board::new(alloc, instances, schedule.capacity().slots()) {
+        Ok(board) => Ok(board),
+        Err(BoardError::Memory) => Err(AllocError),
+        Err(BoardError::Instances | BoardError::Capacity) => unreachable!(),
+    }
+}
+
+/// All posts of a board that is new.
+fn posts_of(board: &mut Board) -> Result<Vec<Post<'_>>, AllocError>
+    requires { board.old.asked ≡ false }
+    ensures { IfOk result (λ posts. AreNewPosts board.old.board posts.items) }
+{
+    match board.posts() {
+        Ok(posts) => Ok(posts),
+        Err(PostsError::Memory) => Err(AllocError),
+        Err(PostsError::PostsTaken) => unreachable!(),
+    }
+}
 
 /// Runs a schedule's instances on a board of their own, with lanes of its capacity: each behaviour drives the instance
 /// at its place, each in a thread, or one after the other where no thread can be made, for so many turns at most.
@@ -34,15 +60,13 @@ pub fn run_schedule<R: Threads + Sync>(
         (IsUnrun tt behaviours (AreFitFor schedule.now (length behaviours.items) turns)
         (AreUnfitFor schedule.now (length behaviours.items) turns)) }
 {
-    let instances = schedule.names().len();
-    if behaviours.len() != instances || turns == 0 || MAX_TURNS < turns {
+    if behaviours.len() != schedule.names().len() || turns == 0 || MAX_TURNS < turns {
         return Err(RunError::Unfit((), behaviours));
     }
-    // (no schedule has a count of instances, or a capacity, that a board refuses)
-    let Ok(mut board) = Board::new(alloc, instances, schedule.capacity().slots()) else {
+    let Ok(mut board) = board_for(alloc, schedule) else {
         return Err(RunError::Memory);
     };
-    let Ok(posts) = board.posts() else {
+    let Ok(posts) = posts_of(&mut board) else {
         return Err(RunError::Memory);
     };
     match run(rt, posts, behaviours, turns, &Open) {

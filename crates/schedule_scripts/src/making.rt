@@ -1,38 +1,24 @@
 //! Makes scripts of a schedule's commands.
 ghost use Rattle.std.specs.Prelude.{◌≡◌, IfOk};
-ghost use Rattle.schedule_scripts.specs.InstanceScripts.{act_of, acts_of, scripts_of};
+ghost use Rattle.schedule_scripts.specs.InstanceScripts.{acts_of, scripts_of};
 
-use behaviour::{BareAct, Script};
+use behaviour::Script;
 use chart::InstanceNo;
 use schedule::{Action, Command, Schedule};
 use std::alloc::{AllocError, Global};
-
-/// The act of an action.
-fn act_of(action: &Action) -> BareAct
-    ensures { result ≡ act_of action.now }
-{
-    match action {
-        Action::Send { to, name } => BareAct::Send(*to, *name),
-        Action::Receive { from } => BareAct::Receive(*from),
-        Action::Any => BareAct::Any,
-        Action::Close { to } => BareAct::Close(*to),
-        Action::Open => BareAct::Open,
-        Action::Shut => BareAct::Shut,
-    }
-}
 
 /// The acts of an instance's commands, in their order.
 fn acts_of(
     alloc: Global,
     commands: &[Command],
     actor: InstanceNo,
-) -> Result<Vec<BareAct>, AllocError>
+) -> Result<Vec<Action>, AllocError>
     ensures { IfOk result (λ acts. acts.items ≡ acts_of commands.now actor) }
 {
     let mut acts = Vec::new(alloc);
     for command in commands {
         if command.actor == actor {
-            acts.push(act_of(&command.action))?;
+            acts.push(command.action)?;
         }
     }
     Ok(acts)

@@ -2,8 +2,9 @@
 ghost use Rattle.std.specs.Prelude.{◌≡◌, ◌%◌, ◌==◌};
 ghost use Rattle.wild_runs.specs.Filling.{sends_left, receives_left, next_deed, either_of};
 
-use behaviour::{Act, Answer, BareAct, Behaviour};
+use behaviour::{Act, Answer, Behaviour};
 use chart::{InstanceNo, Name};
+use schedule::Action;
 use std::alloc::Global;
 
 /// What a filler does next.
@@ -98,7 +99,13 @@ impl Behaviour for Filler {
         self.sends = sends_left(self.sends, last);
         self.receives = receives_left(self.receives, last);
         match next_deed(last, self.sends == 0, self.receives == 0) {
-            Deed::Send => BareAct::Send(self.partner(), self.name).with_empty_body(self.alloc),
+            Deed::Send => {
+                let send = Action::Send {
+                    to: self.partner(),
+                    name: self.name,
+                };
+                Act::of(self.alloc, &send)
+            }
             Deed::Take => Act::Any,
             Deed::Stop => Act::Stop,
         }

@@ -1,5 +1,5 @@
 use Rattle.std.proofs.Common.{◌≡◌, ◌+◌, [], ◌∷◌, ◌++◌, Some, None, sym, ap, ap₂, ◌∙◌, subst, refl, arith}
-use Rattle.behaviour.specs.Bare.{bare_act}
+use Rattle.behaviour.specs.Bare.{action_of}
 use Rattle.instances.specs.declared.end.End.TheVariants.{Stopped, TurnsSpent, Memory}
 use Rattle.instances.specs.Answering.{Allows}
 use Rattle.instances.specs.Driving.{meaning, Moment, IsRun}
@@ -43,7 +43,7 @@ returns-in-None g c =
     (λ p. meaning (goal.Behaviour-dyn g p).act (goal.Behaviour-dyn g p).after)
     c.next-act.result last c.next-act.new.self c.next-act.ensures.0 c.next-act.ensures.1 in
     let done = turns_of c.loop-turn.stretches.items in
-    let bare = c.bare-bare.ensures ∙ ap bare_act c.in-None.ensures.0 in
+    let bare = c.action-action.ensures ∙ ap action_of c.in-None.ensures.0 in
     let trace : c.of-in-None.result ≡ done ++ last_turn ∷ [] =
     c.of-in-None.ensures ∙ c.add_turn-in-None.ensures
     ∙ ap₂ (λ kept a. turns_of kept ++ record { act = a; answer = None } ∷ []) c.reserve.ensures.items bare in
@@ -70,11 +70,11 @@ loop-turn-preserved g c =
     let new = c.perform.new.mailbox in
     let now : Moment _ = record { state = state; last = last; view = c.loop-turn.mailbox } in
     let allows = subst (λ a. Allows c.loop-turn.mailbox a answer new) here.0 c.in-Some.ensures in
-    let bare = c.bare-bare.ensures ∙ ap bare_act here.0 in
+    let bare = c.action-action.ensures ∙ ap action_of here.0 in
     let reserved = ap turns_of c.reserve.ensures.items in
     let trace : turns_of c.add_turn.new.stretches.items ≡ done ++ turn_of (m.act state last) answer ∷ [] =
     c.add_turn.ensures
-    ∙ ap (λ turns. turns ++ record { act = c.bare-bare.result; answer = Some c.bare.result } ∷ []) reserved
+    ∙ ap (λ turns. turns ++ record { act = c.action-action.result; answer = Some c.bare.result } ∷ []) reserved
     ∙ ap₂ (λ a b. done ++ record { act = a; answer = Some b } ∷ []) bare c.bare.ensures in
     let more = has-run-on m first old done c.loop-turn.turn now answer new run allows in
     let next : Moment _ = record { state = left; last = answer; view = new } in
