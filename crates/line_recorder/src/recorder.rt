@@ -211,6 +211,10 @@ impl Recorder {
         requires begun { 0 < self.old.room }
         ensures { self.new ≡ after_begun self.old to name }
     {
+        // (said to the compiler too, which else looks for room once more)
+        if self.line.room() == 0 {
+            unreachable!()
+        }
         let Ok(()) = self.line.push(Event::Send { to, name }) else {
             unreachable!()
         };
