@@ -30,11 +30,11 @@ use Rattle.msc_reader.proofs.TextSayings.{chart_sayings, spell, chart_text-is}
 
 -- ---- names that were read stay
 
-record IsPrefix (begun names : List (List ℕ)) : Type 0 where
+pub record IsPrefix (begun names : List (List ℕ)) : Type 0 where
   pub later : List (List ℕ)
   pub is : names ≡ begun ++ later
 
-same_prefix : (begun more : List (List ℕ)) → begun ≡ more → IsPrefix begun more
+pub same_prefix : (begun more : List (List ℕ)) → begun ≡ more → IsPrefix begun more
 same_prefix begun more e = record { later = []; is = sym e ∙ sym (append-nil begun) }
 
 after-prefix : (begun more : List (List ℕ)) (saying : Saying) → names_after begun saying ≡ Ok more → IsPrefix begun more
@@ -51,12 +51,12 @@ no_bytes : (bytes : List ℕ) → length bytes ≡ 0 → bytes ≡ []
 no_bytes [] e = refl
 no_bytes (b ∷ bytes) e = absurd (omega arith)
 
-record IsFinished (begun : List (List ℕ)) (state : State) (rest : List ℕ) (names : List (List ℕ)) : Type 0 where
+pub record IsFinished (begun : List (List ℕ)) (state : State) (rest : List ℕ) (names : List (List ℕ)) : Type 0 where
   pub state_is : state ≡ states.Done
   pub names_are : begun ≡ names
   pub nothing : rest ≡ []
 
-is_finished : (begun : List (List ℕ)) (state : State) (n : ℕ) (rest : List ℕ) (names : List (List ℕ)) → finished begun state n rest ≡ Ok names → IsFinished begun state rest names
+pub is_finished : (begun : List (List ℕ)) (state : State) (n : ℕ) (rest : List ℕ) (names : List (List ℕ)) → finished begun state n rest ≡ Ok names → IsFinished begun state rest names
 is_finished begun states.Start n rest names e = cc
 is_finished begun states.Outside n rest names e = cc
 is_finished begun (states.Inside own events region) n rest names e = cc
@@ -65,14 +65,14 @@ is_finished begun states.Done n rest names e =
     record { state_is = refl; names_are = ok_is begun names g.1; nothing = no_bytes rest (eqb-true (length rest) 0 g.0) }
 
 -- a line that the first look takes
-record Looks (begun : List (List ℕ)) (state : State) (n : ℕ) (line : List ℕ) (lines : List (List ℕ)) (rest : List ℕ) (names : List (List ℕ)) : Type 0 where
+pub record Looks (begun : List (List ℕ)) (state : State) (n : ℕ) (line : List ℕ) (lines : List (List ℕ)) (rest : List ℕ) (names : List (List ℕ)) : Type 0 where
   pub step : Step
   pub more : List (List ℕ)
   pub reads : in_line n (step_of state line) ≡ Ok step
   pub adds : names_after begun step.0 ≡ Ok more
   pub others : look_from more step.1 (n + 1) lines rest ≡ Ok names
 
-looks : (begun : List (List ℕ)) (state : State) (n : ℕ) (line : List ℕ) (lines : List (List ℕ)) (rest : List ℕ) (names : List (List ℕ)) → look_from begun state n (line ∷ lines) rest ≡ Ok names → Looks begun state n line lines rest names
+pub looks : (begun : List (List ℕ)) (state : State) (n : ℕ) (line : List ℕ) (lines : List (List ℕ)) (rest : List ℕ) (names : List (List ℕ)) → look_from begun state n (line ∷ lines) rest ≡ Ok names → Looks begun state n line lines rest names
 unfolding look_from
 looks begun state n line lines rest names e =
     let a = bind_ok (in_line n (step_of state line)) (λ step. in_line n (names_after begun step.0) >>= λ more. look_from more step.1 (n + 1) lines rest) names e in
@@ -189,7 +189,7 @@ both_look names begun state d n (line ∷ lines) rest s e =
 
 -- ---- from the start
 
-start_state : (names : List (List ℕ)) → SoFar names [] states.Start blank
+pub start_state : (names : List (List ℕ)) → SoFar names [] states.Start blank
 start_state names = record {
   are = record { limit = omega arith; distinct = λ i j w here there. absurd (cc) };
   each = tt;

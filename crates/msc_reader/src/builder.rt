@@ -78,6 +78,13 @@ impl Builder {
         lines
     }
 
+    /// The coregion that is open, or 0.
+    pub(crate) fn open_region(&self) -> u32
+        ensures { result ≡ self.now.open_region }
+    {
+        self.open_region
+    }
+
     /// The next instance's line begins.
     fn with_head(self, alloc: Global) -> Builder
         requires { IsRight (with_head self) }
@@ -113,7 +120,7 @@ impl Builder {
 
     /// The line that is being built gets an event, in the open coregion or in none. It fails only where there is no
     /// memory.
-    fn with_event(self, event: Event) -> Result<Builder, AllocError>
+    pub(crate) fn with_event(self, event: Event) -> Result<Builder, AllocError>
         requires region { (region_of event ≡ 0) ⊎ (region_of event ≡ self.open_region) }
         requires right { IsRight (with_event self self.line event) }
         ensures { IfOk result (λ d. with_event self self.line event ≡ Ok d) }
