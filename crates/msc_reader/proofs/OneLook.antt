@@ -12,7 +12,7 @@ use Rattle.msc_text.proofs.Results.{bind_ok, bind_err, bind_at, stops, in_line_o
 use Rattle.msc_reader.specs.Ahead.{with_heads, names_ahead}
 use Rattle.msc_reader.specs.Builders.{BuilderView, blank, built, with_event, IsRight}
 use Rattle.msc_reader.specs.EventLines.{saying_of, IsEventLine}
-use Rattle.msc_reader.specs.OneLook.{line_read, MayBeBuilt, Looks}
+use Rattle.msc_reader.specs.OneLook.{line_read, MayBeBuilt, OneFails}
 use Rattle.msc_reader.specs.Reading.{names_after, finished, look_from, build_from, names_in, lines_in, are_read, chart_of}
 use Rattle.msc_reader.specs.Steps.{Step, step_of}
 use Rattle.msc_reader.specs.declared.state.State.{State}
@@ -145,10 +145,10 @@ stops_at known names state d n line lines rest fault is =
     first (inl h) = inl (stops (in_line n (step_of state line)) look fault h)
     first (inr h) = second h.0 h.1 (bind_err (in_line n (names_after names h.0.0)) (λ m. in_line n (built known d h.0.0) >>= λ b. is_read m b h.0.1) fault h.2)
 
-pub line_stops : {X : Type 0} (view : X → List (List ℕ) × List LineView) (error : TextError) (known names : List (List ℕ)) (state : State) (d : BuilderView) (n : ℕ) (line : List ℕ) (lines : List (List ℕ)) (rest bytes : List ℕ)
-    → Goes known names state d n (line ∷ lines) rest bytes → Fails error (line_read known names d state n line) → Looks known bytes view (Err error)
-line_stops view errors.Memory known names state d n line lines rest bytes g h = tt
-line_stops view (errors.Fault fault) known names state d n line lines rest bytes g h = by (stops_at known names state d n line lines rest fault h)
+pub line_stops : (error : TextError) (known names : List (List ℕ)) (state : State) (d : BuilderView) (n : ℕ) (line : List ℕ) (lines : List (List ℕ)) (rest bytes : List ℕ)
+    → Goes known names state d n (line ∷ lines) rest bytes → Fails error (line_read known names d state n line) → OneFails known bytes error
+line_stops errors.Memory known names state d n line lines rest bytes g h = tt
+line_stops (errors.Fault fault) known names state d n line lines rest bytes g h = by (stops_at known names state d n line lines rest fault h)
   where
     by : (look_from names state n (line ∷ lines) rest ≡ Err fault) ⊎ (build_from known state d n (line ∷ lines) ≡ Err fault) → (names_in bytes ≡ Err fault) ⊎ (lines_in known bytes ≡ Err fault)
     by (inl e) = inl (sym g.looks_on ∙ e)
@@ -159,10 +159,10 @@ pub ends_well : (known names : List (List ℕ)) (state : State) (d : BuilderView
     → (names_in bytes ≡ Ok read) × (lines_in known bytes ≡ Ok d.lines)
 ends_well known names state d n rest bytes read g e = (sym g.looks_on ∙ look_ends names state n rest ∙ e, sym g.builds ∙ build_ends known state d n)
 
-pub ends_badly : {X : Type 0} (view : X → List (List ℕ) × List LineView) (error : TextError) (known names : List (List ℕ)) (state : State) (d : BuilderView) (n : ℕ) (rest bytes : List ℕ) → Goes known names state d n [] rest bytes → Fails error (finished names state n rest)
-    → Looks known bytes view (Err error)
-ends_badly view errors.Memory known names state d n rest bytes g h = tt
-ends_badly view (errors.Fault fault) known names state d n rest bytes g h = inl (sym g.looks_on ∙ look_ends names state n rest ∙ h)
+pub ends_badly : (error : TextError) (known names : List (List ℕ)) (state : State) (d : BuilderView) (n : ℕ) (rest bytes : List ℕ) → Goes known names state d n [] rest bytes → Fails error (finished names state n rest)
+    → OneFails known bytes error
+ends_badly errors.Memory known names state d n rest bytes g h = tt
+ends_badly (errors.Fault fault) known names state d n rest bytes g h = inl (sym g.looks_on ∙ look_ends names state n rest ∙ h)
 
 -- ---- the line of an event
 

@@ -24,8 +24,12 @@ abbrev pub MayBeBuilt : List (List ℕ) → List (List ℕ) → BuilderView → 
 MayBeBuilt known names d state line = (step : Step) (more : List (List ℕ)) → step_of state line ≡ Ok step
     → names_after names step.0 ≡ Ok more → IsRight (built known d step.0)
 
--- what both looks read is returned, seen by view, or a fault that one of them finds, unless memory ran out
+-- the error is a fault that one of the two looks finds, unless memory ran out
+abbrev pub OneFails : List (List ℕ) → List ℕ → TextError → Type 0
+OneFails known bytes errors.Memory = Unit {0}
+OneFails known bytes (errors.Fault fault) = (names_in bytes ≡ Err fault) ⊎ (lines_in known bytes ≡ Err fault)
+
+-- what is returned, seen by view, is what both looks read, or one of them fails so
 abbrev pub Looks : {X : Type 0} → List (List ℕ) → List ℕ → (X → List (List ℕ) × List LineView) → Result X TextError → Type 0
 Looks known bytes view (Ok x) = (names_in bytes ≡ Ok (view x).0) × (lines_in known bytes ≡ Ok (view x).1)
-Looks known bytes view (Err errors.Memory) = Unit {0}
-Looks known bytes view (Err (errors.Fault fault)) = (names_in bytes ≡ Err fault) ⊎ (lines_in known bytes ≡ Err fault)
+Looks known bytes view (Err error) = OneFails known bytes error

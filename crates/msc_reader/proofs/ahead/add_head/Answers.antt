@@ -3,4 +3,4 @@ use Rattle.msc_reader.proofs.Heads.{skipped}
 use Rattle.msc_reader.proofs.ahead.add_head.Goals as goal
 
 pub returns-then-not-begins : goal.returns-then-not-begins
-returns-then-not-begins c = sym (skipped _ _ (sym c.begins.ensures ∙ c.if-not-begins.false))
+returns-then-not-begins c = sym (skipped _ _ (sym c.begins.ensures ∙ c.if-not-begins.true))
