@@ -1,7 +1,7 @@
 -- What the line of an event says, and that it is built.
-use Rattle.std.proofs.Common.{◌≡◌, ℕ, ◌+◌, ◌<◌, true, List, [], ◌∷◌, ◌++◌, Option, Some, None, Result, Ok, Err, inl, inr, ◌⊎◌, refl, sym, ap, ◌∙◌, subst}
+use Rattle.std.proofs.Common.{◌≡◌, ℕ, ◌+◌, ◌<◌, true, List, ◌∷◌, ◌++◌, Option, Some, None, Result, Ok, Err, inl, inr, ◌⊎◌, refl, sym, ap, ◌∙◌, subst}
 use Rattle.std.specs.List.{join_with_byte}
-use Rattle.std.specs.Prelude.{codes}
+use Rattle.std.specs.Prelude.{codes, IfSome}
 use Rattle.chart.specs.Events.{partner_of, region_of}
 use Rattle.chart.specs.Keywords.{spelled}
 use Rattle.chart.specs.Names.{IsName, instance_of}
@@ -14,18 +14,19 @@ use Rattle.msc_text.specs.Instances.{known, known_of}
 use Rattle.msc_text.specs.Lines.{words_of, name_or_cause}
 use Rattle.msc_text.specs.declared.fault.Cause.{Cause}
 use Rattle.text_reading.specs.NamedWords.{IsNamed as IsNamedWord}
-use Rattle.msc_text.proofs.Lookups.{IsNamed, instance_is}
+use Rattle.msc_text.proofs.Lookups.{instance_is}
 use Rattle.msc_text.proofs.Parts.{Cons, words_cons, words_joined}
 use Rattle.msc_text.proofs.Results.{bind_at, name_is}
 use Rattle.msc_reader.specs.Builders.{BuilderView, built, with_event, with_send, with_receive}
 use Rattle.msc_reader.specs.EventLines.{event_words, AreFound, saying_of, IsInOpen, IsEventLine}
 use Rattle.msc_reader.specs.LastWords.{semi}
 use Rattle.msc_reader.specs.Steps.{after_receive, is_closed, step_of}
+use Rattle.msc_reader.specs.declared.state.State.{State}
 use Rattle.msc_reader.specs.declared.state.State.TheVariants as states
 use Rattle.msc_reader.specs.declared.state.Region.{Region}
 use Rattle.msc_reader.specs.declared.state.Region.TheVariants as regions
 use Rattle.msc_reader.specs.declared.state.Saying.TheVariants as sayings
-use Rattle.msc_reader.proofs.Moves.{IsEvent, Moves}
+use Rattle.msc_reader.proofs.Moves.{IsEvent}
 use Rattle.msc_reader.proofs.Moves.Moves.{sends, receives}
 use Rattle.msc_reader.proofs.SayingsAgain.{line-again}
 
@@ -97,6 +98,12 @@ pub send_line : {names : List (List ℕ)} {own line message partner name : List 
     → AreFound names own message partner number name → events < MAX_EVENTS → IsEventLine names open_region (states.Inside own events region) line (line_events.Send number name) (states.Inside own (events + 1) regions.Closed)
 send_line {names} {own} {line} {message} {partner} {name} {number} {events} region open_region closed is f room =
     subst (λ r. IsEventLine names open_region (states.Inside own events r) line (line_events.Send number name) (states.Inside own (events + 1) regions.Closed)) (closed_is region closed) (send_closed open_region is f room)
+
+-- a send is in no coregion, whichever is open
+pub in_any : (names : List (List ℕ)) (state : State) (line : List ℕ) (open_region : ℕ) (r : Option (Event × State)) → IfSome r (λ x. (other : ℕ) → IsEventLine names other state line x.0 x.1)
+    → IfSome r (λ x. IsEventLine names open_region state line x.0 x.1)
+in_any names state line open_region (Some x) h = h open_region
+in_any names state line open_region None h = tt
 
 pub receive_line : {names : List (List ℕ)} {own line message partner name : List ℕ} {number events : ℕ} (region : Region) (open_region : ℕ) → line ≡ event_words keywords.In message keywords.From partner → AreFound names own message partner number name → events < MAX_EVENTS
     → IsEventLine names open_region (states.Inside own events region) line (line_events.Receive number name open_region) (states.Inside own (events + 1) (after_receive region))

@@ -1,7 +1,5 @@
 -- Names that are looked for ahead of the other lines are those that the lines give, where these have no fault.
-use Rattle.std.proofs.Common.{◌≡◌, ℕ, ◌==◌, Bool, true, false, cond, nat_lt, List, [], ◌∷◌, ◌++◌, length, Result, Ok, Err, refl, sym, ap, ◌∙◌, subst, append_assoc, append-nil}
-use Rattle.std.specs.List.{list_any}
-use Rattle.std.specs.Prelude.{bytes_eq}
+use Rattle.std.proofs.Common.{◌≡◌, ℕ, true, false, nat_lt, List, [], ◌∷◌, ◌++◌, length, Result, Ok, Err, refl, sym, ap, ◌∙◌, append_assoc}
 use Rattle.std.proofs.lemmas.Bool.{false≢true}
 use Rattle.chart.specs.Keywords.{spelled}
 use Rattle.msc_text.specs.ChartText.{chart_name}
@@ -10,7 +8,7 @@ use Rattle.msc_text.specs.declared.fault.Cause.{Cause}
 use Rattle.msc_text.specs.declared.fault.Cause.TheVariants.{Instances}
 use Rattle.msc_text.proofs.NewNames.{with_name-is}
 use Rattle.msc_text.proofs.Results.{guard_ok, ok_is}
-use Rattle.msc_reader.specs.Ahead.{given_or, with_head, with_step, with_heads, begins}
+use Rattle.msc_reader.specs.Ahead.{given_or, with_step, with_heads, begins}
 use Rattle.msc_reader.specs.Reading.{names_after}
 use Rattle.msc_reader.specs.Steps.{Step, step_of}
 use Rattle.msc_reader.specs.declared.state.State.{State}

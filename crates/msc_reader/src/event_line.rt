@@ -122,7 +122,8 @@ fn receive_in(
     ))
 }
 
-/// The event that the line says, with its partner's number, and where the next line stands. `None` says nothing of the line.
+/// The event that the line says, with its partner's number, and where the next line stands. `None` says nothing of the
+/// line.
 pub(crate) fn event_in(
     names: &Names,
     guesses: &mut Guesses,
@@ -145,10 +146,7 @@ pub(crate) fn event_in(
     }
     match line {
         [b'i', ..] => receive_in(names, guesses, *own, *events, *region, open_region, line),
-        [b'o', ..] => {
-            let (event, next) = send_in(names, guesses, *own, *events, *region, line)?;
-            Some((event, next))
-        }
+        [b'o', ..] => send_in(names, guesses, *own, *events, *region, line),
         _ => None,
     }
 }

@@ -149,7 +149,8 @@ fn parts_in(alloc: Global, bytes: &[u8]) -> Result<(Names, Vec<Line>), TextError
 /// F1 to F4 that applies refuses a word that is no name, F22 an instance's name that was given before, F8 the 33rd
 /// instance, F13 an event whose partner is its own instance, F7 the 4,097th event of an instance, F8 the end of a
 /// chart of fewer than two instances, and F20 whatever follows the end. Where no line has a fault and the chart
-/// didn't end, the answer is F21. Last F23 refuses the first event whose partner is no instance. F6 may come at any point.
+/// didn't end, the answer is F21. Last, as at a second look from the top, F23 refuses the first event whose partner is
+/// no instance. F6 may come at any point.
 pub fn read(alloc: Global, bytes: &[u8]) -> Result<(Names, Chart), TextError>
     ensures found { IfOk result (λ read. HasText read.0 read.1 × (bytes.now ≡ chart_text read.0 read.1)) }
     ensures only { (names : List (List ℕ)) (lines : List LineView) → HasText names lines

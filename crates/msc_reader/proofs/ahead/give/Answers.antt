@@ -1,4 +1,4 @@
-use Rattle.std.proofs.Common.{ap, ◌∙◌, sym, Ok, Err, Contains}
+use Rattle.std.proofs.Common.{ap, ◌∙◌, sym, Err, Contains}
 use Rattle.msc_text.proofs.NewNames.{with_name-ok, with_name-given, with_name-full}
 use Rattle.msc_reader.specs.Ahead.{given_or}
 use Rattle.msc_reader.proofs.ahead.give.Goals as goal

@@ -1,4 +1,4 @@
-use Rattle.std.proofs.Common.{◌≡◌, ◌+◌, ◌≤◌, length}
+use Rattle.std.proofs.Common.{◌+◌, ◌≤◌, length}
 use Rattle.msc_text.specs.Lines.{lines_of, end_of}
 use Rattle.msc_reader.proofs.OneLook.{Goes}
 use Rattle.msc_reader.proofs.reading.one_look.Given as goal
