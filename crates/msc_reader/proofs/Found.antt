@@ -15,7 +15,7 @@ use Rattle.msc_text.specs.declared.fault.Fault.TheVariants.{Line}
 use Rattle.msc_text.proofs.NewNames.{with_name-is}
 use Rattle.msc_text.proofs.Parts.{lines_joined}
 use Rattle.msc_text.proofs.Results.{bind_ok, bind_at, guard_ok, when_ok, in_line_ok, ok_is}
-use Rattle.msc_reader.specs.Builders.{BuilderView, blank, built, IsRight}
+use Rattle.msc_reader.specs.Builders.{BuilderView, blank, built}
 use Rattle.msc_reader.specs.HasText.{HasText, CanBeSpelled}
 use Rattle.msc_reader.specs.Reading.{names_after, finished, look_from, build_from, names_in, lines_in, chart_of}
 use Rattle.msc_reader.specs.Steps.{Step, step_of}
