@@ -67,28 +67,23 @@ fn names_in(alloc: Global, bytes: &[u8]) -> Result<Names, TextError>
 fn with_line(
     alloc: Global,
     known: &Names,
-    guesses: &mut Guesses,
     names: &mut Names,
-    before: (Builder, State),
+    builder: Builder,
+    state: State,
     number: u64,
     line: &[u8],
 ) -> Result<(Builder, State), TextError>
-    requires { MayBeBuilt known.now names.old before.0 before.1 line.now }
-    ensures { Gives (λ r. (names.new, r.0, r.1)) result (line_read known.now names.old before.0 before.1 number line.now) }
+    requires { MayBeBuilt known.now names.old builder state line.now }
+    ensures { Gives (λ r. (names.new, r.0, r.1)) result (line_read known.now names.old builder state number line.now) }
 {
-    let (builder, state) = before;
-    if let Some((event, next)) = event_in(known, guesses, &state, builder.open_region(), line) {
-        let builder = builder.with_event(event)?;
-        return Ok((builder, next));
-    }
     let (saying, next) = at_line(number, step_in(state, line))?;
     add_names(number, names, &saying)?;
     let builder = builder.with(alloc, known, number, saying)?;
     Ok((builder, next))
 }
 
-/// One look: the names and the lines of the instances, where the text has these names. Of a fault it says no more than that
-/// one of the two looks finds it.
+/// One look: the names and the lines of the instances, where the text has these names. Of a fault it says no more than
+/// that one of the two looks finds it.
 fn one_look(alloc: Global, known: &Names, bytes: &[u8]) -> Result<(Names, Vec<Line>), TextError>
     requires { known.now ≡ names_ahead bytes.now }
     ensures looks { Looks known.now bytes.now (λ parts. (parts.0, parts.1.items)) result }
@@ -101,28 +96,21 @@ fn one_look(alloc: Global, known: &Names, bytes: &[u8]) -> Result<(Names, Vec<Li
     let mut rest = bytes;
     let mut number = 1;
     'lines: loop {
-        match next_line(rest) {
-            None => {
-                let names = finish(number, names, state, rest)?;
-                return Ok((names, builder.into_lines()));
-            }
-            Some((line, after)) => {
-                let before = (builder, state);
-                let (more, next) = with_line(
-                    alloc,
-                    known,
-                    &mut guesses,
-                    &mut names,
-                    before,
-                    number,
-                    line,
-                )?;
-                builder = more;
-                state = next;
-                rest = after;
-                number += 1;
-            }
+        let Some((line, after)) = next_line(rest) else {
+            let names = finish(number, names, state, rest)?;
+            return Ok((names, builder.into_lines()));
+        };
+        let region = builder.open_region();
+        if let Some((event, next)) = event_in(known, &mut guesses, &state, region, line) {
+            builder.add_event(event)?;
+            state = next;
+        } else {
+            let (more, next) = with_line(alloc, known, &mut names, builder, state, number, line)?;
+            builder = more;
+            state = next;
         }
+        rest = after;
+        number += 1;
     }
 }
 
