@@ -1,5 +1,5 @@
 -- What a builder keeps when an event is added, and that there is room for an instance.
-use Rattle.std.proofs.Common.{◌≡◌, ℕ, suc, ◌<◌, Bool, true, false, cond, eqb, [], ◌∷◌, ◌++◌, length, Some, Ok, Err, refl, sym, subst, ◌⊎◌, inl, inr}
+use Rattle.std.proofs.Common.{◌≡◌, suc, ◌<◌, Bool, true, false, cond, eqb, [], ◌∷◌, ◌++◌, length, Some, Ok, Err, refl, sym, subst, ◌⊎◌, inl, inr}
 use Rattle.std.specs.Prelude.{nat_le}
 use Rattle.std.proofs.lemmas.Bool.{eqb-false, leb-false}
 use Rattle.chart.specs.Charts.{LineView}

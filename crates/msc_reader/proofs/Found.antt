@@ -15,7 +15,7 @@ use Rattle.msc_text.specs.declared.fault.Fault.TheVariants.{Line}
 use Rattle.msc_text.proofs.NewNames.{with_name-is}
 use Rattle.msc_text.proofs.Parts.{lines_joined}
 use Rattle.msc_text.proofs.Results.{bind_ok, bind_at, guard_ok, when_ok, in_line_ok, ok_is}
-use Rattle.msc_reader.specs.Builders.{BuilderView, blank, built, IsRight}
+use Rattle.msc_reader.specs.Builders.{BuilderView, blank, built}
 use Rattle.msc_reader.specs.HasText.{HasText, CanBeSpelled}
 use Rattle.msc_reader.specs.Reading.{names_after, finished, look_from, build_from, names_in, lines_in, chart_of}
 use Rattle.msc_reader.specs.Steps.{Step, step_of}
@@ -30,11 +30,11 @@ use Rattle.msc_reader.proofs.TextSayings.{chart_sayings, spell, chart_text-is}
 
 -- ---- names that were read stay
 
-record IsPrefix (begun names : List (List ℕ)) : Type 0 where
+pub record IsPrefix (begun names : List (List ℕ)) : Type 0 where
   pub later : List (List ℕ)
   pub is : names ≡ begun ++ later
 
-same_prefix : (begun more : List (List ℕ)) → begun ≡ more → IsPrefix begun more
+pub same_prefix : (begun more : List (List ℕ)) → begun ≡ more → IsPrefix begun more
 same_prefix begun more e = record { later = []; is = sym e ∙ sym (append-nil begun) }
 
 after-prefix : (begun more : List (List ℕ)) (saying : Saying) → names_after begun saying ≡ Ok more → IsPrefix begun more
@@ -51,12 +51,12 @@ no_bytes : (bytes : List ℕ) → length bytes ≡ 0 → bytes ≡ []
 no_bytes [] e = refl
 no_bytes (b ∷ bytes) e = absurd (omega arith)
 
-record IsFinished (begun : List (List ℕ)) (state : State) (rest : List ℕ) (names : List (List ℕ)) : Type 0 where
+pub record IsFinished (begun : List (List ℕ)) (state : State) (rest : List ℕ) (names : List (List ℕ)) : Type 0 where
   pub state_is : state ≡ states.Done
   pub names_are : begun ≡ names
   pub nothing : rest ≡ []
 
-is_finished : (begun : List (List ℕ)) (state : State) (n : ℕ) (rest : List ℕ) (names : List (List ℕ)) → finished begun state n rest ≡ Ok names → IsFinished begun state rest names
+pub is_finished : (begun : List (List ℕ)) (state : State) (n : ℕ) (rest : List ℕ) (names : List (List ℕ)) → finished begun state n rest ≡ Ok names → IsFinished begun state rest names
 is_finished begun states.Start n rest names e = cc
 is_finished begun states.Outside n rest names e = cc
 is_finished begun (states.Inside own events region) n rest names e = cc
@@ -65,14 +65,14 @@ is_finished begun states.Done n rest names e =
     record { state_is = refl; names_are = ok_is begun names g.1; nothing = no_bytes rest (eqb-true (length rest) 0 g.0) }
 
 -- a line that the first look takes
-record Looks (begun : List (List ℕ)) (state : State) (n : ℕ) (line : List ℕ) (lines : List (List ℕ)) (rest : List ℕ) (names : List (List ℕ)) : Type 0 where
+pub record Looks (begun : List (List ℕ)) (state : State) (n : ℕ) (line : List ℕ) (lines : List (List ℕ)) (rest : List ℕ) (names : List (List ℕ)) : Type 0 where
   pub step : Step
   pub more : List (List ℕ)
   pub reads : in_line n (step_of state line) ≡ Ok step
   pub adds : names_after begun step.0 ≡ Ok more
   pub others : look_from more step.1 (n + 1) lines rest ≡ Ok names
 
-looks : (begun : List (List ℕ)) (state : State) (n : ℕ) (line : List ℕ) (lines : List (List ℕ)) (rest : List ℕ) (names : List (List ℕ)) → look_from begun state n (line ∷ lines) rest ≡ Ok names → Looks begun state n line lines rest names
+pub looks : (begun : List (List ℕ)) (state : State) (n : ℕ) (line : List ℕ) (lines : List (List ℕ)) (rest : List ℕ) (names : List (List ℕ)) → look_from begun state n (line ∷ lines) rest ≡ Ok names → Looks begun state n line lines rest names
 unfolding look_from
 looks begun state n line lines rest names e =
     let a = bind_ok (in_line n (step_of state line)) (λ step. in_line n (names_after begun step.0) >>= λ more. look_from more step.1 (n + 1) lines rest) names e in
@@ -124,48 +124,6 @@ built_more {names} {state = state} {d = d} {saying = saying} lines rest (Ok out)
 }
 built_more lines rest (Err fault) is builds r = r
 
--- where both looks stand before the lines that are left: of these the first look finds no fault
-pub record Stays (names : List (List ℕ)) (state : State) (d : BuilderView) (n : ℕ) (lines : List (List ℕ)) (rest : List ℕ) : Type 0 where
-  pub begun : List (List ℕ)
-  pub made : SoFar names begun state d
-  pub goes_on : look_from begun state n lines rest ≡ Ok names
-
--- one line on
-record OneOn (names : List (List ℕ)) (state : State) (d : BuilderView) (n : ℕ) (line : List ℕ) (lines : List (List ℕ)) (rest : List ℕ) (step : Step) : Type 0 where
-  pub more : List (List ℕ)
-  pub says : line ≡ saying_line step.0
-  pub outcome : Outcome names more state step.1 d step.0
-  pub goes_on : look_from more step.1 (n + 1) lines rest ≡ Ok names
-
-one_on : (names : List (List ℕ)) (state : State) (d : BuilderView) (n : ℕ) (line : List ℕ) (lines : List (List ℕ)) (rest : List ℕ) (step : Step) → in_line n (step_of state line) ≡ Ok step → Stays names state d n (line ∷ lines) rest
-    → OneOn names state d n line lines rest step
-one_on names state d n line lines rest step reads s =
-    let l = looks s.begun state n line lines rest names s.goes_on in
-    let p = look-prefix l.more l.step.1 (n + 1) lines rest names l.others in
-    let said = line-is state line l.step (in_line_ok n (step_of state line) l.step l.reads) in
-    let here : OneOn names state d n line lines rest l.step = record { more = l.more; says = said.1; outcome = onward p.later s.made said.0 l.adds p.is; goes_on = l.others } in
-    subst (OneOn names state d n line lines rest) (ok_is l.step step (sym l.reads ∙ reads)) here
-
--- the second look finds no fault in it but an instance that isn't known
-pub right_on : (names : List (List ℕ)) (state : State) (d : BuilderView) (n : ℕ) (line : List ℕ) (lines : List (List ℕ)) (rest : List ℕ) (step : Step) → in_line n (step_of state line) ≡ Ok step → Stays names state d n (line ∷ lines) rest
-    → IsRight (built names d step.0)
-right_on names state d n line lines rest step reads s = let one = one_on names state d n line lines rest step reads s in by one.more one.outcome
-  where
-    by : (more : List (List ℕ)) → Outcome names more state step.1 d step.0 → IsRight (built names d step.0)
-    by more (inl unknown) = subst IsRight (sym unknown) tt
-    by more (inr (e, builds)) = subst IsRight (sym builds.is_built) tt
-
--- where it finds none both looks stand behind it
-pub stays_on : (names : List (List ℕ)) (state : State) (d e : BuilderView) (n : ℕ) (line : List ℕ) (lines : List (List ℕ)) (rest : List ℕ) (step : Step) → in_line n (step_of state line) ≡ Ok step → in_line n (built names d step.0) ≡ Ok e
-    → Stays names state d n (line ∷ lines) rest → Stays names step.1 e (n + 1) lines rest
-stays_on names state d e n line lines rest step reads builds s =
-    let one = one_on names state d n line lines rest step reads s in
-    record { begun = one.more; made = by one.more one.outcome (in_line_ok n (built names d step.0) e builds); goes_on = one.goes_on }
-  where
-    by : (more : List (List ℕ)) → Outcome names more state step.1 d step.0 → built names d step.0 ≡ Ok e → SoFar names more step.1 e
-    by more (inl unknown) is = cc
-    by more (inr (other, made)) is = subst (SoFar names more step.1) (ok_is other e (sym made.is_built ∙ is)) made.made
-
 -- both looks at the same lines
 pub both_look : (names begun : List (List ℕ)) (state : State) (d : BuilderView) (n : ℕ) (lines : List (List ℕ)) (rest : List ℕ) → SoFar names begun state d → look_from begun state n lines rest ≡ Ok names
     → Built names state d lines rest (build_from names state d n lines)
@@ -189,7 +147,7 @@ both_look names begun state d n (line ∷ lines) rest s e =
 
 -- ---- from the start
 
-start_state : (names : List (List ℕ)) → SoFar names [] states.Start blank
+pub start_state : (names : List (List ℕ)) → SoFar names [] states.Start blank
 start_state names = record {
   are = record { limit = omega arith; distinct = λ i j w here there. absurd (cc) };
   each = tt;
@@ -245,11 +203,6 @@ text_of bytes names lines r =
       has = subst (HasText names) r.out_is (has_text names r.last r.made);
       spelled = text_is bytes r.said_all r.lines_are r.nothing ∙ ap spell whole ∙ sym (chart_text-is names lines);
     }
-
--- both looks stand before the first line
-pub stays_first : (bytes : List ℕ) (names : List (List ℕ)) → names_in bytes ≡ Ok names → Stays names states.Start blank 1 (lines_of bytes) (end_of bytes)
-unfolding names_in
-stays_first bytes names e = record { begun = []; made = start_state names; goes_on = e }
 
 from_start : (bytes : List ℕ) (names : List (List ℕ)) → names_in bytes ≡ Ok names → Built names states.Start blank (lines_of bytes) (end_of bytes) (lines_in names bytes)
 unfolding names_in lines_in

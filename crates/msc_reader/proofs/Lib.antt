@@ -1,11 +1,14 @@
 pub mod ChartPaths
+pub mod EventLines
 pub mod EventPaths
 pub mod Coregions
 pub mod Builders
 pub mod Found
 pub mod LastWords
+pub mod Heads
 pub mod Looks
 pub mod Moves
+pub mod OneLook
 pub mod Onward
 pub mod Paths
 pub mod Sayings

@@ -46,15 +46,6 @@ look_ends names state n rest = refl
 
 -- ---- the second look
 
-pub build_stops : (error : TextError) (names : List (List ℕ)) (state : State) (d : BuilderView) (n : ℕ) (line : List ℕ) (lines : List (List ℕ)) → Fails error (in_line n (step_of state line)) → Fails error (build_from names state d n (line ∷ lines))
-unfolding build_from
-build_stops error names state d n line lines h = fails_then error _ _ h
-
-pub build_stops_at : (error : TextError) (names : List (List ℕ)) (state : State) (d : BuilderView) (n : ℕ) (line : List ℕ) (lines : List (List ℕ)) (step : Step) → in_line n (step_of state line) ≡ Ok step → Fails error (in_line n (built names d step.0))
-    → Fails error (build_from names state d n (line ∷ lines))
-unfolding build_from
-build_stops_at error names state d n line lines step e h = fails_so error _ _ (sym (bind_at _ _ step e)) (fails_then error _ _ h)
-
 pub build_goes_on : (names : List (List ℕ)) (state : State) (d more : BuilderView) (n : ℕ) (line : List ℕ) (lines : List (List ℕ)) (step : Step) → in_line n (step_of state line) ≡ Ok step → in_line n (built names d step.0) ≡ Ok more
     → build_from names state d n (line ∷ lines) ≡ build_from names step.1 more (n + 1) lines
 unfolding build_from

@@ -77,7 +77,7 @@ record AreNames (own : List ℕ) (events : ℕ) (m w : List ℕ) (pair : List �
   pub partner : w ≡ semi pair.1
   pub event : IsEvent own events pair.1 pair.0
 
-differs : (a b : List ℕ) → bytes_eq a b ≡ false → a ≢ b
+pub differs : (a b : List ℕ) → bytes_eq a b ≡ false → a ≢ b
 differs a b e same = false≢true (sym e ∙ ap (λ x. bytes_eq x b) same ∙ same_itself b)
 
 pair-names : (own : List ℕ) (events : ℕ) (m p w : List ℕ) (pair : List ℕ × List ℕ) → w ≡ semi p → pair_of own events m p ≡ Ok pair → AreNames own events m w pair

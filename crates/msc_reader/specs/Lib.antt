@@ -5,8 +5,11 @@ pub use Rattle.chart.specs.NameSets
 pub use Rattle.msc_text.specs.ChartText
 pub use Rattle.msc_text.specs.Faults
 pub use Rattle.msc_text.specs.Lines
+pub mod Ahead
 pub mod Builders
+pub mod EventLines
 pub mod HasText
 pub mod LastWords
+pub mod OneLook
 pub mod Reading
 pub mod Steps

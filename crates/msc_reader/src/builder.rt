@@ -1,6 +1,6 @@
 //! What the lines of a chart's text build, once all names are known and each line was found right by itself: so the
 //! only fault that is left is a partner that is no instance.
-ghost use Rattle.std.specs.Prelude.{◌≡◌, ◌⊎◌, Ok, IfOk, OnOk};
+ghost use Rattle.std.specs.Prelude.{◌≡◌, ◌⊎◌, Ok, IfOk, OnOk, OnErr};
 ghost use Rattle.chart.specs.Charts.{IsNumbered};
 ghost use Rattle.chart.specs.Events.{region_of, MayHaveRegion};
 ghost use Rattle.msc_text.specs.Faults.{Gives, in_line};
@@ -40,7 +40,8 @@ impl Model for Builder {
 fn push(line: &mut Line, event: Event) -> Result<(), AllocError>
     requires region { MayHaveRegion line.old.events (region_of event) }
     requires right { IsRight (pushed line.old event) }
-    ensures { OnOk result (pushed line.old event ≡ Ok line.new) }
+    ensures ok { OnOk result (pushed line.old event ≡ Ok line.new) }
+    ensures err { OnErr result (line.new ≡ line.old) }
 {
     match line.push(event) {
         Ok(()) => Ok(()),
@@ -78,6 +79,13 @@ impl Builder {
         lines
     }
 
+    /// The coregion that is open, or 0.
+    pub(crate) fn open_region(&self) -> u32
+        ensures { result ≡ self.now.open_region }
+    {
+        self.open_region
+    }
+
     /// The next instance's line begins.
     fn with_head(self, alloc: Global) -> Builder
         requires { IsRight (with_head self) }
@@ -113,20 +121,17 @@ impl Builder {
 
     /// The line that is being built gets an event, in the open coregion or in none. It fails only where there is no
     /// memory.
-    fn with_event(self, event: Event) -> Result<Builder, AllocError>
-        requires region { (region_of event ≡ 0) ⊎ (region_of event ≡ self.open_region) }
-        requires right { IsRight (with_event self self.line event) }
-        ensures { IfOk result (λ d. with_event self self.line event ≡ Ok d) }
+    pub(crate) fn add_event(&mut self, event: Event) -> Result<(), AllocError>
+        requires region { (region_of event ≡ 0) ⊎ (region_of event ≡ self.old.open_region) }
+        requires right { IsRight (with_event self.old self.old.line event) }
+        ensures { IfOk result (λ _. with_event self.old self.old.line event ≡ Ok self.new) }
     {
-        let Builder { lines, line, .. } = self;
-        let Some(mut line) = line else { unreachable!() };
-        push(&mut line, event)?;
-        let region = event.region();
-        Ok(Builder {
-            lines,
-            line: Some(line),
-            open_region: region,
-        })
+        let Some(line) = &mut self.line else {
+            unreachable!()
+        };
+        push(line, event)?;
+        self.open_region = event.region();
+        Ok(())
     }
 
     /// A coregion begins, the next of the line that is being built.
@@ -155,7 +160,7 @@ impl Builder {
     /// A send. F23 refuses a receiver that is no instance.
     #[tactic(auto, unfolding(crate::specs::Builders::with_send))]
     fn with_send(
-        self,
+        mut self,
         names: &Names,
         number: u64,
         to: Name,
@@ -165,13 +170,14 @@ impl Builder {
         ensures { Gives (λ d. d) result (in_line number (with_send names.now self to name)) }
     {
         let to = at_line(number, known_in(names, to))?;
-        Ok(self.with_event(Event::Send { to, name })?)
+        self.add_event(Event::Send { to, name })?;
+        Ok(self)
     }
 
     /// A receive, which is in the open coregion. F23 refuses a sender that is no instance.
     #[tactic(auto, unfolding(crate::specs::Builders::with_receive))]
     fn with_receive(
-        self,
+        mut self,
         names: &Names,
         number: u64,
         from: Name,
@@ -182,7 +188,8 @@ impl Builder {
     {
         let from = at_line(number, known_in(names, from))?;
         let region = self.open_region;
-        Ok(self.with_event(Event::Receive { from, name, region })?)
+        self.add_event(Event::Receive { from, name, region })?;
+        Ok(self)
     }
 
     /// What is built with what one more line says, the line of this number.

@@ -6,7 +6,9 @@
 //! ([`laws`]).
 #![tactic(auto)]
 
+mod ahead;
 mod builder;
+mod event_line;
 mod last_word;
 pub mod laws;
 mod reading;

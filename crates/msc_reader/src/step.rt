@@ -133,7 +133,7 @@ fn names_in(own: Name, events: usize, message: &[u8], word: &[u8]) -> Result<(Na
 }
 
 /// A coregion with one more receive.
-fn after_receive(region: Region) -> Region
+pub(crate) fn after_receive(region: Region) -> Region
     ensures { result ≡ after_receive region }
 {
     match region {
@@ -142,7 +142,7 @@ fn after_receive(region: Region) -> Region
     }
 }
 
-fn is_closed(region: Region) -> bool
+pub(crate) fn is_closed(region: Region) -> bool
     ensures { result ≡ is_closed region }
 {
     match region {
@@ -178,7 +178,7 @@ fn receive_in(
 }
 
 /// Inside the instance `own`.
-fn inside(own: Name, events: usize, region: Region) -> State
+pub(crate) fn inside(own: Name, events: usize, region: Region) -> State
     ensures { result ≡ State.Inside own events region }
 {
     State::Inside {
