@@ -28,6 +28,8 @@ fn put_next(slot: &mut Option<Packet>, recorder: &mut Recorder, to: InstanceNo, 
         (record { message = message; clock = send_clock recorder.old })) }
     ensures recorder { recorder.new ≡ after_send recorder.old to message.name }
 {
+    // So the compiler reads nothing that there would be to let go of.
+    let None = slot else { unreachable!() };
     let name = message.name();
     let diff = Diff::none(recorder.alloc());
     *slot = Some(Packet { message, diff });

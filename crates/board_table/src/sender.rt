@@ -132,9 +132,9 @@ fn begin_in(
     ensures alone { 0 < recorder.old.room → AgreeBut recorder.old.line.instance base.old recorder.old.knowledge
         → IsOk result }
 {
-    if slot.is_some() {
-        unreachable!()
-    }
+    // So the compiler reads nothing that there would be to let go of. An `if` that ends in an `unreachable!()` says nothing to
+    // it: a proved build leaves the whole of it out.
+    let None = slot else { unreachable!() };
     let diff = Diff::none(recorder.alloc());
     *slot = Some(Packet { message, diff });
     let Some(packet) = slot else { unreachable!() };

@@ -30,6 +30,9 @@ impl Model for InstanceNo {
 }
 
 impl InstanceNo {
+    /// The instance with number 1.
+    pub const FIRST: InstanceNo = InstanceNo { number: 1 };
+
     /// The instance of this number, which is from 1 to [`MAX_INSTANCES`].
     pub fn new(number: usize) -> Option<InstanceNo>
         ensures { SomeIff result ((1 ≤ number) × (number ≤ MAX_INSTANCES)) number }

@@ -17,15 +17,12 @@ pub struct Change {
     pub entry: u32,
 }
 
-/// A blank, which the unused places of a [`Diff`] hold.
-impl Default for Change {
-    fn default() -> Change {
-        Change {
-            instance: InstanceNo::at_place(0),
-            entry: 0,
-        }
-    }
-}
+/// What the unused places of a [`Diff`] hold. As a constant they are written by a few wide stores. A value that is made is
+/// written field by field, also what lies between its fields: three stores for each place.
+const BLANKS: [Change; INLINE_ENTRIES] = [Change {
+    instance: InstanceNo::FIRST,
+    entry: 0,
+}; INLINE_ENTRIES];
 
 /// The entries of a clock that differ from another clock's. A contract sees the list of the changes.
 ///
@@ -62,7 +59,7 @@ impl Diff {
         Diff {
             more: Vec::new(alloc),
             count: 0,
-            few: [Change::default(); INLINE_ENTRIES],
+            few: BLANKS,
         }
     }
 
