@@ -21,7 +21,7 @@ use Rattle.board_core.proofs.Standing.{other_receiver}
 use Rattle.board_table.specs.declared.packet.Packet.{Packet}
 use Rattle.board_table.specs.declared.held.Hold.TheVariants.{Nothing, Emptying}
 use Rattle.board_table.specs.declared.held.Held.{Held}
-use Rattle.board_table.specs.Layout.{board_lane, put_word, taken_word, slot_of, slot_count}
+use Rattle.board_table.specs.Layout.{LaneView, board_lane, put_word, taken_word, slot_of, slot_count}
 use Rattle.board_table.specs.Carrying.{AreCarried, last_clock, with_received, vacant_slots, full_slots, packets_in, vacant_in}
 use Rattle.board_table.specs.Knowing.{Mine, held, many_out, IsPost, IsEmptying, Moves, at_rest}
 use Rattle.board_table.specs.Rule.{closed_bit, LaneNow, IsLane, Fits, Kept}

@@ -17,7 +17,7 @@ use Rattle.board_table.specs.Layout.{board_lane}
 use Rattle.board_table.specs.Knowing.{many_out, filling_to, emptying_from}
 use Rattle.board_table.specs.Rule.{LaneNow, IsLane, IsSeated, Fits, Kept}
 use Rattle.board_table.proofs.Windows.{Homes}
-use Rattle.board_table.proofs.Keeping.{LeavesLane, lane_now, seating, lane_left, kept_step}
+use Rattle.board_table.proofs.Keeping.{LeavesLane, lane_now, lane_left, kept_step}
 
 -- nothing is out but so many slots of the lane to p
 pub record OnlyFills (p many : ℕ) (h : Hold) : Type 0 where

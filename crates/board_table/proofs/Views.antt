@@ -1,5 +1,5 @@
 -- Seats that are cut, joined and met: the rule, where what seats know is shared out in another way.
-use Rattle.std.proofs.Common.{◌≡◌, ◌≢◌, ℕ, zero, suc, ◌+◌, ◌-◌, ◌<◌, ◌≤◌, ◌⊎◌, inl, inr, ⊎_elim, true, false, cond, ◌==◌, List, [], ◌∷◌, ◌++◌, length, drop, get_or, set, refl, sym, ap, ap₂, ◌∙◌, subst, arith, length-append}
+use Rattle.std.proofs.Common.{◌≡◌, ◌≢◌, ℕ, zero, suc, ◌+◌, ◌-◌, ◌<◌, ◌≤◌, ◌⊎◌, inl, inr, ⊎_elim, true, false, cond, ◌==◌, List, [], ◌∷◌, ◌++◌, length, drop, get_or, set, refl, sym, ap, ap₂, ◌∙◌, subst, subst₂, arith, length-append}
 use Rattle.std.specs.Prelude.{Option, None, leb, map, replicate, slice_index}
 use Rattle.std.proofs.lemmas.List.{set-get_or, length-set, length-map, length-replicate}
 use Rattle.std.proofs.lemmas.Bool.{eq-eqb, ne_eqb}
@@ -14,12 +14,12 @@ use Rattle.chart.specs.Histories.{own, IsLegal, Begins}
 use Rattle.chart.proofs.Histories.{begins_same, own_begins}
 use Rattle.board_table.specs.declared.packet.Packet.{Packet}
 use Rattle.board_table.specs.declared.held.Held.{Held}
-use Rattle.board_table.specs.Layout.{put_word, taken_word, word_count, slot_of, slot_count}
+use Rattle.board_table.specs.Layout.{board_lane, put_word, taken_word, word_count, slot_of, slot_count}
 use Rattle.board_table.specs.Knowing.{Mine, new_held, longer, met, note_of}
-use Rattle.board_table.specs.Rule.{Seating, Fits, Kept, new_helds}
+use Rattle.board_table.specs.Rule.{IsLane, Seating, Fits, Kept, new_helds}
 use Rattle.board_table.specs.Plays.{MeetsBeside}
 use Rattle.board_table.proofs.Carried.{at_append}
-use Rattle.board_table.proofs.Keeping.{one_entry}
+use Rattle.board_table.proofs.Keeping.{lane_now, one_entry}
 use Rattle.board_table.proofs.Places.{slot_within}
 
 -- Of two beginnings of one history the shorter begins the longer.
@@ -52,16 +52,16 @@ own_outside n k (Receive p q c ∷ h) b legal out = ap (λ its. cond its (Receiv
 own_outside n k (Close p q ∷ h) b legal out = ap (λ its. cond its (Close p q ∷ own h b) (own h b)) (ne_eqb p b (λ same. absurd (omega (arith, same, legal.0.0.1)))) ∙ own_outside n k h b legal.1 out
 
 module _ (n k : ℕ) where
-  pub kept_views : (s : State (Option Packet) (List Held)) (r : Kept n k s) (seats : Seating) (views : List (List Held)) → ((id place : ℕ) (v : List Held) (e : Held) → get_elem? views id ≡ some v → get_elem? v place ≡ some e → Fits n k r.log seats id place e)
+  pub kept_views : (s : State (Option Packet) (List Held)) (r : Kept n k s) (seats : Seating) (views : List (List Held)) → seats.filling ≡ r.seats.filling → seats.emptying ≡ r.seats.emptying → ((id place : ℕ) (v : List Held) (e : Held) → get_elem? views id ≡ some v → get_elem? v place ≡ some e → Fits n k r.log seats id place e)
       → Kept n k record { words = s.words; homes = s.homes; views = views }
-  kept_views s r seats views entries = record {
+  kept_views s r seats views fills empties entries = record {
     log = r.log;
     seats = seats;
     packets = r.packets;
     legal = r.legal;
     words_are = r.words_are;
     slots_are = r.slots_are;
-    lanes = r.lanes;
+    lanes = λ q p two. subst₂ (λ f g. IsLane (board_lane n k q p) r.log (lane_now (r.packets q p) (f q p) (g q p)) s.words s.homes) (sym fills) (sym empties) (r.lanes q p two);
     entries = entries;
   }
 
@@ -104,7 +104,7 @@ module _ (n k : ℕ) where
   }
 
   pub copies : (id : ℕ) (e : Held) → e.instances ≡ n → e.capacity ≡ k → Splits (Kept n k) id (e ∷ []) (e ∷ []) (note_of e ∷ [])
-  copies id e instances capacity s r at = kept_views s r r.seats (set s.views id (e ∷ []) ++ (note_of e ∷ []) ∷ []) (λ j place v w there is. ⊎_elim
+  copies id e instances capacity s r at = kept_views s r r.seats (set s.views id (e ∷ []) ++ (note_of e ∷ []) ∷ []) refl refl (λ j place v w there is. ⊎_elim
       (λ here. r.entries j place v w (ap (get_elem? s.views) here.0 ∙ at ∙ ap some here.1) is)
       (λ more. ⊎_elim
       (λ away. r.entries j place v w away.1 is)
@@ -123,7 +123,7 @@ module _ (n k : ℕ) where
   two_of P e f one two (suc (suc place)) w is = absurd (some-ne-none w (sym is))
 
   pub joins : (id : ℕ) (e : Held) (other : ℕ) (note : Held) → n < note.number → note.made ≡ [] → Joins (Kept n k) id (e ∷ []) other (note ∷ []) (e ∷ note ∷ []) []
-  joins id e other note out none s r at ne there = kept_views s r r.seats (set (set s.views id (e ∷ note ∷ [])) other []) (λ j place v w is_v is. ⊎_elim
+  joins id e other note out none s r at ne there = kept_views s r r.seats (set (set s.views id (e ∷ note ∷ [])) other []) refl refl (λ j place v w is_v is. ⊎_elim
       (λ spent. absurd (some-ne-none w (sym (ap (λ l. get_elem? l place) spent.1 ∙ is))))
       (λ more. ⊎_elim
       (λ here. both j place v w here is)
@@ -161,7 +161,7 @@ module _ (n k : ℕ) where
         keeps,
         tt,
         subst (λ ws. Kept n k record { words = ws; homes = s.homes; views = set s.views id (met e note ∷ record note { seen = longer e.seen note.seen } ∷ []) }) (sym (set-get_or s.words i 0))
-            (kept_views s r r.seats (set s.views id (met e note ∷ record note { seen = longer e.seen note.seen } ∷ [])) (λ j place v w is_v is. ⊎_elim
+            (kept_views s r r.seats (set s.views id (met e note ∷ record note { seen = longer e.seen note.seen } ∷ [])) refl refl (λ j place v w is_v is. ⊎_elim
             (λ here. subst (λ x. Fits n k r.log r.seats x place w) (sym here.0)
             (two_of (λ x y. Fits n k r.log r.seats id x y) (met e note) (record note { seen = longer e.seen note.seen })
             (fits_more r.log r.seats id 0 e (longer e.seen note.seen) one whole legal mine)
@@ -188,7 +188,7 @@ module _ (n k : ℕ) where
       go (inr (same, lt)) = both (subst (Begins e.seen) (sym same) (begins_same e.seen)) (subst (Begins note.seen) (sym same) (shorter_begins note.seen e.seen r.log its.seen mine.seen (omega (arith, lt)))) (subst (λ x. Begins x r.log) (sym same) mine.seen) (subst (IsLegal n k) (sym same) mine.legal)
 
   pub parts : (id : ℕ) (e note : Held) → n < note.number → note.made ≡ [] → Splits (Kept n k) id (e ∷ note ∷ []) (e ∷ []) (note ∷ [])
-  parts id e note above none s r at = kept_views s r r.seats (set s.views id (e ∷ []) ++ (note ∷ []) ∷ []) (λ j place v w there is. ⊎_elim
+  parts id e note above none s r at = kept_views s r r.seats (set s.views id (e ∷ []) ++ (note ∷ []) ∷ []) refl refl (λ j place v w there is. ⊎_elim
       (λ here. let one = one_entry e w place (ap (λ l. get_elem? l place) here.1 ∙ is) in
       subst (λ x. Fits n k r.log r.seats x place w) (sym here.0) (subst (λ x. Fits n k r.log r.seats id x w) (sym one.0) (subst (λ x. Fits n k r.log r.seats id 0 x) one.1 mine)))
       (λ more. ⊎_elim
@@ -212,7 +212,7 @@ module _ (n k : ℕ) where
   dealt_seats id last seats = record seats { seat = λ x. dealt id last (seats.seat x) }
 
   pub deals : (id : ℕ) (e : Held) (es : List Held) → Splits (Kept n k) id (e ∷ es) es (e ∷ [])
-  deals id e es s r at = kept_views s r (dealt_seats id (length s.views) r.seats) (set s.views id es ++ (e ∷ []) ∷ []) (λ j place v w there is. ⊎_elim
+  deals id e es s r at = kept_views s r (dealt_seats id (length s.views) r.seats) (set s.views id es ++ (e ∷ []) ∷ []) refl refl (λ j place v w there is. ⊎_elim
       (λ here. rest j place v w here is)
       (λ more. ⊎_elim (λ away. others j place v w away is) (λ new. first j place v w new is) more)
       (in_views s.views id es (e ∷ []) j v there))
