@@ -22,7 +22,7 @@ use Rattle.board.specs.Known.{IsOutgoing, AreEndsBut, IsPost, Did}
 use Rattle.board.proofs.EndLemmas.{ends_later, ends_closed, ends_but, outgoing_later}
 use Rattle.board.proofs.DidLemmas.{did_nothing, did_move}
 use Rattle.board.proofs.Claiming.{sent_within}
-use Rattle.board.proofs.PostLemmas.{with_outgoing}
+use Rattle.board.proofs.PostLemmas.{knowledge, with_outgoing}
 
 -- a line is no longer than it may be
 pub line_short : (n k : ℕ) (h : List Occurrence) → IsLegal n k h → (p : ℕ) → length (chart_of h p) ≤ MAX_EVENTS
@@ -48,7 +48,7 @@ line_short n k (Close a b ∷ h) legal p = simp append-nil (line_short n k h leg
 pub put_few : (n k : ℕ) (h : List Occurrence) (p q : ℕ) (o : Outgoing) → IsLegal n k h → IsOutgoing n h p q o → o.put ≤ MAX_EVENTS
 put_few n k h p q o legal end = let within = sent_within h p q in let short = line_short n k h legal p in omega (arith, end.put)
 
-module _ (m w : Mine) (n k p : ℕ) (r : RecorderView) (region : ℕ) (outgoing : List Outgoing) (incoming : List Incoming) (post : IsPost m n k p r region outgoing incoming) (l : LaneView) (j : ℕ) (lane : l ≡ record { instances = n; capacity = k; sender = p; receiver = suc j }) (closes : play.Closes l m w) where
+module _ (m w : Mine) (n k p : ℕ) (r : RecorderView) (region : ℕ) (outgoing : List Outgoing) (incoming : List Incoming) (post : IsPost m n k p (knowledge r region outgoing incoming)) (l : LaneView) (j : ℕ) (lane : l ≡ record { instances = n; capacity = k; sender = p; receiver = suc j }) (closes : play.Closes l m w) where
   abbrev before : List Occurrence
   before = drop 1 (held w).seen
 
@@ -58,7 +58,7 @@ module _ (m w : Mine) (n k p : ℕ) (r : RecorderView) (region : ℕ) (outgoing 
   pub close_did : Did n k p (held m) (held w) (drop 1 (held w).seen) (Close p (suc j) ∷ [])
   close_did = did_move n k p (held m) (held m) (held w) before (Close p (suc j) ∷ []) (λ h. Close p (suc j) ∷ h) (did_nothing n k p (held m) post.knows.legal post.made) post.rests.post.number (λ h. refl) makes.moves
 
-  pub post_closed : (o : Outgoing) → j < length outgoing → IsOutgoing n (held m).seen p (suc j) o → IsPost w n k p r region (set outgoing j (record o { closed = true })) incoming
+  pub post_closed : (o : Outgoing) → j < length outgoing → IsOutgoing n (held m).seen p (suc j) o → IsPost w n k p (knowledge r region (set outgoing j (record o { closed = true })) incoming)
   post_closed o within end =
       let did = close_did in
       let same : own before p ≡ own (held m).seen p = did.own_before ∙ sym post.made in

@@ -44,11 +44,11 @@ module _ (l : LaneView) (taken many place : ℕ) (first now : Slots) (messages :
     said : messages ≡ take place (messages_in packets)
     slots : now ≡ (slot, Some next) ∷ (full_slots l.instances l.capacity l.sender l.receiver (suc (taken + place)) later ++ (others ++ more))
 
-  has_next : (packets : List Packet) (others : Slots) → ComeFirst l.instances l.capacity l.sender l.receiver taken packets first others → length packets ≡ many → HasNext packets others
+  has_next : (packets : List Packet) (others : Slots) → ComeFirst l taken packets first others → length packets ≡ many → HasNext packets others
   has_next packets others come long = go (drop place packets) refl (its.drawn packets others come long)
     where
       go : (ys : List Packet) → drop place packets ≡ ys
-          → (messages ≡ take place (messages_in packets)) × (more : Slots) × ComeFirst l.instances l.capacity l.sender l.receiver (taken + place) (drop place packets) now (others ++ more) → HasNext packets others
+          → (messages ≡ take place (messages_in packets)) × (more : Slots) × ComeFirst l (taken + place) (drop place packets) now (others ++ more) → HasNext packets others
       go [] cut so = absurd (omega (arith, ap length cut, length-drop place packets, long))
       go (y ∷ ys) cut so = record {
         next = y;
@@ -59,7 +59,7 @@ module _ (l : LaneView) (taken many place : ℕ) (first now : Slots) (messages :
         slots = so.2.are ∙ ap (λ zs. full_slots l.instances l.capacity l.sender l.receiver (taken + place) zs ++ (others ++ so.1)) cut;
       }
 
-  pub drawn_first : (packets : List Packet) × (others : Slots) × ComeFirst l.instances l.capacity l.sender l.receiver taken packets first others × (length packets ≡ many) → (x : Packet) × (now ≡ (slot, Some x) ∷ rest now)
+  pub drawn_first : (packets : List Packet) × (others : Slots) × ComeFirst l taken packets first others × (length packets ≡ many) → (x : Packet) × (now ≡ (slot, Some x) ∷ rest now)
   drawn_first (packets, others, come, long) =
       let it = has_next packets others come long in
       (it.next, it.slots ∙ ap (λ zs. (slot, Some it.next) ∷ zs) (sym (ap rest it.slots)))

@@ -102,7 +102,7 @@ module _ (n k : ℕ) (table : TableId) (h : List Occurrence) (room : Room) (lane
   pub record IsFirst : Type 0 where
     pub packets : List Packet
     pub others : Slots
-    pub come : ComeFirst room.lane.instances room.lane.capacity room.lane.sender room.lane.receiver room.taken packets leaver.seat.me.1 others
+    pub come : ComeFirst room.lane room.taken packets leaver.seat.me.1 others
     pub many : length packets ≡ room.many
     pub said : messages_in packets ≡ waiting h room.sender room.receiver
     pub later : AreNext n k (suc j) h (senders_to (suc j) lanes) others

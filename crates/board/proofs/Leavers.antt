@@ -79,7 +79,7 @@ module _ (n k : ℕ) (table : TableId) (h : List Occurrence) (place : ℕ) where
     own_is : (own : List ReportView) → map (λ (r : ReportView). r.receive) own ≡ receives_of (record { instance = post.number; events = line_of post }) → map (λ (r : ReportView). r.receive) own ≡ receives_of (history_line h (place + 1))
     own_is own receives = receives ∙ ap receives_of (line_is (record { instance = post.number; events = line_of post }) refl)
 
-    pub own_fits : (lines : List LineView) (reports own : List ReportView) (leavers : List Leaver) → HaveParted n k table h place lines reports leavers → place < n → map (λ (r : ReportView). r.receive) own ≡ receives_of (record { instance = post.number; events = line_of post })
+    pub own_fits : (lines : List LineView) (reports own : List ReportView) (leavers : List Leaver) → HaveParted (record { table = table; size = n; capacity = k }) h place lines reports leavers → place < n → map (λ (r : ReportView). r.receive) own ≡ receives_of (record { instance = post.number; events = line_of post })
         → length reports + length own ≤ length (receives_until h n)
     own_fits lines reports own leavers parted less receives =
         let rest : ℕ = n - (place + 1) in
@@ -96,10 +96,10 @@ module _ (n k : ℕ) (table : TableId) (h : List Occurrence) (place : ℕ) where
           length-map own (λ (r : ReportView). r.receive),
         )
 
-    pub parted_next : (lines : List LineView) (reports own : List ReportView) (leavers : List Leaver) (line : LineView) (leaver : Leaver) → HaveParted n k table h place lines reports leavers
+    pub parted_next : (lines : List LineView) (reports own : List ReportView) (leavers : List Leaver) (line : LineView) (leaver : Leaver) → HaveParted (record { table = table; size = n; capacity = k }) h place lines reports leavers
         → line ≡ record { instance = post.number; events = line_of post } → map (λ (r : ReportView). r.receive) own ≡ receives_of (record { instance = post.number; events = line_of post }) → All (IsReportIn (chart_of post.seen)) own
         → leaver.seat.table_id ≡ post.board.table → HaveLeft post.board.size post.board.capacity post.number post.seen 1 post.board.size leaver.seat.me.1
-        → HaveParted n k table h (place + 1) (lines ++ line ∷ []) (reports ++ own) (leavers ++ leaver ∷ [])
+        → HaveParted (record { table = table; size = n; capacity = k }) h (place + 1) (lines ++ line ∷ []) (reports ++ own) (leavers ++ leaver ∷ [])
     parted_next lines reports own leavers line leaver parted line_same receives each seated left = record {
       lined = ap₂ (λ ls l. ls ++ l ∷ []) parted.lined (line_is line line_same) ∙ sym (lines_next h place);
       reported = subst (λ ls. AreReportsOf (chart_of h) ls (reports ++ own)) (sym (lines_next h place))

@@ -13,15 +13,16 @@ use Rattle.board.specs.declared.ends.Incoming.{Incoming}
 use Rattle.board.specs.Known.{IsPost, view_of}
 use Rattle.board.specs.Meeting.{Hears}
 use Rattle.board.proofs.EndLemmas.{ends_later}
+use Rattle.board.proofs.PostLemmas.{knowledge}
 
-module _ (m w : Mine) (n k p : ℕ) (r : RecorderView) (region : ℕ) (outgoing : List Outgoing) (incoming : List Incoming) (post : IsPost m n k p r region outgoing incoming) (note : Held) (same : knowing.IsPost (held m).instances (held m).capacity (held m).number w) (meets : Meets (held m).instances (held m).capacity (held m) note (held w)) where
+module _ (m w : Mine) (n k p : ℕ) (r : RecorderView) (region : ℕ) (outgoing : List Outgoing) (incoming : List Incoming) (post : IsPost m n k p (knowledge r region outgoing incoming)) (note : Held) (same : knowing.IsPost (held m).instances (held m).capacity (held m).number w) (meets : Meets (held m).instances (held m).capacity (held m) note (held w)) where
   met_legal : IsLegal n k (held w).seen
   met_legal = subst (λ z. IsLegal z k (held w).seen) post.rests.post.instances (subst (λ z. IsLegal (held m).instances z (held w).seen) post.rests.post.capacity meets.legal)
 
   met_own : own (held w).seen p ≡ (held m).made
   met_own = subst (λ z. own (held w).seen z ≡ (held m).made) post.rests.post.number meets.own
 
-  pub post_met : w.1 ≡ m.1 → IsPost w n k p r region outgoing incoming
+  pub post_met : w.1 ≡ m.1 → IsPost w n k p (knowledge r region outgoing incoming)
   post_met slots =
       let its : own (held w).seen p ≡ own (held m).seen p = met_own ∙ sym post.made in
       let line = same_line n (held m).seen (held w).seen meets.later p its in

@@ -14,6 +14,7 @@ use Rattle.board.specs.declared.ends.Incoming.{Incoming}
 use Rattle.board.specs.Known.{IsSized, IsOutgoing, IsIncoming, IsPost}
 use Rattle.board.specs.Views.{BoardView, PostView}
 use Rattle.board.specs.Boards.{AreNewEnds, FirstPosts, AreLeft, new_seat, new_seats, new_outgoing, new_incoming, new_post}
+use Rattle.board.proofs.PostLemmas.{knowledge}
 
 -- An end of a lane on which nothing was sent.
 
@@ -23,7 +24,7 @@ outgoing_new n p q = record { put = refl; known = omega arith; unsent = refl; ba
 incoming_new : (n p q : ℕ) → IsIncoming n [] p q (new_incoming n)
 incoming_new n p q = record { taken = refl; known = omega arith; base = refl; long = length-replicate n 0 }
 
-post_at : (n k p : ℕ) (outgoing : List Outgoing) (incoming : List Incoming) → IsSized n k → 1 ≤ p → p ≤ n → AreNewEnds n n outgoing incoming → IsPost (new_seat n k p) n k p (new_recorder p n) 0 outgoing incoming
+post_at : (n k p : ℕ) (outgoing : List Outgoing) (incoming : List Incoming) → IsSized n k → 1 ≤ p → p ≤ n → AreNewEnds n n outgoing incoming → IsPost (new_seat n k p) n k p (knowledge (new_recorder p n) 0 outgoing incoming)
 post_at n k p outgoing incoming sized low high ends = record {
   sized = sized;
   least = low;
@@ -43,10 +44,10 @@ post_at n k p outgoing incoming sized low high ends = record {
 }
 
 -- a post is made
-pub post_new : (me : Mine) (n k p : ℕ) (r : RecorderView) (outgoing : List Outgoing) (incoming : List Incoming) → IsSized n k → ◌≡◌ {A = Mine} me (new_seat n k p) → 1 ≤ p → p ≤ n → AreNewEnds n n outgoing incoming → r ≡ new_recorder p n → IsPost me n k p r 0 outgoing incoming
+pub post_new : (me : Mine) (n k p : ℕ) (r : RecorderView) (outgoing : List Outgoing) (incoming : List Incoming) → IsSized n k → ◌≡◌ {A = Mine} me (new_seat n k p) → 1 ≤ p → p ≤ n → AreNewEnds n n outgoing incoming → r ≡ new_recorder p n → IsPost me n k p (knowledge r 0 outgoing incoming)
 post_new me n k p r outgoing incoming sized seat low high ends recorder =
-    subst (λ (m : Mine). IsPost m n k p r 0 outgoing incoming) (sym seat)
-    (subst (λ (u : RecorderView). IsPost (new_seat n k p) n k p u 0 outgoing incoming) (sym recorder)
+    subst (λ (m : Mine). IsPost m n k p (knowledge r 0 outgoing incoming)) (sym seat)
+    (subst (λ (u : RecorderView). IsPost (new_seat n k p) n k p (knowledge u 0 outgoing incoming)) (sym recorder)
     (post_at n k p outgoing incoming sized low high ends))
 
 -- the first of the posts that are left

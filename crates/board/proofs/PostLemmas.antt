@@ -11,11 +11,14 @@ use Rattle.line_recorder.specs.Recording.{IsRecorder}
 use Rattle.board_table.specs.Knowing.{Mine, held, Rests}
 use Rattle.board.specs.declared.ends.Outgoing.{Outgoing}
 use Rattle.board.specs.declared.ends.Incoming.{Incoming}
-use Rattle.board.specs.Known.{IsOutgoing, AreEndsBut, AreEnds, IsPost, Did}
+use Rattle.board.specs.Known.{IsOutgoing, AreEndsBut, AreEnds, Knowledge, IsPost, Did}
 use Rattle.board.specs.Sending.{sends_of}
 use Rattle.board.proofs.EndLemmas.{ends_later, ends_but}
 use Rattle.board.proofs.OneSend.{saw_same, line_saw}
 use Rattle.board.proofs.SeveralSends.{sends_after, sends_are, ends_sends}
+
+abbrev pub knowledge : RecorderView → ℕ → List Outgoing → List Incoming → Knowledge
+knowledge recorder region outgoing incoming = record { recorder = recorder; region = region; outgoing = outgoing; incoming = incoming }
 
 -- an element of a list in which one was put is this one, or another that was there before
 pub at_set : {X : Type 0} (xs : List X) (j i : ℕ) (e o : X) → slice_get (set xs j e) i ≡ Some o → ((i ≡ j) × (e ≡ o)) ⊎ ((i ≢ j) × (slice_get xs i ≡ Some o))
@@ -45,9 +48,9 @@ with_outgoing n h p j e outgoing incoming within old its = record {
     go i o ne (inl (here, same)) = subst (λ (x : ℕ). IsOutgoing n h p (suc x) o) (sym here) (subst (λ (x : Outgoing). IsOutgoing n h p (suc j) x) same its)
     go i o ne (inr (other, there)) = old.sends i o ne (λ same. other (omega arith)) there
 
-module _ (m w : Mine) (n k p : ℕ) (r u : RecorderView) (region : ℕ) (outgoing : List Outgoing) (incoming : List Incoming) (post : IsPost m n k p r region outgoing incoming) (rests : Rests n k p w) (recorder : IsRecorder n (held w).seen p u) (j : ℕ) (e : Outgoing) (within : j < length outgoing) (end : IsOutgoing n (held w).seen p (suc j) e) where
+module _ (m w : Mine) (n k p : ℕ) (r u : RecorderView) (region : ℕ) (outgoing : List Outgoing) (incoming : List Incoming) (post : IsPost m n k p (knowledge r region outgoing incoming)) (rests : Rests n k p w) (recorder : IsRecorder n (held w).seen p u) (j : ℕ) (e : Outgoing) (within : j < length outgoing) (end : IsOutgoing n (held w).seen p (suc j) e) where
   -- the call that touched this end saw, and made nothing
-  pub post_saw : Did n k p (held m) (held w) (held w).seen [] → IsPost w n k p u region (set outgoing j e) incoming
+  pub post_saw : Did n k p (held m) (held w) (held w).seen [] → IsPost w n k p (knowledge u region (set outgoing j e) incoming)
   post_saw did =
       let same = saw_same n k p (held m) (held w) post.knows.legal post.made did in
       let line = line_saw n k p (held m) (held w) post.knows.legal post.made did in
@@ -66,7 +69,7 @@ module _ (m w : Mine) (n k p : ℕ) (r u : RecorderView) (region : ℕ) (outgoin
       }
 
   -- it sent these messages
-  pub post_sends : (before : List Occurrence) (ms : List Content) → region ≡ 0 → Did n k p (held m) (held w) before (sends_of p (suc j) ms) → IsPost w n k p u region (set outgoing j e) incoming
+  pub post_sends : (before : List Occurrence) (ms : List Content) → region ≡ 0 → Did n k p (held m) (held w) before (sends_of p (suc j) ms) → IsPost w n k p (knowledge u region (set outgoing j e) incoming)
   post_sends before ms outside did =
       let same : own before p ≡ own (held m).seen p = did.own_before ∙ sym post.made in
       let seen : (held w).seen ≡ sends_after p (suc j) ms before = did.seen ∙ sym (sends_are p (suc j) ms before) in

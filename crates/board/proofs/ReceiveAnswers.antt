@@ -34,7 +34,7 @@ use Rattle.board.specs.Taking.{IsGot, IsUntaken}
 use Rattle.board.specs.TakingMany.{messages_of, AreGot, Stops}
 use Rattle.board.proofs.EndLemmas.{ends_later, ends_received, ends_but}
 use Rattle.board.proofs.OneSend.{saw_same, line_saw, recorder_saw}
-use Rattle.board.proofs.PostLemmas.{at_set}
+use Rattle.board.proofs.PostLemmas.{knowledge, at_set}
 use Rattle.board.proofs.SendAnswers.{did_makes}
 
 -- the call saw, and then did this
@@ -80,7 +80,7 @@ with_incoming n h p j e outgoing incoming within old its = record {
     go i o ne (inl (here, same)) = subst (λ (x : ℕ). IsIncoming n h p (suc x) o) (sym here) (subst (λ (x : Incoming). IsIncoming n h p (suc j) x) same its)
     go i o ne (inr (other, there)) = old.takes i o ne (λ same. other (omega arith)) there
 
-module _ (m : Mine) (n k p : ℕ) (r : RecorderView) (region : ℕ) (outgoing : List Outgoing) (incoming : List Incoming) (post : IsPost m n k p r region outgoing incoming) where
+module _ (m : Mine) (n k p : ℕ) (r : RecorderView) (region : ℕ) (outgoing : List Outgoing) (incoming : List Incoming) (post : IsPost m n k p (knowledge r region outgoing incoming)) where
   -- the end of the lane from an instance
   pub incoming_at : (from j : ℕ) (i : Incoming) → from ≡ suc j → from ≢ p → from ≤ n → i ≡ get_or incoming j i → IsIncoming n (held m).seen p from i
   incoming_at from j i place ne most read =
@@ -102,7 +102,7 @@ module _ (m : Mine) (n k p : ℕ) (r : RecorderView) (region : ℕ) (outgoing : 
 
   module _ (w : Mine) (u : RecorderView) (rests : Rests n k p w) (recorder : IsRecorder n (held w).seen p u) (j : ℕ) (e : Incoming) (within : j < length incoming) (end : IsIncoming n (held w).seen p (suc j) e) where
     -- the call that touched this end saw, and made nothing
-    pub post_looked : Did n k p (held m) (held w) (held w).seen [] → IsPost w n k p u region outgoing (set incoming j e)
+    pub post_looked : Did n k p (held m) (held w) (held w).seen [] → IsPost w n k p (knowledge u region outgoing (set incoming j e))
     post_looked did =
         let same = saw_same n k p (held m) (held w) post.knows.legal post.made did in
         let line = line_saw n k p (held m) (held w) post.knows.legal post.made did in
@@ -121,7 +121,7 @@ module _ (m : Mine) (n k p : ℕ) (r : RecorderView) (region : ℕ) (outgoing : 
         }
 
     -- it received one message or more
-    pub post_received : (before : List Occurrence) (many : ℕ) → Did n k p (held m) (held w) before (replicate (suc many) (Receive p (suc j) region)) → IsPost w n k p u region outgoing (set incoming j e)
+    pub post_received : (before : List Occurrence) (many : ℕ) → Did n k p (held m) (held w) before (replicate (suc many) (Receive p (suc j) region)) → IsPost w n k p (knowledge u region outgoing (set incoming j e))
     post_received before many did =
         let same : own before p ≡ own (held m).seen p = did.own_before ∙ sym post.made in
         let line : chart_of before p ≡ chart_of (held m).seen p = same_line n (held m).seen before did.later p same in

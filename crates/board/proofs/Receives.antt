@@ -42,7 +42,7 @@ use Rattle.board.specs.declared.ends.Incoming.{Incoming}
 use Rattle.board.specs.declared.error.TakeError.{TakeError}
 use Rattle.board.specs.Known.{IsIncoming, Did}
 use Rattle.board.specs.Found.{KnowsOf}
-use Rattle.board.specs.Receipts.{MayReceive, MayTake, IsTaking, IsTaken, reports_of, AreTaken, IsUnrecorded, IsReceived, AreReceived, IsUnreceived, IsHalted, IsStopped}
+use Rattle.board.specs.Receipts.{MayReceive, MayTake, IsTaking, ReceiverView, IsTaken, reports_of, AreTaken, IsUnrecorded, IsReceived, AreReceived, IsUnreceived, IsHalted, IsStopped}
 use Rattle.board.specs.Sending.{numbered}
 use Rattle.board.specs.TakingMany.{messages_of}
 use Rattle.board.proofs.DidLemmas.{did_nothing, did_put_back, did_move, waiting_many}
@@ -125,6 +125,9 @@ module _ (q c : ℕ) where
       let rest = answers_numbered (after_receive r q y.message.name c y.clock report) ys reports (index + 1) (omega (arith, at, length_push r.line.events (receive_event q y.message.name c))) are.1 in
       ap₂ (λ (e : EventNo) (es : List EventNo). e ∷ es) (are.0.receive ∙ ap (λ (i : ℕ). record { instance = r.line.instance; index = i }) at) rest
 
+abbrev pub receiving : Mine → Incoming → RecorderView → ReceiverView
+receiving me end recorder = record { me = me; end = end; recorder = recorder }
+
 -- Messages are out with the receiver, as the seat t has it.
 module _ (l : LaneView) (t : Mine) (o : Incoming) (taking : IsTaking l t o) (legal : IsLegal l.instances l.capacity (held t).seen) where
   abbrev goods_then : List Parcel
@@ -156,8 +159,8 @@ module _ (l : LaneView) (t : Mine) (o : Incoming) (taking : IsTaking l t o) (leg
   taken_few = omega (arith, taking.taken, taking.emptying.waiting, sent_within (held t).seen l.sender l.receiver, line_short l.instances l.capacity (held t).seen legal l.sender)
 
   -- the first is taken out, as w has it
-  pub next_taken : (w : Mine) (x : Packet) (clock : List ℕ) (region : ℕ) (r v : RecorderView) (arrival : Arrival) → IsEmptying l w → held w ≡ held t → packets_out t ≡ x ∷ packets_out w → vacant_out w ≡ suc (vacant_out t) → IsRecorded (packets_out t) o.base l.sender region r arrival.report clock v → arrival.from ≡ l.sender → arrival.message ≡ x.message
-      → IsTaken l region t o r arrival w (record o { taken = o.taken + 1; base = clock }) v
+  pub next_taken : (w : Mine) (x : Packet) (clock : List ℕ) (region : ℕ) (r v : RecorderView) (arrival : Arrival) → IsEmptying l w → held w ≡ held t → packets_out t ≡ x ∷ packets_out w → vacant_out w ≡ suc (vacant_out t) → IsRecorded (packets_out t) o.base r (record { from = l.sender; region = region; clock = clock; report = arrival.report }) v → arrival.from ≡ l.sender → arrival.message ≡ x.message
+      → IsTaken l region (receiving t o r) arrival (receiving w (record o { taken = o.taken + 1; base = clock }) v)
   next_taken w x clock region r v arrival emptying kept took vacant recorded sender message =
       let good = first_good x (packets_out w) took in
       let same = ap (λ (y : Held). received y.seen l.sender l.receiver) kept in
@@ -218,7 +221,7 @@ module _ (l : LaneView) (region : ℕ) (s : Mine) (u : Incoming) (r : RecorderVi
       (subst (λ (e : Held). IsRecorder l.instances e.seen l.receiver r) (sym kept) may.recorded)
 
   -- none was taken out yet
-  pub none_taken : AreTaken l region s u r [] s u r
+  pub none_taken : AreTaken l region (receiving s u r) [] (receiving s u r)
   none_taken =
       let none : received (held s).seen l.sender l.receiver ≡ received (held s).seen l.sender l.receiver + vacant_out s = omega (arith, may.found.untaken) in
       record {
@@ -236,7 +239,7 @@ module _ (l : LaneView) (region : ℕ) (s : Mine) (u : Incoming) (r : RecorderVi
       }
 
   -- These were taken out, as t has it.
-  module _ (arrivals : List Arrival) (t : Mine) (o : Incoming) (v : RecorderView) (are : AreTaken l region s u r arrivals t o v) where
+  module _ (arrivals : List Arrival) (t : Mine) (o : Incoming) (v : RecorderView) (are : AreTaken l region (receiving s u r) arrivals (receiving t o v)) where
     pub as_many : length are.parcels ≡ length arrivals
     as_many = sym (length-map are.parcels (λ (x : Parcel). x.message)) ∙ ap length (sym are.messages) ∙ length-map arrivals (λ (arrival : Arrival). arrival.message)
 
@@ -296,7 +299,7 @@ module _ (l : LaneView) (region : ℕ) (s : Mine) (u : Incoming) (r : RecorderVi
     }
 
     -- one more is taken out
-    pub one_more : (w : Mine) (i : Incoming) (x : RecorderView) (arrival : Arrival) → length v.line.events < MAX_EVENTS → IsTaken l region t o v arrival w i x → AreTaken l region s u r (arrivals ++ arrival ∷ []) w i x
+    pub one_more : (w : Mine) (i : Incoming) (x : RecorderView) (arrival : Arrival) → length v.line.events < MAX_EVENTS → IsTaken l region (receiving t o v) arrival (receiving w i x) → AreTaken l region (receiving s u r) (arrivals ++ arrival ∷ []) (receiving w i x)
     one_more w i x arrival less its =
         let reports = map-append (λ (a : Arrival). a.report) arrivals (arrival ∷ []) in
         record {

@@ -17,7 +17,7 @@ use Rattle.board.specs.Known.{IsOutgoing, IsPost, view_of}
 use Rattle.board.specs.Parts.{IsUnmade}
 use Rattle.board.specs.Sending.{MaySend, MayPass, AreSent, SendsAll}
 use Rattle.board.specs.SendingMany.{AreMade}
-use Rattle.board.proofs.PostLemmas.{post_saw, post_sends}
+use Rattle.board.proofs.PostLemmas.{knowledge, post_saw, post_sends}
 use Rattle.board.proofs.SendAnswers.{did_sound, did_makes, did_stays, unsent}
 
 -- none is sent where there is none
@@ -45,7 +45,7 @@ pub sound_all : (table : TableId) (m w : Mine) (n k p region room left to : ℕ)
 sound_all table m w n k p region room left to ms (Ok sents) made unmade = did_sound table m w n k p region room _ _ made.did region left
 sound_all table m w n k p region room left to ms (Err (back, error)) made unmade = did_sound table m w n k p region room _ _ unmade.1.did region left
 
-pub answer_all : (table : TableId) (m w : Mine) (n k p : ℕ) (r : RecorderView) (region : ℕ) (outgoing : List Outgoing) (incoming : List Incoming) → IsPost m n k p r region outgoing incoming → (to left : ℕ) (ms : List Content) → MayPass (view_of table m n k p region r.room) to (length ms) → 0 < length ms
+pub answer_all : (table : TableId) (m w : Mine) (n k p : ℕ) (r : RecorderView) (region : ℕ) (outgoing : List Outgoing) (incoming : List Incoming) → IsPost m n k p (knowledge r region outgoing incoming) → (to left : ℕ) (ms : List Content) → MayPass (view_of table m n k p region r.room) to (length ms) → 0 < length ms
     → (result : Answer) → WereMade n k p to ms m w result → WereUnmade n k p to ms m w result → OnOk result (left ≡ r.room - length ms) → OnErr result (left ≡ r.room) → SendsAll (view_of table m n k p region r.room) to ms result (view_of table w n k p region left)
 answer_all table m w n k p r region outgoing incoming post to left ms may some (Ok sents) made unmade taken kept = record {
   allowed = may.allowed;
@@ -56,7 +56,7 @@ answer_all table m w n k p r region outgoing incoming post to left ms may some (
 answer_all table m w n k p r region outgoing incoming post to left ms may some (Err (back, error)) made unmade taken kept =
     (unmade.0, did_stays table m w n k p region r.room left unmade.1.did kept, unsent table m w n k p r region outgoing incoming post to (length ms) may left (record { instances = n; capacity = k; sender = p; receiver = to }) refl error unmade.1.did some unmade.1.cause)
 
-pub post_all : (m w : Mine) (n k p : ℕ) (r u : RecorderView) (region : ℕ) (outgoing : List Outgoing) (incoming : List Incoming) → IsPost m n k p r region outgoing incoming → Rests n k p w → IsRecorder n (held w).seen p u
-    → (j : ℕ) (e : Outgoing) → j < length outgoing → IsOutgoing n (held w).seen p (suc j) e → region ≡ 0 → (ms : List Content) (result : Answer) → WereMade n k p (suc j) ms m w result → WereUnmade n k p (suc j) ms m w result → IsPost w n k p u region (set outgoing j e) incoming
+pub post_all : (m w : Mine) (n k p : ℕ) (r u : RecorderView) (region : ℕ) (outgoing : List Outgoing) (incoming : List Incoming) → IsPost m n k p (knowledge r region outgoing incoming) → Rests n k p w → IsRecorder n (held w).seen p u
+    → (j : ℕ) (e : Outgoing) → j < length outgoing → IsOutgoing n (held w).seen p (suc j) e → region ≡ 0 → (ms : List Content) (result : Answer) → WereMade n k p (suc j) ms m w result → WereUnmade n k p (suc j) ms m w result → IsPost w n k p (knowledge u region (set outgoing j e) incoming)
 post_all m w n k p r u region outgoing incoming post rests recorder j e within end outside ms (Ok sents) made unmade = post_sends m w n k p r u region outgoing incoming post rests recorder j e within end _ ms outside made.did
 post_all m w n k p r u region outgoing incoming post rests recorder j e within end outside ms (Err (back, error)) made unmade = post_saw m w n k p r u region outgoing incoming post rests recorder j e within end unmade.1.did

@@ -19,8 +19,9 @@ use Rattle.board.specs.declared.error.SendError.TheVariants.{NoSuchInstance, ToI
 use Rattle.board.specs.Parts.{MayPut, IsCause}
 use Rattle.board.specs.Sending.{MaySend, MayPass, IsUnsent}
 use Rattle.board.proofs.OneSend.{line_saw, closed_saw}
+use Rattle.board.proofs.PostLemmas.{knowledge}
 
-module _ (m : Mine) (n k p : ℕ) (r : RecorderView) (region : ℕ) (outgoing : List Outgoing) (incoming : List Incoming) (post : IsPost m n k p r region outgoing incoming) where
+module _ (m : Mine) (n k p : ℕ) (r : RecorderView) (region : ℕ) (outgoing : List Outgoing) (incoming : List Incoming) (post : IsPost m n k p (knowledge r region outgoing incoming)) where
   -- the end of the lane to an instance
   pub outgoing_at : (to j : ℕ) (o : Outgoing) → to ≡ suc j → to ≢ p → to ≤ n → o ≡ get_or outgoing j o → IsOutgoing n (held m).seen p to o
   outgoing_at to j o place ne most read =
@@ -60,7 +61,7 @@ module _ (table : TableId) (m w : Mine) (n k p region room : ℕ) (before events
 pub did_stays : (table : TableId) (m w : Mine) (n k p region room left : ℕ) → Did n k p (held m) (held w) (held w).seen [] → left ≡ room → Stays (view_of table m n k p region room) (view_of table w n k p region left)
 did_stays table m w n k p region room left did kept = record { made = did.made; region = refl; room = kept }
 
-module _ (table : TableId) (m w : Mine) (n k p : ℕ) (r : RecorderView) (region : ℕ) (outgoing : List Outgoing) (incoming : List Incoming) (post : IsPost m n k p r region outgoing incoming) (to many : ℕ) (may : MayPass (view_of table m n k p region r.room) to many) where
+module _ (table : TableId) (m w : Mine) (n k p : ℕ) (r : RecorderView) (region : ℕ) (outgoing : List Outgoing) (incoming : List Incoming) (post : IsPost m n k p (knowledge r region outgoing incoming)) (to many : ℕ) (may : MayPass (view_of table m n k p region r.room) to many) where
   -- the lane is open in what is seen
   unclosed : is_closed (held m).seen p to ≡ false
   unclosed = sym (closed_own (held m).seen p to) ∙ ap (λ h. is_closed h p to) post.made ∙ may.allowed.opened

@@ -77,7 +77,7 @@ module _ (posts : List PostView) (x : PostView) (at : slice_get posts 0 ≡ Some
   pub whole_legal : (h : List Occurrence) → AreJoint h posts → 1 ≤ n → IsLegal n x.board.capacity h
   whole_legal h joint some = joint_legal n x.board.capacity posts are_of 1 (omega arith) some h joint
 
-module _ (n k : ℕ) (table : TableId) (h : List Occurrence) (lines : List LineView) (reports : List ReportView) (leavers : List Leaver) (parted : HaveParted n k table h n lines reports leavers) where
+module _ (n k : ℕ) (table : TableId) (h : List Occurrence) (lines : List LineView) (reports : List ReportView) (leavers : List Leaver) (parted : HaveParted (record { table = table; size = n; capacity = k }) h n lines reports leavers) where
   pub all_ready : AreReady n k table h (waiting_lanes n h) leavers
   all_ready = record {
     as_many = parted.as_many;
@@ -128,7 +128,7 @@ module _ (posts left : List PostView) (n k : ℕ) (table : TableId) (h : List Oc
   pub its_closed : map closed_view it.closed.items ≡ closed_lanes n h
   its_closed = (subst (λ (m : ℕ). AreClosed posts (all_lanes m) it.closed.items) (sym g.size) (provision.closed k (subst (λ (m : ℕ). AreOf m k posts) g.size g.are))) h g.joint
 
-  pub its_ready : (lines : List LineView) (reports : List ReportView) (leavers front : List Leaver) (words : TableId) → HaveParted n k table h n lines reports leavers → front ≡ leavers → words ≡ table → AreReady n k words h (map room_lane it.rooms.items) front
+  pub its_ready : (lines : List LineView) (reports : List ReportView) (leavers front : List Leaver) (words : TableId) → HaveParted (record { table = table; size = n; capacity = k }) h n lines reports leavers → front ≡ leavers → words ≡ table → AreReady n k words h (map room_lane it.rooms.items) front
   its_ready lines reports leavers front words parted same seated =
       subst (λ (ls : List Leaver). AreReady n k words h (map room_lane it.rooms.items) ls) (sym same)
       (subst (λ (lanes : List LaneEnds). AreReady n k words h lanes leavers) (sym its_lanes)

@@ -51,21 +51,27 @@ pub record IsSized (n k : ℕ) : Type 0 where
   pub some : 1 ≤ k
   pub slots : k ≤ MAX_CAPACITY
 
--- what a post knows is so in what it has seen, which is legal
-pub record Knows (n k : ℕ) (h : List Occurrence) (p : ℕ) (recorder : RecorderView) (region : ℕ)
-    (outgoing : List Outgoing) (incoming : List Incoming) : Type 0 where
+-- what a post knows beside its seat: its recorder, its open coregion, 0 for none, and its ends of its lanes, each at the
+-- other instance's place
+pub record Knowledge : Type 0 where
+  pub recorder : RecorderView
+  pub region : ℕ
+  pub outgoing : List Outgoing
+  pub incoming : List Incoming
+
+-- what p knows is so in what it has seen, which is legal
+pub record Knows (n k : ℕ) (h : List Occurrence) (p : ℕ) (knowledge : Knowledge) : Type 0 where
   pub legal : IsLegal n k h
-  pub own : IsInstance n h p recorder region
-  pub ends : AreEnds n h p outgoing incoming
+  pub own : IsInstance n h p knowledge.recorder knowledge.region
+  pub ends : AreEnds n h p knowledge.outgoing knowledge.incoming
 
 -- a post between two calls: its seat, its number, and what it knows
-pub record IsPost (me : Mine) (n k p : ℕ) (recorder : RecorderView) (region : ℕ) (outgoing : List Outgoing)
-    (incoming : List Incoming) : Type 0 where
+pub record IsPost (me : Mine) (n k p : ℕ) (knowledge : Knowledge) : Type 0 where
   pub sized : IsSized n k
   pub least : 1 ≤ p
   pub most : p ≤ n
   pub rests : Rests n k p me
-  pub knows : Knows n k (held me).seen p recorder region outgoing incoming
+  pub knows : Knows n k (held me).seen p knowledge
   pub made : own (held me).seen p ≡ (held me).made
 
 -- what a call of p makes of what its seat knows: these events, the newest first, one directly after another and after

@@ -13,12 +13,12 @@ use Rattle.chart.specs.HistoryLines.{history_lines}
 use Rattle.chart.specs.Reports.{ReportView, AreReportsOf, receives_of}
 use Rattle.atomic_table.specs.Seated.{TableId}
 use Rattle.board_table.specs.declared.packet.Packet.{Packet}
-use Rattle.board_table.specs.Layout.{LaneView}
+use Rattle.board_table.specs.Layout.{LaneView, board_lane}
 use Rattle.board_table.specs.Leaving.{ComeFirst, HaveLeft}
 use Rattle.board.specs.declared.gathering.ClosedLane.{ClosedLane}
 use Rattle.board.specs.declared.parting.Leaver.{Leaver}
 use Rattle.board.specs.declared.parting.Room.{Room}
-use Rattle.board.specs.Views.{PostView}
+use Rattle.board.specs.Views.{BoardView, PostView}
 use Rattle.board.specs.Meeting.{HasPost}
 use Rattle.board.specs.Gathering.{AreJoint, LaneEnds, lane_to, is_waiting, is_closed_lane, closed_view}
 
@@ -32,9 +32,9 @@ messages_in packets = map (λ (x : Packet). x.message) packets
 -- others
 pub record HasDrawn (l : LaneView) (taken many place : ℕ) (first now : Slots) (messages : List Content) : Type 0 where
   pub drawn : (packets : List Packet) (others : Slots)
-      → ComeFirst l.instances l.capacity l.sender l.receiver taken packets first others → length packets ≡ many
+      → ComeFirst l taken packets first others → length packets ≡ many
       → (messages ≡ take place (messages_in packets)) × (more : Slots)
-      × ComeFirst l.instances l.capacity l.sender l.receiver (taken + place) (drop place packets) now (others ++ more)
+      × ComeFirst l (taken + place) (drop place packets) now (others ++ more)
 
 -- the post is one of these
 abbrev pub IsAmong : List PostView → PostView → Type 0
@@ -96,13 +96,14 @@ pub record HaveSeen (n k : ℕ) (table : TableId) (h : List Occurrence) (from : 
   pub all : (number : ℕ) → from < number → number ≤ n → HasPost posts number
 
 -- the lines and reports of so many posts, which have left with the messages that wait for them
-pub record HaveParted (n k : ℕ) (table : TableId) (h : List Occurrence) (many : ℕ) (lines : List LineView)
+pub record HaveParted (board : BoardView) (h : List Occurrence) (many : ℕ) (lines : List LineView)
     (reports : List ReportView) (leavers : List Leaver) : Type 0 where
   pub lined : lines ≡ history_lines many h
   pub reported : AreReportsOf (chart_of h) (history_lines many h) reports
   pub as_many : length leavers ≡ many
-  pub seated : (i : ℕ) (leaver : Leaver) → slice_get leavers i ≡ Some leaver → leaver.seat.table_id ≡ table
-  pub left : (i : ℕ) (leaver : Leaver) → slice_get leavers i ≡ Some leaver → HaveLeft n k (suc i) h 1 n leaver.seat.me.1
+  pub seated : (i : ℕ) (leaver : Leaver) → slice_get leavers i ≡ Some leaver → leaver.seat.table_id ≡ board.table
+  pub left : (i : ℕ) (leaver : Leaver) → slice_get leavers i ≡ Some leaver
+      → HaveLeft board.size board.capacity (suc i) h 1 board.size leaver.seat.me.1
 
 -- The messages of the lanes, to be drawn one lane after another.
 
@@ -114,7 +115,7 @@ senders_to p lanes = map (λ (lane : LaneEnds). lane.sender) (filter (λ (lane :
 abbrev pub AreNext : ℕ → ℕ → ℕ → List Occurrence → List Instance → Slots → Type 0
 AreNext n k p h [] slots = Unit {0}
 AreNext n k p h (q ∷ qs) slots = (packets : List Packet) × (others : Slots)
-    × ComeFirst n k q p (received h q p) packets slots others × (messages_in packets ≡ waiting h q p)
+    × ComeFirst (board_lane n k q p) (received h q p) packets slots others × (messages_in packets ≡ waiting h q p)
     × AreNext n k p h qs others
 
 pub record AreReady (n k : ℕ) (table : TableId) (h : List Occurrence) (lanes : List LaneEnds)

@@ -51,38 +51,45 @@ pub record MayTake (l : LaneView) (region : ℕ) (me : Mine) (end : Incoming) (r
   pub short : length recorder.line.events < MAX_EVENTS
   pub two : AreTwo l.instances l.receiver l.sender
 
+-- a receiver at its work: its seat, its end of the lane, and its recorder
+pub record ReceiverView : Type 0 where
+  pub me : Mine
+  pub end : Incoming
+  pub recorder : RecorderView
+
 -- the first message that was out was taken out of its slot, and its receive recorded: its parcel, with this arrival
-pub record IsTaken (l : LaneView) (region : ℕ) (old : Mine) (before : Incoming) (recorder : RecorderView)
-    (arrival : Arrival) (new : Mine) (after : Incoming) (recorded : RecorderView) : Type 0 where
-  pub taking : IsTaking l new after
-  pub kept : held new ≡ held old
+pub record IsTaken (l : LaneView) (region : ℕ) (old : ReceiverView) (arrival : Arrival) (new : ReceiverView)
+    : Type 0 where
+  pub taking : IsTaking l new.me new.end
+  pub kept : held new.me ≡ held old.me
   pub parcel : Parcel
-  pub took : waiting_goods l old ≡ parcel ∷ waiting_goods l new
-  pub out : vacant_out new ≡ vacant_out old + 1
+  pub took : waiting_goods l old.me ≡ parcel ∷ waiting_goods l new.me
+  pub out : vacant_out new.me ≡ vacant_out old.me + 1
   pub sender : arrival.from ≡ l.sender
   pub message : arrival.message ≡ parcel.message
-  pub report : IsReportOf recorder l.sender region parcel.clock arrival.report
-  pub recorder_is : recorded ≡ after_receive recorder l.sender parcel.message.name region parcel.clock arrival.report
-  pub known : after.known_put ≡ before.known_put
+  pub report : IsReportOf old.recorder l.sender region parcel.clock arrival.report
+  pub recorder_is : new.recorder
+      ≡ after_receive old.recorder l.sender parcel.message.name region parcel.clock arrival.report
+  pub known : new.end.known_put ≡ old.end.known_put
 
 abbrev pub reports_of : List Arrival → List ReportView
 reports_of arrivals = map (λ (arrival : Arrival). arrival.report) arrivals
 
 -- so were the first ones that waited, one after another: these parcels, with these arrivals
-pub record AreTaken (l : LaneView) (region : ℕ) (old : Mine) (before : Incoming) (recorder : RecorderView)
-    (arrivals : List Arrival) (new : Mine) (after : Incoming) (recorded : RecorderView) : Type 0 where
-  pub taking : IsTaking l new after
-  pub kept : held new ≡ held old
+pub record AreTaken (l : LaneView) (region : ℕ) (old : ReceiverView) (arrivals : List Arrival) (new : ReceiverView)
+    : Type 0 where
+  pub taking : IsTaking l new.me new.end
+  pub kept : held new.me ≡ held old.me
   pub parcels : List Parcel
-  pub took : drop (received (held old).seen l.sender l.receiver) (goods l.instances (held old).seen l.sender l.receiver)
-      ≡ parcels ++ waiting_goods l new
-  pub out : vacant_out new ≡ length arrivals
+  pub took : drop (received (held old.me).seen l.sender l.receiver)
+      (goods l.instances (held old.me).seen l.sender l.receiver) ≡ parcels ++ waiting_goods l new.me
+  pub out : vacant_out new.me ≡ length arrivals
   pub senders : All (λ (arrival : Arrival). arrival.from ≡ l.sender) arrivals
   pub messages : messages_of arrivals ≡ map (λ (x : Parcel). x.message) parcels
-  pub answers : AreAnswers recorder l.sender region parcels (reports_of arrivals)
-  pub recorder_is : recorded ≡ after_receives recorder l.sender region parcels (reports_of arrivals)
-  pub short : length recorded.line.events ≤ MAX_EVENTS
-  pub known : after.known_put ≡ before.known_put
+  pub answers : AreAnswers old.recorder l.sender region parcels (reports_of arrivals)
+  pub recorder_is : new.recorder ≡ after_receives old.recorder l.sender region parcels (reports_of arrivals)
+  pub short : length new.recorder.line.events ≤ MAX_EVENTS
+  pub known : new.end.known_put ≡ old.end.known_put
 
 -- why the recorder, whose line has so many events, has recorded nothing
 abbrev pub IsUnrecorded : ℕ → TakeError → Type 0

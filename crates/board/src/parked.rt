@@ -42,7 +42,12 @@ impl Model for Parked {
         post.number post.region post.recorder.room };
 
     ghost invariant = { λ post. IsPost post.seat.me post.shape.instances post.shape.capacity post.number
-        post.recorder post.region post.outgoing.items post.incoming.items };
+        (record {
+          recorder = post.recorder;
+          region = post.region;
+          outgoing = post.outgoing.items;
+          incoming = post.incoming.items;
+        }) };
 }
 
 impl Parked {

@@ -85,7 +85,7 @@ impl<'a> Post<'a> {
 pub(crate) fn draw_all(words: &Words, seat: &mut Seat, room: Room) -> Left
     requires table { seat.old.table_id ≡ words.now.table_id }
     requires first { (packets : List Packet) × (others : List (ℕ × Option Packet))
-        × ComeFirst room.lane.instances room.lane.capacity room.lane.sender room.lane.receiver room.taken packets
+        × ComeFirst room.lane room.taken packets
         seat.old.me.1 others × (length packets ≡ room.many) }
     requires empty { room.messages.items ≡ [] }
     requires enough { room.many ≤ vec_capacity room.messages }
@@ -94,7 +94,7 @@ pub(crate) fn draw_all(words: &Words, seat: &mut Seat, room: Room) -> Left
     ensures sender { result.sender ≡ room.sender }
     ensures receiver { result.receiver ≡ room.receiver }
     ensures drawn { (packets : List Packet) (others : List (ℕ × Option Packet))
-        → ComeFirst room.lane.instances room.lane.capacity room.lane.sender room.lane.receiver room.taken packets
+        → ComeFirst room.lane room.taken packets
         seat.old.me.1 others → length packets ≡ room.many
         → (result.messages.items ≡ map (λ x. x.message) packets)
         × ((more : List (ℕ × Option Packet)) × (seat.new.me.1 ≡ others ++ more)) }
@@ -147,7 +147,8 @@ pub(crate) fn part_all(
     requires empty { (lines.old.items ≡ []) × (reports.old.items ≡ []) × (leavers.old.items ≡ []) }
     requires enough { (instances ≤ vec_capacity lines.old) × (instances ≤ vec_capacity leavers.old) }
     ensures { (k : ℕ) (table : TableId) (h : List Occurrence) → HaveSeen instances k table h 0 posts.entry.items
-        → HaveParted instances k table h instances lines.new.items reports.new.items leavers.new.items }
+        → HaveParted (record { table = table; size = instances; capacity = k }) h instances lines.new.items
+        reports.new.items leavers.new.items }
 {
     let mut posts = posts;
     for place in 0..instances {

@@ -165,8 +165,9 @@ pub(crate) fn take_next(
     requires may_take { MayTake lane.now region seat.old.me end.old recorder.old }
     requires from { from ≡ lane.now.sender }
     ensures table { seat.new.table_id ≡ seat.old.table_id }
-    ensures ok { IfOk result (λ arrival. IsTaken lane.now region seat.old.me end.old recorder.old arrival seat.new.me
-        end.new recorder.new) }
+    ensures ok { IfOk result (λ arrival. IsTaken lane.now region
+        (record { me = seat.old.me; end = end.old; recorder = recorder.old }) arrival
+        (record { me = seat.new.me; end = end.new; recorder = recorder.new })) }
     ensures seat { OnErr result (seat.new.me ≡ seat.old.me) }
     ensures end { OnErr result (end.new ≡ end.old) }
     ensures recorder { OnErr result (recorder.new ≡ recorder.old) }

@@ -94,8 +94,8 @@ fn take_several(
     requires some { end.old.taken < end.old.known_put }
     requires none { arrivals.old.items ≡ [] }
     ensures table { seat.new.table_id ≡ seat.old.table_id }
-    ensures taken { AreTaken lane.now region seat.old.me end.old recorder.old arrivals.new.items seat.new.me end.new
-        recorder.new }
+    ensures taken { AreTaken lane.now region (record { me = seat.old.me; end = end.old; recorder = recorder.old })
+        arrivals.new.items (record { me = seat.new.me; end = end.new; recorder = recorder.new }) }
     ensures most { length arrivals.new.items ≤ max }
     ensures stop { IsHalted max (end.old.known_put - end.old.taken) (length arrivals.new.items)
         (length recorder.new.line.events) result }

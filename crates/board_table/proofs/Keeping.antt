@@ -11,8 +11,8 @@ use Rattle.chart.proofs.Histories.{begins_onward}
 use Rattle.board_core.specs.Parcels.{goods}
 use Rattle.board_table.specs.declared.packet.Packet.{Packet}
 use Rattle.board_table.specs.declared.held.Held.{Held}
-use Rattle.board_table.specs.Layout.{put_word, taken_word, slot_of}
-use Rattle.board_table.specs.Rule.{closed_bit, IsLane, Fits, Kept}
+use Rattle.board_table.specs.Layout.{board_lane, put_word, taken_word, slot_of}
+use Rattle.board_table.specs.Rule.{closed_bit, LaneNow, IsLane, Seating, Fits, Kept}
 use Rattle.board_table.proofs.Windows.{Homes}
 
 -- What a step leaves of a lane: all that its record speaks of.
@@ -24,8 +24,14 @@ pub record LeavesLane (n k : ℕ) (log g : List Occurrence) (a b : ℕ) (words n
   pub taken : slice_index new_words (taken_word n a b) ≡ slice_index words (taken_word n a b)
   pub slots : (c : ℕ) → get_elem? new_homes (slot_of n k a b c) ≡ get_elem? homes (slot_of n k a b c)
 
+abbrev pub lane_now : List Packet → ℕ → ℕ → LaneNow
+lane_now packets filling emptying = record { packets = packets; filling = filling; emptying = emptying }
+
+abbrev pub seating : (ℕ → ℕ × ℕ) → (ℕ → ℕ → ℕ) → (ℕ → ℕ → ℕ) → Seating
+seating seat filling emptying = record { seat = seat; filling = filling; emptying = emptying }
+
 pub lane_left : (n k : ℕ) (log g : List Occurrence) (a b : ℕ) (packets : List Packet) (filling emptying filling' emptying' : ℕ) (words new_words : List ℕ) (homes new_homes : Homes) → LeavesLane n k log g a b words new_words homes new_homes → filling' ≡ filling → emptying' ≡ emptying
-    → IsLane n k log a b packets filling emptying words homes → IsLane n k g a b packets filling' emptying' new_words new_homes
+    → IsLane (board_lane n k a b) log (lane_now packets filling emptying) words homes → IsLane (board_lane n k a b) g (lane_now packets filling' emptying') new_words new_homes
 lane_left n k log g a b packets filling emptying filling' emptying' words new_words homes new_homes left fills empties old = record {
   carried = rw left.goods old.carried;
   put_is = left.put ∙ old.put_is ∙ ap (λ c. 2 * length packets + closed_bit c) (sym left.closed);
@@ -48,15 +54,13 @@ one_entry f e (suc place) at = absurd (some-ne-none e (sym at))
 -- the entry of a post alone at its seat, after which the history may be longer, by its own events alone
 pub kept_step : (n k : ℕ) (s : State (Option Packet) (List Held)) (r : Kept n k s) (id : ℕ) (e f : Held) → get_elem? s.views id ≡ some (e ∷ []) → 1 ≤ e.number → e.number ≤ n → (g : List Occurrence) (packets : ℕ → ℕ → List Packet) (filling emptying : ℕ → ℕ → ℕ) (words : List ℕ) (homes : Homes)
     → length words ≡ length s.words → length homes ≡ length s.homes → IsLegal n k g → Begins r.log g → ((b : ℕ) → b ≢ e.number → own g b ≡ own r.log b)
-    → ((a b : ℕ) → a ≢ e.number → filling a b ≡ r.filling a b) → ((a b : ℕ) → b ≢ e.number → emptying a b ≡ r.emptying a b)
-    → ((a b : ℕ) → AreTwo n a b → IsLane n k g a b (packets a b) (filling a b) (emptying a b) words homes) → Fits n k g r.seat filling emptying id 0 f
+    → ((a b : ℕ) → a ≢ e.number → filling a b ≡ r.seats.filling a b) → ((a b : ℕ) → b ≢ e.number → emptying a b ≡ r.seats.emptying a b)
+    → ((a b : ℕ) → AreTwo n a b → IsLane (board_lane n k a b) g (lane_now (packets a b) (filling a b) (emptying a b)) words homes) → Fits n k g (seating r.seats.seat filling emptying) id 0 f
     → Kept n k record { words = words; homes = homes; views = set s.views id (f ∷ []) }
 kept_step n k s r id e f at low high g packets filling emptying words homes wide long legal begins others fills empties lanes fits = record {
   log = g;
-  seat = r.seat;
+  seats = seating r.seats.seat filling emptying;
   packets = packets;
-  filling = filling;
-  emptying = emptying;
   legal = legal;
   words_are = wide ∙ r.words_are;
   slots_are = long ∙ r.slots_are;
@@ -64,19 +68,19 @@ kept_step n k s r id e f at low high g packets filling emptying words homes wide
   entries = λ j place v w there is. ⊎_elim (here j place v w is) (away j place v w is) (at_set s.views id j (f ∷ []) v there);
 }
   where
-    here : (j place : ℕ) (v : List Held) (w : Held) → get_elem? v place ≡ some w → (j ≡ id) × (f ∷ [] ≡ v) → Fits n k g r.seat filling emptying j place w
+    here : (j place : ℕ) (v : List Held) (w : Held) → get_elem? v place ≡ some w → (j ≡ id) × (f ∷ [] ≡ v) → Fits n k g (seating r.seats.seat filling emptying) j place w
     here j place v w is (same, view) =
         let one = one_entry f w place (ap (λ l. get_elem? l place) view ∙ is) in
-        subst (λ x. Fits n k g r.seat filling emptying x place w) (sym same) (subst (λ x. Fits n k g r.seat filling emptying id x w) (sym one.0) (subst (λ x. Fits n k g r.seat filling emptying id 0 x) one.1 fits))
+        subst (λ x. Fits n k g (seating r.seats.seat filling emptying) x place w) (sym same) (subst (λ x. Fits n k g (seating r.seats.seat filling emptying) id x w) (sym one.0) (subst (λ x. Fits n k g (seating r.seats.seat filling emptying) id 0 x) one.1 fits))
 
     -- no other seat has an entry of this post's number
     other : (j place : ℕ) (v : List Held) (w : Held) → get_elem? s.views j ≡ some v → get_elem? v place ≡ some w → j ≢ id → w.number ≢ e.number
     other j place v w there is ne same =
         let mine = (r.entries id 0 (e ∷ []) e at refl).seated low high in
         let its = (r.entries j place v w there is).seated (subst (λ x. 1 ≤ x) (sym same) low) (subst (λ x. x ≤ n) (sym same) high) in
-        ne (ap (λ (x : ℕ × ℕ). x.0) (sym its.here ∙ ap r.seat same ∙ mine.here))
+        ne (ap (λ (x : ℕ × ℕ). x.0) (sym its.here ∙ ap r.seats.seat same ∙ mine.here))
 
-    away : (j place : ℕ) (v : List Held) (w : Held) → get_elem? v place ≡ some w → (j ≢ id) × (get_elem? s.views j ≡ some v) → Fits n k g r.seat filling emptying j place w
+    away : (j place : ℕ) (v : List Held) (w : Held) → get_elem? v place ≡ some w → (j ≢ id) × (get_elem? s.views j ≡ some v) → Fits n k g (seating r.seats.seat filling emptying) j place w
     away j place v w is (ne, there) =
         let old = r.entries j place v w there is in
         let number = other j place v w there is ne in

@@ -17,14 +17,14 @@ use Rattle.board_core.specs.Differences.{zeros}
 use Rattle.board_core.proofs.GoodsLemmas.{goods_messages}
 use Rattle.board_table.specs.declared.packet.Packet.{Packet}
 use Rattle.board_table.specs.declared.held.Held.{Held}
-use Rattle.board_table.specs.Layout.{slot_of}
+use Rattle.board_table.specs.Layout.{board_lane, slot_of}
 use Rattle.board_table.specs.Carrying.{AreCarried, full_slots}
 use Rattle.board_table.specs.Knowing.{many_out, note_of}
 use Rattle.board_table.specs.Leaving.{HaveLeft}
 use Rattle.board_table.specs.Rule.{IsLane, Fits, Kept}
 use Rattle.board_table.proofs.Carried.{at_drop, at_within}
 use Rattle.board_table.proofs.Homes.{takes_all, taken_out, Apart, Apart-append, takes_all-carried, takes_all-homes, taken_out-else, taken_out-length}
-use Rattle.board_table.proofs.Keeping.{lane_left, kept_step}
+use Rattle.board_table.proofs.Keeping.{lane_now, seating, lane_left, kept_step}
 use Rattle.board_table.proofs.Places.{slot_beside}
 use Rattle.board_table.proofs.Stepping.{none_emptying}
 use Rattle.board_table.proofs.Views.{fits_note}
@@ -139,13 +139,13 @@ module _ (n k : ℕ) (some_place : 0 < k) (s : State (Option Packet) (List Held)
   abbrev now : ℕ → List Packet
   now a = run_packets n k e.number e.seen its a
 
-  fits : Fits n k r.log r.seat r.filling r.emptying id 0 e
+  fits : Fits n k r.log r.seats id 0 e
   fits = r.entries id 0 (e ∷ []) e at refl
 
   heard : (a : ℕ) → received r.log a e.number ≡ received e.seen a e.number
   heard a = same_received e.seen r.log a e.number (fits.made ∙ sym fits.own)
 
-  unemptied : (a : ℕ) → r.emptying a e.number ≡ 0
+  unemptied : (a : ℕ) → r.seats.emptying a e.number ≡ 0
   unemptied a = (fits.seated low high).empties a ∙ none_emptying e.hold a none
 
   -- the lane's packets begin with those that were seen
@@ -186,9 +186,9 @@ module _ (n k : ℕ) (some_place : 0 < k) (s : State (Option Packet) (List Held)
       (λ these. apart_full n k d e.number (now d) (received e.seen d e.number) (slot_of n k a b c) (λ i _ _. slot_beside n k a b d e.number c i two these some_place (λ _ same. ne same))))
 
   abbrev emptying_now : ℕ → ℕ → ℕ
-  emptying_now a b = cond (b == e.number) (length (now a)) (r.emptying a b)
+  emptying_now a b = cond (b == e.number) (length (now a)) (r.seats.emptying a b)
 
-  lane_here : (a : ℕ) → AreTwo n a e.number → IsLane n k r.log a e.number (its a) (r.filling a e.number) (length (now a)) s.words (taken_out s.homes out)
+  lane_here : (a : ℕ) → AreTwo n a e.number → IsLane (board_lane n k a e.number) r.log (lane_now (its a) (r.seats.filling a e.number) (length (now a))) s.words (taken_out s.homes out)
   lane_here a two =
       let old = r.lanes a e.number two in
       let many = now_many a two in
@@ -208,25 +208,25 @@ module _ (n k : ℕ) (some_place : 0 < k) (s : State (Option Packet) (List Held)
             ∙ old.empty c first last;
       }
 
-  lanes_now : (a b : ℕ) → AreTwo n a b → IsLane n k r.log a b (r.packets a b) (r.filling a b) (emptying_now a b) s.words (taken_out s.homes out)
+  lanes_now : (a b : ℕ) → AreTwo n a b → IsLane (board_lane n k a b) r.log (lane_now (r.packets a b) (r.seats.filling a b) (emptying_now a b)) s.words (taken_out s.homes out)
   lanes_now a b two = go (dec_eq b e.number)
     where
-      go : Dec (b ≡ e.number) → IsLane n k r.log a b (r.packets a b) (r.filling a b) (emptying_now a b) s.words (taken_out s.homes out)
+      go : Dec (b ≡ e.number) → IsLane (board_lane n k a b) r.log (lane_now (r.packets a b) (r.seats.filling a b) (emptying_now a b)) s.words (taken_out s.homes out)
       go (yes same) =
-          let here : emptying_now a b ≡ length (now a) = ap (λ its. cond its (length (now a)) (r.emptying a b)) (eq-eqb b e.number same) in
-          subst (λ (i : ℕ). IsLane n k r.log a b (r.packets a b) (r.filling a b) i s.words (taken_out s.homes out)) (sym here)
-          (subst (λ x. IsLane n k r.log a x (r.packets a x) (r.filling a x) (length (now a)) s.words (taken_out s.homes out)) (sym same) (lane_here a (subst (AreTwo n a) same two)))
+          let here : emptying_now a b ≡ length (now a) = ap (λ its. cond its (length (now a)) (r.seats.emptying a b)) (eq-eqb b e.number same) in
+          subst (λ (i : ℕ). IsLane (board_lane n k a b) r.log (lane_now (r.packets a b) (r.seats.filling a b) i) s.words (taken_out s.homes out)) (sym here)
+          (subst (λ x. IsLane (board_lane n k a x) r.log (lane_now (r.packets a x) (r.seats.filling a x) (length (now a))) s.words (taken_out s.homes out)) (sym same) (lane_here a (subst (AreTwo n a) same two)))
       go (no ne) =
-          let there : emptying_now a b ≡ r.emptying a b = ap (λ its. cond its (length (now a)) (r.emptying a b)) (ne_eqb b e.number ne) in
-          lane_left n k r.log r.log a b (r.packets a b) (r.filling a b) (r.emptying a b) (r.filling a b) (emptying_now a b) s.words s.words s.homes (taken_out s.homes out)
+          let there : emptying_now a b ≡ r.seats.emptying a b = ap (λ its. cond its (length (now a)) (r.seats.emptying a b)) (ne_eqb b e.number ne) in
+          lane_left n k r.log r.log a b (r.packets a b) (r.seats.filling a b) (r.seats.emptying a b) (r.seats.filling a b) (emptying_now a b) s.words s.words s.homes (taken_out s.homes out)
           (record { goods = refl; received = refl; closed = refl; put = refl; taken = refl; slots = λ c. taken_out-else s.homes out (slot_of n k a b c) (apart_other a b two ne c) })
           refl there (r.lanes a b two)
 
   kept_left : e.instances ≡ n → e.capacity ≡ k → Kept n k record { words = s.words; homes = taken_out s.homes out; views = set s.views id (note_of e ∷ []) }
   kept_left instances capacity =
-      kept_step n k s r id e (note_of e) at low high r.log r.packets r.filling emptying_now s.words (taken_out s.homes out) refl (taken_out-length s.homes out) r.legal (begins_same r.log) (λ b ne. refl) (λ a b ne. refl)
-      (λ a b ne. ap (λ its. cond its (length (now a)) (r.emptying a b)) (ne_eqb b e.number ne)) lanes_now
-      (fits_note n k r.log r.seat r.filling emptying_now id 0 (note_of e) instances capacity (omega (arith, instances)) refl r.legal fits.seen fits.legal)
+      kept_step n k s r id e (note_of e) at low high r.log r.packets r.seats.filling emptying_now s.words (taken_out s.homes out) refl (taken_out-length s.homes out) r.legal (begins_same r.log) (λ b ne. refl) (λ a b ne. refl)
+      (λ a b ne. ap (λ its. cond its (length (now a)) (r.seats.emptying a b)) (ne_eqb b e.number ne)) lanes_now
+      (fits_note n k r.log (seating r.seats.seat r.seats.filling emptying_now) id 0 (note_of e) instances capacity (omega (arith, instances)) refl r.legal fits.seen fits.legal)
 
   at_home : (a : ℕ) → AreTwo n a e.number → (length (now a) ≤ k) × ((i d : ℕ) (x : Packet) → d ≡ received e.seen a e.number + i → get_elem? (now a) i ≡ some x → get_elem? s.homes (slot_of n k a e.number d) ≡ some (some (Some x)))
   at_home a two =

@@ -21,17 +21,18 @@ use Rattle.board_core.proofs.Standing.{other_receiver}
 use Rattle.board_table.specs.declared.packet.Packet.{Packet}
 use Rattle.board_table.specs.declared.held.Hold.TheVariants.{Nothing, Emptying}
 use Rattle.board_table.specs.declared.held.Held.{Held}
-use Rattle.board_table.specs.Layout.{LaneView, put_word, taken_word, slot_of, slot_count}
+use Rattle.board_table.specs.Layout.{LaneView, board_lane, put_word, taken_word, slot_of, slot_count}
 use Rattle.board_table.specs.Carrying.{AreCarried, last_clock, with_received, vacant_slots, full_slots, packets_in, vacant_in}
 use Rattle.board_table.specs.Knowing.{Mine, held, many_out, IsPost, IsEmptying, Moves, at_rest}
-use Rattle.board_table.specs.Rule.{closed_bit, IsLane, Fits, Kept}
+use Rattle.board_table.specs.Rule.{closed_bit, LaneNow, IsLane, Fits, Kept}
 use Rattle.board_table.specs.Plays.{Finds, LooksAt, Makes, Frees, PutsBack}
 use Rattle.board_table.proofs.Carried.{carried_many, carried_append, carried_split, at_append, at_drop, at_within}
 use Rattle.board_table.proofs.Growth.{are_received}
 use Rattle.board_table.proofs.Homes.{takes_all, gives_all, taken_out, put_in, Apart, Apart-append, takes_all-carried, takes_all-homes, gives_all-carried, gives_all-homes, gives_all-valid, taken_out-else, put_in-else, taken_out-length, put_in-length, put_in-append}
+use Rattle.board_table.proofs.Keeping.{lane_now}
 use Rattle.board_table.proofs.OutSlots.{emptying_slots, emptying_packets, emptying_vacant, emptying_many}
 use Rattle.board_table.proofs.Places.{taken_within, taken_apart, put_taken, slot_beside}
-use Rattle.board_table.proofs.Stepping.{LaneNow, Stepped, OnlyEmpties, rests_emptying, only_emptying, kept_by_receiver}
+use Rattle.board_table.proofs.Stepping.{Stepped, OnlyEmpties, rests_emptying, only_emptying, kept_by_receiver}
 use Rattle.board_table.proofs.Windows.{Homes, apart_full, apart_vacant, behind_window, put_full, put_vacant, valid_full}
 
 -- what was received is what came behind it
@@ -61,9 +62,6 @@ is_emptying l e many xs post hold waiting carried =
     }
 
 module _ (n k q p : ℕ) (two : AreTwo n q p) (some_place : 0 < k) where
-  abbrev lane_view : LaneView
-  lane_view = record { instances = n; capacity = k; sender = q; receiver = p }
-
   -- a ring further a slot is the same
   slot_turn : (d : ℕ) → slot_of n k q p (d + k) ≡ slot_of n k q p d
   slot_turn d = ap (λ (i : ℕ). ((q - 1) * n + (p - 1)) * k + i) (add-mod_right d k)
@@ -76,9 +74,9 @@ module _ (n k q p : ℕ) (two : AreTwo n q p) (some_place : 0 < k) where
 
   -- what a receiver finds in the rule
   pub record Standing (s : State (Option Packet) (List Held)) (r : Kept n k s) (id : ℕ) (e : Held) (many : ℕ) : Type 0 where
-    pub fits : Fits n k r.log r.seat r.filling r.emptying id 0 e
-    pub lane : IsLane n k r.log q p (r.packets q p) (r.filling q p) (r.emptying q p) s.words s.homes
-    pub emptying : r.emptying q p ≡ many
+    pub fits : Fits n k r.log r.seats id 0 e
+    pub lane : IsLane (board_lane n k q p) r.log (lane_now (r.packets q p) (r.seats.filling q p) (r.seats.emptying q p)) s.words s.homes
+    pub emptying : r.seats.emptying q p ≡ many
     pub made : own r.log p ≡ e.made
     pub own : own e.seen p ≡ e.made
     pub count : length (r.packets q p) ≡ length (sent r.log q p)
@@ -91,7 +89,7 @@ module _ (n k q p : ℕ) (two : AreTwo n q p) (some_place : 0 < k) where
       record {
         fits = fits;
         lane = lane;
-        emptying = ap (r.emptying q) (sym number) ∙ seated.empties q ∙ only.here;
+        emptying = ap (r.seats.emptying q) (sym number) ∙ seated.empties q ∙ only.here;
         made = ap (own r.log) (sym number) ∙ fits.made;
         own = ap (own e.seen) (sym number) ∙ fits.own;
         count = carried_many (zeros n) (r.packets q p) (goods n r.log q p) lane.carried ∙ goods_many n r.log q p;
@@ -103,13 +101,13 @@ module _ (n k q p : ℕ) (two : AreTwo n q p) (some_place : 0 < k) where
       let split = carried_split (zeros n) packets (take m gs) (drop m gs) (subst (λ ys. AreCarried (zeros n) packets ys) (sym (take-append-drop m gs)) are) in
       subst (λ i. AreCarried (last_clock (zeros n) (take m gs)) (drop i packets) (drop m gs)) (let long : length (take m gs) ≡ m = omega (arith, length-take m gs) in long) split.1
 
-  pub looks_at : (slots id i : ℕ) (e : Held) → e.instances ≡ n → e.capacity ≡ k → e.number ≡ p → many_out e.hold ≡ 0 → i ≡ put_word n q p → Allows (Kept n k) slots id (e ∷ [], []) i (λ x. x) (λ x w. LooksAt lane_view (e ∷ [], []) x w)
+  pub looks_at : (slots id i : ℕ) (e : Held) → e.instances ≡ n → e.capacity ≡ k → e.number ≡ p → many_out e.hold ≡ 0 → i ≡ put_word n q p → Allows (Kept n k) slots id (e ∷ [], []) i (λ x. x) (λ x w. LooksAt (board_lane n k q p) (e ∷ [], []) x w)
   looks_at slots id i e instances capacity number none word s r size at bound =
       let only = rests_emptying e.hold q none in
       let st = standing s r id e 0 at number only in
       let log = r.log in
       let f : Held = record e { seen = log; looks = e.looks + 1 } in
-      let now : LaneNow = record { packets = r.packets q p; filling = r.filling q p; emptying = r.emptying q p } in
+      let now : LaneNow = lane_now (r.packets q p) (r.seats.filling q p) (r.seats.emptying q p) in
       let step : Stepped n k q p s r p id e f log now s.words s.homes = record {
         two = two;
         at = at;
@@ -132,7 +130,7 @@ module _ (n k q p : ℕ) (two : AreTwo n q p) (some_place : 0 < k) where
         there = λ a b these other. record { goods = refl; received = refl; closed = refl; put = refl; taken = refl; slots = λ c. refl };
       } in
       let kept = kept_by_receiver n k q p s r id e f log now s.words s.homes 0 0 step only only st.emptying refl in
-      let told : LooksAt lane_view (e ∷ [], []) (slice_index s.words i) (f ∷ [], []) = record {
+      let told : LooksAt (board_lane n k q p) (e ∷ [], []) (slice_index s.words i) (f ∷ [], []) = record {
         sees = record { same = record { instances = refl; capacity = refl; number = refl }; later = st.fits.seen; legal = r.legal; made = refl; own = st.fits.made };
         rests = record { post = record { alone = refl; instances = instances; capacity = capacity; number = number }; hold = none; slots = refl };
         found = ap (slice_index s.words) word ∙ st.lane.put_is ∙ ap (λ (many : ℕ). 2 * many + closed_bit (is_closed log q p)) st.count;
@@ -146,7 +144,7 @@ module _ (n k q p : ℕ) (two : AreTwo n q p) (some_place : 0 < k) where
       )
 
   pub finds : (slots id i : ℕ) (e : Held) (looks : ℕ) (told : ℕ → Mine → Type 0) → e.instances ≡ n → e.capacity ≡ k → e.number ≡ p → many_out e.hold ≡ 0
-      → ((s : State (Option Packet) (List Held)) (r : Kept n k s) (w : Mine) → Finds lane_view (e ∷ [], []) w → (held w).seen ≡ r.log → (held w).looks ≡ looks → told (slice_index s.words i) w)
+      → ((s : State (Option Packet) (List Held)) (r : Kept n k s) (w : Mine) → Finds (board_lane n k q p) (e ∷ [], []) w → (held w).seen ≡ r.log → (held w).looks ≡ looks → told (slice_index s.words i) w)
       → Allows (Kept n k) slots id (e ∷ [], []) i (λ x. x) told
   finds slots id i e looks told instances capacity number none tell s r size at bound =
       let st = standing s r id e 0 at number (rests_emptying e.hold q none) in
@@ -162,7 +160,7 @@ module _ (n k q p : ℕ) (two : AreTwo n q p) (some_place : 0 < k) where
       let whole : out ≡ emptying_slots n k q p m 0 xs = ap (λ c. full_slots n k q p c xs) (let z : m ≡ m + 0 = omega arith in z) ∙ sym (append-nil (full_slots n k q p (m + 0) xs)) in
       let f : Held = record e { seen = log; looks = looks; hold = Emptying q (0 + length xs) } in
       let homes : Homes = taken_out s.homes out in
-      let now : LaneNow = record { packets = packets; filling = r.filling q p; emptying = 0 + length xs } in
+      let now : LaneNow = lane_now packets (r.seats.filling q p) (0 + length xs) in
       let step : Stepped n k q p s r p id e f log now s.words homes = record {
         two = two;
         at = at;
@@ -205,9 +203,9 @@ module _ (n k q p : ℕ) (two : AreTwo n q p) (some_place : 0 < k) where
       let gs = goods n log q p in
       let all : m + 0 + length xs ≡ length (sent log q p) = omega (arith, many, enough, st.count) in
       let carries : AreCarried (last_clock (zeros n) (take (m + 0) gs)) xs (drop (m + 0) gs) = subst (λ i. AreCarried (last_clock (zeros n) (take i gs)) xs (drop i gs)) (let z : m ≡ m + 0 = omega arith in z) (behind_first packets gs m (omega (arith, enough, goods_many n log q p, st.count)) lane.carried) in
-      let told_finds : Finds lane_view (e ∷ [], []) seat = record {
+      let told_finds : Finds (board_lane n k q p) (e ∷ [], []) seat = record {
         sees = record { same = record { instances = refl; capacity = refl; number = refl }; later = st.fits.seen; legal = r.legal; made = refl; own = st.fits.made };
-        emptying = is_emptying lane_view f 0 xs (record { alone = refl; instances = instances; capacity = capacity; number = number }) refl all carries;
+        emptying = is_emptying (board_lane n k q p) f 0 xs (record { alone = refl; instances = instances; capacity = capacity; number = number }) refl all carries;
         nothing_emptied = emptying_vacant n k q p m 0 xs;
         all_waiting = ap (λ (ys : List Packet). m + length ys) (emptying_packets n k q p m 0 xs) ∙ omega (arith, all);
       } in (
@@ -224,8 +222,8 @@ module _ (n k q p : ℕ) (two : AreTwo n q p) (some_place : 0 < k) where
 
   -- the lane when its receiver has given back its slots, of which it has emptied some
   record Given (s : State (Option Packet) (List Held)) (r : Kept n k s) (seen g : List Occurrence) (m j : ℕ) (xs : List Packet) (words : List ℕ) : Type 0 where
-    pub lane : IsLane n k r.log q p (r.packets q p) (r.filling q p) (r.emptying q p) s.words s.homes
-    pub emptying : r.emptying q p ≡ j + length xs
+    pub lane : IsLane (board_lane n k q p) r.log (lane_now (r.packets q p) (r.seats.filling q p) (r.seats.emptying q p)) s.words s.homes
+    pub emptying : r.seats.emptying q p ≡ j + length xs
     pub before : received r.log q p ≡ m
     pub waiting : m + j + length xs ≡ length (goods n seen q p)
     pub begins : (more : List Parcel) × (goods n r.log q p ≡ goods n seen q p ++ more)
@@ -237,7 +235,7 @@ module _ (n k q p : ℕ) (two : AreTwo n q p) (some_place : 0 < k) where
     pub taken_is : slice_index words (taken_word n q p) ≡ m + j
 
   given_lane : (s : State (Option Packet) (List Held)) (r : Kept n k s) (seen g : List Occurrence) (m j : ℕ) (xs : List Packet) (words : List ℕ) → Given s r seen g m j xs words
-      → let gs : List Parcel = goods n seen q p in IsLane n k g q p (replaced (r.packets q p) (take (m + j) gs) (drop (m + j) gs) xs) (r.filling q p) 0 words (put_in s.homes (emptying_slots n k q p m j xs))
+      → let gs : List Parcel = goods n seen q p in IsLane (board_lane n k q p) g (lane_now (replaced (r.packets q p) (take (m + j) gs) (drop (m + j) gs) xs) (r.seats.filling q p) 0) words (put_in s.homes (emptying_slots n k q p m j xs))
   given_lane s r seen g m j xs words given =
       let lane = given.lane in
       let log = r.log in
@@ -302,7 +300,7 @@ module _ (n k q p : ℕ) (two : AreTwo n q p) (some_place : 0 < k) where
 
   pub frees : (slots id count region : ℕ) (e : Held) (j : ℕ) (xs : List Packet) → e.instances ≡ n → e.capacity ≡ k → e.number ≡ p → e.hold ≡ Emptying q (j + length xs) → count ≡ received e.seen q p + j → length (chart_of e.seen p) + j ≤ MAX_EVENTS → MayHaveRegion (chart_of e.seen p) region
       → received e.seen q p + j + length xs ≡ length (sent e.seen q p) → AreCarried (last_clock (zeros n) (take (received e.seen q p + j) (goods n e.seen q p))) xs (drop (received e.seen q p + j) (goods n e.seen q p))
-      → let me : Mine = (e ∷ [], emptying_slots n k q p (received e.seen q p) j xs) in Allows (Kept n k) slots id me (taken_word n q p) (λ x. count) (λ x w. Frees lane_view region me w)
+      → let me : Mine = (e ∷ [], emptying_slots n k q p (received e.seen q p) j xs) in Allows (Kept n k) slots id me (taken_word n q p) (λ x. count) (λ x w. Frees (board_lane n k q p) region me w)
   frees slots id count region e j xs instances capacity number hold counted short may waiting carried s r size at bound =
       let only : OnlyEmpties q (j + length xs) e.hold = subst (λ h. OnlyEmpties q (j + length xs) h) (sym hold) (only_emptying q (j + length xs)) in
       let st = standing s r id e (j + length xs) at number only in
@@ -320,7 +318,7 @@ module _ (n k q p : ℕ) (two : AreTwo n q p) (some_place : 0 < k) where
       let words : List ℕ = set s.words (taken_word n q p) count in
       let within = taken_within n q p two in
       let homes : Homes = put_in s.homes out in
-      let now : LaneNow = record { packets = replaced (r.packets q p) (take (m + j) gs) (drop (m + j) gs) xs; filling = r.filling q p; emptying = 0 } in
+      let now : LaneNow = lane_now (replaced (r.packets q p) (take (m + j) gs) (drop (m + j) gs) xs) (r.seats.filling q p) 0 in
       let made : own g p ≡ with_received p q region j e.made = done.made ∙ ap (with_received p q region j) st.made in
       let step : Stepped n k q p s r p id e f g now words homes = record {
         two = two;
@@ -364,7 +362,7 @@ module _ (n k q p : ℕ) (two : AreTwo n q p) (some_place : 0 < k) where
       } in
       let kept = kept_by_receiver n k q p s r id e f g now words homes (j + length xs) 0 step only (rests_emptying Nothing q refl) refl refl in
       let same : ◌≡◌ {A = Homes} homes (homes_after s.homes out (gives_all out)) = sym (gives_all-homes s.homes out) in
-      let makes : Makes lane_view p j (with_received p q region j) (e ∷ [], out) (f ∷ [], []) = record {
+      let makes : Makes (board_lane n k q p) p j (with_received p q region j) (e ∷ [], out) (f ∷ [], []) = record {
         rests = record { post = record { alone = refl; instances = instances; capacity = capacity; number = number }; hold = refl; slots = refl };
         moves = subst (λ h. Moves n k e f h (with_received p q region j)) (sym (drop_received p q region j log)) (record {
           same = record { instances = refl; capacity = refl; number = refl };
@@ -382,7 +380,7 @@ module _ (n k q p : ℕ) (two : AreTwo n q p) (some_place : 0 < k) where
         gives_all out,
         gives_all-valid s.homes out,
         subst (λ hs. Kept n k record { words = words; homes = hs; views = set s.views id (f ∷ []) }) same kept,
-        subst (λ w. Frees lane_view region (e ∷ [], out) w) (settled f out) (subst (λ i. Makes lane_view p i (with_received p q region i) (e ∷ [], out) (f ∷ [], [])) (sym (emptying_vacant n k q p m j xs)) makes),
+        subst (λ w. Frees (board_lane n k q p) region (e ∷ [], out) w) (settled f out) (subst (λ i. Makes (board_lane n k q p) p i (with_received p q region i) (e ∷ [], out) (f ∷ [], [])) (sym (emptying_vacant n k q p m j xs)) makes),
       )
 
   pub puts_back : (slots id i : ℕ) (e : Held) (xs : List Packet) → e.number ≡ p → e.hold ≡ Emptying q (0 + length xs)
@@ -400,7 +398,7 @@ module _ (n k q p : ℕ) (two : AreTwo n q p) (some_place : 0 < k) where
       let f : Held = at_rest e in
       let out = emptying_slots n k q p m 0 xs in
       let homes : Homes = put_in s.homes out in
-      let now : LaneNow = record { packets = replaced (r.packets q p) (take (m + 0) gs) (drop (m + 0) gs) xs; filling = r.filling q p; emptying = 0 } in
+      let now : LaneNow = lane_now (replaced (r.packets q p) (take (m + 0) gs) (drop (m + 0) gs) xs) (r.seats.filling q p) 0 in
       let step : Stepped n k q p s r p id e f log now s.words homes = record {
         two = two;
         at = at;

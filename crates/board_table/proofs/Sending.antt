@@ -20,17 +20,18 @@ use Rattle.board_core.proofs.Standing.{other_receiver}
 use Rattle.board_table.specs.declared.packet.Packet.{Packet}
 use Rattle.board_table.specs.declared.held.Hold.TheVariants.{Nothing, Filling}
 use Rattle.board_table.specs.declared.held.Held.{Held}
-use Rattle.board_table.specs.Layout.{LaneView, put_word, taken_word, slot_of, slot_count}
+use Rattle.board_table.specs.Layout.{board_lane, put_word, taken_word, slot_of, slot_count}
 use Rattle.board_table.specs.Carrying.{AreCarried, AreNext, last_clock, sent_base, with_sent, vacant_slots, full_slots}
 use Rattle.board_table.specs.Knowing.{Mine, held, many_out, Moves, at_rest}
-use Rattle.board_table.specs.Rule.{closed_bit, IsLane, Fits, Kept}
+use Rattle.board_table.specs.Rule.{closed_bit, LaneNow, IsLane, Fits, Kept}
 use Rattle.board_table.specs.Plays.{Claims, Makes, Publishes, Closes, PutsBack}
 use Rattle.board_table.proofs.Carried.{carried_many, carried_append, at_append, at_within}
 use Rattle.board_table.proofs.Growth.{next_anywhere, are_sent, own_here, own_there, begins_event}
 use Rattle.board_table.proofs.Homes.{takes_all, gives_all, taken_out, put_in, Apart, Apart-append, takes_all-carried, takes_all-homes, gives_all-carried, gives_all-homes, gives_all-valid, taken_out-else, put_in-else, taken_out-length, put_in-length, put_in-append}
+use Rattle.board_table.proofs.Keeping.{lane_now}
 use Rattle.board_table.proofs.OutSlots.{filling_slots, filling_packets, filling_vacant, is_filling}
 use Rattle.board_table.proofs.Places.{put_within, put_apart, put_taken, slot_beside}
-use Rattle.board_table.proofs.Stepping.{LaneNow, Stepped, OnlyFills, rests_filling, only_filling, kept_by_sender}
+use Rattle.board_table.proofs.Stepping.{Stepped, OnlyFills, rests_filling, only_filling, kept_by_sender}
 use Rattle.board_table.proofs.Windows.{Homes, apart_full, apart_vacant, before_window, behind_window, put_full, put_vacant, valid_vacant}
 
 -- what was sent is what came behind it
@@ -41,9 +42,6 @@ drop_sent q p (x ∷ xs) h =
     ap (λ i. drop i g) (let same : suc (length xs) ≡ length xs + 1 = omega arith in same) ∙ sym (drop-drop 1 (length xs) g) ∙ ap (drop 1) (drop_sent q p xs (Send q p x.message ∷ h))
 
 module _ (n k q p : ℕ) (two : AreTwo n q p) (some_place : 0 < k) where
-  abbrev lane_view : LaneView
-  lane_view = record { instances = n; capacity = k; sender = q; receiver = p }
-
   -- other lanes' slots are none of these
   apart_beside : (m many : ℕ) (xs : List Packet) (a b c : ℕ) → AreTwo n a b → is_lane q p a b ≡ false → Apart (slot_of n k a b c) (filling_slots n k q p m many xs)
   apart_beside m many xs a b c these other =
@@ -52,9 +50,9 @@ module _ (n k q p : ℕ) (two : AreTwo n q p) (some_place : 0 < k) where
 
   -- what a sender finds in the rule
   pub record Standing (s : State (Option Packet) (List Held)) (r : Kept n k s) (id : ℕ) (e : Held) (many : ℕ) : Type 0 where
-    pub fits : Fits n k r.log r.seat r.filling r.emptying id 0 e
-    pub lane : IsLane n k r.log q p (r.packets q p) (r.filling q p) (r.emptying q p) s.words s.homes
-    pub filling : r.filling q p ≡ many
+    pub fits : Fits n k r.log r.seats id 0 e
+    pub lane : IsLane (board_lane n k q p) r.log (lane_now (r.packets q p) (r.seats.filling q p) (r.seats.emptying q p)) s.words s.homes
+    pub filling : r.seats.filling q p ≡ many
     pub made : own r.log q ≡ e.made
     pub own : own e.seen q ≡ e.made
     pub count : length (r.packets q p) ≡ length (sent r.log q p)
@@ -67,14 +65,14 @@ module _ (n k q p : ℕ) (two : AreTwo n q p) (some_place : 0 < k) where
       record {
         fits = fits;
         lane = lane;
-        filling = ap (λ x. r.filling x p) (sym number) ∙ seated.fills p ∙ only.here;
+        filling = ap (λ x. r.seats.filling x p) (sym number) ∙ seated.fills p ∙ only.here;
         made = ap (own r.log) (sym number) ∙ fits.made;
         own = ap (own e.seen) (sym number) ∙ fits.own;
         count = carried_many (zeros n) (r.packets q p) (goods n r.log q p) lane.carried ∙ goods_many n r.log q p;
       }
 
   pub claims : (slots id i : ℕ) (e : Held) (looks : ℕ) (told : ℕ → Mine → Type 0) → e.instances ≡ n → e.capacity ≡ k → e.number ≡ q → many_out e.hold ≡ 0
-      → ((s : State (Option Packet) (List Held)) (r : Kept n k s) (w : Mine) → Claims lane_view (e ∷ [], []) w → (held w).seen ≡ r.log → (held w).looks ≡ looks → told (slice_index s.words i) w)
+      → ((s : State (Option Packet) (List Held)) (r : Kept n k s) (w : Mine) → Claims (board_lane n k q p) (e ∷ [], []) w → (held w).seen ≡ r.log → (held w).looks ≡ looks → told (slice_index s.words i) w)
       → Allows (Kept n k) slots id (e ∷ [], []) i (λ x. x) told
   claims slots id i e looks told instances capacity number none tell s r size at bound =
       let st = standing s r id e 0 at number (rests_filling e.hold p none) in
@@ -88,7 +86,7 @@ module _ (n k q p : ℕ) (two : AreTwo n q p) (some_place : 0 < k) where
       let whole : out ≡ filling_slots n k q p m free [] = ap (λ c. vacant_slots n k q p c free) (let z : m ≡ m + 0 = omega arith in z) ∙ sym (append-nil (vacant_slots n k q p (m + 0) free)) in
       let f : Held = record e { seen = log; looks = looks; hold = Filling p (free + 0) } in
       let homes : Homes = taken_out s.homes out in
-      let now : LaneNow = record { packets = r.packets q p; filling = free + 0; emptying = r.emptying q p } in
+      let now : LaneNow = lane_now (r.packets q p) (free + 0) (r.seats.emptying q p) in
       let step : Stepped n k q p s r q id e f log now s.words homes = record {
         two = two;
         at = at;
@@ -129,9 +127,9 @@ module _ (n k q p : ℕ) (two : AreTwo n q p) (some_place : 0 < k) where
       let kept = kept_by_sender n k q p s r id e f log now s.words homes 0 (free + 0) step (rests_filling e.hold p none) (only_filling p (free + 0)) refl refl in
       let same : ◌≡◌ {A = List ℕ × Homes} (s.words, homes) (set s.words i (get_or s.words i 0), homes_after s.homes [] (takes_all out)) = λ t. (sym (set-get_or s.words i 0) t, sym (takes_all-homes s.homes [] out) t) in
       let seat : Mine = (f ∷ [], filling_slots n k q p m free []) in
-      let told_claims : Claims lane_view (e ∷ [], []) seat = record {
+      let told_claims : Claims (board_lane n k q p) (e ∷ [], []) seat = record {
         sees = record { same = record { instances = refl; capacity = refl; number = refl }; later = st.fits.seen; legal = r.legal; made = refl; own = st.fits.made };
-        filling = is_filling lane_view f free [] (record { alone = refl; instances = instances; capacity = capacity; number = number }) refl;
+        filling = is_filling (board_lane n k q p) f free [] (record { alone = refl; instances = instances; capacity = capacity; number = number }) refl;
         nothing_filled = filling_packets n k q p m free [];
         all_free = omega (arith, filling_vacant n k q p m free [], fit);
       } in (
@@ -144,8 +142,8 @@ module _ (n k q p : ℕ) (two : AreTwo n q p) (some_place : 0 < k) where
 
   -- the lane when its sender has given back its slots, of which it has filled some
   record Given (s : State (Option Packet) (List Held)) (r : Kept n k s) (g : List Occurrence) (v : ℕ) (xs : List Packet) (parcels : List Parcel) (words : List ℕ) : Type 0 where
-    pub lane : IsLane n k r.log q p (r.packets q p) (r.filling q p) (r.emptying q p) s.words s.homes
-    pub filling : r.filling q p ≡ v + length xs
+    pub lane : IsLane (board_lane n k q p) r.log (lane_now (r.packets q p) (r.seats.filling q p) (r.seats.emptying q p)) s.words s.homes
+    pub filling : r.seats.filling q p ≡ v + length xs
     pub put_on : goods n g q p ≡ goods n r.log q p ++ parcels
     pub carried : AreCarried (last_clock (zeros n) (goods n r.log q p)) xs parcels
     pub heard : received g q p ≡ received r.log q p
@@ -153,7 +151,7 @@ module _ (n k q p : ℕ) (two : AreTwo n q p) (some_place : 0 < k) where
     pub taken_is : slice_index words (taken_word n q p) ≡ slice_index s.words (taken_word n q p)
 
   given_lane : (s : State (Option Packet) (List Held)) (r : Kept n k s) (g : List Occurrence) (v : ℕ) (xs : List Packet) (parcels : List Parcel) (words : List ℕ) (m : ℕ) → m ≡ length (r.packets q p) → Given s r g v xs parcels words
-      → IsLane n k g q p (r.packets q p ++ xs) 0 (r.emptying q p) words (put_in s.homes (filling_slots n k q p m v xs))
+      → IsLane (board_lane n k q p) g (lane_now (r.packets q p ++ xs) 0 (r.seats.emptying q p)) words (put_in s.homes (filling_slots n k q p m v xs))
   given_lane s r g v xs parcels words m count given =
       let lane = given.lane in
       let log = r.log in
@@ -209,7 +207,7 @@ module _ (n k q p : ℕ) (two : AreTwo n q p) (some_place : 0 < k) where
   settled f xs = λ t. (f ∷ [], sym (gives_all-carried xs) t)
 
   pub publishes : (slots id count : ℕ) (e : Held) (v : ℕ) (xs : List Packet) → e.instances ≡ n → e.capacity ≡ k → e.number ≡ q → e.hold ≡ Filling p (v + length xs) → count ≡ length (sent e.seen q p) + length xs → is_closed e.seen q p ≡ false → length (chart_of e.seen q) + length xs ≤ MAX_EVENTS → AreNext n (sent_base n e.seen q p) e.seen q p xs
-      → let me : Mine = (e ∷ [], filling_slots n k q p (length (sent e.seen q p)) v xs) in Allows (Kept n k) slots id me (put_word n q p) (λ x. 2 * count) (λ x w. Publishes lane_view me w)
+      → let me : Mine = (e ∷ [], filling_slots n k q p (length (sent e.seen q p)) v xs) in Allows (Kept n k) slots id me (put_word n q p) (λ x. 2 * count) (λ x w. Publishes (board_lane n k q p) me w)
   publishes slots id count e v xs instances capacity number hold counted unclosed short next s r size at bound =
       let only : OnlyFills p (v + length xs) e.hold = subst (λ h. OnlyFills p (v + length xs) h) (sym hold) (only_filling p (v + length xs)) in
       let st = standing s r id e (v + length xs) at number only in
@@ -228,7 +226,7 @@ module _ (n k q p : ℕ) (two : AreTwo n q p) (some_place : 0 < k) where
       let words : List ℕ = set s.words (put_word n q p) (2 * count) in
       let within = put_within n q p two in
       let homes : Homes = put_in s.homes out in
-      let now : LaneNow = record { packets = r.packets q p ++ xs; filling = 0; emptying = r.emptying q p } in
+      let now : LaneNow = lane_now (r.packets q p ++ xs) 0 (r.seats.emptying q p) in
       let made : own g q ≡ with_sent q p xs e.made = done.made ∙ ap (with_sent q p xs) st.made in
       let step : Stepped n k q p s r q id e f g now words homes = record {
         two = two;
@@ -268,7 +266,7 @@ module _ (n k q p : ℕ) (two : AreTwo n q p) (some_place : 0 < k) where
       } in
       let kept = kept_by_sender n k q p s r id e f g now words homes (v + length xs) 0 step only (rests_filling Nothing p refl) refl refl in
       let same : ◌≡◌ {A = Homes} homes (homes_after s.homes out (gives_all out)) = sym (gives_all-homes s.homes out) in
-      let makes : Makes lane_view q (length xs) (with_sent q p xs) (e ∷ [], out) (f ∷ [], []) = record {
+      let makes : Makes (board_lane n k q p) q (length xs) (with_sent q p xs) (e ∷ [], out) (f ∷ [], []) = record {
         rests = record { post = record { alone = refl; instances = instances; capacity = capacity; number = number }; hold = refl; slots = refl };
         moves = subst (λ h. Moves n k e f h (with_sent q p xs)) (sym (drop_sent q p xs log)) (record {
           same = record { instances = refl; capacity = refl; number = refl };
@@ -286,7 +284,7 @@ module _ (n k q p : ℕ) (two : AreTwo n q p) (some_place : 0 < k) where
         gives_all out,
         gives_all-valid s.homes out,
         subst (λ hs. Kept n k record { words = words; homes = hs; views = set s.views id (f ∷ []) }) same kept,
-        subst (λ w. Publishes lane_view (e ∷ [], out) w) (settled f out) (subst (λ ys. Makes lane_view q (length ys) (with_sent q p ys) (e ∷ [], out) (f ∷ [], [])) (sym (filling_packets n k q p m v xs)) makes),
+        subst (λ w. Publishes (board_lane n k q p) (e ∷ [], out) w) (settled f out) (subst (λ ys. Makes (board_lane n k q p) q (length ys) (with_sent q p ys) (e ∷ [], out) (f ∷ [], [])) (sym (filling_packets n k q p m v xs)) makes),
       )
 
   pub puts_back : (slots id i : ℕ) (e : Held) (v : ℕ) → e.number ≡ q → e.hold ≡ Filling p (v + 0)
@@ -301,7 +299,7 @@ module _ (n k q p : ℕ) (two : AreTwo n q p) (some_place : 0 < k) where
       let f : Held = at_rest e in
       let out = filling_slots n k q p m v [] in
       let homes : Homes = put_in s.homes out in
-      let now : LaneNow = record { packets = r.packets q p ++ []; filling = 0; emptying = r.emptying q p } in
+      let now : LaneNow = lane_now (r.packets q p ++ []) 0 (r.seats.emptying q p) in
       let step : Stepped n k q p s r q id e f log now s.words homes = record {
         two = two;
         at = at;
@@ -341,7 +339,7 @@ module _ (n k q p : ℕ) (two : AreTwo n q p) (some_place : 0 < k) where
       )
 
   pub closes : (slots id count : ℕ) (e : Held) → e.instances ≡ n → e.capacity ≡ k → e.number ≡ q → many_out e.hold ≡ 0 → count ≡ length (sent e.seen q p) → is_closed e.seen q p ≡ false
-      → Allows (Kept n k) slots id (e ∷ [], []) (put_word n q p) (λ x. 2 * count + 1) (λ x w. Closes lane_view (e ∷ [], []) w)
+      → Allows (Kept n k) slots id (e ∷ [], []) (put_word n q p) (λ x. 2 * count + 1) (λ x w. Closes (board_lane n k q p) (e ∷ [], []) w)
   closes slots id count e instances capacity number none counted unclosed s r size at bound =
       let only = rests_filling e.hold p none in
       let st = standing s r id e 0 at number only in
@@ -353,7 +351,7 @@ module _ (n k q p : ℕ) (two : AreTwo n q p) (some_place : 0 < k) where
       let f : Held = record e { seen = close ∷ log; made = close ∷ e.made } in
       let words : List ℕ = set s.words (put_word n q p) (2 * count + 1) in
       let within = put_within n q p two in
-      let now : LaneNow = record { packets = r.packets q p; filling = r.filling q p; emptying = r.emptying q p } in
+      let now : LaneNow = lane_now (r.packets q p) (r.seats.filling q p) (r.seats.emptying q p) in
       let made : own (close ∷ log) q ≡ close ∷ e.made = own_here close log ∙ ap (λ h. close ∷ h) st.made in
       let step : Stepped n k q p s r q id e f (close ∷ log) now words s.homes = record {
         two = two;

@@ -13,10 +13,11 @@ use Rattle.board_table.specs.declared.packet.Packet.{Packet}
 use Rattle.board_table.specs.declared.held.Hold.{Hold}
 use Rattle.board_table.specs.declared.held.Hold.TheVariants.{Nothing, Filling, Emptying}
 use Rattle.board_table.specs.declared.held.Held.{Held}
+use Rattle.board_table.specs.Layout.{board_lane}
 use Rattle.board_table.specs.Knowing.{many_out, filling_to, emptying_from}
-use Rattle.board_table.specs.Rule.{IsLane, IsSeated, Fits, Kept}
+use Rattle.board_table.specs.Rule.{LaneNow, IsLane, IsSeated, Fits, Kept}
 use Rattle.board_table.proofs.Windows.{Homes}
-use Rattle.board_table.proofs.Keeping.{LeavesLane, lane_left, kept_step}
+use Rattle.board_table.proofs.Keeping.{LeavesLane, lane_now, lane_left, kept_step}
 
 -- nothing is out but so many slots of the lane to p
 pub record OnlyFills (p many : ℕ) (h : Hold) : Type 0 where
@@ -77,12 +78,6 @@ with_value-here {A} f q p x = ap (λ its. cond its x (f q p)) (is_lane-same q p)
 pub with_value-there : {A : Type 0} (f : ℕ → ℕ → A) (q p : ℕ) (x : A) (a b : ℕ) → is_lane q p a b ≡ false → with_value f q p x a b ≡ f a b
 with_value-there {A} f q p x a b other = ap (λ its. cond its x (f a b)) other
 
--- what was put on a lane, and how many of its slots are out with each end
-pub record LaneNow : Type 0 where
-  pub packets : List Packet
-  pub filling : ℕ
-  pub emptying : ℕ
-
 -- Before the step, and what it changes.
 pub record Stepped (n k q p : ℕ) (s : State (Option Packet) (List Held)) (r : Kept n k s) (number id : ℕ) (e f : Held) (g : List Occurrence) (now : LaneNow) (words : List ℕ) (homes : Homes) : Type 0 where
   pub two : AreTwo n q p
@@ -102,26 +97,26 @@ pub record Stepped (n k q p : ℕ) (s : State (Option Packet) (List Held)) (r : 
   pub seen_legal : IsLegal n k f.seen
   pub made : own g number ≡ f.made
   pub own : own f.seen number ≡ f.made
-  pub here : IsLane n k g q p now.packets now.filling now.emptying words homes
+  pub here : IsLane (board_lane n k q p) g (lane_now now.packets now.filling now.emptying) words homes
   pub there : (a b : ℕ) → AreTwo n a b → is_lane q p a b ≡ false → LeavesLane n k r.log g a b s.words words s.homes homes
 
 module _ (n k q p : ℕ) (s : State (Option Packet) (List Held)) (r : Kept n k s) (id : ℕ) (e f : Held) (g : List Occurrence) (now : LaneNow) (words : List ℕ) (homes : Homes) where
   abbrev out : ℕ → ℕ → LaneNow
-  out a b = record { packets = r.packets a b; filling = r.filling a b; emptying = r.emptying a b }
+  out a b = lane_now (r.packets a b) (r.seats.filling a b) (r.seats.emptying a b)
 
   abbrev after : ℕ → ℕ → LaneNow
   after a b = with_value out q p now a b
 
-  lanes_after : (number : ℕ) → Stepped n k q p s r number id e f g now words homes → (a b : ℕ) → AreTwo n a b → IsLane n k g a b (after a b).packets (after a b).filling (after a b).emptying words homes
-  lanes_after number st = with_value-each (λ a b x. AreTwo n a b → IsLane n k g a b x.packets x.filling x.emptying words homes) out q p now (λ two. st.here)
-      (λ a b other two. lane_left n k r.log g a b (r.packets a b) (r.filling a b) (r.emptying a b) (r.filling a b) (r.emptying a b) s.words words s.homes homes (st.there a b two other) refl refl (r.lanes a b two))
+  lanes_after : (number : ℕ) → Stepped n k q p s r number id e f g now words homes → (a b : ℕ) → AreTwo n a b → IsLane (board_lane n k a b) g (lane_now (after a b).packets (after a b).filling (after a b).emptying) words homes
+  lanes_after number st = with_value-each (λ a b x. AreTwo n a b → IsLane (board_lane n k a b) g (lane_now x.packets x.filling x.emptying) words homes) out q p now (λ two. st.here)
+      (λ a b other two. lane_left n k r.log g a b (r.packets a b) (r.seats.filling a b) (r.seats.emptying a b) (r.seats.filling a b) (r.seats.emptying a b) s.words words s.homes homes (st.there a b two other) refl refl (r.lanes a b two))
 
-  pub kept_by_sender : (old new : ℕ) → Stepped n k q p s r q id e f g now words homes → OnlyFills p old e.hold → OnlyFills p new f.hold → now.filling ≡ new → now.emptying ≡ r.emptying q p → Kept n k record { words = words; homes = homes; views = set s.views id (f ∷ []) }
+  pub kept_by_sender : (old new : ℕ) → Stepped n k q p s r q id e f g now words homes → OnlyFills p old e.hold → OnlyFills p new f.hold → now.filling ≡ new → now.emptying ≡ r.seats.emptying q p → Kept n k record { words = words; homes = homes; views = set s.views id (f ∷ []) }
   kept_by_sender old new st was is fills empties =
       kept_step n k s r id e f st.at (subst (λ x. 1 ≤ x) (sym st.was) st.low) (subst (λ x. x ≤ n) (sym st.was) st.high) g (λ a b. (after a b).packets) (λ a b. (after a b).filling) (λ a b. (after a b).emptying) words homes st.wide st.long st.legal st.begins
       (λ b ne. st.others b (λ same. ne (same ∙ sym st.was)))
       (λ a b ne. ap (λ x. x.filling) (with_value-there out q p now a b (is_lane-from q p a b (λ same. ne (same ∙ sym st.was)))))
-      (λ a b ne. with_value-each (λ a b x. x.emptying ≡ r.emptying a b) out q p now empties (λ a b other. refl) a b)
+      (λ a b ne. with_value-each (λ a b x. x.emptying ≡ r.seats.emptying a b) out q p now empties (λ a b other. refl) a b)
       (lanes_after q st)
       record {
         instances = st.instances ∙ fits.instances;
@@ -130,13 +125,13 @@ module _ (n k q p : ℕ) (s : State (Option Packet) (List Held)) (r : Kept n k s
         legal = st.seen_legal;
         made = ap (own g) st.same ∙ st.made;
         own = ap (own f.seen) st.same ∙ st.own;
-        seated = λ low high. record { here = ap r.seat (st.same ∙ sym st.was) ∙ seated.here; fills = my_fills; empties = my_empties };
+        seated = λ low high. record { here = ap r.seats.seat (st.same ∙ sym st.was) ∙ seated.here; fills = my_fills; empties = my_empties };
       }
     where
-      fits : Fits n k r.log r.seat r.filling r.emptying id 0 e
+      fits : Fits n k r.log r.seats id 0 e
       fits = r.entries id 0 (e ∷ []) e st.at refl
 
-      seated : IsSeated r.seat r.filling r.emptying id 0 e
+      seated : IsSeated r.seats id 0 e
       seated = fits.seated (subst (λ x. 1 ≤ x) (sym st.was) st.low) (subst (λ x. x ≤ n) (sym st.was) st.high)
 
       at_q : (b : ℕ) → (after q b).filling ≡ filling_to f.hold b
@@ -144,20 +139,20 @@ module _ (n k q p : ℕ) (s : State (Option Packet) (List Held)) (r : Kept n k s
         where
           go : Dec (b ≡ p) → (after q b).filling ≡ filling_to f.hold b
           go (yes same) = subst (λ x. (after q x).filling ≡ filling_to f.hold x) (sym same) (ap (λ x. x.filling) (with_value-here out q p now) ∙ fills ∙ sym is.here)
-          go (no ne) = ap (λ x. x.filling) (with_value-there out q p now q b (is_lane-to q p q b ne)) ∙ (ap (λ x. r.filling x b) (sym st.was) ∙ seated.fills b ∙ was.there b ne ∙ sym (is.there b ne))
+          go (no ne) = ap (λ x. x.filling) (with_value-there out q p now q b (is_lane-to q p q b ne)) ∙ (ap (λ x. r.seats.filling x b) (sym st.was) ∙ seated.fills b ∙ was.there b ne ∙ sym (is.there b ne))
 
       my_fills : (b : ℕ) → (after f.number b).filling ≡ filling_to f.hold b
       my_fills b = ap (λ x. (after x b).filling) st.same ∙ at_q b
 
       my_empties : (a : ℕ) → (after a f.number).emptying ≡ emptying_from f.hold a
-      my_empties a = with_value-each (λ a b x. x.emptying ≡ r.emptying a b) out q p now empties (λ a b other. refl) a f.number
-          ∙ ap (r.emptying a) (st.same ∙ sym st.was) ∙ seated.empties a ∙ was.none a ∙ sym (is.none a)
+      my_empties a = with_value-each (λ a b x. x.emptying ≡ r.seats.emptying a b) out q p now empties (λ a b other. refl) a f.number
+          ∙ ap (r.seats.emptying a) (st.same ∙ sym st.was) ∙ seated.empties a ∙ was.none a ∙ sym (is.none a)
 
-  pub kept_by_receiver : (old new : ℕ) → Stepped n k q p s r p id e f g now words homes → OnlyEmpties q old e.hold → OnlyEmpties q new f.hold → now.emptying ≡ new → now.filling ≡ r.filling q p → Kept n k record { words = words; homes = homes; views = set s.views id (f ∷ []) }
+  pub kept_by_receiver : (old new : ℕ) → Stepped n k q p s r p id e f g now words homes → OnlyEmpties q old e.hold → OnlyEmpties q new f.hold → now.emptying ≡ new → now.filling ≡ r.seats.filling q p → Kept n k record { words = words; homes = homes; views = set s.views id (f ∷ []) }
   kept_by_receiver old new st was is empties fills =
       kept_step n k s r id e f st.at (subst (λ x. 1 ≤ x) (sym st.was) st.low) (subst (λ x. x ≤ n) (sym st.was) st.high) g (λ a b. (after a b).packets) (λ a b. (after a b).filling) (λ a b. (after a b).emptying) words homes st.wide st.long st.legal st.begins
       (λ b ne. st.others b (λ same. ne (same ∙ sym st.was)))
-      (λ a b ne. with_value-each (λ a b x. x.filling ≡ r.filling a b) out q p now fills (λ a b other. refl) a b)
+      (λ a b ne. with_value-each (λ a b x. x.filling ≡ r.seats.filling a b) out q p now fills (λ a b other. refl) a b)
       (λ a b ne. ap (λ x. x.emptying) (with_value-there out q p now a b (is_lane-to q p a b (λ same. ne (same ∙ sym st.was)))))
       (lanes_after p st)
       record {
@@ -167,13 +162,13 @@ module _ (n k q p : ℕ) (s : State (Option Packet) (List Held)) (r : Kept n k s
         legal = st.seen_legal;
         made = ap (own g) st.same ∙ st.made;
         own = ap (own f.seen) st.same ∙ st.own;
-        seated = λ low high. record { here = ap r.seat (st.same ∙ sym st.was) ∙ seated.here; fills = my_fills; empties = my_empties };
+        seated = λ low high. record { here = ap r.seats.seat (st.same ∙ sym st.was) ∙ seated.here; fills = my_fills; empties = my_empties };
       }
     where
-      fits : Fits n k r.log r.seat r.filling r.emptying id 0 e
+      fits : Fits n k r.log r.seats id 0 e
       fits = r.entries id 0 (e ∷ []) e st.at refl
 
-      seated : IsSeated r.seat r.filling r.emptying id 0 e
+      seated : IsSeated r.seats id 0 e
       seated = fits.seated (subst (λ x. 1 ≤ x) (sym st.was) st.low) (subst (λ x. x ≤ n) (sym st.was) st.high)
 
       at_p : (a : ℕ) → (after a p).emptying ≡ emptying_from f.hold a
@@ -181,11 +176,11 @@ module _ (n k q p : ℕ) (s : State (Option Packet) (List Held)) (r : Kept n k s
         where
           go : Dec (a ≡ q) → (after a p).emptying ≡ emptying_from f.hold a
           go (yes same) = subst (λ x. (after x p).emptying ≡ emptying_from f.hold x) (sym same) (ap (λ x. x.emptying) (with_value-here out q p now) ∙ empties ∙ sym is.here)
-          go (no ne) = ap (λ x. x.emptying) (with_value-there out q p now a p (is_lane-from q p a p ne)) ∙ (ap (r.emptying a) (sym st.was) ∙ seated.empties a ∙ was.there a ne ∙ sym (is.there a ne))
+          go (no ne) = ap (λ x. x.emptying) (with_value-there out q p now a p (is_lane-from q p a p ne)) ∙ (ap (r.seats.emptying a) (sym st.was) ∙ seated.empties a ∙ was.there a ne ∙ sym (is.there a ne))
 
       my_fills : (b : ℕ) → (after f.number b).filling ≡ filling_to f.hold b
-      my_fills b = with_value-each (λ a b x. x.filling ≡ r.filling a b) out q p now fills (λ a b other. refl) f.number b
-          ∙ ap (λ x. r.filling x b) (st.same ∙ sym st.was) ∙ seated.fills b ∙ was.none b ∙ sym (is.none b)
+      my_fills b = with_value-each (λ a b x. x.filling ≡ r.seats.filling a b) out q p now fills (λ a b other. refl) f.number b
+          ∙ ap (λ x. r.seats.filling x b) (st.same ∙ sym st.was) ∙ seated.fills b ∙ was.none b ∙ sym (is.none b)
 
       my_empties : (a : ℕ) → (after a f.number).emptying ≡ emptying_from f.hold a
       my_empties a = ap (λ x. (after a x).emptying) st.same ∙ at_p a

@@ -1,5 +1,5 @@
 -- Seats that are cut, joined and met: the rule, where what seats know is shared out in another way.
-use Rattle.std.proofs.Common.{◌≡◌, ◌≢◌, ℕ, zero, suc, ◌+◌, ◌-◌, ◌<◌, ◌≤◌, ◌⊎◌, inl, inr, ⊎_elim, true, false, cond, ◌==◌, List, [], ◌∷◌, ◌++◌, length, drop, get_or, set, refl, sym, ap, ap₂, ◌∙◌, subst, arith, length-append}
+use Rattle.std.proofs.Common.{◌≡◌, ◌≢◌, ℕ, zero, suc, ◌+◌, ◌-◌, ◌<◌, ◌≤◌, ◌⊎◌, inl, inr, ⊎_elim, true, false, cond, ◌==◌, List, [], ◌∷◌, ◌++◌, length, drop, get_or, set, refl, sym, ap, ap₂, ◌∙◌, subst, subst₂, arith, length-append}
 use Rattle.std.specs.Prelude.{Option, None, leb, map, replicate, slice_index}
 use Rattle.std.proofs.lemmas.List.{set-get_or, length-set, length-map, length-replicate}
 use Rattle.std.proofs.lemmas.Bool.{eq-eqb, ne_eqb}
@@ -14,12 +14,12 @@ use Rattle.chart.specs.Histories.{own, IsLegal, Begins}
 use Rattle.chart.proofs.Histories.{begins_same, own_begins}
 use Rattle.board_table.specs.declared.packet.Packet.{Packet}
 use Rattle.board_table.specs.declared.held.Held.{Held}
-use Rattle.board_table.specs.Layout.{put_word, taken_word, word_count, slot_of, slot_count}
+use Rattle.board_table.specs.Layout.{board_lane, put_word, taken_word, word_count, slot_of, slot_count}
 use Rattle.board_table.specs.Knowing.{Mine, new_held, longer, met, note_of}
-use Rattle.board_table.specs.Rule.{Fits, Kept, new_helds}
+use Rattle.board_table.specs.Rule.{IsLane, Seating, Fits, Kept, new_helds}
 use Rattle.board_table.specs.Plays.{MeetsBeside}
 use Rattle.board_table.proofs.Carried.{at_append}
-use Rattle.board_table.proofs.Keeping.{one_entry}
+use Rattle.board_table.proofs.Keeping.{lane_now, one_entry}
 use Rattle.board_table.proofs.Places.{slot_within}
 
 -- Of two beginnings of one history the shorter begins the longer.
@@ -52,18 +52,16 @@ own_outside n k (Receive p q c ∷ h) b legal out = ap (λ its. cond its (Receiv
 own_outside n k (Close p q ∷ h) b legal out = ap (λ its. cond its (Close p q ∷ own h b) (own h b)) (ne_eqb p b (λ same. absurd (omega (arith, same, legal.0.0.1)))) ∙ own_outside n k h b legal.1 out
 
 module _ (n k : ℕ) where
-  pub kept_views : (s : State (Option Packet) (List Held)) (r : Kept n k s) (seat : ℕ → ℕ × ℕ) (views : List (List Held)) → ((id place : ℕ) (v : List Held) (e : Held) → get_elem? views id ≡ some v → get_elem? v place ≡ some e → Fits n k r.log seat r.filling r.emptying id place e)
+  pub kept_views : (s : State (Option Packet) (List Held)) (r : Kept n k s) (seats : Seating) (views : List (List Held)) → seats.filling ≡ r.seats.filling → seats.emptying ≡ r.seats.emptying → ((id place : ℕ) (v : List Held) (e : Held) → get_elem? views id ≡ some v → get_elem? v place ≡ some e → Fits n k r.log seats id place e)
       → Kept n k record { words = s.words; homes = s.homes; views = views }
-  kept_views s r seat views entries = record {
+  kept_views s r seats views fills empties entries = record {
     log = r.log;
-    seat = seat;
+    seats = seats;
     packets = r.packets;
-    filling = r.filling;
-    emptying = r.emptying;
     legal = r.legal;
     words_are = r.words_are;
     slots_are = r.slots_are;
-    lanes = r.lanes;
+    lanes = λ q p two. subst₂ (λ f g. IsLane (board_lane n k q p) r.log (lane_now (r.packets q p) (f q p) (g q p)) s.words s.homes) (sym fills) (sym empties) (r.lanes q p two);
     entries = entries;
   }
 
@@ -82,8 +80,8 @@ module _ (n k : ℕ) where
   one_of f e place at = (one_entry f e place at).1
 
   -- a note fits at any seat
-  pub fits_note : (log : List Occurrence) (seat : ℕ → ℕ × ℕ) (filling emptying : ℕ → ℕ → ℕ) (id place : ℕ) (e : Held) → e.instances ≡ n → e.capacity ≡ k → n < e.number → e.made ≡ [] → IsLegal n k log → Begins e.seen log → IsLegal n k e.seen → Fits n k log seat filling emptying id place e
-  fits_note log seat filling emptying id place e instances capacity out none whole seen legal = record {
+  pub fits_note : (log : List Occurrence) (seats : Seating) (id place : ℕ) (e : Held) → e.instances ≡ n → e.capacity ≡ k → n < e.number → e.made ≡ [] → IsLegal n k log → Begins e.seen log → IsLegal n k e.seen → Fits n k log seats id place e
+  fits_note log seats id place e instances capacity out none whole seen legal = record {
     instances = instances;
     capacity = capacity;
     seen = seen;
@@ -94,8 +92,8 @@ module _ (n k : ℕ) where
   }
 
   -- a post at one seat and place is so for what it knows of the history
-  pub fits_more : (log : List Occurrence) (seat : ℕ → ℕ × ℕ) (filling emptying : ℕ → ℕ → ℕ) (id place : ℕ) (e : Held) (h : List Occurrence) → Begins e.seen h → Begins h log → IsLegal n k h → Fits n k log seat filling emptying id place e → Fits n k log seat filling emptying id place (record e { seen = h })
-  fits_more log seat filling emptying id place e h before after legal old = record {
+  pub fits_more : (log : List Occurrence) (seats : Seating) (id place : ℕ) (e : Held) (h : List Occurrence) → Begins e.seen h → Begins h log → IsLegal n k h → Fits n k log seats id place e → Fits n k log seats id place (record e { seen = h })
+  fits_more log seats id place e h before after legal old = record {
     instances = old.instances;
     capacity = old.capacity;
     seen = after;
@@ -106,16 +104,16 @@ module _ (n k : ℕ) where
   }
 
   pub copies : (id : ℕ) (e : Held) → e.instances ≡ n → e.capacity ≡ k → Splits (Kept n k) id (e ∷ []) (e ∷ []) (note_of e ∷ [])
-  copies id e instances capacity s r at = kept_views s r r.seat (set s.views id (e ∷ []) ++ (note_of e ∷ []) ∷ []) (λ j place v w there is. ⊎_elim
+  copies id e instances capacity s r at = kept_views s r r.seats (set s.views id (e ∷ []) ++ (note_of e ∷ []) ∷ []) refl refl (λ j place v w there is. ⊎_elim
       (λ here. r.entries j place v w (ap (get_elem? s.views) here.0 ∙ at ∙ ap some here.1) is)
       (λ more. ⊎_elim
       (λ away. r.entries j place v w away.1 is)
-      (λ new. subst (λ x. Fits n k r.log r.seat r.filling r.emptying j place x) (one_of (note_of e) w place (ap (λ l. get_elem? l place) new.1 ∙ is))
-      (fits_note r.log r.seat r.filling r.emptying j place (note_of e) instances capacity (omega (arith, instances)) refl r.legal mine.seen mine.legal))
+      (λ new. subst (λ x. Fits n k r.log r.seats j place x) (one_of (note_of e) w place (ap (λ l. get_elem? l place) new.1 ∙ is))
+      (fits_note r.log r.seats j place (note_of e) instances capacity (omega (arith, instances)) refl r.legal mine.seen mine.legal))
       more)
       (in_views s.views id (e ∷ []) (note_of e ∷ []) j v there))
     where
-      mine : Fits n k r.log r.seat r.filling r.emptying id 0 e
+      mine : Fits n k r.log r.seats id 0 e
       mine = r.entries id 0 (e ∷ []) e at refl
 
   -- of two entries of a view
@@ -125,7 +123,7 @@ module _ (n k : ℕ) where
   two_of P e f one two (suc (suc place)) w is = absurd (some-ne-none w (sym is))
 
   pub joins : (id : ℕ) (e : Held) (other : ℕ) (note : Held) → n < note.number → note.made ≡ [] → Joins (Kept n k) id (e ∷ []) other (note ∷ []) (e ∷ note ∷ []) []
-  joins id e other note out none s r at ne there = kept_views s r r.seat (set (set s.views id (e ∷ note ∷ [])) other []) (λ j place v w is_v is. ⊎_elim
+  joins id e other note out none s r at ne there = kept_views s r r.seats (set (set s.views id (e ∷ note ∷ [])) other []) refl refl (λ j place v w is_v is. ⊎_elim
       (λ spent. absurd (some-ne-none w (sym (ap (λ l. get_elem? l place) spent.1 ∙ is))))
       (λ more. ⊎_elim
       (λ here. both j place v w here is)
@@ -133,27 +131,27 @@ module _ (n k : ℕ) where
       (at_set s.views id j (e ∷ note ∷ []) v more.1))
       (at_set (set s.views id (e ∷ note ∷ [])) other j [] v is_v))
     where
-      mine : Fits n k r.log r.seat r.filling r.emptying id 0 e
+      mine : Fits n k r.log r.seats id 0 e
       mine = r.entries id 0 (e ∷ []) e at refl
 
       its : get_elem? s.views other ≡ some (note ∷ [])
       its = ⊎_elim (λ same. absurd (ne same.0)) (λ away. away.1) (at_set s.views id other (e ∷ note ∷ []) (note ∷ []) there)
 
-      old : Fits n k r.log r.seat r.filling r.emptying other 0 note
+      old : Fits n k r.log r.seats other 0 note
       old = r.entries other 0 (note ∷ []) note its refl
 
-      both : (j place : ℕ) (v : List Held) (w : Held) → (j ≡ id) × (e ∷ note ∷ [] ≡ v) → get_elem? v place ≡ some w → Fits n k r.log r.seat r.filling r.emptying j place w
+      both : (j place : ℕ) (v : List Held) (w : Held) → (j ≡ id) × (e ∷ note ∷ [] ≡ v) → get_elem? v place ≡ some w → Fits n k r.log r.seats j place w
       both j place v w (same, view) is =
-          subst (λ x. Fits n k r.log r.seat r.filling r.emptying x place w) (sym same)
-          (two_of (λ x y. Fits n k r.log r.seat r.filling r.emptying id x y) e note mine (fits_note r.log r.seat r.filling r.emptying id 1 note old.instances old.capacity out none r.legal old.seen old.legal) place w (ap (λ l. get_elem? l place) view ∙ is))
+          subst (λ x. Fits n k r.log r.seats x place w) (sym same)
+          (two_of (λ x y. Fits n k r.log r.seats id x y) e note mine (fits_note r.log r.seats id 1 note old.instances old.capacity out none r.legal old.seen old.legal) place w (ap (λ l. get_elem? l place) view ∙ is))
 
   pub meets : (slots id i : ℕ) (e note : Held) (out : List (ℕ × Option Packet)) → e.instances ≡ n → e.capacity ≡ k → n < note.number → note.made ≡ [] → let me : Mine = (e ∷ note ∷ [], out) in Allows (Kept n k) slots id me i (λ x. x) (λ x w. MeetsBeside me w)
   meets slots id i e note out instances capacity above none s r size at bound = go (longer_is e.seen note.seen)
     where
-      mine : Fits n k r.log r.seat r.filling r.emptying id 0 e
+      mine : Fits n k r.log r.seats id 0 e
       mine = r.entries id 0 (e ∷ note ∷ []) e at refl
 
-      its : Fits n k r.log r.seat r.filling r.emptying id 1 note
+      its : Fits n k r.log r.seats id 1 note
       its = r.entries id 1 (e ∷ note ∷ []) note at refl
 
       both : Begins e.seen (longer e.seen note.seen) → Begins note.seen (longer e.seen note.seen) → Begins (longer e.seen note.seen) r.log → IsLegal n k (longer e.seen note.seen)
@@ -163,11 +161,11 @@ module _ (n k : ℕ) where
         keeps,
         tt,
         subst (λ ws. Kept n k record { words = ws; homes = s.homes; views = set s.views id (met e note ∷ record note { seen = longer e.seen note.seen } ∷ []) }) (sym (set-get_or s.words i 0))
-            (kept_views s r r.seat (set s.views id (met e note ∷ record note { seen = longer e.seen note.seen } ∷ [])) (λ j place v w is_v is. ⊎_elim
-            (λ here. subst (λ x. Fits n k r.log r.seat r.filling r.emptying x place w) (sym here.0)
-            (two_of (λ x y. Fits n k r.log r.seat r.filling r.emptying id x y) (met e note) (record note { seen = longer e.seen note.seen })
-            (fits_more r.log r.seat r.filling r.emptying id 0 e (longer e.seen note.seen) one whole legal mine)
-            (fits_note r.log r.seat r.filling r.emptying id 1 (record note { seen = longer e.seen note.seen }) its.instances its.capacity above none r.legal whole legal)
+            (kept_views s r r.seats (set s.views id (met e note ∷ record note { seen = longer e.seen note.seen } ∷ [])) refl refl (λ j place v w is_v is. ⊎_elim
+            (λ here. subst (λ x. Fits n k r.log r.seats x place w) (sym here.0)
+            (two_of (λ x y. Fits n k r.log r.seats id x y) (met e note) (record note { seen = longer e.seen note.seen })
+            (fits_more r.log r.seats id 0 e (longer e.seen note.seen) one whole legal mine)
+            (fits_note r.log r.seats id 1 (record note { seen = longer e.seen note.seen }) its.instances its.capacity above none r.legal whole legal)
             place w (ap (λ l. get_elem? l place) here.1 ∙ is)))
             (λ away. r.entries j place v w away.1 is)
             (at_set s.views id j (met e note ∷ record note { seen = longer e.seen note.seen } ∷ []) v is_v))),
@@ -177,7 +175,7 @@ module _ (n k : ℕ) where
             later = one;
             later_note = two;
             legal = subst (λ z. IsLegal z e.capacity (longer e.seen note.seen)) (sym instances) (subst (λ z. IsLegal n z (longer e.seen note.seen)) (sym capacity) legal);
-            own = (fits_more r.log r.seat r.filling r.emptying id 0 e (longer e.seen note.seen) one whole legal mine).own;
+            own = (fits_more r.log r.seats id 0 e (longer e.seen note.seen) one whole legal mine).own;
             rest = refl;
           },
           refl,
@@ -190,33 +188,36 @@ module _ (n k : ℕ) where
       go (inr (same, lt)) = both (subst (Begins e.seen) (sym same) (begins_same e.seen)) (subst (Begins note.seen) (sym same) (shorter_begins note.seen e.seen r.log its.seen mine.seen (omega (arith, lt)))) (subst (λ x. Begins x r.log) (sym same) mine.seen) (subst (IsLegal n k) (sym same) mine.legal)
 
   pub parts : (id : ℕ) (e note : Held) → n < note.number → note.made ≡ [] → Splits (Kept n k) id (e ∷ note ∷ []) (e ∷ []) (note ∷ [])
-  parts id e note above none s r at = kept_views s r r.seat (set s.views id (e ∷ []) ++ (note ∷ []) ∷ []) (λ j place v w there is. ⊎_elim
+  parts id e note above none s r at = kept_views s r r.seats (set s.views id (e ∷ []) ++ (note ∷ []) ∷ []) refl refl (λ j place v w there is. ⊎_elim
       (λ here. let one = one_entry e w place (ap (λ l. get_elem? l place) here.1 ∙ is) in
-      subst (λ x. Fits n k r.log r.seat r.filling r.emptying x place w) (sym here.0) (subst (λ x. Fits n k r.log r.seat r.filling r.emptying id x w) (sym one.0) (subst (λ x. Fits n k r.log r.seat r.filling r.emptying id 0 x) one.1 mine)))
+      subst (λ x. Fits n k r.log r.seats x place w) (sym here.0) (subst (λ x. Fits n k r.log r.seats id x w) (sym one.0) (subst (λ x. Fits n k r.log r.seats id 0 x) one.1 mine)))
       (λ more. ⊎_elim
       (λ away. r.entries j place v w away.1 is)
-      (λ new. subst (λ x. Fits n k r.log r.seat r.filling r.emptying j place x) (one_of note w place (ap (λ l. get_elem? l place) new.1 ∙ is))
-      (fits_note r.log r.seat r.filling r.emptying j place note its.instances its.capacity above none r.legal its.seen its.legal))
+      (λ new. subst (λ x. Fits n k r.log r.seats j place x) (one_of note w place (ap (λ l. get_elem? l place) new.1 ∙ is))
+      (fits_note r.log r.seats j place note its.instances its.capacity above none r.legal its.seen its.legal))
       more)
       (in_views s.views id (e ∷ []) (note ∷ []) j v there))
     where
-      mine : Fits n k r.log r.seat r.filling r.emptying id 0 e
+      mine : Fits n k r.log r.seats id 0 e
       mine = r.entries id 0 (e ∷ note ∷ []) e at refl
 
-      its : Fits n k r.log r.seat r.filling r.emptying id 1 note
+      its : Fits n k r.log r.seats id 1 note
       its = r.entries id 1 (e ∷ note ∷ []) note at refl
 
   -- the first of several posts gets a seat of its own, the last one
   abbrev dealt : ℕ → ℕ → ℕ × ℕ → ℕ × ℕ
   dealt id last x = cond (x.0 == id) (cond (x.1 == 0) (last, 0) (id, x.1 - 1)) x
 
+  abbrev dealt_seats : ℕ → ℕ → Seating → Seating
+  dealt_seats id last seats = record seats { seat = λ x. dealt id last (seats.seat x) }
+
   pub deals : (id : ℕ) (e : Held) (es : List Held) → Splits (Kept n k) id (e ∷ es) es (e ∷ [])
-  deals id e es s r at = kept_views s r (λ x. dealt id (length s.views) (r.seat x)) (set s.views id es ++ (e ∷ []) ∷ []) (λ j place v w there is. ⊎_elim
+  deals id e es s r at = kept_views s r (dealt_seats id (length s.views) r.seats) (set s.views id es ++ (e ∷ []) ∷ []) refl refl (λ j place v w there is. ⊎_elim
       (λ here. rest j place v w here is)
       (λ more. ⊎_elim (λ away. others j place v w away is) (λ new. first j place v w new is) more)
       (in_views s.views id es (e ∷ []) j v there))
     where
-      moved : (j place j' place' : ℕ) (w : Held) → ((j, place) ≡ r.seat w.number → dealt id (length s.views) (r.seat w.number) ≡ (j', place')) → Fits n k r.log r.seat r.filling r.emptying j place w → Fits n k r.log (λ x. dealt id (length s.views) (r.seat x)) r.filling r.emptying j' place' w
+      moved : (j place j' place' : ℕ) (w : Held) → ((j, place) ≡ r.seats.seat w.number → dealt id (length s.views) (r.seats.seat w.number) ≡ (j', place')) → Fits n k r.log r.seats j place w → Fits n k r.log (dealt_seats id (length s.views) r.seats) j' place' w
       moved j place j' place' w goes old = record {
         instances = old.instances;
         capacity = old.capacity;
@@ -230,22 +231,22 @@ module _ (n k : ℕ) where
       to : (j place : ℕ) (x : ℕ × ℕ) (y : ℕ × ℕ) → (j, place) ≡ x → dealt id (length s.views) (j, place) ≡ y → dealt id (length s.views) x ≡ y
       to j place x y same goes = ap (dealt id (length s.views)) (sym same) ∙ goes
 
-      rest : (j place : ℕ) (v : List Held) (w : Held) → (j ≡ id) × (es ≡ v) → get_elem? v place ≡ some w → Fits n k r.log (λ x. dealt id (length s.views) (r.seat x)) r.filling r.emptying j place w
+      rest : (j place : ℕ) (v : List Held) (w : Held) → (j ≡ id) × (es ≡ v) → get_elem? v place ≡ some w → Fits n k r.log (dealt_seats id (length s.views) r.seats) j place w
       rest j place v w (same, view) is = moved id (suc place) j place w
-          (λ seat. to id (suc place) (r.seat w.number) (j, place) seat (ap (λ b. cond b (cond (suc place == 0) (length s.views, 0) (id, suc place - 1)) (id, suc place)) (eq-eqb id id refl) ∙ ap (λ b. cond b (length s.views, 0) (id, suc place - 1)) (ne_eqb (suc place) 0 (λ z. absurd (omega (arith, z)))) ∙ ap₂ (λ (a b : ℕ). (a, b)) (sym same) (let z : suc place - 1 ≡ place = omega arith in z)))
+          (λ seat. to id (suc place) (r.seats.seat w.number) (j, place) seat (ap (λ b. cond b (cond (suc place == 0) (length s.views, 0) (id, suc place - 1)) (id, suc place)) (eq-eqb id id refl) ∙ ap (λ b. cond b (length s.views, 0) (id, suc place - 1)) (ne_eqb (suc place) 0 (λ z. absurd (omega (arith, z)))) ∙ ap₂ (λ (a b : ℕ). (a, b)) (sym same) (let z : suc place - 1 ≡ place = omega arith in z)))
           (r.entries id (suc place) (e ∷ es) w at (ap (λ l. get_elem? l place) view ∙ is))
 
-      others : (j place : ℕ) (v : List Held) (w : Held) → (j ≢ id) × (get_elem? s.views j ≡ some v) → get_elem? v place ≡ some w → Fits n k r.log (λ x. dealt id (length s.views) (r.seat x)) r.filling r.emptying j place w
+      others : (j place : ℕ) (v : List Held) (w : Held) → (j ≢ id) × (get_elem? s.views j ≡ some v) → get_elem? v place ≡ some w → Fits n k r.log (dealt_seats id (length s.views) r.seats) j place w
       others j place v w (ne, there) is = moved j place j place w
-          (λ seat. to j place (r.seat w.number) (j, place) seat (ap (λ b. cond b (cond (place == 0) (length s.views, 0) (id, place - 1)) (j, place)) (ne_eqb j id ne)))
+          (λ seat. to j place (r.seats.seat w.number) (j, place) seat (ap (λ b. cond b (cond (place == 0) (length s.views, 0) (id, place - 1)) (j, place)) (ne_eqb j id ne)))
           (r.entries j place v w there is)
 
-      first : (j place : ℕ) (v : List Held) (w : Held) → (j ≡ length s.views) × (e ∷ [] ≡ v) → get_elem? v place ≡ some w → Fits n k r.log (λ x. dealt id (length s.views) (r.seat x)) r.filling r.emptying j place w
+      first : (j place : ℕ) (v : List Held) (w : Held) → (j ≡ length s.views) × (e ∷ [] ≡ v) → get_elem? v place ≡ some w → Fits n k r.log (dealt_seats id (length s.views) r.seats) j place w
       first j place v w (last, view) is =
           let one = one_entry e w place (ap (λ l. get_elem? l place) view ∙ is) in
-          subst (λ x. Fits n k r.log (λ x. dealt id (length s.views) (r.seat x)) r.filling r.emptying j place x) one.1
+          subst (λ x. Fits n k r.log (dealt_seats id (length s.views) r.seats) j place x) one.1
           (moved id 0 j place e
-          (λ seat. to id 0 (r.seat e.number) (j, place) seat (ap (λ b. cond b (length s.views, 0) (id, 0)) (eq-eqb id id refl) ∙ ap₂ (λ (a b : ℕ). (a, b)) (sym last) (sym one.0)))
+          (λ seat. to id 0 (r.seats.seat e.number) (j, place) seat (ap (λ b. cond b (length s.views, 0) (id, 0)) (eq-eqb id id refl) ∙ ap₂ (λ (a b : ℕ). (a, b)) (sym last) (sym one.0)))
           (r.entries id 0 (e ∷ es) e at refl))
 
   -- the table as it is made
@@ -267,13 +268,15 @@ module _ (n k : ℕ) where
   new_at (suc many) number zero e is = sym (some-injective (new_held n k number) e is) ∙ ap (new_held n k) (let z : number ≡ number + 0 = omega arith in z)
   new_at (suc many) number (suc place) e is = new_at many (suc number) place e is ∙ ap (new_held n k) (let z : suc number + place ≡ number + suc place = omega arith in z)
 
+  -- all posts sit at one seat, and no slot is out
+  abbrev opening_seats : Seating
+  opening_seats = record { seat = λ x. (0, x - 1); filling = λ q p. 0; emptying = λ q p. 0 }
+
   pub opens : 1 ≤ k → Kept n k (opening (replicate (word_count n) 0) (replicate (slot_count n k) None) (new_helds n k 1 n))
   opens some_place = record {
     log = [];
-    seat = λ x. (0, x - 1);
+    seats = opening_seats;
     packets = λ q p. [];
-    filling = λ q p. 0;
-    emptying = λ q p. 0;
     legal = tt;
     words_are = length-replicate (word_count n) 0;
     slots_are = length-map (replicate (slot_count n k) nothing) some ∙ length-replicate (slot_count n k) nothing;
@@ -289,7 +292,7 @@ module _ (n k : ℕ) where
     entries = entries;
   }
     where
-      fresh : (place : ℕ) → Fits n k [] (λ x. (0, x - 1)) (λ q p. 0) (λ q p. 0) 0 place (new_held n k (1 + place))
+      fresh : (place : ℕ) → Fits n k [] opening_seats 0 place (new_held n k (1 + place))
       fresh place = record {
         instances = refl;
         capacity = refl;
@@ -300,6 +303,6 @@ module _ (n k : ℕ) where
         seated = λ low high. record { here = ap (λ i. (0, i)) (let z : 1 + place - 1 ≡ place = omega arith in z); fills = λ p. refl; empties = λ q. refl };
       }
 
-      entries : (id place : ℕ) (v : List Held) (e : Held) → get_elem? (new_helds n k 1 n ∷ []) id ≡ some v → get_elem? v place ≡ some e → Fits n k [] (λ x. (0, x - 1)) (λ q p. 0) (λ q p. 0) id place e
-      entries zero place v e there is = subst (λ x. Fits n k [] (λ x. (0, x - 1)) (λ q p. 0) (λ q p. 0) 0 place x) (sym (new_at n 1 place e (ap (λ l. get_elem? l place) (some-injective (new_helds n k 1 n) v there) ∙ is))) (fresh place)
+      entries : (id place : ℕ) (v : List Held) (e : Held) → get_elem? (new_helds n k 1 n ∷ []) id ≡ some v → get_elem? v place ≡ some e → Fits n k [] opening_seats id place e
+      entries zero place v e there is = subst (λ x. Fits n k [] opening_seats 0 place x) (sym (new_at n 1 place e (ap (λ l. get_elem? l place) (some-injective (new_helds n k 1 n) v there) ∙ is))) (fresh place)
       entries (suc id) place v e there is = absurd (some-ne-none v (sym there))

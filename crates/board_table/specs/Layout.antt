@@ -11,6 +11,10 @@ pub record LaneView : Type 0 where
   pub sender : ℕ
   pub receiver : ℕ
 
+-- the lane from q to p on a board of n instances, whose lanes have k slots each
+abbrev pub board_lane : ℕ → ℕ → ℕ → ℕ → LaneView
+board_lane n k q p = record { instances = n; capacity = k; sender = q; receiver = p }
+
 -- the words of one writer, and those that part it from the next
 abbrev pub row_length : ℕ → ℕ
 row_length n = 2 * n + 7

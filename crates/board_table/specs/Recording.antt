@@ -15,11 +15,17 @@ pub record IsReady (l : LaneView) (region : ℕ) (recorder : RecorderView) : Typ
   pub knows : length recorder.knowledge ≡ l.instances
   pub region_fits : MayHaveRegion recorder.line.events region
 
--- the recorder has recorded the receive of the first of these packets over the base, with this report, and this is
--- its clock
-pub record IsRecorded (packets : List Packet) (base : Clock) (from region : ℕ) (old : RecorderView)
-    (report : ReportView) (clock : Clock) (new : RecorderView) : Type 0 where
-  pub clock_is : (x : Packet) (xs : List Packet) → packets ≡ x ∷ xs → apply_diff base x.diff ≡ clock
+-- a receive: who sent its message, its coregion, the clock that the message came with, and its report
+pub record ReceiptView : Type 0 where
+  pub from : ℕ
+  pub region : ℕ
+  pub clock : Clock
+  pub report : ReportView
+
+-- the recorder has recorded the receive of the first of these packets, whose difference is over the base
+pub record IsRecorded (packets : List Packet) (base : Clock) (old : RecorderView) (receipt : ReceiptView)
+    (new : RecorderView) : Type 0 where
+  pub clock_is : (x : Packet) (xs : List Packet) → packets ≡ x ∷ xs → apply_diff base x.diff ≡ receipt.clock
   pub recorded : (x : Packet) (xs : List Packet) → packets ≡ x ∷ xs
-      → new ≡ after_receive old from x.message.name region clock report
-  pub report_is : IsReportOf old from region clock report
+      → new ≡ after_receive old receipt.from x.message.name receipt.region receipt.clock receipt.report
+  pub report_is : IsReportOf old receipt.from receipt.region receipt.clock receipt.report

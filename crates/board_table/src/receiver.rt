@@ -135,8 +135,12 @@ pub fn take_recorded(
     ensures packet { IfOk result (λ took. (x : Packet) × (packets_out seat.old.me ≡ x ∷ packets_out seat.new.me)
         × (took.0 ≡ x.message)) }
     ensures vacant { OnOk result (vacant_out seat.new.me ≡ suc (vacant_out seat.old.me)) }
-    ensures recorded { IfOk result (λ took. IsRecorded (packets_out seat.old.me) base.old lane.now.sender region
-        recorder.old took.1 base.new recorder.new) }
+    ensures recorded { IfOk result (λ took. IsRecorded (packets_out seat.old.me) base.old recorder.old (record {
+      from = lane.now.sender;
+      region = region;
+      clock = base.new;
+      report = took.1;
+    }) recorder.new) }
     ensures full { (result ≡ Err RecordError.LineFull) ↔ (length recorder.old.line.events ≡ MAX_EVENTS) }
     ensures same { OnErr result (seat.new.me ≡ seat.old.me) }
     ensures err { OnErr result (recorder.new ≡ recorder.old) }

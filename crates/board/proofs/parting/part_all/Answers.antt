@@ -40,13 +40,13 @@ loop-place-preserved c =
       seen = λ k table h first. seen_next n k table h place c.loop-place.posts.items c.take_post.new.posts.items (inv.seen k table h first) taken.kept taken.others;
       parted = λ k table h first.
           let met = (inv.seen k table h first).each taken.among.0 post taken.among.1 in
-          subst (λ (xs : List LineView). HaveParted n k table h (place + 1) xs c.append.new.self.items c.push_reserved-in-loop-place.new.self.items) (sym lines)
-          (subst (λ (xs : List ReportView). HaveParted n k table h (place + 1) (c.loop-place.lines.items ++ line ∷ []) xs c.push_reserved-in-loop-place.new.self.items) (sym reports)
-          (subst (λ (xs : List Leaver). HaveParted n k table h (place + 1) (c.loop-place.lines.items ++ line ∷ []) (c.loop-place.reports.items ++ own) xs) (sym leavers)
+          subst (λ (xs : List LineView). HaveParted (record { table = table; size = n; capacity = k }) h (place + 1) xs c.append.new.self.items c.push_reserved-in-loop-place.new.self.items) (sym lines)
+          (subst (λ (xs : List ReportView). HaveParted (record { table = table; size = n; capacity = k }) h (place + 1) (c.loop-place.lines.items ++ line ∷ []) xs c.push_reserved-in-loop-place.new.self.items) (sym reports)
+          (subst (λ (xs : List Leaver). HaveParted (record { table = table; size = n; capacity = k }) h (place + 1) (c.loop-place.lines.items ++ line ∷ []) (c.loop-place.reports.items ++ own) xs) (sym leavers)
           (parted_next n k table h place post met taken.number c.loop-place.lines.items c.loop-place.reports.items own c.loop-place.leavers.items line leaver (inv.parted k table h first) part.line part.receives part.reports part.table part.left)));
     }
 
 pub returns : goal.returns
 returns c = λ k table h first.
     let all : c.loop-place.place ≡ c.args.instances = omega arith in
-    subst (λ (many : ℕ). HaveParted c.args.instances k table h many c.loop-place.lines.items c.loop-place.reports.items c.loop-place.leavers.items) all (c.loop-place.invariant.parted k table h first)
+    subst (λ (many : ℕ). HaveParted (record { table = table; size = c.args.instances; capacity = k }) h many c.loop-place.lines.items c.loop-place.reports.items c.loop-place.leavers.items) all (c.loop-place.invariant.parted k table h first)

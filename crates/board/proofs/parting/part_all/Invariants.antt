@@ -12,5 +12,5 @@ invariant-loop-place l = record {
   lines_many : length l.lines.items ≡ l.place;
   leavers_many : length l.leavers.items ≡ l.place;
   seen : (k : ℕ) (table : TableId) (h : List Occurrence) → HaveSeen l.instances k table h 0 l.initial.posts.items → HaveSeen l.instances k table h l.place l.posts.items;
-  parted : (k : ℕ) (table : TableId) (h : List Occurrence) → HaveSeen l.instances k table h 0 l.initial.posts.items → HaveParted l.instances k table h l.place l.lines.items l.reports.items l.leavers.items;
+  parted : (k : ℕ) (table : TableId) (h : List Occurrence) → HaveSeen l.instances k table h 0 l.initial.posts.items → HaveParted (record { table = table; size = l.instances; capacity = k }) h l.place l.lines.items l.reports.items l.leavers.items;
 }

@@ -4,7 +4,7 @@ use Rattle.chart.specs.declared.line.TheConstants.{MAX_EVENTS}
 use Rattle.board_table.specs.Knowing.{packets_out}
 use Rattle.board.specs.declared.answer.Arrival.{Arrival}
 use Rattle.board.specs.Receipts.{AreTaken}
-use Rattle.board.proofs.Receives.{none_taken, may_take, one_more}
+use Rattle.board.proofs.Receives.{receiving, none_taken, may_take, one_more}
 use Rattle.board.proofs.receiving_several.take_several.Goals as goal
 
 pub loop-init : goal.loop-init
@@ -15,7 +15,7 @@ loop-init c =
     let r = c.args.recorder.now in
     record {
       table = c.requires.table;
-      taken = subst (λ (xs : List Arrival). AreTaken l c.args.region s u r xs s u r) (sym (c.reserve.ensures.items ∙ c.requires.none)) (none_taken l c.args.region s u r c.requires.may_receive);
+      taken = subst (λ (xs : List Arrival). AreTaken l c.args.region (receiving s u r) xs (receiving s u r)) (sym (c.reserve.ensures.items ∙ c.requires.none)) (none_taken l c.args.region s u r c.requires.may_receive);
       as_many = ap length (c.reserve.ensures.items ∙ c.requires.none);
     }
 
@@ -38,8 +38,8 @@ loop-preserved c =
     let grown = c.push_reserved.ensures.items in
     record {
       table = c.take_next.ensures.table ∙ c.loop.invariant.table;
-      taken = subst (λ (xs : List Arrival). AreTaken l c.args.region s u r xs t o v) (sym c.push_reserved.ensures.items)
-          (subst (λ (xs : List Arrival). AreTaken l c.args.region s u r (xs ++ c.in-Ok.arrival ∷ []) t o v) (sym c.reserve-in-loop.ensures.items)
+      taken = subst (λ (xs : List Arrival). AreTaken l c.args.region (receiving s u r) xs (receiving t o v)) (sym c.push_reserved.ensures.items)
+          (subst (λ (xs : List Arrival). AreTaken l c.args.region (receiving s u r) (xs ++ c.in-Ok.arrival ∷ []) (receiving t o v)) (sym c.reserve-in-loop.ensures.items)
           (one_more l c.args.region s u r c.requires.may_receive c.loop.arrivals.items c.loop.seat.me c.loop.end c.loop.recorder c.loop.invariant.taken t o v c.in-Ok.arrival short c.in-Ok.ensures.ok));
       as_many = search rules;
     }

@@ -6,6 +6,6 @@ use Rattle.board.proofs.receiving_several.take_several.Given as goal
 abbrev pub invariant-loop : goal.invariant-loop
 invariant-loop l = record {
   table : l.seat.table_id ≡ l.words.table_id;
-  taken : AreTaken l.lane l.region l.initial.seat.me l.initial.end l.initial.recorder l.arrivals.items l.seat.me l.end l.recorder;
+  taken : AreTaken l.lane l.region (record { me = l.initial.seat.me; end = l.initial.end; recorder = l.initial.recorder }) l.arrivals.items (record { me = l.seat.me; end = l.end; recorder = l.recorder });
   as_many : length l.arrivals.items ≡ l.counter;
 }
