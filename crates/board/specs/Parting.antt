@@ -2,7 +2,9 @@
 use Rattle.std.specs.Prelude.{◌≡◌, ℕ, suc, ◌+◌, ◌<◌, ◌≤◌, ◌==◌, List, [], ◌∷◌, ◌++◌, length, map, filter, take, drop}
 use Rattle.std.specs.Prelude.{All, slice_get, vec_capacity, Option, Some}
 use Rattle.std.specs.List.{flat_map}
+use Rattle.std.specs.Global.{Vec}
 use Rattle.chart.specs.Words.{Instance}
+use Rattle.chart.specs.declared.event.Event.{Event}
 use Rattle.chart.specs.declared.history.Occurrence.{Occurrence}
 use Rattle.chart.specs.declared.instance.EventNo.{EventNo}
 use Rattle.chart.specs.declared.line.TheConstants.{MAX_EVENTS}
@@ -82,6 +84,14 @@ receives_until h many = flat_map receives_of (history_lines many h)
 
 abbrev pub AreCounted : List Occurrence → ℕ → ℕ → Type 0
 AreCounted h many count = count ≡ length (receives_until h many)
+
+-- an empty list with room for the events of a line
+abbrev pub IsForEvents : Vec Event → Type 0
+IsForEvents events = (events.items ≡ []) × (MAX_EVENTS ≤ vec_capacity events)
+
+-- so many of them
+abbrev pub AreForEvents : ℕ → List (Vec Event) → Type 0
+AreForEvents many lists = (length lists ≡ many) × All IsForEvents lists
 
 -- Posts that have met, and what they leave.
 

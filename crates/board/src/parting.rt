@@ -11,14 +11,15 @@ ghost use Rattle.board.specs.Views.{PostView, line_of};
 ghost use Rattle.board.specs.Parked.{IsAtBoard};
 ghost use Rattle.board.specs.Meeting.{HasPost};
 ghost use Rattle.board.specs.Gathering.{left_view, left_on};
-ghost use Rattle.board.specs.Parting.{IsAmong, room_lane, IsLaneRoom, receives_until, HaveSeen, HaveParted, AreReady};
+ghost use Rattle.board.specs.Parting.{IsAmong, room_lane, IsLaneRoom, IsForEvents, AreForEvents, receives_until};
+ghost use Rattle.board.specs.Parting.{HaveSeen, HaveParted, AreReady};
 
 use crate::gathering::Left;
 use crate::meeting::place_of;
 use crate::parked::Parked;
 use crate::post::Post;
 use board_table::{Lane, Seat, Words, draw, leave};
-use chart::{InstanceNo, Line, Message, Report};
+use chart::{Event, InstanceNo, Line, MAX_EVENTS, Message, Report};
 
 /// Room for the messages of a lane that wait.
 #[derive(Drop)]
@@ -42,8 +43,9 @@ pub(crate) struct Leaver {
 }
 
 impl Parked {
-    /// Leaves its board, with the messages that wait for it. It takes no memory.
-    fn part(self, words: &Words) -> (Line, Vec<Report>, Leaver)
+    /// Leaves its board, with the messages that wait for it. Its events go into this list. It takes no memory.
+    fn part(self, words: &Words, events: Vec<Event>) -> (Line, Vec<Report>, Leaver)
+        requires events { IsForEvents events }
         requires board { IsAtBoard words.now.key words.now.table_id self }
         ensures line { result.0 ≡ record { instance = self.number; events = line_of self } }
         ensures receives { map (λ report. report.receive) result.1.items
@@ -60,14 +62,16 @@ impl Parked {
             ..
         } = self;
         leave(words, &mut seat);
-        let (line, reports) = recorder.into_parts();
+        prove!(recorder.line().len() <= MAX_EVENTS);
+        let (line, reports) = recorder.into_parts(events);
         (line, reports, Leaver { number, seat })
     }
 }
 
 impl<'a> Post<'a> {
-    /// Leaves its board, with the messages that wait for it. It takes no memory.
-    pub(crate) fn part(self) -> (Line, Vec<Report>, Leaver)
+    /// Leaves its board, with the messages that wait for it. Its events go into this list. It takes no memory.
+    pub(crate) fn part(self, events: Vec<Event>) -> (Line, Vec<Report>, Leaver)
+        requires { IsForEvents events }
         ensures line { result.0 ≡ record { instance = self.entry.number; events = line_of self.entry } }
         ensures receives { map (λ report. report.receive) result.1.items
             ≡ receives_of (record { instance = self.entry.number; events = line_of self.entry }) }
@@ -77,7 +81,7 @@ impl<'a> Post<'a> {
             self.entry.board.size result.2.seat.me.1 }
     {
         let Post { words, parked } = self;
-        parked.part(words)
+        parked.part(words, events)
     }
 }
 
@@ -138,12 +142,14 @@ fn take_post<'a>(posts: &mut Vec<Post<'a>>, number: usize) -> Post<'a>
 pub(crate) fn part_all(
     posts: Vec<Post>,
     instances: usize,
+    own_events: Vec<Vec<Event>>,
     lines: &mut Vec<Line>,
     reports: &mut Vec<Report>,
     leavers: &mut Vec<Leaver>,
 )
     requires seen { (k : ℕ) × (table : TableId) × (h : List Occurrence) × HaveSeen instances k table h 0 posts.items
         × (length (receives_until h instances) ≤ vec_capacity reports.old) }
+    requires own_events { AreForEvents instances own_events.items }
     requires empty { (lines.old.items ≡ []) × (reports.old.items ≡ []) × (leavers.old.items ≡ []) }
     requires enough { (instances ≤ vec_capacity lines.old) × (instances ≤ vec_capacity leavers.old) }
     ensures { (k : ℕ) (table : TableId) (h : List Occurrence) → HaveSeen instances k table h 0 posts.entry.items
@@ -151,8 +157,12 @@ pub(crate) fn part_all(
         reports.new.items leavers.new.items }
 {
     let mut posts = posts;
+    let mut own_events = own_events;
     for place in 0..instances {
-        let (line, mut own, leaver) = take_post(&mut posts, place + 1).part();
+        let Some(events) = own_events.pop() else {
+            unreachable!()
+        };
+        let (line, mut own, leaver) = take_post(&mut posts, place + 1).part(events);
         lines.push_reserved(line);
         let Ok(()) = reports.append(&mut own) else {
             unreachable!()

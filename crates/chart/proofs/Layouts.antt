@@ -5,7 +5,7 @@ use Rattle.std.proofs.lemmas.Option.{slice_get_within}
 use Rattle.std.proofs.lemmas.List.{length-append, take-append-le}
 use Rattle.std.proofs.Math.Seq.{take-append_seam}
 use Rattle.chart.specs.declared.event.Event.{Event}
-use Rattle.chart.specs.declared.line.Starts.{Starts}
+use Rattle.chart.specs.declared.growing_line.Starts.{Starts}
 use Rattle.chart.specs.declared.line.TheConstants.{MAX_EVENTS}
 use Rattle.chart.specs.Events.{partner_of, region_of, MayHaveRegion, HasRegionsInOrder}
 use Rattle.chart.specs.Charts.{IsLine}

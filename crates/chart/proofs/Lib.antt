@@ -1,10 +1,10 @@
-pub mod AddedSends
 pub mod Alone
 pub mod Begun
 pub mod Belongs
 pub mod Chains
 pub mod Counts
 pub mod Cycles
+pub mod Entries
 pub mod Existence
 pub mod Growing
 pub mod Histories
@@ -13,6 +13,7 @@ pub mod HistoryLines
 pub mod InRegions
 pub mod Knowledge
 pub mod Lanes
+pub mod LastRuns
 pub mod Layouts
 pub mod NameBytes
 pub mod NameLists
@@ -23,6 +24,7 @@ pub mod ReportLists
 pub mod Reports
 pub mod Rising
 pub mod Runs
+pub mod SameBytes
 pub mod Scans
 pub mod Sends
 pub mod Steps

@@ -5,7 +5,7 @@ use Rattle.std.proofs.lemmas.Option.{slice_get_within}
 use Rattle.std.proofs.lemmas.Bool.{cases_lt}
 use Rattle.chart.proofs.Places.{ith-append, ith-append_last, each-push}
 use Rattle.chart.specs.declared.event.Event.{Event}
-use Rattle.chart.specs.declared.line.Starts.{Starts}
+use Rattle.chart.specs.declared.growing_line.Starts.{Starts}
 use Rattle.chart.specs.Events.{ith}
 use Rattle.chart.specs.Runs.{IsRun, EndsWithRun, IsStartOfRun}
 use Rattle.chart.specs.LineLayout.{AreStartsAt, AreStarts}

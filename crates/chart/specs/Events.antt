@@ -1,5 +1,5 @@
 -- The events of a line (ITU-T Z.120), and the coregions along it (this project's profile, after ITU-T Z.120).
-use Rattle.std.specs.Prelude.{◌≡◌, ℕ, zero, suc, ◌+◌, ◌<◌, max, Bool, false, not, ◌&&◌, ◌==◌, List, [], ◌∷◌, take}
+use Rattle.std.specs.Prelude.{◌≡◌, ℕ, zero, suc, ◌+◌, ◌<◌, max, Bool, true, false, not, ◌&&◌, ◌==◌, List, [], ◌∷◌, take}
 use Rattle.std.specs.Prelude.{slice_get, Option, None, Some, count_by, ◌⊎◌}
 use Rattle.chart.specs.Words.{Instance, Name}
 use Rattle.chart.specs.declared.event.Event.{Event}
@@ -11,6 +11,11 @@ use Rattle.chart.specs.declared.event.Event.TheVariants.{Send, Receive}
 abbrev pub is_send_to : Instance → Event → Bool
 is_send_to q (Send to name) = to == q
 is_send_to q (Receive from name region) = false
+
+-- it is a receive
+abbrev pub is_receive : Event → Bool
+is_receive (Send to name) = false
+is_receive (Receive from name region) = true
 
 -- it receives from q
 abbrev pub is_receive_from : Instance → Event → Bool

@@ -1,8 +1,11 @@
--- What a line keeps beside its events: for each, where its runs start (this project's profile).
-use Rattle.std.specs.Prelude.{◌≡◌, ℕ, suc, ◌+◌, ◌≤◌, List, [], ◌∷◌, ◌++◌, length, slice_get, Some}
+-- What a line that grows keeps: for each event an entry, which says where its runs start too (this project's profile).
+use Rattle.std.specs.Prelude.{◌≡◌, ℕ, suc, ◌+◌, ◌<◌, ◌≤◌, List, [], ◌∷◌, ◌++◌, length, map, slice_get}
+use Rattle.std.specs.Prelude.{slice_index_or, Some, All, if◌then◌else◌}
+use Rattle.chart.specs.Words.{Instance, Name}
 use Rattle.chart.specs.declared.event.Event.{Event}
-use Rattle.chart.specs.declared.line.Starts.{Starts}
-use Rattle.chart.specs.Events.{is_receive_from, is_in, greatest_region}
+use Rattle.chart.specs.declared.growing_line.Entry.{Entry}
+use Rattle.chart.specs.declared.growing_line.Starts.{Starts}
+use Rattle.chart.specs.Events.{send_event, receive_event, is_receive_from, is_in, greatest_region}
 use Rattle.chart.specs.Charts.{IsLine}
 use Rattle.chart.specs.Runs.{IsStartOfRun}
 
@@ -20,9 +23,28 @@ abbrev pub IsNext : List Event → Event → Starts → Type 0
 IsNext line m s = AreStartsAt (line ++ m ∷ []) (length line + 1) s
 
 -- what a line's fields keep
-pub record IsLaidOut (p : ℕ) (events : List Event) (kept : List Starts) (greatest : ℕ) : Type 0 where
+pub record IsLaidOut (p : Instance) (events : List Event) (kept : List Starts) (greatest : ℕ) : Type 0 where
   pub line : IsLine (record { instance = p; events = events })
   pub same : length kept ≡ length events
   pub right : AreStarts events kept
   pub greatest_is : greatest ≡ greatest_region events
   pub few_regions : greatest ≤ length events
+
+-- the event that an entry stands for, where its line's messages have these names
+abbrev pub event_of : List Name → Entry → Event
+event_of names e =
+    if e.receives
+    then receive_event e.partner (slice_index_or names e.name []) e.region
+    else send_event e.partner (slice_index_or names e.name [])
+
+abbrev pub events_of : List Name → List Entry → List Event
+events_of names entries = map (event_of names) entries
+
+abbrev pub starts_of : List Entry → List Starts
+starts_of entries = map (λ e. e.starts) entries
+
+-- each entry has one of these names, and they stand for the events of a line
+pub record AreEntries (p : Instance) (names : List Name) (entries : List Entry) (greatest : ℕ) : Type 0 where
+  pub named : All (λ e. e.name < length names) entries
+  pub few : length names ≤ length entries
+  pub laid_out : IsLaidOut p (events_of names entries) (starts_of entries) greatest

@@ -19,7 +19,7 @@ pub enum Event {
 
 impl Event {
     ghost use Rattle.std.specs.Prelude.{◌≡◌};
-    ghost use Rattle.chart.specs.Events.{partner_of, name_of, region_of, is_receive_from, is_in};
+    ghost use Rattle.chart.specs.Events.{partner_of, name_of, region_of, is_receive, is_receive_from, is_in};
 
     /// The instance at the other end of the message.
     #[inline(always)]
@@ -51,6 +51,17 @@ impl Event {
         match self {
             Event::Send { .. } => 0,
             Event::Receive { region, .. } => *region,
+        }
+    }
+
+    /// Whether it is a receive.
+    #[inline(always)]
+    pub fn is_receive(&self) -> bool
+        ensures { result ≡ is_receive self.now }
+    {
+        match self {
+            Event::Send { .. } => false,
+            Event::Receive { .. } => true,
         }
     }
 

@@ -18,12 +18,14 @@
 
 mod chart;
 mod event;
+mod growing_line;
 pub mod history;
 mod instance;
 mod keyword;
 pub mod laws;
 mod line;
 mod message;
+mod message_names;
 mod name;
 mod names;
 mod ranges;
@@ -31,10 +33,11 @@ mod report;
 
 pub use chart::{Chart, LinesError};
 pub use event::Event;
+pub use growing_line::GrowingLine;
 pub use history::MAX_CAPACITY;
 pub use instance::{EventNo, InstanceNo, MAX_INSTANCES};
 pub use keyword::Keyword;
-pub use line::{GrowingLine, Line, LineError, MAX_EVENTS};
+pub use line::{Line, LineError, MAX_EVENTS};
 pub use message::{MAX_BODY, Message};
 pub use name::{MAX_NAME, Name, NameError};
 pub use names::{Names, NamesError};

@@ -11,6 +11,7 @@ ghost use Rattle.chart.specs.declared.name.TheConstants.{MAX_NAME};
 use crate::keyword::is_reserved;
 use std::hash::{Hash, Hasher};
 use std::marker::Model;
+use std::simd::prelude::*;
 use thiserror::Error;
 
 /// The most bytes in a name.
@@ -120,6 +121,15 @@ fn held_len(held: &[u8; MAX_NAME]) -> usize
     }
 }
 
+/// Whether both hold the same bytes. All are compared at once.
+#[inline(always)]
+fn are_same(held: &[u8; MAX_NAME], other: &[u8; MAX_NAME]) -> bool
+    ensures { result ≡ pointwise nat_eq held.now other.now }
+{
+    let differ = Simd::<u8, MAX_NAME>::from_array(*held).simd_ne(Simd::from_array(*other));
+    differ.to_bitmask() == 0
+}
+
 impl Name {
     /// The bytes as a name, or the first of F1 to F4 that applies. It takes no memory.
     #[tactic(auto, unfolding(crate::specs::Names::name_of))]
@@ -170,8 +180,9 @@ impl PartialEq for Name {
 
     ghost laws = { partial_equiv_from_equiv nat_list_eq_equiv };
 
+    #[inline(always)]
     fn eq(&self, other: &Name) -> bool {
-        self.bytes == other.bytes
+        are_same(&self.bytes, &other.bytes)
     }
 }
 

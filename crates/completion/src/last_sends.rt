@@ -34,7 +34,7 @@ fn event_at(line: &GrowingLine, place: usize) -> Event
     ensures event { ith line.now.line.events (suc place) ≡ Some result }
     ensures line { IsLine line.now.line }
 {
-    line.events()[place]
+    line.event(place)
 }
 
 /// Whether there is a send at a place.
@@ -67,7 +67,7 @@ fn has_one_sender(line: &GrowingLine, index: usize) -> bool
     requires receive { IsReceiveAt line.now.line.events index }
     ensures { IsTrue result ↔ HasOneSender line.now.line.events index }
 {
-    line.events()[index - 1].region() == 0 || line.run_start(index) <= line.region_start(index)
+    line.event(index - 1).region() == 0 || line.run_start(index) <= line.region_start(index)
 }
 
 /// Passes the receive at a place, which is from this sender.

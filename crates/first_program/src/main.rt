@@ -25,12 +25,11 @@ fn order(alloc: Global, mut post: Post) -> anyhow::Result<()> {
 fn tell<R: Print>(rt: &R, mailbox: &Mailbox, arrival: &Arrival) -> anyhow::Result<()> {
     let name = arrival.message.name();
     let receive = arrival.report.receive().index;
+    let line = mailbox.line();
     for event in arrival.report.earlier().iter() {
-        if let Some(earlier) = mailbox
-            .line()
-            .events()
-            .get(event.index.saturating_sub(1) as usize)
-        {
+        let place = event.index.saturating_sub(1) as usize;
+        if place < line.len() {
+            let earlier = line.event(place);
             println!(rt;
                 "{} (event {receive}) may come before {} (event {})",
                 str::from_utf8(name.as_bytes())?,

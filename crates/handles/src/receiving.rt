@@ -37,9 +37,8 @@ fn as_recorded(post: &Parked, message: Message) -> Message
     ensures { result ≡ message }
 {
     let (_, body) = message.into_parts();
-    let Some(event) = post.line().events().last() else {
-        unreachable!()
-    };
+    let line = post.line();
+    let event = line.event(line.len() - 1);
     let Ok(message) = Message::new(event.name(), body) else {
         unreachable!()
     };

@@ -37,12 +37,12 @@ impl Seat {
     fn event(&self, number: u32, out: &mut [u8]) -> Result<Told, Refusal>
         ensures { TellsEvent (ith (line_of self.now.post) number) out.old result out.new }
     {
-        let events = self.parked.line().events();
+        let line = self.parked.line();
         let number = number as usize;
-        if number == 0 || number > events.len() {
+        if number == 0 || number > line.len() {
             return Err(Refusal::NoEvent);
         }
-        Ok(tell(&events[number - 1], out))
+        Ok(tell(&line.event(number - 1), out))
     }
 }
 

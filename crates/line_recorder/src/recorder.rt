@@ -1,5 +1,6 @@
 //! The recorder of one instance.
-ghost use Rattle.std.specs.Prelude.{◌≡◌, ◌≢◌, ◌≤◌, ◌<◌, ◌+◌, ◌↔◌, length, All, Err, OnOk, OnErr, IfOk, IsOk};
+ghost use Rattle.std.specs.Prelude.{◌≡◌, ◌≢◌, ◌≤◌, ◌<◌, ◌+◌, ◌↔◌, [], length, vec_capacity, All, Err};
+ghost use Rattle.std.specs.Prelude.{OnOk, OnErr, IfOk, IsOk};
 ghost use Rattle.chart.specs.Events.{MayHaveRegion};
 ghost use Rattle.clock.specs.Clocks.{with_entry};
 ghost use Rattle.clock.specs.Diffs.{IsDiff, apply_diff, AgreeBut};
@@ -135,13 +136,16 @@ impl Recorder {
         self.reports.as_slice()
     }
 
-    /// The line and the reports, of which the recorder is made no more.
-    pub fn into_parts(self) -> (Line, Vec<Report>)
+    /// The line and the reports, of which the recorder is made no more. The line's events go into this list, which has
+    /// room for them. It takes no memory.
+    pub fn into_parts(self, events: Vec<Event>) -> (Line, Vec<Report>)
+        requires empty { events.items ≡ [] }
+        requires room { length self.line.events ≤ vec_capacity events }
         ensures line { result.0 ≡ self.line }
         ensures reports { result.1.items ≡ self.reports }
     {
         let Recorder { line, reports, .. } = self;
-        (Line::from(line), reports)
+        (Line::of(line, events), reports)
     }
 
     /// Records a send to this instance, and answers its clock: what is known, and the send itself.

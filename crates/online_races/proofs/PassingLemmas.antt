@@ -1,13 +1,13 @@
 -- The races of a line that are found so far, one step further back.
-use Rattle.std.proofs.Common.{◌≡◌, ℕ, zero, suc, ◌-◌, ◌<◌, ◌≤◌, ◌⊎◌, inl, inr, not, ◌==◌, ◌+◌, true, false, List, [], ◌∷◌, ◌++◌, length, reverse, get_or, take, map, All, AllPairs, Contains, Some, refl, sym, ap, ◌∙◌, subst, arith}
+use Rattle.std.proofs.Common.{◌≡◌, ℕ, zero, suc, ◌-◌, ◌<◌, ◌≤◌, ◌⊎◌, inl, inr, not, ◌==◌, ◌+◌, Bool, true, false, List, [], ◌∷◌, ◌++◌, length, reverse, get_or, take, map, All, AllPairs, Contains, Some, refl, sym, ap, ◌∙◌, subst, arith}
 use Rattle.std.proofs.lemmas.Bool.{cases_lt, cases_eq, false≢true, false_from_ne_true, eqb-true, eq-eqb}
 use Rattle.std.proofs.lemmas.List.Elements.{Contains-get_or, All-cons, All-nil, All-append}
-use Rattle.std.proofs.lemmas.List.{length-take-le, reverse-append}
+use Rattle.std.proofs.lemmas.List.{length-take-le, reverse-append, get_or_default}
 use Rattle.std.specs.Cmp.{second_so}
 use Rattle.std.proofs.lemmas.Option.{slice_get-get_or, slice_get_read, same_Some}
 use Rattle.chart.specs.declared.event.Event.{Event}
 use Rattle.chart.specs.declared.event.Event.TheVariants.{Send, Receive}
-use Rattle.chart.specs.Events.{ith, is_receive_from, is_in, region_of, receive_event}
+use Rattle.chart.specs.Events.{ith, is_receive, is_receive_from, is_in, region_of, send_event, receive_event}
 use Rattle.chart.specs.declared.ranges.EventRange.{EventRange}
 use Rattle.chart.specs.Ranges.{events_from, events_of, events_in}
 use Rattle.chart.specs.Runs.{IsRun, IsStartOfRun}
@@ -188,6 +188,50 @@ AreRaces-receive line start index q region from c name m low within read is kept
     let pass : is_receive_from from m ≡ true = ap (is_receive_from from) is ∙ eq-eqb from from refl in
     let same : n ≡ m = same_Some n m (sym at_n ∙ here) in
     AreRaces-run line start index q from region (kept.run from m here pass) within (λ e. false≢true (sym (subst (λ x. is_receive_from q x ≡ false) (same ∙ is) other) ∙ eq-eqb from q e)) none
+
+-- an event that is asked for what it is
+AreRaces-kind : (line : List Event) (start index q region : ℕ) (m : Event) → 1 ≤ index → index ≤ length line → m ≡ get_or line (index - 1) m → is_receive m ≡ true
+    → IsStartOfRun is_receive_from line index start → IsRace line q region index → region ≡ 0 → AreRaces line start index q region
+AreRaces-kind line start index q region (Send to name) low within read is kept race none = absurd (false≢true is)
+AreRaces-kind line start index q region (Receive from name c) low within read is kept race none = AreRaces-receive line start index q region from c name (Receive from name c) low within read refl kept race none
+
+-- the event at an index, whatever stands for none
+pub at_index : (line : List Event) → ℕ → Event
+at_index line index = get_or line (index - 1) (send_event 0 [])
+
+pub index_read : (line : List Event) (index : ℕ) → 1 ≤ index → index ≤ length line → at_index line index ≡ get_or line (index - 1) (at_index line index)
+unfolding at_index
+index_read line index low within = get_or_default line (index - 1) (send_event 0 []) (at_index line index) (omega (arith, low, within))
+
+pub AreRaces-asked : (line : List Event) (start index q region : ℕ) (b : Bool) → 1 ≤ index → index ≤ length line → ((m : Event) → m ≡ get_or line (index - 1) m → b ≡ is_receive m) → b ≡ true
+    → IsStartOfRun is_receive_from line index start → IsRace line q region index → region ≡ 0 → AreRaces line start index q region
+AreRaces-asked line start index q region b low within asked passing kept race none =
+    let read = index_read line index low within in
+    AreRaces-kind line start index q region (at_index line index) low within read (sym (asked (at_index line index) read) ∙ passing) kept race none
+
+-- an event that is asked whether it is in the region, and then whether it is from the sender
+pub ArePassed-in : (line : List Event) (start index q region : ℕ) (b : Bool) → 1 ≤ index → index ≤ length line → ((m : Event) → m ≡ get_or line (index - 1) m → b ≡ is_in region m) → b ≡ true
+    → IsStartOfRun is_in line index start → ArePassed line start index q region
+ArePassed-in line start index q region b low within asked passing kept =
+    let m = at_index line index in
+    let read = index_read line index low within in
+    let run = kept.run region m (ith_read line index m low within read) (sym (asked m read) ∙ passing) in
+    record { less = run.begun; each = λ j n above high e. inr (run.passes j n above high e) }
+
+pub ArePassed-from : (line : List Event) (start index q region : ℕ) (b : Bool) → 1 ≤ index → index ≤ length line → ((m : Event) → m ≡ get_or line (index - 1) m → b ≡ is_receive_from q m) → b ≡ true
+    → IsStartOfRun is_receive_from line index start → ArePassed line start index q region
+ArePassed-from line start index q region b low within asked passing kept =
+    let m = at_index line index in
+    let read = index_read line index low within in
+    let run = kept.run q m (ith_read line index m low within read) (sym (asked m read) ∙ passing) in
+    record { less = run.begun; each = λ j n above high e. inl (run.passes j n above high e) }
+
+pub IsRace-asked : (line : List Event) (index q region : ℕ) (b c : Bool) → 1 ≤ index → index ≤ length line → ((m : Event) → m ≡ get_or line (index - 1) m → b ≡ is_in region m) → b ≡ false
+    → ((m : Event) → m ≡ get_or line (index - 1) m → c ≡ is_receive_from q m) → c ≡ false → IsRace line q region index
+IsRace-asked line index q region b c low within in_it not_in from_it not_from =
+    let m = at_index line index in
+    let read = index_read line index low within in
+    (m, ith_read line index m low within read, sym (from_it m read) ∙ not_from, sym (in_it m read) ∙ not_in)
 
 -- the search is done
 pub IsRaces-done : (line : LineView) (end index entry q region : ℕ) (found : List EventNo) → index ≤ entry → HasFound line end index entry q region found → IsRaces (take end line.events) entry q region (map (λ race. race.index) found)

@@ -12,9 +12,7 @@ ghost use Rattle.chart.specs.Ranges.{IsRange, events_of, events_in};
 ghost use Rattle.chart.specs.declared.line.TheConstants.{MAX_EVENTS};
 ghost use Rattle.online_races.specs.Passing.{IsRace, AreRaces, IsStretch, HasFound};
 
-use chart::{
-    Event, EventNo, EventRange, EventRanges, GrowingLine, InstanceNo, Line, RangesBuilder,
-};
+use chart::{EventNo, EventRange, EventRanges, GrowingLine, InstanceNo, Line, RangesBuilder};
 use std::alloc::{AllocError, Global};
 
 /// Neighbouring events of a line that end with one event: all but the first so many, up to it.
@@ -34,10 +32,12 @@ fn races_start(line: &GrowingLine, index: usize, region: u32) -> usize
     ensures { (sender : ℕ) → IsRace line.now.line.events sender region index
         → AreRaces line.now.line.events result index sender region }
 {
-    match &line.events()[index - 1] {
-        Event::Receive { .. } if region == 0 => line.run_start(index),
-        _ => index - 1,
+    if region == 0 {
+        if line.is_receive(index - 1) {
+            return line.run_start(index);
+        }
     }
+    index - 1
 }
 
 /// What the events are that end with the one of this index.
@@ -47,12 +47,11 @@ fn stretch_to(line: &GrowingLine, index: usize, sender: InstanceNo, region: u32)
     requires within { index ≤ length line.now.line.events }
     ensures { IsStretch line.now.line.events sender region index result }
 {
-    let event = &line.events()[index - 1];
-    if event.is_in(region) {
+    if line.is_in(index - 1, region) {
         Stretch::Passed {
             start: line.region_start(index),
         }
-    } else if event.is_receive_from(sender) {
+    } else if line.is_receive_from(index - 1, sender) {
         Stretch::Passed {
             start: line.run_start(index),
         }

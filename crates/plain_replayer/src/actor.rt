@@ -15,7 +15,7 @@ use clock::Clock;
 use line_recorder::{RecordError, Recorder};
 use outcomes::ReplayError;
 use schedule::Word;
-use std::alloc::Global;
+use std::alloc::{AllocError, Global};
 use std::marker::Model;
 
 /// An instance of a replay. A contract sees a record of its fields.
@@ -110,19 +110,30 @@ impl Actor {
     }
 
     /// Its line, and the reports of its receives.
-    pub fn into_parts(self) -> (Line, Vec<Report>)
-        ensures line { result.0 ≡ self.recorder.line }
-        ensures reports { result.1.items ≡ self.recorder.reports }
+    ///
+    /// F6: it fails only where there is no memory.
+    pub fn into_parts(self, alloc: Global) -> Result<(Line, Vec<Report>), AllocError>
+        ensures line { IfOk result (λ parts. parts.0 ≡ self.recorder.line) }
+        ensures reports { IfOk result (λ parts. parts.1.items ≡ self.recorder.reports) }
     {
         let Actor { recorder, .. } = self;
-        recorder.into_parts()
+        let events = Vec::with_capacity(alloc, recorder.line().len())?;
+        Ok(recorder.into_parts(events))
     }
 
-    /// The events of its line.
-    pub fn events(&self) -> &[Event]
-        ensures { result.now ≡ self.now.recorder.line.events }
+    /// How many events its line has.
+    pub fn len(&self) -> usize
+        ensures { result ≡ length self.now.recorder.line.events }
     {
-        self.recorder.line().events()
+        self.recorder.line().len()
+    }
+
+    /// The event of its line of this index, from 0.
+    pub fn event(&self, index: usize) -> Event
+        requires { index < length self.now.recorder.line.events }
+        ensures { slice_get self.now.recorder.line.events index ≡ Some result }
+    {
+        self.recorder.line().event(index)
     }
 
     pub fn region(&self) -> u32

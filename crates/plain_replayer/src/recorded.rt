@@ -23,7 +23,7 @@ fn made_by(actors: &[Actor], actor: InstanceNo) -> usize
         → result ≡ length a.recorder.line.events }
     ensures place { (i : ℕ) × (actor ≡ suc i) × (i < length actors.now) }
 {
-    actors[actor.place()].events().len()
+    actors[actor.place()].len()
 }
 
 /// The step by which an instance made the event that comes after so many, if there is one.
@@ -32,11 +32,11 @@ fn step_after(actors: &[Actor], actor: InstanceNo, made: usize) -> Option<Step>
     ensures { (i : ℕ) (a : ActorView) → actor ≡ suc i → slice_get actors.now i ≡ Some a
         → result ≡ option_map (step_made actor) (slice_get a.recorder.line.events made) }
 {
-    let events = actors[actor.place()].events();
-    if made >= events.len() {
+    let own = &actors[actor.place()];
+    if made >= own.len() {
         return None;
     }
-    Some(Step::of(actor, &events[made]))
+    Some(Step::of(actor, &own.event(made)))
 }
 
 /// Does the commands one after the other, and answers the steps of those that made an event.

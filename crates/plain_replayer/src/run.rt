@@ -64,7 +64,7 @@ fn parts(alloc: Global, actors: Vec<Actor>) -> Result<(Vec<Line>, Vec<Report>), 
     let mut lines = Vec::with_capacity(alloc, actors.len())?;
     let mut reports = Vec::new(alloc);
     for actor in actors {
-        let (line, mut own) = actor.into_parts();
+        let (line, mut own) = actor.into_parts(alloc)?;
         lines.push(line)?;
         reports.append(&mut own)?;
     }

@@ -35,8 +35,9 @@ returns c =
     let x = c.index-posts-0.result in
     let at : slice_get posts 0 ≡ Some x = slice_get-get_or posts 0 x (some_posts posts c.requires.all) ∙ ap (λ (post : PostView). Some post) (sym c.index-posts-0.is) in
     let size : c.board_size-instances.result ≡ size_of posts = c.board_size-instances.ensures.value ∙ sym (size_is posts x at) in
-    let it : Provision = record { lines = c.in_ok-with_capacity.field-0; reports = c.in_ok-with_capacity-2.field-0; leavers = c.in_ok-with_capacity-3.field-0; rooms = c.in_ok-rooms.rooms; left = c.in_ok-with_capacity-4.field-0; closed = c.in_ok-closed.closed } in
+    let it : Provision = record { own_events = c.in_ok-own_events.own_events; lines = c.in_ok-with_capacity.field-0; reports = c.in_ok-with_capacity-2.field-0; leavers = c.in_ok-with_capacity-3.field-0; rooms = c.in_ok-rooms.rooms; left = c.in_ok-with_capacity-4.field-0; closed = c.in_ok-closed.closed } in
     subst (λ (n : ℕ). IsProvision n posts it) size (record {
+      own_events = c.in_ok-own_events.ensures;
       lines = c.in_ok-with_capacity.ensures.items;
       reports = c.in_ok-with_capacity-2.ensures.items;
       leavers = c.in_ok-with_capacity-3.ensures.items;
