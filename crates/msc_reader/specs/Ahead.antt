@@ -14,13 +14,13 @@ given_or names (Ok more) = more
 given_or names (Err cause) = names
 
 -- the names with that of an instance that begins
-abbrev pub with_head : List (List ℕ) → Saying → List (List ℕ)
-with_head names (Head own) = given_or names (with_name names own)
-with_head names _ = names
+abbrev pub with_begun : List (List ℕ) → Saying → List (List ℕ)
+with_begun names (Head own) = given_or names (with_name names own)
+with_begun names _ = names
 
 -- the names with what a line says that stands outside of an instance
 abbrev pub with_step : List (List ℕ) → Result Step Cause → List (List ℕ)
-with_step names (Ok step) = with_head names step.0
+with_step names (Ok step) = with_begun names step.0
 with_step names (Err cause) = names
 
 -- the names with those of the instances that begin in these lines

@@ -2,7 +2,7 @@
 //! event is read.
 ghost use Rattle.std.specs.Prelude.{◌≡◌, IfOk};
 ghost use Rattle.msc_text.specs.Instances.{with_name};
-ghost use Rattle.msc_reader.specs.Ahead.{begins, given_or, with_head, with_step, names_ahead};
+ghost use Rattle.msc_reader.specs.Ahead.{begins, given_or, with_begun, with_step, names_ahead};
 ghost use Rattle.msc_reader.specs.Steps.{step_of};
 ghost use Rattle.msc_reader.specs.declared.state.State.TheVariants.{Outside};
 
@@ -36,7 +36,7 @@ fn give(names: &mut Names, name: Name) -> Result<(), AllocError>
 
 /// The names with that of the instance that begins, if one does.
 fn add_begun(names: &mut Names, saying: Saying) -> Result<(), AllocError>
-    ensures { IfOk result (λ _. names.new ≡ with_head names.old saying) }
+    ensures { IfOk result (λ _. names.new ≡ with_begun names.old saying) }
 {
     match saying {
         Saying::Head(own) => give(names, own),

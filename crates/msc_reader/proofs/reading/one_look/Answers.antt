@@ -40,11 +40,11 @@ lines-preserved c =
     record {
       goes = elim c.match-event_in.branch [
         | in-Some-event_in+in_ok-add_event w ↦ (
-          let event = rw c.open_region-region.ensures at w.in-Some-event_in.ensures in
-          let read = event_read _ _ _ _ _ _ _ _ _ event w.in_ok-add_event.ensures in
-          rw (w.names-is, w.builder-is, w.state-is, ← c.in-Some.ensures.end) (goes_on _ _ _ _ _ _ _ _ _ _ _ _ goes read))
+            let event = rw c.open_region-region.ensures at w.in-Some-event_in.ensures in
+            let read = event_read _ _ _ _ _ _ _ _ _ event w.in_ok-add_event.ensures in
+            rw (w.names-is, w.builder-is, w.state-is, ← c.in-Some.ensures.end) (goes_on _ _ _ _ _ _ _ _ _ _ _ _ goes read))
         | in_default-event_in+in_ok-more w ↦ (
-          rw (w.names-is, w.builder-is, w.state-is, ← c.in-Some.ensures.end) (goes_on _ _ _ _ _ _ _ _ _ _ _ _ goes w.in_ok-more.ensures))
+            rw (w.names-is, w.builder-is, w.state-is, ← c.in-Some.ensures.end) (goes_on _ _ _ _ _ _ _ _ _ _ _ _ goes w.in_ok-more.ensures))
       ];
       number = omega (arith, c.in-Some.ensures.shorter);
     }
