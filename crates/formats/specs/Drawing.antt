@@ -38,7 +38,14 @@ pub record IsWanted (wanted : Wanted) (turns : List ℕ) (notes : List MarginNot
   pub prepared : IsPrepared named.1 turns rows ends
   pub races : AreReports named.1 reports
   pub chosen : IsWindow named rows wanted.rows window
-  pub drawn : IsPictureOf wanted.title.now named.0 named.1 rows reports ends (record {
+  pub drawn : IsPictureOf (record {
+    title = wanted.title.now;
+    names = named.0;
+    lines = named.1;
+    rows = rows;
+    reports = reports;
+    ends = ends;
+  }) (record {
     drawn = columns;
     first = wanted.events.first;
     last = wanted.events.last;

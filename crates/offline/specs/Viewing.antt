@@ -26,7 +26,8 @@ pub record AreCopied (written told room_out room_err : List ℕ) (performed : Pe
 -- what the request asks for was done with the texts
 abbrev pub IsViewed : List Bytes → Request → List ℕ → List ℕ → Performed → List ℕ → List ℕ → Type 0
 IsViewed texts request room_out room_err performed out err = (written : Stored) × (told : Stored)
-    × views.Views (λ place file answer. answer ≡ given_at (slice_get texts place)) in_memory nothing written in_memory nothing told request performed.status
+    × views.Views (λ place file answer. answer ≡ given_at (slice_get texts place)) (views.stream in_memory nothing written) (views.stream in_memory nothing told)
+    request performed.status
     × AreCopied written.bytes told.bytes room_out room_err performed out err
 
 -- the words were refused: nothing is written but the refusal's line

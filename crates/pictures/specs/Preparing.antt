@@ -10,6 +10,19 @@ use Rattle.margin_notes.specs.declared.MarginNote.{MarginNote}
 use Rattle.pictures.specs.Margins.{has_send, with_margin}
 use Rattle.pictures.specs.Pictures.{PictureView}
 
+-- what a picture is of: a chart with a title, names, a layout, and the reports of its receives
+pub record SourceView : Type 0 where
+  -- what stands above the picture
+  pub title : List ℕ
+  -- the names of the instances
+  pub names : List (List ℕ)
+  pub lines : List LineView
+  -- the rows of the layout
+  pub rows : List Row
+  pub reports : List ReportView
+  -- the other ends of the chart's messages
+  pub ends : List (List (Option EventNo))
+
 -- what of a chart is drawn
 pub record PartView : Type 0 where
   -- the instances that have a column, the leftmost first
@@ -36,24 +49,24 @@ plan_of names lines reports drawn numbers = record {
 }
 
 -- the picture of a part of a chart
-pub record IsPictureOf (title : List ℕ) (names : List (List ℕ)) (lines : List LineView) (rows : List Row)
-    (reports : List ReportView) (ends : List (List (Option EventNo))) (part : PartView) (v : PictureView) : Type 0 where
-  pub title_is : v.title ≡ title
-  pub names_are : v.names ≡ names
-  pub lines_are : v.lines ≡ lines
-  pub reports_are : v.reports ≡ reports
+pub record IsPictureOf (source : SourceView) (part : PartView) (v : PictureView) : Type 0 where
+  pub title_is : v.title ≡ source.title
+  pub names_are : v.names ≡ source.names
+  pub lines_are : v.lines ≡ source.lines
+  pub reports_are : v.reports ≡ source.reports
   pub numbers_are : v.numbers ≡ part.numbers
   pub choice_is : v.choice ≡ record {
-    rows = rows;
-    ends = ends;
-    columns = columns_of (plan_of names lines reports part.drawn part.numbers);
+    rows = source.rows;
+    ends = source.ends;
+    columns = columns_of (plan_of source.names source.lines source.reports part.drawn part.numbers);
     first = part.first;
     last = part.last;
     top = part.top;
     bottom = part.bottom;
   }
-  pub places_are : v.places ≡ places_from v.choice 0 rows
-  pub count_is : v.count ≡ count_from v.choice 0 rows
-  pub sends_are : v.sends ≡ filter (has_send lines) rows
+  pub places_are : v.places ≡ places_from v.choice 0 source.rows
+  pub count_is : v.count ≡ count_from v.choice 0 source.rows
+  pub sends_are : v.sends ≡ filter (has_send source.lines) source.rows
   pub notes_are : v.notes ≡ part.notes
-  pub width_is : v.width ≡ with_margin (width_of (plan_of names lines reports part.drawn part.numbers) v.choice.columns (length title)) part.notes
+  pub width_is : v.width ≡ with_margin (width_of (plan_of source.names source.lines source.reports part.drawn part.numbers)
+      v.choice.columns (length source.title)) part.notes

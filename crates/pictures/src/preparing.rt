@@ -49,16 +49,22 @@ impl<'a> Picture<'a> {
     ///
     /// F6: it fails only where there is no memory.
     pub fn of(alloc: Global, source: Source<'a>, part: Part<'a>) -> Result<Picture<'a>, AllocError>
-        ensures { IfOk result (IsPictureOf source.entry.title.now source.entry.names.now source.entry.closure.now
-            source.entry.layout.now source.entry.reports.now source.entry.ends.now (record {
-              drawn = part.entry.drawn.now;
-              first = part.entry.first;
-              last = part.entry.last;
-              top = part.entry.top;
-              bottom = part.entry.bottom;
-              numbers = part.entry.numbers;
-              notes = part.entry.notes.now;
-            })) }
+        ensures { IfOk result (IsPictureOf (record {
+          title = source.entry.title.now;
+          names = source.entry.names.now;
+          lines = source.entry.closure.now;
+          rows = source.entry.layout.now;
+          reports = source.entry.reports.now;
+          ends = source.entry.ends.now;
+        }) (record {
+          drawn = part.entry.drawn.now;
+          first = part.entry.first;
+          last = part.entry.last;
+          top = part.entry.top;
+          bottom = part.entry.bottom;
+          numbers = part.entry.numbers;
+          notes = part.entry.notes.now;
+        })) }
     {
         let rows = source.layout.rows();
         let plan = plan_of(&source, &part);

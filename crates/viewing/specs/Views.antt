@@ -269,13 +269,22 @@ abbrev pub Ends : {V : Type 0} → Result ℕ ProgramError → (V → Sink) → 
 Ends (Ok status') told before after status = (status ≡ status') × (after ≡ before)
 Ends (Err error) told before after status = IsRefusedBy error told before after status
 
+-- an output: what is known of it by its kind, with what it was before and is afterwards
+pub record Stream (S : Type 0) : Type 0 where
+  pub sink : S → Sink
+  pub old : S
+  pub new : S
+
+abbrev pub stream : {S : Type 0} → (S → Sink) → S → S → Stream S
+stream sink old new = record { sink = sink; old = old; new = new }
+
 -- what the command line asks for was done, or it was refused, and the refusal is told
-abbrev pub Views : {S V : Type 0} → (ℕ → Option (List ℕ) → Result (List ℕ) ProgramError → Type 0) → (S → Sink) → S → S → (V → Sink) → V → V → Request → ℕ → Type 0
-Views {V = V} gives sink old new told before after request status = (result : Result ℕ ProgramError) × (between : V)
-    × Comes gives sink old new told before between request result × Ends result told between after status
+abbrev pub Views : {S V : Type 0} → (ℕ → Option (List ℕ) → Result (List ℕ) ProgramError → Type 0) → Stream S → Stream V → Request → ℕ → Type 0
+Views {V = V} gives out err request status = (result : Result ℕ ProgramError) × (between : V)
+    × Comes gives out.sink out.old out.new err.sink err.old between request result × Ends result err.sink between err.new status
 
 -- what some words ask for was done; or they ask for nothing, and that is told
-abbrev pub ViewsSome : {S V : Type 0} → (ℕ → Option (List ℕ) → Result (List ℕ) ProgramError → Type 0) → (S → Sink) → S → S → (V → Sink) → V → V → ℕ → Type 0
-ViewsSome gives sink old new told before after status =
-    ((request : Request) × Views gives sink old new told before after request status)
-    ⊎ ((error : ProgramError) × RefusesWords error × (new ≡ old) × IsRefusedBy error told before after status)
+abbrev pub ViewsSome : {S V : Type 0} → (ℕ → Option (List ℕ) → Result (List ℕ) ProgramError → Type 0) → Stream S → Stream V → ℕ → Type 0
+ViewsSome gives out err status =
+    ((request : Request) × Views gives out err request status)
+    ⊎ ((error : ProgramError) × RefusesWords error × (out.new ≡ out.old) × IsRefusedBy error err.sink err.old err.new status)

@@ -1,5 +1,5 @@
 //! What comes of a command line.
-ghost use Rattle.viewing.specs.Views.{Comes, Views, ViewsSome};
+ghost use Rattle.viewing.specs.Views.{Comes, Views, ViewsSome, stream};
 
 use crate::asking::{view_comparison, view_pair};
 use crate::beside::view_beside;
@@ -56,7 +56,8 @@ pub fn view_request<G: Giver, W: Out, V: Out>(
     out: &mut W,
     err: &mut V,
 ) -> u8
-    ensures { Views (G.gives giver.now) W.sink out.old out.new V.sink err.old err.new request.now result }
+    ensures { Views (G.gives giver.now) (stream W.sink out.old out.new) (stream V.sink err.old err.new) request.now
+        result }
 {
     match come(alloc, request, giver, out, err) {
         Ok(status) => status,
@@ -73,7 +74,7 @@ pub fn view<S: AsStr, G: Giver, W: Out, V: Out>(
     out: &mut W,
     err: &mut V,
 ) -> u8
-    ensures { ViewsSome (G.gives giver.now) W.sink out.old out.new V.sink err.old err.new result }
+    ensures { ViewsSome (G.gives giver.now) (stream W.sink out.old out.new) (stream V.sink err.old err.new) result }
 {
     match requested(alloc, words) {
         Ok(request) => view_request(alloc, &request, giver, out, err),

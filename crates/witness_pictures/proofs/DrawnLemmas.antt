@@ -41,12 +41,12 @@ use Rattle.witness_pictures.specs.declared.error.Undrawn.TheVariants as undrawn
 use Rattle.witness_pictures.specs.declared.stage.Stage.{Stage}
 use Rattle.witness_pictures.specs.Beside.{beside_text}
 use Rattle.witness_pictures.specs.Drawing.{only_of, other_title, IsPictured, AreDrawn, IsSubject, AreStaged, WritesOne, DrawsSo, DrawsShown, DrawsWitness}
-use Rattle.witness_pictures.specs.Stages.{IsWhole, IsStageOf, part_of}
+use Rattle.witness_pictures.specs.Stages.{IsWhole, IsStageOf, drawn_of, part_of}
 
 -- the picture of a whole chart is the one that is wanted of it
 pictured : (title : List ℕ) (wanted : Wanted) (source : Source) (columns : List ℕ) (w : whole.Wanted) (stage : Stage) (picture : PictureView) → IsWhole title (only_of wanted) wanted.numbers w
     → AreColumns (named_of source).0 (only_of wanted) columns → IsPossible (length (named_of source).1) (chart_lines (named_of source).1) → IsStageOf source stage
-    → IsPictureOf w.title.now stage.names.now stage.closure.now stage.prepared.layout (reports_in stage.reports) stage.prepared.ends (part_of columns w.numbers) picture
+    → IsPictureOf (drawn_of w.title.now stage) (part_of columns w.numbers) picture
     → IsPictured title wanted source picture
 pictured title wanted source columns w stage picture is are possible staged drawn = record {
   all = w;

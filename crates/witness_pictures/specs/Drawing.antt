@@ -8,7 +8,7 @@ use Rattle.files.specs.declared.text.Text.TheVariants.{Schedule}
 use Rattle.files.specs.Texts.{OfFile, named_of, ComesFrom, IsSourceOf}
 use Rattle.formats.specs.Columns.{AreColumns}
 use Rattle.formats.specs.Drawing.{IsWanted}
-use Rattle.formats.specs.Preparing.{reports_in, turns_in}
+use Rattle.formats.specs.Preparing.{turns_in}
 use Rattle.formats.specs.declared.drawing.Wanted as whole
 use Rattle.formats.specs.declared.error.FormatError.TheVariants as names
 use Rattle.msc_text.specs.Outs.{Sink}
@@ -31,7 +31,7 @@ use Rattle.witness_pictures.specs.declared.error.Undrawn.TheVariants.{Columns, P
 use Rattle.witness_pictures.specs.declared.stage.Stage.{Stage}
 use Rattle.witness_pictures.specs.Beside.{beside_text}
 use Rattle.witness_pictures.specs.Counterparts.{counterpart}
-use Rattle.witness_pictures.specs.Stages.{IsWhole, part_of}
+use Rattle.witness_pictures.specs.Stages.{IsWhole, drawn_of, part_of}
 
 -- what stands above the witness's picture
 unfoldable pub other_title : List ℕ
@@ -74,10 +74,8 @@ pub record AreStaged (subject : Subject) (one other : Stage) (text : List ℕ) :
   pub there : PictureView
   pub whole_here : IsWhole subject.wanted.now.title.now (only_of subject.wanted.now) subject.wanted.now.numbers wanted_here
   pub whole_there : IsWhole other_title (only_of subject.wanted.now) subject.wanted.now.numbers wanted_there
-  pub left : IsPictureOf wanted_here.title.now one.names.now one.closure.now one.prepared.layout
-      (reports_in one.reports) one.prepared.ends (part_of subject.columns.now wanted_here.numbers) here
-  pub right : IsPictureOf wanted_there.title.now other.names.now other.closure.now other.prepared.layout
-      (reports_in other.reports) other.prepared.ends (part_of subject.columns.now wanted_there.numbers) there
+  pub left : IsPictureOf (drawn_of wanted_here.title.now one) (part_of subject.columns.now wanted_here.numbers) here
+  pub right : IsPictureOf (drawn_of wanted_there.title.now other) (part_of subject.columns.now wanted_there.numbers) there
   pub is : text ≡ beside_text subject.wanted.now.title.now subject.asked.now.instance.now subject.pair here there (record {
     earlier = counterpart one.closure.now other.closure.now subject.pair.earlier;
     receive = counterpart one.closure.now other.closure.now subject.pair.receive;

@@ -8,7 +8,7 @@ use Rattle.formats.specs.Preparing.{reports_in, turns_in, IsPrepared}
 use Rattle.formats.specs.declared.drawing.Wanted.{Wanted}
 use Rattle.formats.specs.declared.events.Events.{Events}
 use Rattle.formats.specs.declared.windows.Rows.TheVariants.{Between}
-use Rattle.pictures.specs.Preparing.{PartView}
+use Rattle.pictures.specs.Preparing.{SourceView, PartView}
 use Rattle.witness_pictures.specs.declared.stage.Stage.{Stage}
 
 -- all events of a line, or all rows
@@ -29,6 +29,17 @@ pub record IsStageOf (source : Source) (stage : Stage) : Type 0 where
   pub lines : stage.closure.now ≡ (named_of source).1
   pub prepared : IsPrepared (named_of source).1 (turns_in source) stage.prepared.layout stage.prepared.ends
   pub races : AreReports (named_of source).1 (reports_in stage.reports)
+
+-- what a picture of the stage's chart with this title is of
+abbrev pub drawn_of : List ℕ → Stage → SourceView
+drawn_of title stage = record {
+  title = title;
+  names = stage.names.now;
+  lines = stage.closure.now;
+  rows = stage.prepared.layout;
+  reports = reports_in stage.reports;
+  ends = stage.prepared.ends;
+}
 
 -- all of a chart is drawn, in these columns
 abbrev pub part_of : List ℕ → Bool → PartView

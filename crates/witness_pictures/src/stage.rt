@@ -1,9 +1,8 @@
 //! What the picture of a whole chart is drawn from.
 ghost use Rattle.std.specs.Prelude.{◌≡◌, IfOk, option_map};
 ghost use Rattle.files.specs.Texts.{named_of, ComesFrom};
-ghost use Rattle.formats.specs.Preparing.{reports_in};
 ghost use Rattle.pictures.specs.Preparing.{IsPictureOf};
-ghost use Rattle.witness_pictures.specs.Stages.{IsStageOf, IsWhole, part_of};
+ghost use Rattle.witness_pictures.specs.Stages.{IsStageOf, IsWhole, drawn_of, part_of};
 
 use chart::{InstanceNo, Line, Names};
 use closure::Closure;
@@ -71,8 +70,7 @@ pub(crate) fn picture_of<'a>(
     columns: &'a [InstanceNo],
     wanted: &Wanted<'a>,
 ) -> Result<Picture<'a>, AllocError>
-    ensures { IfOk result (IsPictureOf wanted.now.title.now stage.now.names.now stage.now.closure.now
-        stage.now.prepared.layout (reports_in stage.now.reports) stage.now.prepared.ends
+    ensures { IfOk result (IsPictureOf (drawn_of wanted.now.title.now stage.now)
         (part_of columns.now wanted.now.numbers)) }
 {
     let drawn = pictures::Source {

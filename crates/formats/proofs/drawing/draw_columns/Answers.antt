@@ -21,7 +21,14 @@ use Rattle.formats.proofs.drawing.draw_columns.Goals as goal
 is_wanted : (wanted : Wanted) (turns : List ℕ) (notes : List MarginNote) (names : List (List ℕ)) (lines lines' : List LineView) (columns : List ℕ) (rows : List Row) (ends : List (List (Option EventNo))) (reports : List ReportView) (window : Window) (picture : PictureView)
     → AreColumns names (only_of wanted) columns → IsPossible (length lines) (chart_lines lines) → IsPrepared lines turns rows ends → AreReports lines reports
     → lines' ≡ lines → IsWindow (names, lines') rows wanted.rows window
-    → IsPictureOf wanted.title.now names lines rows reports ends (record {
+    → IsPictureOf (record {
+      title = wanted.title.now;
+      names = names;
+      lines = lines;
+      rows = rows;
+      reports = reports;
+      ends = ends;
+    }) (record {
       drawn = columns;
       first = wanted.events.first;
       last = wanted.events.last;

@@ -1,7 +1,7 @@
 use Rattle.std.proofs.Common.{◌≡◌, subst₂, rules}
 use Rattle.std.specs.Prelude.{slice_get}
 use Rattle.msc_text.specs.Outs.{Stored}
-use Rattle.viewing.specs.Views.{Views}
+use Rattle.viewing.specs.Views.{Views, stream}
 use Rattle.offline.specs.Performing.{in_memory}
 use Rattle.offline.specs.Texts.{given_at}
 use Rattle.offline.specs.Viewing.{AreCopied}
@@ -13,7 +13,7 @@ returns c =
     (record { status = c.view_request-status.result; out = c.copy_out.result; err = c.copy_out-2.result }) c.copy_out.new.out c.copy_out-2.new.out = search rules in (
       c.view_request-status.new.out,
       c.view_request-status.new.err,
-      subst₂ (λ (written told : Stored). Views (λ place file answer. answer ≡ given_at (slice_get c.args.texts.now place)) in_memory written c.view_request-status.new.out in_memory told c.view_request-status.new.err c.args.request.now c.view_request-status.result)
+      subst₂ (λ (written told : Stored). Views (λ place file answer. answer ≡ given_at (slice_get c.args.texts.now place)) (stream in_memory written c.view_request-status.new.out) (stream in_memory told c.view_request-status.new.err) c.args.request.now c.view_request-status.result)
           c.new-written.ensures c.new-told.ensures c.view_request-status.ensures,
       copied,
     )
