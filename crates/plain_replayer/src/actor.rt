@@ -1,6 +1,6 @@
 //! The instances of a replay.
 ghost use Rattle.std.specs.Prelude.{ℕ, ◌≡◌, ◌≢◌, ◌≤◌, ◌<◌, ◌+◌, ◌++◌, ◌∷◌, [], true, suc, List, length, slice_get};
-ghost use Rattle.std.specs.Prelude.{slice_set, replicate, Some, All, IfOk, OnOk};
+ghost use Rattle.std.specs.Prelude.{slice_set, slice_index_or, replicate, Some, All, IfOk, OnOk};
 ghost use Rattle.chart.specs.Events.{MayHaveRegion, greatest_region};
 ghost use Rattle.chart.specs.Reports.{ReportView};
 ghost use Rattle.chart.specs.declared.instance.TheConstants.{MAX_INSTANCES};
@@ -131,7 +131,7 @@ impl Actor {
     /// The event of its line of this index, from 0.
     pub fn event(&self, index: usize) -> Event
         requires { index < length self.now.recorder.line.events }
-        ensures { slice_get self.now.recorder.line.events index ≡ Some result }
+        ensures { result ≡ slice_index_or self.now.recorder.line.events index result }
     {
         self.recorder.line().event(index)
     }

@@ -1,13 +1,18 @@
 use Rattle.std.proofs.Common.{rules, ◌≡◌, ◌+◌, ◌<◌, ◌++◌, ◌∷◌, [], ℕ, List, length, length-append, vec_capacity, sym, ap, subst, arith}
+use Rattle.std.proofs.lemmas.List.Elements.{All-pop}
 use Rattle.chart.specs.Charts.{LineView}
 use Rattle.chart.specs.Reports.{ReportView}
 use Rattle.board.specs.declared.parting.Leaver.{Leaver}
-use Rattle.board.specs.Parting.{HaveParted}
+use Rattle.board.specs.Parting.{IsForEvents, HaveParted}
 use Rattle.board.proofs.Leavers.{seen_next, own_fits, parted_next}
 use Rattle.board.proofs.parting.part_all.Goals as goal
 
 pub unreachable-requires : goal.unreachable-requires
 unreachable-requires c =
+    omega (arith, c.in_default.ensures.cases.0, c.loop-place.own_events.ok, c.loop-place.invariant.events_many, c.loop-place-test.true)
+
+pub unreachable-requires-in_default-append : goal.unreachable-requires-in_default-append
+unreachable-requires-in_default-append c =
     let n = c.args.instances in
     let inv = c.loop-place.invariant in
     let its = c.requires.seen in
@@ -35,6 +40,8 @@ loop-place-preserved c =
       lines = omega (arith, inv.lines, c.push_reserved.ensures.capacity);
       leavers = omega (arith, inv.leavers, c.push_reserved-in-loop-place.ensures.capacity);
       reports = omega (arith, inv.reports, c.append.ensures.capacity);
+      events_many = omega (arith, ap length c.in-Some.ensures.items, length-append c.pop.new.self.items (c.in-Some.events ∷ []), inv.events_many);
+      events = (All-pop IsForEvents c.loop-place.own_events.items c.pop.new.self.items c.pop.result c.pop.ensures.items inv.events).0;
       lines_many = omega (arith, ap length lines, length-append c.loop-place.lines.items (line ∷ []), inv.lines_many);
       leavers_many = omega (arith, ap length leavers, length-append c.loop-place.leavers.items (leaver ∷ []), inv.leavers_many);
       seen = λ k table h first. seen_next n k table h place c.loop-place.posts.items c.take_post.new.posts.items (inv.seen k table h first) taken.kept taken.others;
