@@ -26,8 +26,8 @@ loop-actor-preserved c =
           let gone = c.in-Some.ensures.steps.1 in
           let short = ap length steps in
           omega arith;
-      lines = map_push (λ (a : ActorView). a.recorder.line) at.yielded actor at.lines.items c.push.new.self.items c.into_parts-line.result.0 at.invariant.lines c.into_parts-line.ensures.line c.in_ok-push.ensures.items;
-      reports = c.in_ok-append.ensures.items ∙ ap₂ (λ xs ys. xs ++ ys) at.invariant.reports c.into_parts-line.ensures.reports ∙ flat_map_more (λ (a : ActorView). a.recorder.reports) [] at.yielded actor;
+      lines = map_push (λ (a : ActorView). a.recorder.line) at.yielded actor at.lines.items c.push.new.self.items c.in_ok-line.line at.invariant.lines c.in_ok-line.ensures.line c.in_ok-push.ensures.items;
+      reports = c.in_ok-append.ensures.items ∙ ap₂ (λ xs ys. xs ++ ys) at.invariant.reports c.in_ok-line.ensures.reports ∙ flat_map_more (λ (a : ActorView). a.recorder.reports) [] at.yielded actor;
     }
 
 pub returns-clause-lines : goal.returns-clause-lines
