@@ -10,7 +10,7 @@ ghost use Rattle.plain_replayer.specs.Views.{LaneView, empty_lane, fresh_actor, 
 ghost use Rattle.plain_replayer.specs.Words.{is_full, send_word, receive_word};
 
 use crate::lane::{Lane, Parcel};
-use chart::{Event, InstanceNo, Line, MAX_EVENTS, Name, Report};
+use chart::{InstanceNo, Line, MAX_EVENTS, Name, Report};
 use clock::Clock;
 use line_recorder::{RecordError, Recorder};
 use outcomes::ReplayError;
@@ -116,13 +116,6 @@ impl Actor {
     {
         let Actor { recorder, .. } = self;
         recorder.into_parts()
-    }
-
-    /// The events of its line.
-    pub fn events(&self) -> &[Event]
-        ensures { result.now ≡ self.now.recorder.line.events }
-    {
-        self.recorder.line().events()
     }
 
     pub fn region(&self) -> u32
