@@ -6,7 +6,6 @@ pub mod Kept
 pub mod Lanes
 pub mod Performed
 pub mod Places
-pub mod Recordings
 pub mod Scans
 pub mod Starts
 pub mod Words

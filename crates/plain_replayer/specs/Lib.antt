@@ -2,6 +2,5 @@ pub use Rattle.schedule.specs.Meaning
 pub use Rattle.schedule.specs.Plans
 pub use Rattle.outcomes.specs.Outcomes
 pub mod Agreement
-pub mod Recorded
 pub mod Views
 pub mod Words

@@ -1,6 +1,6 @@
 //! The instances of a replay.
 ghost use Rattle.std.specs.Prelude.{ℕ, ◌≡◌, ◌≢◌, ◌≤◌, ◌<◌, ◌+◌, ◌++◌, ◌∷◌, [], true, suc, List, length, slice_get};
-ghost use Rattle.std.specs.Prelude.{slice_set, slice_index_or, replicate, Some, All, IfOk, OnOk};
+ghost use Rattle.std.specs.Prelude.{slice_set, replicate, Some, All, IfOk, OnOk};
 ghost use Rattle.chart.specs.Events.{MayHaveRegion, greatest_region};
 ghost use Rattle.chart.specs.Reports.{ReportView};
 ghost use Rattle.chart.specs.declared.instance.TheConstants.{MAX_INSTANCES};
@@ -10,7 +10,7 @@ ghost use Rattle.plain_replayer.specs.Views.{LaneView, empty_lane, fresh_actor, 
 ghost use Rattle.plain_replayer.specs.Words.{is_full, send_word, receive_word};
 
 use crate::lane::{Lane, Parcel};
-use chart::{Event, InstanceNo, Line, MAX_EVENTS, Name, Report};
+use chart::{InstanceNo, Line, MAX_EVENTS, Name, Report};
 use clock::Clock;
 use line_recorder::{RecordError, Recorder};
 use outcomes::ReplayError;
@@ -119,21 +119,6 @@ impl Actor {
         let Actor { recorder, .. } = self;
         let events = Vec::with_capacity(alloc, recorder.line().len())?;
         Ok(recorder.into_parts(events))
-    }
-
-    /// How many events its line has.
-    pub fn len(&self) -> usize
-        ensures { result ≡ length self.now.recorder.line.events }
-    {
-        self.recorder.line().len()
-    }
-
-    /// The event of its line of this index, from 0.
-    pub fn event(&self, index: usize) -> Event
-        requires { index < length self.now.recorder.line.events }
-        ensures { result ≡ slice_index_or self.now.recorder.line.events index result }
-    {
-        self.recorder.line().event(index)
     }
 
     pub fn region(&self) -> u32

@@ -3,15 +3,12 @@
 //!
 //! What is promised: the outcome is what the schedule means, which is the chart of the history that its commands come
 //! to, for each receive of this chart, by instance and index, exactly its report, and the notes by line. The only
-//! refusal is F6 ([`plain_replay`]). The accepted sends and receives are also answered as a run, step by step
-//! ([`recorded_run`]).
+//! refusal is F6 ([`plain_replay`]).
 #![tactic(auto)]
 
 mod actor;
 mod lane;
-mod recorded;
 mod run;
 mod steps;
 
-pub use recorded::recorded_run;
 pub use run::plain_replay;

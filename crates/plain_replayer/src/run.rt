@@ -18,7 +18,7 @@ use schedule::{Command, Note, Schedule};
 use std::alloc::Global;
 
 /// So many instances, before the first command.
-pub fn fresh_actors(alloc: Global, instances: usize) -> Result<Vec<Actor>, ReplayError>
+fn fresh_actors(alloc: Global, instances: usize) -> Result<Vec<Actor>, ReplayError>
     requires several { 2 ≤ instances }
     requires limit { instances ≤ MAX_INSTANCES }
     ensures { IfOk result (λ actors. (k : ℕ) → Agrees instances k start.run actors.items) }

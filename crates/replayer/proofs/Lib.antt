@@ -1,4 +1,5 @@
 pub mod Answers
 pub mod Calls
 pub mod Posts
+pub mod Recordings
 pub mod Scanning

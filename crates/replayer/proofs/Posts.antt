@@ -109,6 +109,7 @@ module _ (board : BoardView) (r : Run) (posts : List PostView) (last : List (Opt
   with_run : (s : Run) → HasGone r s old.number met.history from new → Agrees board s them (set last i from)
   with_run s gone = record {
     posts = met_posts board (set posts i new) them (put_posts board posts i old new agrees.posts at on.same) met;
+    legal = subst₂ (λ (b : BoardView) (h : List Occurrence). IsLegal b.size b.capacity h) (on.same.board ∙ mine.0) (sym gone.history) is_met.joint.legal;
     as_many = length-set last i from ∙ agrees.as_many;
     far = λ j y l at_y at_l.
         let its = mapped (λ (post : PostView). record post { seen = met.history }) (set posts i new) j y (ap (λ (xs : List PostView). slice_get xs j) (sym met.seen) ∙ at_y) in
@@ -170,6 +171,7 @@ joint_is board r (first ∷ rest) last agrees h joint =
 pub agrees_met : (board : BoardView) (r : Run) (posts : List PostView) (last : List (Option ℕ)) (them : List PostView) → Agrees board r posts last → HaveMet posts them → Agrees board r them last
 agrees_met board r posts last them agrees met = record {
   posts = met_posts board posts them agrees.posts met;
+  legal = agrees.legal;
   as_many = agrees.as_many;
   far = λ j y l at_y at_l.
       let its = mapped (λ (post : PostView). record post { seen = met.history }) posts j y (ap (λ (xs : List PostView). slice_get xs j) (sym met.seen) ∙ at_y) in
@@ -185,6 +187,7 @@ agrees_new board posts last fresh none = record {
     many = fresh.new.as_many;
     each = λ i post at. let its = fresh.new.each i post at in (ap (λ (x : PostView). x.board) its, ap (λ (x : PostView). x.number) its);
   };
+  legal = tt;
   as_many = ap length none ∙ length-replicate {A = Option ℕ} (length posts) None ∙ fresh.new.as_many;
   far = λ i post from at at_last.
       let its = fresh.new.each i post at in

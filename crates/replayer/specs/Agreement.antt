@@ -1,7 +1,7 @@
 -- How far the posts of a replay are (this project's profile).
 use Rattle.std.specs.Prelude.{◌≡◌, ◌≢◌, ℕ, suc, ◌≤◌, List, length, slice_get, Option, Some, unwrap_or, Result}
 use Rattle.chart.specs.declared.history.Occurrence.{Occurrence}
-use Rattle.chart.specs.Histories.{own, Begins}
+use Rattle.chart.specs.Histories.{own, Begins, IsLegal}
 use Rattle.chart.specs.HistoryLines.{history_lines}
 use Rattle.chart.specs.Reports.{AreReports}
 use Rattle.board.specs.declared.gathering.Gathered.{Gathered}
@@ -63,9 +63,11 @@ pub record ArePosts (board : BoardView) (posts : List PostView) : Type 0 where
   pub many : length posts ≡ board.size
   pub each : (i : ℕ) (post : PostView) → slice_get posts i ≡ Some post → (post.board ≡ board) × (post.number ≡ suc i)
 
--- a board's posts, each with the instance from which it received last, are as far as the run
+-- a board's posts, each with the instance from which it received last, are as far as the run, which is legal over the
+-- board's lanes
 pub record Agrees (board : BoardView) (r : Run) (them : List PostView) (last : List (Option ℕ)) : Type 0 where
   pub posts : ArePosts board them
+  pub legal : IsLegal board.size board.capacity r.history
   pub as_many : length last ≡ board.size
   pub far : (i : ℕ) (post : PostView) (from : Option ℕ) → slice_get them i ≡ Some post → slice_get last i ≡ Some from
       → IsAsFar r from post

@@ -4,3 +4,4 @@ pub use Rattle.outcomes.specs.Outcomes
 pub use Rattle.board.specs.Views
 pub use Rattle.board.specs.Meeting
 pub mod Agreement
+pub mod Recorded

@@ -26,7 +26,7 @@ fn meet_them(posts: &mut [Post<'_>])
 
 /// Makes a command by the post of its instance, and then all posts meet: `None`, or the word of its note. The others
 /// have done nothing since they met, so the command's own post has seen all that they have.
-fn perform_one(
+pub fn perform_one(
     alloc: Global,
     posts: &mut [Post<'_>],
     last: &mut [Option<InstanceNo>],
@@ -79,6 +79,17 @@ fn nobody(alloc: Global, instances: usize) -> Result<Vec<Option<InstanceNo>>, Re
     Ok(last)
 }
 
+/// All new posts of a board meet, and nobody has received anything: it answers from whom each instance received last.
+pub fn begin(alloc: Global, posts: &mut [Post<'_>]) -> Result<Vec<Option<InstanceNo>>, ReplayError>
+    requires new { (board : BoardView) × AreFresh board posts.old }
+    ensures { IfOk result (λ last. (board : BoardView) → AreFresh board posts.old
+        → Agrees board start.run posts.new last.items) }
+{
+    let last = nobody(alloc, posts.len())?;
+    meet_them(posts);
+    Ok(last)
+}
+
 /// Makes the commands one after the other, by new posts of a board, and answers their notes as they come. All posts
 /// meet before each command, and after the last one.
 pub fn perform_all(
@@ -91,7 +102,6 @@ pub fn perform_all(
     ensures { IfOk result (λ notes. (board : BoardView) → AreFresh board posts.old
         → (last : List (Option ℕ)) × HavePerformed board commands.now posts.new last notes.items) }
 {
-    let mut last = nobody(alloc, posts.len())?;
-    meet_them(posts);
+    let mut last = begin(alloc, posts)?;
     perform(alloc, posts, &mut last, commands)
 }

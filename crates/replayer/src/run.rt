@@ -1,7 +1,7 @@
 //! The whole replay.
-ghost use Rattle.std.specs.Prelude.{length, All, IfOk};
+ghost use Rattle.std.specs.Prelude.{◌≡◌, false, length, All, IfOk};
 ghost use Rattle.board.specs.Views.{BoardView};
-ghost use Rattle.board.specs.Boards.{IsNewBoard};
+ghost use Rattle.board.specs.Boards.{IsNewBoard, AreNewPosts};
 ghost use Rattle.board.specs.Gathering.{IsWhole};
 ghost use Rattle.outcomes.specs.Outcomes.{IsOutcome};
 ghost use Rattle.schedule.specs.Plans.{IsAmong};
@@ -14,7 +14,7 @@ use schedule::{Command, Note, Schedule};
 use std::alloc::Global;
 
 /// A board for the schedule's instances, with lanes of its capacity.
-fn board_for(alloc: Global, schedule: &Schedule) -> Result<Board, ReplayError>
+pub fn board_for(alloc: Global, schedule: &Schedule) -> Result<Board, ReplayError>
     ensures { IfOk result (IsNewBoard (length schedule.now.names) schedule.now.capacity) }
 {
     let instances = schedule.names().len();
@@ -22,6 +22,18 @@ fn board_for(alloc: Global, schedule: &Schedule) -> Result<Board, ReplayError>
         Ok(board) => Ok(board),
         Err(BoardError::Memory) => Err(ReplayError::Memory),
         Err(BoardError::Instances | BoardError::Capacity) => unreachable!(),
+    }
+}
+
+/// All posts of a board that is new.
+pub fn posts_of(board: &mut Board) -> Result<Vec<Post<'_>>, ReplayError>
+    requires { board.old.asked ≡ false }
+    ensures { IfOk result (λ posts. AreNewPosts board.old.board posts.items) }
+{
+    match board.posts() {
+        Ok(posts) => Ok(posts),
+        Err(PostsError::Memory) => Err(ReplayError::Memory),
+        Err(PostsError::PostsTaken) => unreachable!(),
     }
 }
 
@@ -62,11 +74,7 @@ pub fn replay<'a>(alloc: Global, schedule: &'a Schedule) -> Result<Outcome<'a>, 
     ensures { IfOk result (IsOutcome schedule.now) }
 {
     let mut board = board_for(alloc, schedule)?;
-    let posts = match board.posts() {
-        Ok(posts) => posts,
-        Err(PostsError::Memory) => return Err(ReplayError::Memory),
-        Err(PostsError::PostsTaken) => unreachable!(),
-    };
+    let posts = posts_of(&mut board)?;
     let (gathered, notes) = play(alloc, posts, schedule.commands())?;
     let Gathered { chart, reports, .. } = gathered;
     Ok(Outcome::new(schedule.names(), chart, reports, notes))

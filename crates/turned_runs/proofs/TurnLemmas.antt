@@ -9,7 +9,7 @@ use Rattle.chart.specs.Histories.{chart_of}
 use Rattle.chart.specs.Charts.{Chart, LineView, Place, chart_lines}
 use Rattle.chart.specs.HistoryLines.{history_lines}
 use Rattle.chart.proofs.HistoryLines.{chart-is}
-use Rattle.plain_replayer.specs.Recorded.{IsRecorded}
+use Rattle.replayer.specs.Recorded.{IsRecorded}
 use Rattle.std.specs.List.{range_with_len}
 use Rattle.real_races.specs.OtherRuns.{IsRunWithin, IsOvertaken, CanBeOvertaken, CanBeOvertakenWithin}
 use Rattle.schedule.specs.Meaning.{meaning}

@@ -23,7 +23,7 @@ mod steps;
 mod tries;
 mod turning;
 
-pub use plain_replayer::recorded_run;
+pub use replayer::recorded_run;
 pub use running::{LeastRun, least_run, run_within};
 pub use scheduling::schedule_of;
 pub use showing::{Shown, show};

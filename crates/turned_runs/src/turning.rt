@@ -8,7 +8,7 @@ ghost use Rattle.chart.specs.Places.{IsEvent};
 ghost use Rattle.schedule.specs.Meaning.{meaning};
 ghost use Rattle.witness.specs.declared.step.Step.{Step};
 ghost use Rattle.witness.specs.Steps.{history_of, place_after, IsReceive};
-ghost use Rattle.plain_replayer.specs.Recorded.{IsRecorded};
+ghost use Rattle.replayer.specs.Recorded.{IsRecorded};
 ghost use Rattle.turned_runs.specs.Runs.{IsLeastRun};
 ghost use Rattle.turned_runs.specs.Turns.{place_of, IsTurned, IsKept};
 
@@ -17,7 +17,7 @@ use crate::steps::step_of;
 use crate::tries::next_try;
 use chart::{Chart, EventNo, MAX_EVENTS};
 use outcomes::ReplayError;
-use plain_replayer::recorded_run;
+use replayer::recorded_run;
 use schedule::Schedule;
 use std::alloc::{AllocError, Global};
 use witness::{Step, overtake};

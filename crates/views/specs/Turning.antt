@@ -10,7 +10,7 @@ use Rattle.schedule.specs.Plans.{Plan}
 use Rattle.schedule.specs.ScheduleText.{schedule_text}
 use Rattle.files.specs.declared.error.ProgramError.TheVariants as errors
 use Rattle.files.specs.Files.{Named, IsRefused}
-use Rattle.plain_replayer.specs.Recorded.{IsRecorded}
+use Rattle.replayer.specs.Recorded.{IsRecorded}
 use Rattle.turned_runs.specs.Runs.{IsLeastRun}
 use Rattle.turned_runs.specs.Schedules.{commands_of}
 use Rattle.turned_runs.specs.Showing.{ShowsTurn}

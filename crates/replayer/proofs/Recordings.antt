@@ -1,5 +1,5 @@
 -- What a command adds to the run that is recorded, and what a history keeps without its closes.
-use Rattle.std.proofs.Common.{◌≡◌, ℕ, suc, ◌+◌, ◌<◌, Bool, true, false, ◌==◌, cond, List, [], ◌∷◌, ◌++◌, length, drop, get_or, Option, None, Some, Result, Ok, Err, refl, sym, ap, ap₂, ◌∙◌, subst, subst₂, arith, append-nil}
+use Rattle.std.proofs.Common.{◌≡◌, ℕ, suc, ◌+◌, ◌<◌, Bool, true, false, ◌==◌, cond, List, [], ◌∷◌, ◌++◌, length, drop, get_or, Option, None, Some, Result, Ok, Err, refl, sym, ap, ap₂, ◌∙◌, subst, arith, append-nil}
 use Rattle.std.specs.Prelude.{nat_lt, nat_le, slice_get}
 use Rattle.std.specs.Option.{option_map, option_to_list}
 use Rattle.std.proofs.lemmas.Bool.{ltb-true}
@@ -14,22 +14,22 @@ use Rattle.chart.specs.Scans.{scan}
 use Rattle.chart.proofs.Sends.{line_after_send, line_after_receive}
 use Rattle.chart.proofs.Steps.{line_after_close}
 use Rattle.chart.proofs.Tally.{ith-append_next}
-use Rattle.chart.specs.Charts.{LineView}
+use Rattle.board.specs.Views.{BoardView, PostView, line_of}
 use Rattle.schedule.specs.Plans.{Plan}
 use Rattle.schedule.specs.declared.command.Command.{Command}
 use Rattle.schedule.specs.declared.command.Action.{Action}
 use Rattle.schedule.specs.declared.command.Action.TheVariants.{Send, Receive, Any, Close, Open, Shut}
 use Rattle.schedule.specs.declared.command.Word.{Word}
 use Rattle.schedule.specs.declared.command.Word.TheVariants as words
-use Rattle.schedule.specs.Meaning.{Run, State, changed, has_waiting, is_line_full, happens, meaning, takes, first_waiting, are_closed, receives_any, acts, noted}
+use Rattle.schedule.specs.Meaning.{Run, State, changed, has_waiting, is_line_full, happens, meaning, takes, first_waiting, are_closed, receives_any, acts, noted, step}
 use Rattle.schedule.proofs.Scanning.{find-found}
 use Rattle.witness.specs.declared.step.Step.{Step}
 use Rattle.witness.specs.declared.step.Step.TheVariants as steps
 use Rattle.witness.specs.Steps.{history_of, step_made}
 use Rattle.witness.proofs.StepLemmas.{after-append}
-use Rattle.plain_replayer.specs.Agreement.{Agrees, HasActed}
-use Rattle.plain_replayer.specs.Recorded.{without_closes, IsRecordedBy, IsRecorded}
-use Rattle.plain_replayer.specs.Views.{ActorView, fresh_actor}
+use Rattle.outcomes.specs.Performed.{HasDone}
+use Rattle.replayer.specs.Agreement.{Agrees, HasActed}
+use Rattle.replayer.specs.Recorded.{without_closes, HaveRecorded, IsRecorded}
 
 -- Without closes a history has the same messages, receives and chart, and is as legal.
 
@@ -120,18 +120,21 @@ did n k r p Open = either r p (nat_lt 0 (r.region p)) (Err words.Open) _ tt (not
 did n k r p Shut = either r p (nat_lt 0 (r.region p)) _ (Err words.NotOpen) (nothing refl) tt
 
 -- where a command led, and what it did
-pub record Led (n k : ℕ) (r s : Run) (p : ℕ) (actors : List ActorView) : Type 0 where
-  pub agrees : Agrees n k s actors
+pub record Led (board : BoardView) (r s : Run) (p : ℕ) (posts : List PostView) (last : List (Option ℕ)) : Type 0 where
+  pub agrees : Agrees board s posts last
   pub did : Did r s p
 
-pub led : (n k : ℕ) (s : State) (line p : ℕ) (action : Action) (old new : List ActorView) (answer : Option Word) → Agrees n k s.run old → HasActed n k old new (Ok answer) (acts n k s.run p action) → Led n k s.run (noted s line (acts n k s.run p action)).run p new
-led n k s line p action old new answer agrees has = go (acts n k s.run p action) (did n k s.run p action) answer has
+pub led : (board : BoardView) (s : State) (command : Command) (answer : Option Word) (posts : List PostView) (last : List (Option ℕ)) → HasActed board s.run command (Ok answer) posts last
+    → Led board s.run (step board.size board.capacity s command).run command.actor posts last
+led board s command answer posts last has =
+    go (acts board.size board.capacity s.run command.actor command.action) (did board.size board.capacity s.run command.actor command.action) answer has
   where
-    go : (acted : Result Run Word) → DidIn s.run p acted → (answer : Option Word) → HasActed n k old new (Ok answer) acted → Led n k s.run (noted s line acted).run p new
+    go : (acted : Result Run Word) → DidIn s.run command.actor acted → (answer : Option Word) → HasDone (λ x. Agrees board x posts last) s.run (Ok answer) acted
+        → Led board s.run (noted s command.line acted).run command.actor posts last
     go (Ok r) what None has = record { agrees = has; did = what }
     go (Ok r) what (Some word) has = absurd has
     go (Err word) what None has = absurd has
-    go (Err word) what (Some noted) has = record { agrees = subst (Agrees n k s.run) (sym has.1) agrees; did = nothing refl }
+    go (Err word) what (Some noted) has = record { agrees = has.1; did = nothing refl }
 
 -- the step that the line's new event is, if it has one
 pub recorded-next : (r s : Run) (p : ℕ) (done : List Step) → Did r s p → history_of done ≡ without_closes r.history → (found : Option Step) → found ≡ option_map (step_made p) (slice_get (chart_of s.history p) (length (chart_of r.history p))) → history_of (done ++ option_to_list found) ≡ without_closes s.history
@@ -161,31 +164,39 @@ recorded-next r s p done (nothing e) before found is =
     let same : found ≡ None = is ∙ ap (option_map (step_made p)) event in
     ap (λ x. history_of (done ++ option_to_list x)) same ∙ ap history_of (append-nil done) ∙ before ∙ sym (ap without_closes e)
 
--- the line of an instance that acts
-line-at : (n k : ℕ) (r : Run) (actors : List ActorView) (j : ℕ) → Agrees n k r actors → j < n → (a : ActorView) × (slice_get actors j ≡ Some a) × (a.recorder.line.events ≡ chart_of r.history (suc j))
-line-at n k r actors j agrees within =
-    let a : ActorView = get_or actors j (fresh_actor n n) in
-    let at_a : slice_get actors j ≡ Some a = slice_get-get_or actors j (fresh_actor n n) (omega (arith, agrees.many)) in
-    (a, at_a, ap (λ (l : LineView). l.events) (agrees.each j a at_a).own.recorder.line)
+-- the line of an instance's post is that of the run
+line-at : (board : BoardView) (r : Run) (posts : List PostView) (last : List (Option ℕ)) (j : ℕ) → Agrees board r posts last → j < length posts
+    → (post : PostView) × (slice_get posts j ≡ Some post) × (line_of post ≡ chart_of r.history (suc j))
+line-at board r [] last j agrees within = absurd (omega (arith, within))
+line-at board r (first ∷ rest) last j agrees within =
+    let posts = first ∷ rest in
+    let post = get_or posts j first in
+    let at : slice_get posts j ≡ Some post = slice_get-get_or posts j first within in
+    let at_last = slice_get-get_or last j None (omega (arith, within, agrees.as_many, agrees.posts.many)) in
+    (post, at, ap₂ (λ (h : List Occurrence) (p : ℕ). chart_of h p) (agrees.far j post (get_or last j None) at at_last).seen (agrees.posts.each j post at).1)
 
 -- what was recorded goes on by the step that is found
-pub recorded-on : (n k : ℕ) (r s : Run) (p j : ℕ) (old new : List ActorView) (done : List Step) (made : ℕ) (found : Option Step) → p ≡ suc j → j < n → Agrees n k r old → Led n k r s p new → history_of done ≡ without_closes r.history
-    → ((i : ℕ) (a : ActorView) → p ≡ suc i → slice_get old i ≡ Some a → made ≡ length a.recorder.line.events) → ((i : ℕ) (a : ActorView) → p ≡ suc i → slice_get new i ≡ Some a → found ≡ option_map (step_made p) (slice_get a.recorder.line.events made))
-    → history_of (done ++ option_to_list found) ≡ without_closes s.history
-recorded-on n k r s p j old new done made found its within agrees led before was is =
-    let o = line-at n k r old j agrees within in
-    let w = line-at n k s new j led.agrees within in
-    let made_is : made ≡ length (chart_of r.history p) = was j o.0 its o.1 ∙ ap length (o.2 ∙ ap (chart_of r.history) (sym its)) in
-    let found_is : found ≡ option_map (step_made p) (slice_get (chart_of s.history p) (length (chart_of r.history p))) = is j w.0 its w.1 ∙ ap₂ (λ (l : List Event) (m : ℕ). option_map (step_made p) (slice_get l m)) (w.2 ∙ ap (chart_of s.history) (sym its)) made_is in
-    recorded-next r s p done led.did before found found_is
+module _ (board : BoardView) (r s : Run) (p : ℕ) (old : List PostView) (before : List (Option ℕ)) (new : List PostView) (last : List (Option ℕ))
+    (agrees : Agrees board r old before) (led : Led board r s p new last) where
+  pub recorded-on : (j : ℕ) (done : List Step) (made : ℕ) (found : Option Step) → p ≡ suc j → j < length old → history_of done ≡ without_closes r.history
+      → ((i : ℕ) (post : PostView) → p ≡ suc i → slice_get old i ≡ Some post → made ≡ length (line_of post))
+      → ((i : ℕ) (post : PostView) → p ≡ suc i → slice_get new i ≡ Some post → found ≡ option_map (step_made p) (slice_get (line_of post) made))
+      → history_of (done ++ option_to_list found) ≡ without_closes s.history
+  recorded-on j done made found its within so_far was is =
+      let o = line-at board r old before j agrees within in
+      let w = line-at board s new last j led.agrees (omega (arith, within, agrees.posts.many, led.agrees.posts.many)) in
+      let made_is : made ≡ length (chart_of r.history p) = was j o.0 its o.1 ∙ ap length (o.2 ∙ ap (chart_of r.history) (sym its)) in
+      let found_is : found ≡ option_map (step_made p) (slice_get (chart_of s.history p) (length (chart_of r.history p))) =
+      is j w.0 its w.1 ∙ ap₂ (λ (l : List Event) (m : ℕ). option_map (step_made p) (slice_get l m)) (w.2 ∙ ap (chart_of s.history) (sym its)) made_is in
+      recorded-next r s p done led.did so_far found found_is
 
--- what the commands of a plan recorded
-pub recorded-is : (plan : Plan) (steps : List Step) (n k : ℕ) (commands : List Command) → n ≡ length plan.names → k ≡ plan.capacity → commands ≡ plan.commands → IsRecordedBy n k commands steps → IsRecorded plan steps
-recorded-is plan steps n k commands names capacity same by = go (subst (λ cs. IsRecordedBy (length plan.names) plan.capacity cs steps) same (subst₂ (λ a b. IsRecordedBy a b commands steps) names capacity by))
-  where
-    go : IsRecordedBy (length plan.names) plan.capacity plan.commands steps → IsRecorded plan steps
-    go w = record {
-      history = w.history;
-      legal = subst (IsLegal (length plan.names) plan.capacity) (sym w.history) (without-legal (length plan.names) plan.capacity (meaning plan).run.history w.legal);
-      chart = λ p. ap (λ h. chart_of h p) w.history ∙ without-chart (meaning plan).run.history p;
+-- what the commands of a plan recorded by posts of a board of its size
+pub recorded-is : (plan : Plan) (board : BoardView) (posts : List PostView) (last : List (Option ℕ)) (steps : List Step) → board.size ≡ length plan.names → board.capacity ≡ plan.capacity → HaveRecorded board plan.commands posts last steps → IsRecorded plan steps
+recorded-is plan board posts last steps size capacity recorded =
+    let legal = rw (size, capacity) at recorded.agrees.legal in
+    let history : history_of steps ≡ without_closes (meaning plan).run.history = rw (size, capacity) at recorded.history in
+    record {
+      history = history;
+      legal = subst (IsLegal (length plan.names) plan.capacity) (sym history) (without-legal (length plan.names) plan.capacity (meaning plan).run.history legal);
+      chart = λ p. ap (λ h. chart_of h p) history ∙ without-chart (meaning plan).run.history p;
     }
