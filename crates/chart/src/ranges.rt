@@ -250,18 +250,6 @@ impl RangesBuilder {
         }
     }
 
-    /// No events yet, with room for so many ranges.
-    ///
-    /// F6: it fails only where there is no memory.
-    #[inline(always)]
-    pub fn with_room(alloc: Global, ranges: usize) -> Result<RangesBuilder, AllocError>
-        ensures { IfOk result (λ builder. builder ≡ []) }
-    {
-        Ok(RangesBuilder {
-            backwards: Vec::with_capacity(alloc, ranges)?,
-        })
-    }
-
     /// Puts the events of a range before all others.
     ///
     /// F6: it fails only where there is no memory, and then nothing has changed.

@@ -215,10 +215,10 @@ impl Recorder {
         requires begun { 0 < self.old.room }
         ensures { self.new ≡ after_begun self.old to name }
     {
-        // (said to the compiler too, which else looks for room once more)
-        if self.line.room() == 0 {
+        // (said to the compiler too, by a match, which a proved build keeps: else it looks for room once more)
+        let Some(_) = self.line.room().checked_sub(1) else {
             unreachable!()
-        }
+        };
         let Ok(()) = self.line.push(Event::Send { to, name }) else {
             unreachable!()
         };

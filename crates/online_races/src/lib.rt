@@ -15,10 +15,6 @@ ghost use Rattle.online_races.specs.Passing.{IsRace, AreRaces, IsStretch, HasFou
 use chart::{EventNo, EventRange, EventRanges, GrowingLine, InstanceNo, Line, RangesBuilder};
 use std::alloc::{AllocError, Global};
 
-/// So many ranges a report with races has room for from the start. It is what a list's first push would make room for, at
-/// more instructions.
-const FIRST_RANGES: usize = 4;
-
 /// Neighbouring events of a line that end with one event: all but the first so many, up to it.
 enum Stretch {
     /// Receives of the coregion, or receives from the sender.
@@ -158,7 +154,7 @@ fn races_up_to(
         → IfOk result (λ found. All (λ race. race.instance ≡ line.now.line.instance) found) }
 {
     prove!(last.first.index as usize <= line.len());
-    let mut found = RangesBuilder::with_room(alloc, FIRST_RANGES)?;
+    let mut found = RangesBuilder::new(alloc);
     let mut index = last.first.index as usize - 1;
     found.put_before(last)?;
     while let Some(races) = last_races(line, index, entry, sender, region) {

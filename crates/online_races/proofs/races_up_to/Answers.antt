@@ -7,7 +7,7 @@ use Rattle.online_races.proofs.races_up_to.Goals as goal
 
 pub loop-races-init : goal.loop-races-init
 loop-races-init c = record {
-  found = λ end has. subst (HasFound c.args.line.now.line end (c.args.last.first.index - 1) c.args.entry c.args.sender c.args.region) (sym (c.in_ok-put_before.ensures.ok ∙ ap (λ (rest : List EventNo). events_of c.args.last ++ rest) c.in_ok-found.ensures ∙ append-nil (events_of c.args.last))) has;
+  found = λ end has. subst (HasFound c.args.line.now.line end (c.args.last.first.index - 1) c.args.entry c.args.sender c.args.region) (sym (c.in_ok-put_before.ensures.ok ∙ ap (λ (rest : List EventNo). events_of c.args.last ++ rest) c.new-found.ensures ∙ append-nil (events_of c.args.last))) has;
   within = omega (arith, c.requires.within);
 }
 
