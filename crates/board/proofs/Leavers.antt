@@ -1,10 +1,12 @@
 -- Posts that leave, one after another.
-use Rattle.std.proofs.Common.{◌≡◌, ◌≢◌, ℕ, zero, suc, ◌+◌, ◌-◌, ◌<◌, ◌≤◌, ◌⊎◌, inl, inr, ⊎_elim, List, [], ◌∷◌, ◌++◌, length, take, drop, map, refl, sym, ap, ap₂, ◌∙◌, subst, arith, length-append}
+use Rattle.std.proofs.Common.{◌≡◌, ◌≢◌, ℕ, zero, suc, ◌+◌, ◌-◌, ◌<◌, ◌≤◌, ◌⊎◌, inl, inr, ⊎_elim, List, [], ◌∷◌, ◌++◌, length, take, drop, map, vec_capacity, refl, sym, ap, ap₂, ◌∙◌, subst, arith, length-append}
 use Rattle.std.specs.Prelude.{slice_get, None, Some, All}
+use Rattle.std.specs.Global.{Vec}
 use Rattle.std.proofs.lemmas.List.{map-append, length-map}
 use Rattle.std.proofs.lemmas.List.Concat.{flat_map-append}
 use Rattle.std.proofs.lemmas.List.Elements.{All-append}
 use Rattle.atomic_table.specs.Seated.{TableId}
+use Rattle.chart.specs.declared.event.Event.{Event}
 use Rattle.chart.specs.declared.history.Occurrence.{Occurrence}
 use Rattle.chart.specs.Histories.{chart_of}
 use Rattle.chart.specs.HistoryLines.{history_line, history_lines}
@@ -14,7 +16,7 @@ use Rattle.board.specs.Views.{PostView, line_of}
 use Rattle.board.specs.Meeting.{HasPost}
 use Rattle.board_table.specs.Leaving.{HaveLeft}
 use Rattle.board.specs.declared.parting.Leaver.{Leaver}
-use Rattle.board.specs.Parting.{IsAmong, HasMet, HaveSeen, HaveParted, receives_until}
+use Rattle.board.specs.Parting.{IsAmong, HasMet, HaveSeen, HaveParted, IsForLine, receives_until}
 use Rattle.board.proofs.RoomsMade.{lines_next, receives_next, receives_grow}
 
 none_there : (y : PostView) → None ≡ Some y → ⊥
@@ -75,6 +77,10 @@ module _ (n k : ℕ) (table : TableId) (h : List Occurrence) (place : ℕ) where
   module _ (post : PostView) (met : HasMet n k table h post) (number : post.number ≡ place + 1) where
     line_is : (line : LineView) → line ≡ record { instance = post.number; events = line_of post } → line ≡ history_line h (place + 1)
     line_is line same = same ∙ ap₂ (λ (p : ℕ) (g : List Occurrence). record { instance = p; events = chart_of g p }) number met.seen
+
+    -- a list for the line that is next has room for its events
+    pub line_fits : (events : Vec Event) → IsForLine h (place + 1) events → length (line_of post) ≤ vec_capacity events
+    line_fits events its = omega (arith, its.exact, ap length (ap₂ (λ (p : ℕ) (g : List Occurrence). chart_of g p) number met.seen))
 
     own_is : (own : List ReportView) → map (λ (r : ReportView). r.receive) own ≡ receives_of (record { instance = post.number; events = line_of post }) → map (λ (r : ReportView). r.receive) own ≡ receives_of (history_line h (place + 1))
     own_is own receives = receives ∙ ap receives_of (line_is (record { instance = post.number; events = line_of post }) refl)

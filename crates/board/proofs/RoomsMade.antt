@@ -1,7 +1,8 @@
 -- Room for what a board comes to, of whatever history its posts have in common.
 use Rattle.std.proofs.Common.{◌≡◌, ◌≢◌, ℕ, zero, suc, ◌+◌, ◌-◌, ◌≤◌, ⊎_elim, Bool, true, false, cond, List, [], ◌∷◌, ◌++◌, length, map, refl, sym, ap, ap₂, ◌∙◌, subst, arith, append-nil, append_assoc, length-append}
-use Rattle.std.specs.Prelude.{filter, nat_lt, vec_capacity}
+use Rattle.std.specs.Prelude.{filter, nat_lt, vec_capacity, Result, Ok, Err, IfOk}
 use Rattle.std.specs.List.{range_with_len, flat_map}
+use Rattle.std.specs.Global.{Vec}
 use Rattle.std.proofs.lemmas.List.{length-map, map_push}
 use Rattle.std.proofs.lemmas.Bool.Decides.{leb_tells}
 use Rattle.std.proofs.lemmas.List.Concat.{flat_map-append}
@@ -26,7 +27,7 @@ use Rattle.board.specs.Known.{IsOutgoing, IsIncoming}
 use Rattle.board.specs.Views.{PostView}
 use Rattle.board.specs.Meeting.{IsJoint}
 use Rattle.board.specs.Gathering.{AreJoint, LaneEnds, lane_to, is_waiting}
-use Rattle.board.specs.Parting.{IsAmong, AreOf, room_lane, IsRoom, IsLaneRoom, HaveRooms, receives_until, AreCounted}
+use Rattle.board.specs.Parting.{IsAmong, AreOf, room_lane, IsRoom, IsLaneRoom, HaveRooms, receives_until, AreCounted, IsForLine, AreForLinesBehind}
 use Rattle.board.proofs.Claiming.{sent_within}
 use Rattle.board.proofs.Closes.{line_short}
 use Rattle.board.proofs.DidLemmas.{waiting_many}
@@ -153,3 +154,16 @@ room_for n k posts are to from q p room to_there from_there to_is from_is its h 
     let sized = are.size to_there.0 to to_there.1 in
     subst (λ x. IsRoom h x k q p room) sized.0 (subst (λ x. IsRoom h to.board.size x q p room) sized.1 (subst (λ x. IsRoom h to.board.size to.board.capacity x p room) from_is (subst (λ x. IsRoom h to.board.size to.board.capacity from.number x room) to_is
     (its h (joint to_there.0 to to_there.1) (joint from_there.0 from from_there.1)))))
+
+-- Lists for the events of lines: one that is made, and one more.
+
+pub for_line_made : {E : Type 0} (made : Result (Vec Event) E) (many p : ℕ) (its : List Occurrence → Type 0) → IfOk made (λ (v : Vec Event). v.items ≡ []) → IfOk made (λ (v : Vec Event). vec_capacity v ≡ many)
+    → ((h : List Occurrence) → its h → many ≡ length (chart_of h p)) → IfOk made (λ (v : Vec Event). (h : List Occurrence) → its h → IsForLine h p v)
+for_line_made (Ok v) many p its empty exact long = λ h holds. record { empty = empty; exact = exact ∙ long h holds }
+for_line_made (Err e) many p its empty exact long = record {}
+
+pub for_lines_push : (h : List Occurrence) (many : ℕ) (lists : List (Vec Event)) (events : Vec Event) → AreForLinesBehind h many lists → IsForLine h (many + length lists + 1) events → AreForLinesBehind h many (lists ++ events ∷ [])
+for_lines_push h many [] events before its = let same : many + 0 + 1 ≡ many + 1 = omega arith in (subst (λ p. IsForLine h p events) same its, record {})
+for_lines_push h many (x ∷ lists) events before its =
+    let same : many + suc (length lists) + 1 ≡ many + 1 + length lists + 1 = omega arith in
+    (before.0, for_lines_push h (many + 1) lists events before.1 (subst (λ p. IsForLine h p events) same its))

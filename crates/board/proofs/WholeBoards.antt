@@ -15,7 +15,7 @@ use Rattle.board.specs.declared.parting.Leaver.{Leaver}
 use Rattle.board.specs.Views.{PostView}
 use Rattle.board.specs.Meeting.{AreOfOneBoard, HaveMet, HasPost, AreAll}
 use Rattle.board.specs.Gathering.{LaneEnds, AreJoint, size_of, all_lanes, waiting_lanes, closed_lanes, closed_view}
-use Rattle.board.specs.Parting.{AreOf, HaveRooms, AreClosed, HaveSeen, HaveParted, AreReady, AreForEvents, room_lane, receives_until}
+use Rattle.board.specs.Parting.{AreOf, HaveRooms, AreClosed, HaveSeen, HaveParted, AreReady, AreForLines, room_lane, receives_until}
 use Rattle.board.specs.Provisions.{IsProvision}
 use Rattle.board.proofs.DrawnLanes.{next_first}
 use Rattle.board.proofs.Meetings.{at_within}
@@ -119,8 +119,8 @@ module _ (posts left : List PostView) (n k : ℕ) (table : TableId) (h : List Oc
   pub its_reports : length (receives_until h n) ≤ vec_capacity it.reports
   its_reports = subst (λ (m : ℕ). length (receives_until h m) ≤ vec_capacity it.reports) (sym g.size) (provision.for_reports h g.joint)
 
-  pub its_own_events : AreForEvents n it.own_events.items
-  its_own_events = subst (λ (m : ℕ). AreForEvents m it.own_events.items) (sym g.size) provision.own_events
+  pub its_own_events : AreForLines h n it.own_events.items
+  its_own_events = subst (λ (m : ℕ). AreForLines h m it.own_events.items) (sym g.size) (provision.own_events h g.joint)
 
   pub its_rooms : HaveRooms n k posts (all_lanes n) it.rooms.items
   its_rooms = subst (λ (m : ℕ). HaveRooms m k posts (all_lanes m) it.rooms.items) (sym g.size) (provision.rooms k (subst (λ (m : ℕ). AreOf m k posts) g.size g.are))

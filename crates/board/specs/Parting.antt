@@ -85,13 +85,20 @@ receives_until h many = flat_map receives_of (history_lines many h)
 abbrev pub AreCounted : List Occurrence → ℕ → ℕ → Type 0
 AreCounted h many count = count ≡ length (receives_until h many)
 
--- an empty list with room for the events of a line
-abbrev pub IsForEvents : Vec Event → Type 0
-IsForEvents events = (events.items ≡ []) × (MAX_EVENTS ≤ vec_capacity events)
+-- an empty list with room for just the events of p's line after the history
+pub record IsForLine (h : List Occurrence) (p : ℕ) (events : Vec Event) : Type 0 where
+  pub empty : events.items ≡ []
+  pub exact : vec_capacity events ≡ length (chart_of h p)
 
--- so many of them
-abbrev pub AreForEvents : ℕ → List (Vec Event) → Type 0
-AreForEvents many lists = (length lists ≡ many) × All IsForEvents lists
+-- such a list for each of the instances behind so many, by their numbers
+abbrev pub AreForLinesBehind : List Occurrence → ℕ → List (Vec Event) → Type 0
+AreForLinesBehind h many [] = Unit {0}
+AreForLinesBehind h many (events ∷ lists) = IsForLine h (many + 1) events × AreForLinesBehind h (many + 1) lists
+
+-- such a list for each of n instances
+pub record AreForLines (h : List Occurrence) (n : ℕ) (lists : List (Vec Event)) : Type 0 where
+  pub as_many : length lists ≡ n
+  pub each : AreForLinesBehind h 0 lists
 
 -- Posts that have met, and what they leave.
 

@@ -4,12 +4,12 @@ use Rattle.chart.specs.declared.history.Occurrence.{Occurrence}
 use Rattle.board.specs.declared.gathering.Provision.{Provision}
 use Rattle.board.specs.Views.{PostView}
 use Rattle.board.specs.Gathering.{AreJoint, all_lanes}
-use Rattle.board.specs.Parting.{AreOf, HaveRooms, AreClosed, AreForEvents, receives_until}
+use Rattle.board.specs.Parting.{AreOf, HaveRooms, AreClosed, AreForLines, receives_until}
 
 -- there is room for the lines and the reports of n instances, by whatever history their posts have in common, and for
 -- what waits on each of their lanes; and there are the lanes that were closed
 pub record IsProvision (n : ℕ) (posts : List PostView) (it : Provision) : Type 0 where
-  pub own_events : AreForEvents n it.own_events.items
+  pub own_events : (h : List Occurrence) → AreJoint h posts → AreForLines h n it.own_events.items
   pub lines : it.lines.items ≡ []
   pub reports : it.reports.items ≡ []
   pub leavers : it.leavers.items ≡ []

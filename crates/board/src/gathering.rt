@@ -6,7 +6,6 @@ ghost use Rattle.chart.specs.declared.instance.TheConstants.{MAX_INSTANCES};
 ghost use Rattle.chart.specs.Charts.{HasPartners, IsNumbered};
 ghost use Rattle.board.specs.Meeting.{AreOfOneBoard, AreAll};
 ghost use Rattle.board.specs.Gathering.{size_of, IsWhole, Gathers};
-ghost use Rattle.board.specs.Parting.{AreForEvents};
 ghost use Rattle.board.specs.Provisions.{IsProvision};
 
 use crate::closed_lanes::find_closed;
@@ -14,9 +13,9 @@ use crate::error::GatherCause;
 use crate::meeting::{are_all, meet};
 use crate::parting::{Leaver, Room, draw_lanes, part_all};
 use crate::post::Post;
-use crate::reserving::{count_receives, make_rooms};
+use crate::reserving::{count_receives, make_own_events, make_rooms};
 use board_table::Words;
-use chart::{Chart, Event, InstanceNo, Line, MAX_EVENTS, Message, Report};
+use chart::{Chart, Event, InstanceNo, Line, Message, Report};
 use std::alloc::{AllocError, Global};
 
 /// What a whole board came to.
@@ -57,7 +56,7 @@ pub struct GatherError<'a> {
 /// Room for all that a board comes to.
 #[derive(Drop)]
 pub(crate) struct Provision {
-    /// For each instance a list for the events of its line.
+    /// For each instance a list with room for the events of its line, by their numbers.
     pub own_events: Vec<Vec<Event>>,
     pub lines: Vec<Line>,
     pub reports: Vec<Report>,
@@ -76,20 +75,6 @@ impl<'a> Post<'a> {
     }
 }
 
-/// A list for the events of each line, so many lines.
-///
-/// F6: it fails only where there is no memory.
-fn make_own_events(alloc: Global, instances: usize) -> Result<Vec<Vec<Event>>, AllocError>
-    ensures { IfOk result (λ lists. AreForEvents instances lists.items) }
-{
-    let mut lists = Vec::with_capacity(alloc, instances)?;
-    while lists.len() < instances {
-        let events = Vec::with_capacity(alloc, MAX_EVENTS)?;
-        lists.push_reserved(events);
-    }
-    Ok(lists)
-}
-
 /// Makes room for all that a board comes to. F6: it fails only where there is no memory.
 fn make_provision(alloc: Global, posts: &[Post]) -> Result<Provision, AllocError>
     requires board { AreOfOneBoard posts.now }
@@ -100,7 +85,7 @@ fn make_provision(alloc: Global, posts: &[Post]) -> Result<Provision, AllocError
     let receives = count_receives(posts, instances);
     let rooms = make_rooms(alloc, posts, instances)?;
     let closed = find_closed(alloc, posts, instances)?;
-    let own_events = make_own_events(alloc, instances)?;
+    let own_events = make_own_events(alloc, posts, instances)?;
     Ok(Provision {
         own_events,
         lines: Vec::with_capacity(alloc, instances)?,

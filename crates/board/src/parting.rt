@@ -11,7 +11,7 @@ ghost use Rattle.board.specs.Views.{PostView, line_of};
 ghost use Rattle.board.specs.Parked.{IsAtBoard};
 ghost use Rattle.board.specs.Meeting.{HasPost};
 ghost use Rattle.board.specs.Gathering.{left_view, left_on};
-ghost use Rattle.board.specs.Parting.{IsAmong, room_lane, IsLaneRoom, IsForEvents, AreForEvents, receives_until};
+ghost use Rattle.board.specs.Parting.{IsAmong, room_lane, IsLaneRoom, AreForLines, receives_until};
 ghost use Rattle.board.specs.Parting.{HaveSeen, HaveParted, AreReady};
 
 use crate::gathering::Left;
@@ -19,7 +19,7 @@ use crate::meeting::place_of;
 use crate::parked::Parked;
 use crate::post::Post;
 use board_table::{Lane, Seat, Words, draw, leave};
-use chart::{Event, InstanceNo, Line, MAX_EVENTS, Message, Report};
+use chart::{Event, InstanceNo, Line, Message, Report};
 
 /// Room for the messages of a lane that wait.
 #[derive(Drop)]
@@ -43,9 +43,11 @@ pub(crate) struct Leaver {
 }
 
 impl Parked {
-    /// Leaves its board, with the messages that wait for it. Its events go into this list. It takes no memory.
+    /// Leaves its board, with the messages that wait for it. Its events go into this list, which has room for them. It
+    /// takes no memory.
     fn part(self, words: &Words, events: Vec<Event>) -> (Line, Vec<Report>, Leaver)
-        requires events { IsForEvents events }
+        requires empty { events.items ≡ [] }
+        requires room { length (line_of self) ≤ vec_capacity events }
         requires board { IsAtBoard words.now.key words.now.table_id self }
         ensures line { result.0 ≡ record { instance = self.number; events = line_of self } }
         ensures receives { map (λ report. report.receive) result.1.items
@@ -62,16 +64,17 @@ impl Parked {
             ..
         } = self;
         leave(words, &mut seat);
-        prove!(recorder.line().len() <= MAX_EVENTS);
         let (line, reports) = recorder.into_parts(events);
         (line, reports, Leaver { number, seat })
     }
 }
 
 impl<'a> Post<'a> {
-    /// Leaves its board, with the messages that wait for it. Its events go into this list. It takes no memory.
+    /// Leaves its board, with the messages that wait for it. Its events go into this list, which has room for them. It
+    /// takes no memory.
     pub(crate) fn part(self, events: Vec<Event>) -> (Line, Vec<Report>, Leaver)
-        requires { IsForEvents events }
+        requires empty { events.items ≡ [] }
+        requires room { length (line_of self) ≤ vec_capacity events }
         ensures line { result.0 ≡ record { instance = self.entry.number; events = line_of self.entry } }
         ensures receives { map (λ report. report.receive) result.1.items
             ≡ receives_of (record { instance = self.entry.number; events = line_of self.entry }) }
@@ -137,8 +140,8 @@ fn take_post<'a>(posts: &mut Vec<Post<'a>>, number: usize) -> Post<'a>
     posts.remove(place)
 }
 
-/// All posts of a board, which have met, leave it, by their numbers. There is room for their lines and their reports,
-/// and for themselves.
+/// All posts of a board, which have met, leave it, by their numbers. There is room for their lines, each of which has a
+/// list for its events, for their reports, and for themselves.
 pub(crate) fn part_all(
     posts: Vec<Post>,
     instances: usize,
@@ -148,8 +151,7 @@ pub(crate) fn part_all(
     leavers: &mut Vec<Leaver>,
 )
     requires seen { (k : ℕ) × (table : TableId) × (h : List Occurrence) × HaveSeen instances k table h 0 posts.items
-        × (length (receives_until h instances) ≤ vec_capacity reports.old) }
-    requires own_events { AreForEvents instances own_events.items }
+        × AreForLines h instances own_events.items × (length (receives_until h instances) ≤ vec_capacity reports.old) }
     requires empty { (lines.old.items ≡ []) × (reports.old.items ≡ []) × (leavers.old.items ≡ []) }
     requires enough { (instances ≤ vec_capacity lines.old) × (instances ≤ vec_capacity leavers.old) }
     ensures { (k : ℕ) (table : TableId) (h : List Occurrence) → HaveSeen instances k table h 0 posts.entry.items
@@ -157,9 +159,9 @@ pub(crate) fn part_all(
         reports.new.items leavers.new.items }
 {
     let mut posts = posts;
-    let mut own_events = own_events;
+    let mut own_events = own_events.into_iter();
     for place in 0..instances {
-        let Some(events) = own_events.pop() else {
+        let Some(events) = own_events.next() else {
             unreachable!()
         };
         let (line, mut own, leaver) = take_post(&mut posts, place + 1).part(events);

@@ -9,13 +9,14 @@ ghost use Rattle.chart.specs.Reports.{receives_of};
 ghost use Rattle.board.specs.Views.{PostView};
 ghost use Rattle.board.specs.Meeting.{IsJoint, HasPost, IsAt};
 ghost use Rattle.board.specs.Gathering.{AreJoint, LaneEnds, lane_to, lanes_of, all_lanes};
-ghost use Rattle.board.specs.Parting.{IsAmong, AreOf, IsRoom, HaveRooms, AreCounted};
+ghost use Rattle.board.specs.Parting.{IsAmong, AreOf, IsRoom, HaveRooms, AreCounted, IsForLine, AreForLines};
 
 use crate::meeting::place_of;
 use crate::parked::Parked;
 use crate::parting::Room;
 use crate::post::Post;
 use board_table::Lane;
+use chart::Event;
 use std::alloc::{AllocError, Global};
 
 /// The post of this number.
@@ -60,6 +61,13 @@ impl Parked {
     {
         self.recorder.reports().len()
     }
+
+    /// An empty list with room for just the events of its line. F6: it fails only where there is no memory.
+    fn list_for_line(&self, alloc: Global) -> Result<Vec<Event>, AllocError>
+        ensures { IfOk result (λ events. (h : List Occurrence) → IsJoint h self.now → IsForLine h self.now.number events) }
+    {
+        Vec::with_capacity(alloc, self.recorder.line().len())
+    }
 }
 
 impl<'a> Post<'a> {
@@ -80,6 +88,13 @@ impl<'a> Post<'a> {
         ensures within_limit { result ≤ MAX_EVENTS }
     {
         self.parked.receive_count()
+    }
+
+    /// An empty list with room for just the events of its line. F6: it fails only where there is no memory.
+    fn list_for_line(&self, alloc: Global) -> Result<Vec<Event>, AllocError>
+        ensures { IfOk result (λ events. (h : List Occurrence) → IsJoint h self.now → IsForLine h self.now.number events) }
+    {
+        self.parked.list_for_line(alloc)
     }
 }
 
@@ -136,4 +151,22 @@ pub(crate) fn count_receives(posts: &[Post], instances: usize) -> usize
         total += post_of(posts, place + 1).receive_count();
     }
     total
+}
+
+/// For each instance a list with room for just the events of its line, by their numbers. F6: it fails only where there
+/// is no memory.
+pub(crate) fn make_own_events(
+    alloc: Global,
+    posts: &[Post],
+    instances: usize,
+) -> Result<Vec<Vec<Event>>, AllocError>
+    requires posts { (k : ℕ) × AreOf instances k posts.now }
+    ensures { IfOk result (λ lists. (h : List Occurrence) → AreJoint h posts.now → AreForLines h instances lists.items) }
+{
+    let mut lists = Vec::with_capacity(alloc, instances)?;
+    for place in 0..instances {
+        let events = post_of(posts, place + 1).list_for_line(alloc)?;
+        lists.push_reserved(events);
+    }
+    Ok(lists)
 }

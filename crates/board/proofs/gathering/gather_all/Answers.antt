@@ -22,19 +22,7 @@ part_all-requires-clause-seen c =
     let h = went.0 in
     let g = went.1 in
     let rest = take c.args.posts.len (c.meet.new.posts ++ drop (length c.meet.new.posts) posts) in
-    (x.board.capacity, x.board.table, h, g.seen, its_reports posts rest n x.board.capacity x.board.table h g it c.requires.provision)
-
-pub part_all-requires-clause-own_events : goal.part_all-requires-clause-own_events
-part_all-requires-clause-own_events c =
-    let n = c.board_size-instances.result in
-    let x = c.index.result.now in
-    let posts = c.args.posts.items in
-    let it = c.args.provision in
-    let went = going posts c.deref_mut.result.now c.meet.new.posts c.args.posts.len x n c.requires.all c.requires.board c.index.ensures c.deref_mut.ensures.value c.deref_mut.ensures.len c.meet.ensures.met c.board_size-instances.ensures.value c.board_size-instances.ensures.sized.0 in
-    let h = went.0 in
-    let g = went.1 in
-    let rest = take c.args.posts.len (c.meet.new.posts ++ drop (length c.meet.new.posts) posts) in
-    its_own_events posts rest n x.board.capacity x.board.table h g it c.requires.provision
+    (x.board.capacity, x.board.table, h, g.seen, its_own_events posts rest n x.board.capacity x.board.table h g it c.requires.provision, its_reports posts rest n x.board.capacity x.board.table h g it c.requires.provision)
 
 pub draw_lanes-requires-clause-ready : goal.draw_lanes-requires-clause-ready
 draw_lanes-requires-clause-ready c =

@@ -29,6 +29,13 @@ find_closed-requires-clause-posts c =
     let at : slice_get posts 0 ≡ Some x = slice_get-get_or posts 0 x (some_posts posts c.requires.all) ∙ ap (λ (post : PostView). Some post) (sym c.index-posts-0.is) in
     (x.board.capacity, are_of posts x at c.requires.board c.requires.all c.board_size-instances.result c.board_size-instances.ensures.value)
 
+pub make_own_events-requires : goal.make_own_events-requires
+make_own_events-requires c =
+    let posts = c.args.posts.now in
+    let x = c.index-posts-0.result in
+    let at : slice_get posts 0 ≡ Some x = slice_get-get_or posts 0 x (some_posts posts c.requires.all) ∙ ap (λ (post : PostView). Some post) (sym c.index-posts-0.is) in
+    record { posts = (x.board.capacity, are_of posts x at c.requires.board c.requires.all c.board_size-instances.result c.board_size-instances.ensures.value) }
+
 pub returns : goal.returns
 returns c =
     let posts = c.args.posts.now in

@@ -1,15 +1,32 @@
 use Rattle.std.proofs.Common.{rules, ◌≡◌, ◌+◌, ◌<◌, ◌++◌, ◌∷◌, [], ℕ, List, length, length-append, vec_capacity, sym, ap, subst, arith}
-use Rattle.std.proofs.lemmas.List.Elements.{All-pop}
 use Rattle.chart.specs.Charts.{LineView}
 use Rattle.chart.specs.Reports.{ReportView}
 use Rattle.board.specs.declared.parting.Leaver.{Leaver}
-use Rattle.board.specs.Parting.{IsForEvents, HaveParted}
-use Rattle.board.proofs.Leavers.{seen_next, own_fits, parted_next}
+use Rattle.board.specs.Parting.{IsForLine, AreForLinesBehind, HaveParted}
+use Rattle.board.proofs.Leavers.{seen_next, line_fits, own_fits, parted_next}
 use Rattle.board.proofs.parting.part_all.Goals as goal
 
 pub unreachable-requires : goal.unreachable-requires
 unreachable-requires c =
-    omega (arith, c.in_default.ensures.cases.0, c.loop-place.own_events.ok, c.loop-place.invariant.events_many, c.loop-place-test.true)
+    omega (arith, c.in_default.ensures.cases.0, c.loop-place.invariant.events_many, c.loop-place-test.true)
+
+pub part-line-requires-clause-empty : goal.part-line-requires-clause-empty
+part-line-requires-clause-empty c =
+    let its = c.requires.seen in
+    let place = c.loop-place.place in
+    let all = subst (AreForLinesBehind its.2 0) (sym c.into_iter-own_events.ensures.rest) its.4.each in
+    (subst (AreForLinesBehind its.2 place) c.in-Some.ensures.cases.0 (c.loop-place.invariant.events its.2 all)).0.empty
+
+pub part-line-requires-clause-room : goal.part-line-requires-clause-room
+part-line-requires-clause-room c =
+    let n = c.args.instances in
+    let its = c.requires.seen in
+    let place = c.loop-place.place in
+    let among = c.take_post.ensures.among in
+    let met = (c.loop-place.invariant.seen its.0 its.1 its.2 its.3).each among.0 c.take_post.result among.1 in
+    let all = subst (AreForLinesBehind its.2 0) (sym c.into_iter-own_events.ensures.rest) its.4.each in
+    let list : IsForLine its.2 (place + 1) c.in-Some.events = (subst (AreForLinesBehind its.2 place) c.in-Some.ensures.cases.0 (c.loop-place.invariant.events its.2 all)).0 in
+    line_fits n its.0 its.1 its.2 place c.take_post.result met c.take_post.ensures.number c.in-Some.events list
 
 pub unreachable-requires-in_default-append : goal.unreachable-requires-in_default-append
 unreachable-requires-in_default-append c =
@@ -20,7 +37,7 @@ unreachable-requires-in_default-append c =
     let met = (inv.seen its.0 its.1 its.2 its.3).each among.0 c.take_post.result among.1 in
     let fits = own_fits n its.0 its.1 its.2 c.loop-place.place c.take_post.result met c.take_post.ensures.number c.loop-place.lines.items c.loop-place.reports.items c.part-line.result.1.items c.loop-place.leavers.items (inv.parted its.0 its.1 its.2 its.3) c.loop-place-test.true c.part-line.ensures.receives in
     let full : vec_capacity c.loop-place.reports < length c.loop-place.reports.items + length c.part-line.result.1.items = search rules in
-    absurd (omega (arith, full, fits, its.4, inv.reports))
+    absurd (omega (arith, full, fits, its.5, inv.reports))
 
 pub loop-place-preserved : goal.loop-place-preserved
 loop-place-preserved c =
@@ -40,8 +57,8 @@ loop-place-preserved c =
       lines = omega (arith, inv.lines, c.push_reserved.ensures.capacity);
       leavers = omega (arith, inv.leavers, c.push_reserved-in-loop-place.ensures.capacity);
       reports = omega (arith, inv.reports, c.append.ensures.capacity);
-      events_many = omega (arith, ap length c.in-Some.ensures.items, length-append c.pop.new.self.items (c.in-Some.events ∷ []), inv.events_many);
-      events = (All-pop IsForEvents c.loop-place.own_events.items c.pop.new.self.items c.pop.result c.pop.ensures.items inv.events).0;
+      events_many = omega (arith, c.in-Some.ensures.cases.1, inv.events_many);
+      events = λ h all. (subst (AreForLinesBehind h place) c.in-Some.ensures.cases.0 (inv.events h all)).1;
       lines_many = omega (arith, ap length lines, length-append c.loop-place.lines.items (line ∷ []), inv.lines_many);
       leavers_many = omega (arith, ap length leavers, length-append c.loop-place.leavers.items (leaver ∷ []), inv.leavers_many);
       seen = λ k table h first. seen_next n k table h place c.loop-place.posts.items c.take_post.new.posts.items (inv.seen k table h first) taken.kept taken.others;
