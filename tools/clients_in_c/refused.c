@@ -31,6 +31,9 @@ void rattle_dealloc(void *at) {
 
 static int failures, met;
 
+/* Whether a receive of several went on where a request was refused: without room for all it takes one after another. */
+static int went_on;
+
 /* Makes the call again where memory was refused, once. */
 #define AGAIN(call)                        \
     do {                                   \
@@ -52,7 +55,9 @@ static void take_several(msc_post *post, uint32_t from, size_t wanted) {
     int answer;
     char body;
     while (all < wanted) {
+        long before = asked;
         answer = msc_receive_up_to(post, from, came, wanted - all, &count);
+        if (answer != MSC_NO_MEMORY && before < refused && refused <= asked) went_on = 1;
         if (answer == MSC_NO_MEMORY) met++;
         else if (answer != MSC_DONE || count == 0) {
             printf("several: %d, %zu messages\n", answer, count);
@@ -114,8 +119,9 @@ int main(void) {
         asked = 0;
         refused = n;
         met = 0;
+        went_on = 0;
         round_trip();
-        if (met != 1) {
+        if (met != !went_on) {
             printf("the %ld. request was refused, and %d calls said so\n", n, met);
             failures++;
         }
