@@ -1,4 +1,5 @@
 pub mod Carrying
 pub mod Charted
+pub mod KeptLemmas
 pub mod Recording
 pub mod SendsLemmas

@@ -1,4 +1,5 @@
 pub mod Carried
+pub mod Kept
 pub mod Laws
 pub mod Recorders
 pub mod Recording

@@ -22,6 +22,7 @@
 #![tactic(auto)]
 
 mod error;
+mod kept_reports;
 pub mod laws;
 mod recorder;
 mod several;

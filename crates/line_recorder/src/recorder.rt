@@ -9,6 +9,7 @@ ghost use Rattle.line_recorder.specs.Recorders.{new_recorder, with_room, send_cl
 ghost use Rattle.line_recorder.specs.Recorders.{after_report, after_receive, IsReportAbove, IsReportOf};
 
 use crate::error::RecordError;
+use crate::kept_reports::KeptReports;
 use chart::{
     Event, EventNo, GrowingLine, InstanceNo, Line, MAX_EVENTS, MAX_INSTANCES, Name, Report,
 };
@@ -27,13 +28,13 @@ pub struct Recorder {
     pub(crate) alloc: Global,
     pub(crate) line: GrowingLine,
     pub(crate) knowledge: Clock,
-    reports: Vec<Report>,
+    reports: KeptReports,
     /// For so many events room was made: the line has so much, or more.
     pub(crate) room: usize,
 }
 
 impl Model for Recorder {
-    ghost use Rattle.std.specs.Prelude.{◌≤◌, length};
+    ghost use Rattle.std.specs.Prelude.{◌≡◌, ◌≤◌, length};
     ghost use Rattle.line_recorder.specs.Recorders.{RecorderView};
 
     ghost Value = { RecorderView };
@@ -41,11 +42,12 @@ impl Model for Recorder {
     ghost view = { λ r. record {
       line = r.line.line;
       knowledge = r.knowledge;
-      reports = r.reports.items;
+      reports = r.reports.reports;
       room = r.room;
     } };
 
-    ghost invariant = { λ r. (r.line.line.instance ≤ length r.knowledge) × (r.room ≤ r.line.room) };
+    ghost invariant = { λ r. (r.line.line.instance ≤ length r.knowledge) × (r.room ≤ r.line.room)
+        × (r.reports.instance ≡ r.line.line.instance) };
 }
 
 impl Recorder {
@@ -63,7 +65,7 @@ impl Recorder {
             alloc,
             line: GrowingLine::new(alloc, p),
             knowledge: Clock::zero(alloc, n)?,
-            reports: Vec::new(alloc),
+            reports: KeptReports::new(alloc, p),
             room: 0,
         })
     }
@@ -128,24 +130,24 @@ impl Recorder {
             .stamped(self.alloc, self.line.instance(), next)
     }
 
-    /// The report of each receive of the line, in their order.
-    #[inline(always)]
-    pub fn reports(&self) -> &[Report]
-        ensures { result.now ≡ self.now.reports }
+    /// The report of each receive of the line, in their order. They are made again of what is kept of them.
+    ///
+    /// F6: it fails only where there is no memory.
+    pub fn reports(&self, alloc: Global) -> Result<Vec<Report>, AllocError>
+        ensures { IfOk result (λ reports. reports.items ≡ self.now.reports) }
     {
-        self.reports.as_slice()
+        self.reports.listed(alloc)
     }
 
-    /// The line and the reports, of which the recorder is made no more. The line's events go into this list, which has
-    /// room for them. It takes no memory.
-    pub fn into_parts(self, events: Vec<Event>) -> (Line, Vec<Report>)
+    /// The line, of which the recorder is made no more. Its events go into this list, which has room for them. It takes
+    /// no memory.
+    pub fn into_line(self, events: Vec<Event>) -> Line
         requires empty { events.items ≡ [] }
         requires room { length self.line.events ≤ vec_capacity events }
-        ensures line { result.0 ≡ self.line }
-        ensures reports { result.1.items ≡ self.reports }
+        ensures { result ≡ self.line }
     {
-        let Recorder { line, reports, .. } = self;
-        (Line::of(line, events), reports)
+        let Recorder { line, .. } = self;
+        Line::of(line, events)
     }
 
     /// Records a send to this instance, and answers its clock: what is known, and the send itself.
@@ -226,7 +228,7 @@ impl Recorder {
     }
 
     /// Records a receive from this instance of a message of this name, whose send had this clock, in this coregion (0
-    /// outside of one). It keeps the report of the receive, and answers a copy: the races above what the send knows of
+    /// outside of one). It keeps what the report of the receive says, and answers it: the races above what the send knows of
     /// this line, and it is the message's own clock that says this, not all that is known here.
     ///
     /// A refusal, the first of F7 and F6 that applies, changes nothing. Without races, and with room on the line and
@@ -318,12 +320,11 @@ impl Recorder {
         };
         let earlier = next_races(self.alloc, &self.line, entry, from, region)?;
         let report = Report::new(receive, earlier);
-        let copy = report.copied(self.alloc)?;
-        self.reports.reserve(1)?;
+        self.reports.make_room(&report)?;
         self.line.push(Event::Receive { from, name, region })?;
         self.room = self.room.saturating_sub(1);
-        self.reports.push_reserved(report);
-        Ok(copy)
+        self.reports.keep(&report);
+        Ok(report)
     }
 }
 
