@@ -1,23 +1,19 @@
 -- Posts that leave, one after another.
 use Rattle.std.proofs.Common.{◌≡◌, ◌≢◌, ℕ, zero, suc, ◌+◌, ◌-◌, ◌<◌, ◌≤◌, ◌⊎◌, inl, inr, ⊎_elim, List, [], ◌∷◌, ◌++◌, length, take, drop, map, vec_capacity, refl, sym, ap, ap₂, ◌∙◌, subst, arith, length-append}
-use Rattle.std.specs.Prelude.{slice_get, None, Some, All}
+use Rattle.std.specs.Prelude.{slice_get, None, Some}
 use Rattle.std.specs.Global.{Vec}
-use Rattle.std.proofs.lemmas.List.{map-append, length-map}
-use Rattle.std.proofs.lemmas.List.Concat.{flat_map-append}
-use Rattle.std.proofs.lemmas.List.Elements.{All-append}
 use Rattle.atomic_table.specs.Seated.{TableId}
 use Rattle.chart.specs.declared.event.Event.{Event}
 use Rattle.chart.specs.declared.history.Occurrence.{Occurrence}
 use Rattle.chart.specs.Histories.{chart_of}
 use Rattle.chart.specs.HistoryLines.{history_line, history_lines}
-use Rattle.chart.specs.Charts.{Chart, LineView}
-use Rattle.chart.specs.Reports.{ReportView, IsReportIn, AreReportsOf, receives_of}
+use Rattle.chart.specs.Charts.{LineView}
 use Rattle.board.specs.Views.{PostView, line_of}
 use Rattle.board.specs.Meeting.{HasPost}
 use Rattle.board_table.specs.Leaving.{HaveLeft}
 use Rattle.board.specs.declared.parting.Leaver.{Leaver}
-use Rattle.board.specs.Parting.{IsAmong, HasMet, HaveSeen, HaveParted, IsForLine, receives_until}
-use Rattle.board.proofs.RoomsMade.{lines_next, receives_next, receives_grow}
+use Rattle.board.specs.Parting.{IsAmong, HasMet, HaveSeen, HaveParted, IsForLine}
+use Rattle.board.proofs.RoomsMade.{lines_next}
 
 none_there : (y : PostView) → None ≡ Some y → ⊥
 none_there y never = cc
@@ -41,17 +37,6 @@ others_there (x ∷ posts) zero taken p at ne (suc i, post, there, same) = (i, p
 others_there (x ∷ posts) (suc place) taken p at ne (zero, post, there, same) = (0, post, there, same)
 others_there (x ∷ posts) (suc place) taken p at ne (suc i, post, there, same) =
     let its = others_there posts place taken p at ne (i, post, there, same) in (suc its.0, its.1, its.2, its.3)
-
--- the reports of one line more
-pub reports_push : (c : Chart) (l : LineView) (lines : List LineView) (reports own : List ReportView) → AreReportsOf c lines reports → map (λ (r : ReportView). r.receive) own ≡ receives_of l → All (IsReportIn c) own → AreReportsOf c (lines ++ l ∷ []) (reports ++ own)
-reports_push c l lines reports own before receives each = record {
-  receives = map-append (λ (r : ReportView). r.receive) reports own ∙ ap₂ (λ xs ys. xs ++ ys) before.receives (receives ∙ sym (append_none (receives_of l))) ∙ sym (flat_map-append receives_of lines (l ∷ []));
-  each = All-append (IsReportIn c) reports own before.each each;
-}
-  where
-    append_none : {X : Type 0} (xs : List X) → xs ++ [] ≡ xs
-    append_none [] = refl
-    append_none (x ∷ xs) = ap (λ ys. x ∷ ys) (append_none xs)
 
 no_element : {X : Type 0} (x : X) → None ≡ Some x → ⊥
 no_element x never = cc
@@ -82,34 +67,11 @@ module _ (n k : ℕ) (table : TableId) (h : List Occurrence) (place : ℕ) where
     pub line_fits : (events : Vec Event) → IsForLine h (place + 1) events → length (line_of post) ≤ vec_capacity events
     line_fits events its = omega (arith, its.exact, ap length (ap₂ (λ (p : ℕ) (g : List Occurrence). chart_of g p) number met.seen))
 
-    own_is : (own : List ReportView) → map (λ (r : ReportView). r.receive) own ≡ receives_of (record { instance = post.number; events = line_of post }) → map (λ (r : ReportView). r.receive) own ≡ receives_of (history_line h (place + 1))
-    own_is own receives = receives ∙ ap receives_of (line_is (record { instance = post.number; events = line_of post }) refl)
-
-    pub own_fits : (lines : List LineView) (reports own : List ReportView) (leavers : List Leaver) → HaveParted (record { table = table; size = n; capacity = k }) h place lines reports leavers → place < n → map (λ (r : ReportView). r.receive) own ≡ receives_of (record { instance = post.number; events = line_of post })
-        → length reports + length own ≤ length (receives_until h n)
-    own_fits lines reports own leavers parted less receives =
-        let rest : ℕ = n - (place + 1) in
-        let whole : place + 1 + rest ≡ n = omega arith in
-        let grown = subst (λ i. length (receives_until h (place + 1)) ≤ length (receives_until h i)) whole (receives_grow h (place + 1) rest) in
-        omega (
-          arith,
-          grown,
-          ap length (receives_next h place),
-          length-append (receives_until h place) (receives_of (history_line h (place + 1))),
-          ap length parted.reported.receives,
-          length-map reports (λ (r : ReportView). r.receive),
-          ap length (own_is own receives),
-          length-map own (λ (r : ReportView). r.receive),
-        )
-
-    pub parted_next : (lines : List LineView) (reports own : List ReportView) (leavers : List Leaver) (line : LineView) (leaver : Leaver) → HaveParted (record { table = table; size = n; capacity = k }) h place lines reports leavers
-        → line ≡ record { instance = post.number; events = line_of post } → map (λ (r : ReportView). r.receive) own ≡ receives_of (record { instance = post.number; events = line_of post }) → All (IsReportIn (chart_of post.seen)) own
+    pub parted_next : (lines : List LineView) (leavers : List Leaver) (line : LineView) (leaver : Leaver) → HaveParted (record { table = table; size = n; capacity = k }) h place lines leavers → line ≡ record { instance = post.number; events = line_of post }
         → leaver.seat.table_id ≡ post.board.table → HaveLeft post.board.size post.board.capacity post.number post.seen 1 post.board.size leaver.seat.me.1
-        → HaveParted (record { table = table; size = n; capacity = k }) h (place + 1) (lines ++ line ∷ []) (reports ++ own) (leavers ++ leaver ∷ [])
-    parted_next lines reports own leavers line leaver parted line_same receives each seated left = record {
+        → HaveParted (record { table = table; size = n; capacity = k }) h (place + 1) (lines ++ line ∷ []) (leavers ++ leaver ∷ [])
+    parted_next lines leavers line leaver parted line_same seated left = record {
       lined = ap₂ (λ ls l. ls ++ l ∷ []) parted.lined (line_is line line_same) ∙ sym (lines_next h place);
-      reported = subst (λ ls. AreReportsOf (chart_of h) ls (reports ++ own)) (sym (lines_next h place))
-          (reports_push (chart_of h) (history_line h (place + 1)) (history_lines place h) reports own parted.reported (own_is own receives) (subst (λ (g : List Occurrence). All (IsReportIn (chart_of g)) own) met.seen each));
       as_many = omega (arith, length-append leavers (leaver ∷ []), parted.as_many);
       seated = λ i one at. ⊎_elim (λ there. parted.seated i one there)
           (λ its. subst (λ (x : Leaver). x.seat.table_id ≡ table) its.1 (seated ∙ ap (λ b. b.table) met.board)) (at_push leavers leaver one i at);

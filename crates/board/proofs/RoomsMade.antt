@@ -3,18 +3,16 @@ use Rattle.std.proofs.Common.{◌≡◌, ◌≢◌, ℕ, zero, suc, ◌+◌, ◌
 use Rattle.std.specs.Prelude.{filter, nat_lt, vec_capacity, Result, Ok, Err, IfOk}
 use Rattle.std.specs.List.{range_with_len, flat_map}
 use Rattle.std.specs.Global.{Vec}
-use Rattle.std.proofs.lemmas.List.{length-map, map_push}
+use Rattle.std.proofs.lemmas.List.{map-append, map_push}
 use Rattle.std.proofs.lemmas.Bool.Decides.{leb_tells}
 use Rattle.std.proofs.lemmas.List.Concat.{flat_map-append}
-use Rattle.std.proofs.lemmas.List.Elements.{All-push, filter-append}
+use Rattle.std.proofs.lemmas.List.Elements.{All-append, All-push, filter-append}
 use Rattle.std.proofs.lemmas.List.FromFn.{map-range_with_len_more}
 use Rattle.chart.specs.declared.history.Occurrence.{Occurrence}
 use Rattle.chart.specs.declared.event.Event.{Event}
-use Rattle.chart.specs.declared.event.Event.TheVariants.{Send, Receive}
-use Rattle.chart.specs.declared.line.TheConstants.{MAX_EVENTS}
 use Rattle.chart.specs.Histories.{own, sent, received, waiting, chart_of, AreTwo, IsLegal}
 use Rattle.chart.specs.HistoryLines.{history_line, history_lines}
-use Rattle.chart.specs.Reports.{ReportView, receives_from, receives_of}
+use Rattle.chart.specs.Reports.{ReportView, IsReportIn, AreReportsOf, receives_of}
 use Rattle.chart.proofs.Histories.{same_sent}
 use Rattle.chart.proofs.Histories as histories
 use Rattle.line_recorder.specs.Recorders.{RecorderView}
@@ -27,7 +25,7 @@ use Rattle.board.specs.Known.{IsOutgoing, IsIncoming}
 use Rattle.board.specs.Views.{PostView}
 use Rattle.board.specs.Meeting.{IsJoint}
 use Rattle.board.specs.Gathering.{AreJoint, LaneEnds, lane_to, is_waiting}
-use Rattle.board.specs.Parting.{IsAmong, AreOf, room_lane, IsRoom, IsLaneRoom, HaveRooms, receives_until, AreCounted, IsForLine, AreForLinesBehind}
+use Rattle.board.specs.Parting.{IsAmong, AreOf, room_lane, IsRoom, IsLaneRoom, HaveRooms, IsForLine, AreForLinesBehind}
 use Rattle.board.proofs.Claiming.{sent_within}
 use Rattle.board.proofs.Closes.{line_short}
 use Rattle.board.proofs.DidLemmas.{waiting_many}
@@ -112,40 +110,28 @@ numbers_next {A} f place =
     map_same [] = refl
     map_same (x ∷ xs) = ap (λ ys. x ∷ ys) (map_same xs)
 
--- Receives, counted.
-
-receives_few : (p i : ℕ) (line : List Event) → length (receives_from p i line) ≤ length line
-receives_few p i [] = omega arith
-receives_few p i (Send to name ∷ line) = let its = receives_few p (i + 1) line in omega (arith, its)
-receives_few p i (Receive from name region ∷ line) = let its = receives_few p (i + 1) line in omega (arith, its)
-
-pub count_is : (n : ℕ) (h : List Occurrence) (p : ℕ) (r : RecorderView) → IsRecorder n h p r → length r.reports ≡ length (receives_of (history_line h p))
-count_is n h p r its = sym (length-map r.reports (λ (report : ReportView). report.receive)) ∙ ap length its.receives ∙ ap (λ line. length (receives_of line)) its.line
-
-pub count_few : (n k : ℕ) (h : List Occurrence) (p : ℕ) (r : RecorderView) → IsLegal n k h → IsRecorder n h p r → length r.reports ≤ MAX_EVENTS
-count_few n k h p r legal its =
-    let short = line_short n k h legal p in
-    let few = receives_few p 1 (chart_of h p) in
-    omega (arith, count_is n h p r its, few, short)
-
 -- the line of one instance more
 pub lines_next : (h : List Occurrence) (place : ℕ) → history_lines (place + 1) h ≡ history_lines place h ++ history_line h (place + 1) ∷ []
 lines_next h place = map-range_with_len_more (history_line h) 1 place (place + 1) (omega arith)
 
-pub receives_next : (h : List Occurrence) (place : ℕ) → receives_until h (place + 1) ≡ receives_until h place ++ receives_of (history_line h (place + 1))
-receives_next h place = ap (flat_map receives_of) (lines_next h place) ∙ flat_map-append receives_of (history_lines place h) (history_line h (place + 1) ∷ []) ∙ ap (λ xs. receives_until h place ++ xs) (append-nil (receives_of (history_line h (place + 1))))
+-- Reports, by whatever history their posts have in common.
 
-pub receives_grow : (h : List Occurrence) (place more : ℕ) → length (receives_until h place) ≤ length (receives_until h (place + more))
-receives_grow h place zero = let same : place + 0 ≡ place = omega arith in subst (λ i. length (receives_until h place) ≤ length (receives_until h i)) (sym same) (omega arith)
-receives_grow h place (suc more) =
-    let before = receives_grow h place more in
-    let same : place + suc more ≡ place + more + 1 = omega arith in
-    subst (λ i. length (receives_until h place) ≤ length (receives_until h i)) (sym same)
-    (omega (arith, before, ap length (receives_next h (place + more)), length-append (receives_until h (place + more)) (receives_of (history_line h (place + more + 1)))))
+-- those of a recorder
+pub own_reports : (n : ℕ) (h : List Occurrence) (p : ℕ) (r : RecorderView) → IsRecorder n h p r → AreReportsOf (chart_of h) (history_line h p ∷ []) r.reports
+own_reports n h p r its = record { receives = its.receives ∙ ap receives_of its.line ∙ sym (append-nil (receives_of (history_line h p))); each = its.reports }
 
-pub counted_next : (h : List Occurrence) (place total more : ℕ) → AreCounted h place total → more ≡ length (receives_of (history_line h (place + 1))) → AreCounted h (place + 1) (total + more)
-counted_next h place total more before same =
-    omega (arith, before, same, ap length (receives_next h place), length-append (receives_until h place) (receives_of (history_line h (place + 1))))
+-- a list that is made of them
+pub reports_made : {E : Type 0} (made : Result (Vec ReportView) E) (p : ℕ) (reports : List ReportView) (its : List Occurrence → Type 0) → IfOk made (λ (v : Vec ReportView). v.items ≡ reports) → ((h : List Occurrence) → its h → AreReportsOf (chart_of h) (history_line h p ∷ []) reports)
+    → IfOk made (λ (v : Vec ReportView). (h : List Occurrence) → its h → AreReportsOf (chart_of h) (history_line h p ∷ []) v.items)
+reports_made (Ok v) p reports its same are = λ h holds. subst (AreReportsOf (chart_of h) (history_line h p ∷ [])) (sym same) (are h holds)
+reports_made (Err e) p reports its same are = record {}
+
+-- those of one line more
+pub reports_push : (h : List Occurrence) (place : ℕ) (reports own : List ReportView) → AreReportsOf (chart_of h) (history_lines place h) reports → AreReportsOf (chart_of h) (history_line h (place + 1) ∷ []) own → AreReportsOf (chart_of h) (history_lines (place + 1) h) (reports ++ own)
+reports_push h place reports own before its = subst (λ ls. AreReportsOf (chart_of h) ls (reports ++ own)) (sym (lines_next h place)) (record {
+  receives = map-append (λ (r : ReportView). r.receive) reports own ∙ ap₂ (λ xs ys. xs ++ ys) before.receives its.receives ∙ sym (flat_map-append receives_of (history_lines place h) (history_line h (place + 1) ∷ []));
+  each = All-append (IsReportIn (chart_of h)) reports own before.each its.each;
+})
 
 -- the room of two of these posts is theirs by any history that all of them have in common
 pub room_for : (n k : ℕ) (posts : List PostView) → AreOf n k posts → (to from : PostView) (q p : ℕ) (room : Room) → IsAmong posts to → IsAmong posts from → to.number ≡ p → from.number ≡ q

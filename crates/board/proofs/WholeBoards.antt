@@ -1,11 +1,11 @@
 -- A whole board: what holds when all of its posts have met, and when all have left.
-use Rattle.std.proofs.Common.{◌≡◌, ℕ, zero, suc, ◌<◌, ◌≤◌, List, [], ◌∷◌, ◌++◌, length, take, drop, map, get_or, vec_capacity, refl, sym, ap, ◌∙◌, subst, arith}
+use Rattle.std.proofs.Common.{◌≡◌, ℕ, zero, suc, ◌<◌, ◌≤◌, List, [], ◌∷◌, ◌++◌, length, take, drop, map, get_or, refl, sym, ap, ◌∙◌, subst, arith}
 use Rattle.std.specs.Prelude.{slice_get, None, Some}
 use Rattle.std.proofs.lemmas.List.{length-map, take_at, drop_all}
 use Rattle.std.proofs.lemmas.Option.{slice_get-get_or}
 use Rattle.atomic_table.specs.Seated.{TableId}
 use Rattle.chart.specs.declared.history.Occurrence.{Occurrence}
-use Rattle.chart.specs.Histories.{IsLegal}
+use Rattle.chart.specs.Histories.{chart_of, IsLegal}
 use Rattle.chart.specs.HistoryLines.{history_lines}
 use Rattle.chart.specs.Charts.{LineView}
 use Rattle.chart.specs.Reports.{ReportView, AreReportsOf, AreReports}
@@ -15,7 +15,7 @@ use Rattle.board.specs.declared.parting.Leaver.{Leaver}
 use Rattle.board.specs.Views.{PostView}
 use Rattle.board.specs.Meeting.{AreOfOneBoard, HaveMet, HasPost, AreAll}
 use Rattle.board.specs.Gathering.{LaneEnds, AreJoint, size_of, all_lanes, waiting_lanes, closed_lanes, closed_view}
-use Rattle.board.specs.Parting.{AreOf, HaveRooms, AreClosed, HaveSeen, HaveParted, AreReady, AreForLines, room_lane, receives_until}
+use Rattle.board.specs.Parting.{AreOf, HaveRooms, AreClosed, HaveSeen, HaveParted, AreReady, AreForLines, room_lane}
 use Rattle.board.specs.Provisions.{IsProvision}
 use Rattle.board.proofs.DrawnLanes.{next_first}
 use Rattle.board.proofs.Meetings.{at_within}
@@ -77,7 +77,7 @@ module _ (posts : List PostView) (x : PostView) (at : slice_get posts 0 ≡ Some
   pub whole_legal : (h : List Occurrence) → AreJoint h posts → 1 ≤ n → IsLegal n x.board.capacity h
   whole_legal h joint some = joint_legal n x.board.capacity posts are_of 1 (omega arith) some h joint
 
-module _ (n k : ℕ) (table : TableId) (h : List Occurrence) (lines : List LineView) (reports : List ReportView) (leavers : List Leaver) (parted : HaveParted (record { table = table; size = n; capacity = k }) h n lines reports leavers) where
+module _ (n k : ℕ) (table : TableId) (h : List Occurrence) (lines : List LineView) (leavers : List Leaver) (parted : HaveParted (record { table = table; size = n; capacity = k }) h n lines leavers) where
   pub all_ready : AreReady n k table h (waiting_lanes n h) leavers
   all_ready = record {
     as_many = parted.as_many;
@@ -87,8 +87,8 @@ module _ (n k : ℕ) (table : TableId) (h : List Occurrence) (lines : List LineV
         next_first n k (suc i) h (omega arith) (omega (arith, within, parted.as_many)) 1 n leaver.seat.me.1 (parted.left i leaver at);
   }
 
-  pub all_reports : IsLegal n k h → AreReports (history_lines n h) reports
-  all_reports legal = record { are = subst (λ c. AreReportsOf c (history_lines n h) reports) (chart-is n k h legal) parted.reported }
+pub all_reports : (n k : ℕ) (h : List Occurrence) (reports : List ReportView) → IsLegal n k h → AreReportsOf (chart_of h) (history_lines n h) reports → AreReports (history_lines n h) reports
+all_reports n k h reports legal its = record { are = subst (λ c. AreReportsOf c (history_lines n h) reports) (chart-is n k h legal) its }
 
 -- the posts that have met, and that are left
 pub record IsGoing (posts left : List PostView) (n k : ℕ) (table : TableId) (h : List Occurrence) : Type 0 where
@@ -116,8 +116,8 @@ going posts front new len x n all one first same long met size several =
     )
 
 module _ (posts left : List PostView) (n k : ℕ) (table : TableId) (h : List Occurrence) (g : IsGoing posts left n k table h) (it : Provision) (provision : IsProvision (size_of posts) posts it) where
-  pub its_reports : length (receives_until h n) ≤ vec_capacity it.reports
-  its_reports = subst (λ (m : ℕ). length (receives_until h m) ≤ vec_capacity it.reports) (sym g.size) (provision.for_reports h g.joint)
+  pub its_reports : AreReportsOf (chart_of h) (history_lines n h) it.reports.items
+  its_reports = subst (λ (m : ℕ). AreReportsOf (chart_of h) (history_lines m h) it.reports.items) (sym g.size) (provision.reports h g.joint)
 
   pub its_own_events : AreForLines h n it.own_events.items
   its_own_events = subst (λ (m : ℕ). AreForLines h m it.own_events.items) (sym g.size) (provision.own_events h g.joint)
@@ -131,9 +131,9 @@ module _ (posts left : List PostView) (n k : ℕ) (table : TableId) (h : List Oc
   pub its_closed : map closed_view it.closed.items ≡ closed_lanes n h
   its_closed = (subst (λ (m : ℕ). AreClosed posts (all_lanes m) it.closed.items) (sym g.size) (provision.closed k (subst (λ (m : ℕ). AreOf m k posts) g.size g.are))) h g.joint
 
-  pub its_ready : (lines : List LineView) (reports : List ReportView) (leavers front : List Leaver) (words : TableId) → HaveParted (record { table = table; size = n; capacity = k }) h n lines reports leavers → front ≡ leavers → words ≡ table → AreReady n k words h (map room_lane it.rooms.items) front
-  its_ready lines reports leavers front words parted same seated =
+  pub its_ready : (lines : List LineView) (leavers front : List Leaver) (words : TableId) → HaveParted (record { table = table; size = n; capacity = k }) h n lines leavers → front ≡ leavers → words ≡ table → AreReady n k words h (map room_lane it.rooms.items) front
+  its_ready lines leavers front words parted same seated =
       subst (λ (ls : List Leaver). AreReady n k words h (map room_lane it.rooms.items) ls) (sym same)
       (subst (λ (lanes : List LaneEnds). AreReady n k words h lanes leavers) (sym its_lanes)
       (subst (λ (t : TableId). AreReady n k t h (waiting_lanes n h) leavers) (sym seated)
-      (all_ready n k table h lines reports leavers parted)))
+      (all_ready n k table h lines leavers parted)))

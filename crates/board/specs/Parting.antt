@@ -1,18 +1,15 @@
 -- What the parts of a gathering tell each other (this project's profile).
 use Rattle.std.specs.Prelude.{◌≡◌, ℕ, suc, ◌+◌, ◌<◌, ◌≤◌, ◌==◌, List, [], ◌∷◌, ◌++◌, length, map, filter, take, drop}
 use Rattle.std.specs.Prelude.{All, slice_get, vec_capacity, Option, Some}
-use Rattle.std.specs.List.{flat_map}
 use Rattle.std.specs.Global.{Vec}
 use Rattle.chart.specs.Words.{Instance}
 use Rattle.chart.specs.declared.event.Event.{Event}
 use Rattle.chart.specs.declared.history.Occurrence.{Occurrence}
-use Rattle.chart.specs.declared.instance.EventNo.{EventNo}
 use Rattle.chart.specs.declared.line.TheConstants.{MAX_EVENTS}
 use Rattle.chart.specs.Charts.{LineView}
 use Rattle.chart.specs.Messages.{Content}
 use Rattle.chart.specs.Histories.{received, waiting, chart_of, AreTwo}
 use Rattle.chart.specs.HistoryLines.{history_lines}
-use Rattle.chart.specs.Reports.{ReportView, AreReportsOf, receives_of}
 use Rattle.atomic_table.specs.Seated.{TableId}
 use Rattle.board_table.specs.declared.packet.Packet.{Packet}
 use Rattle.board_table.specs.Layout.{LaneView, board_lane}
@@ -78,13 +75,6 @@ abbrev pub AreClosed : List PostView → List LaneEnds → List ClosedLane → T
 AreClosed posts lanes closed = (h : List Occurrence) → AreJoint h posts
     → map closed_view closed ≡ filter (is_closed_lane h) lanes
 
--- the receives of so many instances
-abbrev pub receives_until : List Occurrence → ℕ → List EventNo
-receives_until h many = flat_map receives_of (history_lines many h)
-
-abbrev pub AreCounted : List Occurrence → ℕ → ℕ → Type 0
-AreCounted h many count = count ≡ length (receives_until h many)
-
 -- an empty list with room for just the events of p's line after the history
 pub record IsForLine (h : List Occurrence) (p : ℕ) (events : Vec Event) : Type 0 where
   pub empty : events.items ≡ []
@@ -112,11 +102,10 @@ pub record HaveSeen (n k : ℕ) (table : TableId) (h : List Occurrence) (from : 
   pub each : (i : ℕ) (post : PostView) → slice_get posts i ≡ Some post → HasMet n k table h post
   pub all : (number : ℕ) → from < number → number ≤ n → HasPost posts number
 
--- the lines and reports of so many posts, which have left with the messages that wait for them
+-- the lines of so many posts, which have left with the messages that wait for them
 pub record HaveParted (board : BoardView) (h : List Occurrence) (many : ℕ) (lines : List LineView)
-    (reports : List ReportView) (leavers : List Leaver) : Type 0 where
+    (leavers : List Leaver) : Type 0 where
   pub lined : lines ≡ history_lines many h
-  pub reported : AreReportsOf (chart_of h) (history_lines many h) reports
   pub as_many : length leavers ≡ many
   pub seated : (i : ℕ) (leaver : Leaver) → slice_get leavers i ≡ Some leaver → leaver.seat.table_id ≡ board.table
   pub left : (i : ℕ) (leaver : Leaver) → slice_get leavers i ≡ Some leaver

@@ -13,7 +13,7 @@ use crate::error::GatherCause;
 use crate::meeting::{are_all, meet};
 use crate::parting::{Leaver, Room, draw_lanes, part_all};
 use crate::post::Post;
-use crate::reserving::{count_receives, make_own_events, make_rooms};
+use crate::reserving::{make_own_events, make_reports, make_rooms};
 use board_table::Words;
 use chart::{Chart, Event, InstanceNo, Line, Message, Report};
 use std::alloc::{AllocError, Global};
@@ -53,12 +53,13 @@ pub struct GatherError<'a> {
     pub cause: GatherCause,
 }
 
-/// Room for all that a board comes to.
+/// The reports of all that a board comes to, and room for the rest.
 #[derive(Drop)]
 pub(crate) struct Provision {
     /// For each instance a list with room for the events of its line, by their numbers.
     pub own_events: Vec<Vec<Event>>,
     pub lines: Vec<Line>,
+    /// The report of each receive, by instance and index.
     pub reports: Vec<Report>,
     pub leavers: Vec<Leaver>,
     pub rooms: Vec<Room>,
@@ -75,21 +76,21 @@ impl<'a> Post<'a> {
     }
 }
 
-/// Makes room for all that a board comes to. F6: it fails only where there is no memory.
+/// Makes the reports of all that a board comes to, and room for the rest. F6: it fails only where there is no memory.
 fn make_provision(alloc: Global, posts: &[Post]) -> Result<Provision, AllocError>
     requires board { AreOfOneBoard posts.now }
     requires all { AreAll posts.now }
     ensures { IfOk result (IsProvision (size_of posts.now) posts.now) }
 {
     let instances = posts[0].board_size();
-    let receives = count_receives(posts, instances);
+    let reports = make_reports(alloc, posts, instances)?;
     let rooms = make_rooms(alloc, posts, instances)?;
     let closed = find_closed(alloc, posts, instances)?;
     let own_events = make_own_events(alloc, posts, instances)?;
     Ok(Provision {
         own_events,
         lines: Vec::with_capacity(alloc, instances)?,
-        reports: Vec::with_capacity(alloc, receives)?,
+        reports,
         leavers: Vec::with_capacity(alloc, instances)?,
         left: Vec::with_capacity(alloc, rooms.len())?,
         rooms,
@@ -128,20 +129,12 @@ fn gather_all(posts: Vec<Post>, provision: Provision) -> Gathered
     } = provision;
     let mut posts = posts;
     let mut lines = lines;
-    let mut reports = reports;
     let mut leavers = leavers;
     let mut left = left;
     let instances = posts[0].board_size();
     let words = posts[0].words();
     meet(&mut posts);
-    part_all(
-        posts,
-        instances,
-        own_events,
-        &mut lines,
-        &mut reports,
-        &mut leavers,
-    );
+    part_all(posts, instances, own_events, &mut lines, &mut leavers);
     draw_lanes(words, &mut leavers, rooms, &mut left);
     Gathered {
         chart: whole_chart(lines),

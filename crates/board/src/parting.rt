@@ -3,15 +3,13 @@ ghost use Rattle.std.specs.Prelude.{◌≡◌, ◌≢◌, ◌+◌, ◌≤◌, �
 ghost use Rattle.std.specs.Prelude.{vec_capacity, Option, Some, All};
 ghost use Rattle.atomic_table.specs.Seated.{TableId};
 ghost use Rattle.chart.specs.declared.history.Occurrence.{Occurrence};
-ghost use Rattle.chart.specs.Histories.{chart_of};
-ghost use Rattle.chart.specs.Reports.{IsReportIn, receives_of};
 ghost use Rattle.board_table.specs.declared.packet.Packet.{Packet};
 ghost use Rattle.board_table.specs.Leaving.{ComeFirst, HaveLeft};
 ghost use Rattle.board.specs.Views.{PostView, line_of};
 ghost use Rattle.board.specs.Parked.{IsAtBoard};
 ghost use Rattle.board.specs.Meeting.{HasPost};
 ghost use Rattle.board.specs.Gathering.{left_view, left_on};
-ghost use Rattle.board.specs.Parting.{IsAmong, room_lane, IsLaneRoom, AreForLines, receives_until};
+ghost use Rattle.board.specs.Parting.{IsAmong, room_lane, IsLaneRoom, AreForLines};
 ghost use Rattle.board.specs.Parting.{HaveSeen, HaveParted, AreReady};
 
 use crate::gathering::Left;
@@ -19,7 +17,7 @@ use crate::meeting::place_of;
 use crate::parked::Parked;
 use crate::post::Post;
 use board_table::{Lane, Seat, Words, draw, leave};
-use chart::{Event, InstanceNo, Line, Message, Report};
+use chart::{Event, InstanceNo, Line, Message};
 
 /// Room for the messages of a lane that wait.
 #[derive(Drop)]
@@ -45,17 +43,14 @@ pub(crate) struct Leaver {
 impl Parked {
     /// Leaves its board, with the messages that wait for it. Its events go into this list, which has room for them. It
     /// takes no memory.
-    fn part(self, words: &Words, events: Vec<Event>) -> (Line, Vec<Report>, Leaver)
+    fn part(self, words: &Words, events: Vec<Event>) -> (Line, Leaver)
         requires empty { events.items ≡ [] }
         requires room { length (line_of self) ≤ vec_capacity events }
         requires board { IsAtBoard words.now.key words.now.table_id self }
         ensures line { result.0 ≡ record { instance = self.number; events = line_of self } }
-        ensures receives { map (λ report. report.receive) result.1.items
-            ≡ receives_of (record { instance = self.number; events = line_of self }) }
-        ensures reports { All (IsReportIn (chart_of self.seen)) result.1.items }
-        ensures table { result.2.seat.table_id ≡ self.board.table }
+        ensures table { result.1.seat.table_id ≡ self.board.table }
         ensures left { HaveLeft self.board.size self.board.capacity self.number self.seen 1
-            self.board.size result.2.seat.me.1 }
+            self.board.size result.1.seat.me.1 }
     {
         let Parked {
             mut seat,
@@ -64,24 +59,20 @@ impl Parked {
             ..
         } = self;
         leave(words, &mut seat);
-        let (line, reports) = recorder.into_parts(events);
-        (line, reports, Leaver { number, seat })
+        (recorder.into_line(events), Leaver { number, seat })
     }
 }
 
 impl<'a> Post<'a> {
     /// Leaves its board, with the messages that wait for it. Its events go into this list, which has room for them. It
     /// takes no memory.
-    pub(crate) fn part(self, events: Vec<Event>) -> (Line, Vec<Report>, Leaver)
+    pub(crate) fn part(self, events: Vec<Event>) -> (Line, Leaver)
         requires empty { events.items ≡ [] }
         requires room { length (line_of self) ≤ vec_capacity events }
         ensures line { result.0 ≡ record { instance = self.entry.number; events = line_of self.entry } }
-        ensures receives { map (λ report. report.receive) result.1.items
-            ≡ receives_of (record { instance = self.entry.number; events = line_of self.entry }) }
-        ensures reports { All (IsReportIn (chart_of self.entry.seen)) result.1.items }
-        ensures table { result.2.seat.table_id ≡ self.entry.board.table }
+        ensures table { result.1.seat.table_id ≡ self.entry.board.table }
         ensures left { HaveLeft self.entry.board.size self.entry.board.capacity self.entry.number self.entry.seen 1
-            self.entry.board.size result.2.seat.me.1 }
+            self.entry.board.size result.1.seat.me.1 }
     {
         let Post { words, parked } = self;
         parked.part(words, events)
@@ -141,22 +132,21 @@ fn take_post<'a>(posts: &mut Vec<Post<'a>>, number: usize) -> Post<'a>
 }
 
 /// All posts of a board, which have met, leave it, by their numbers. There is room for their lines, each of which has a
-/// list for its events, for their reports, and for themselves.
+/// list for its events, and for themselves.
 pub(crate) fn part_all(
     posts: Vec<Post>,
     instances: usize,
     own_events: Vec<Vec<Event>>,
     lines: &mut Vec<Line>,
-    reports: &mut Vec<Report>,
     leavers: &mut Vec<Leaver>,
 )
     requires seen { (k : ℕ) × (table : TableId) × (h : List Occurrence) × HaveSeen instances k table h 0 posts.items
-        × AreForLines h instances own_events.items × (length (receives_until h instances) ≤ vec_capacity reports.old) }
-    requires empty { (lines.old.items ≡ []) × (reports.old.items ≡ []) × (leavers.old.items ≡ []) }
+        × AreForLines h instances own_events.items }
+    requires empty { (lines.old.items ≡ []) × (leavers.old.items ≡ []) }
     requires enough { (instances ≤ vec_capacity lines.old) × (instances ≤ vec_capacity leavers.old) }
     ensures { (k : ℕ) (table : TableId) (h : List Occurrence) → HaveSeen instances k table h 0 posts.entry.items
         → HaveParted (record { table = table; size = instances; capacity = k }) h instances lines.new.items
-        reports.new.items leavers.new.items }
+        leavers.new.items }
 {
     let mut posts = posts;
     let mut own_events = own_events.into_iter();
@@ -164,11 +154,8 @@ pub(crate) fn part_all(
         let Some(events) = own_events.next() else {
             unreachable!()
         };
-        let (line, mut own, leaver) = take_post(&mut posts, place + 1).part(events);
+        let (line, leaver) = take_post(&mut posts, place + 1).part(events);
         lines.push_reserved(line);
-        let Ok(()) = reports.append(&mut own) else {
-            unreachable!()
-        };
         leavers.push_reserved(leaver);
     }
 }

@@ -1,22 +1,21 @@
 //! Room for all that a board comes to. It is there before its posts meet.
-ghost use Rattle.std.specs.Prelude.{◌≡◌, ◌≢◌, ◌+◌, ◌≤◌, ℕ, [], ◌++◌, List, length, map, vec_capacity, IfOk, OnOk};
+ghost use Rattle.std.specs.Prelude.{◌≡◌, ◌≢◌, ◌+◌, ◌≤◌, ℕ, [], ◌∷◌, ◌++◌, List, length, map, vec_capacity, IfOk, OnOk};
 ghost use Rattle.std.specs.Prelude.{IfSome};
 ghost use Rattle.chart.specs.declared.history.Occurrence.{Occurrence};
-ghost use Rattle.chart.specs.declared.line.TheConstants.{MAX_EVENTS};
-ghost use Rattle.chart.specs.declared.instance.TheConstants.{MAX_INSTANCES};
-ghost use Rattle.chart.specs.HistoryLines.{history_line};
-ghost use Rattle.chart.specs.Reports.{receives_of};
+ghost use Rattle.chart.specs.Histories.{chart_of};
+ghost use Rattle.chart.specs.HistoryLines.{history_line, history_lines};
+ghost use Rattle.chart.specs.Reports.{AreReportsOf};
 ghost use Rattle.board.specs.Views.{PostView};
 ghost use Rattle.board.specs.Meeting.{IsJoint, HasPost, IsAt};
 ghost use Rattle.board.specs.Gathering.{AreJoint, LaneEnds, lane_to, lanes_of, all_lanes};
-ghost use Rattle.board.specs.Parting.{IsAmong, AreOf, IsRoom, HaveRooms, AreCounted, IsForLine, AreForLines};
+ghost use Rattle.board.specs.Parting.{IsAmong, AreOf, IsRoom, HaveRooms, IsForLine, AreForLines};
 
 use crate::meeting::place_of;
 use crate::parked::Parked;
 use crate::parting::Room;
 use crate::post::Post;
 use board_table::Lane;
-use chart::Event;
+use chart::{Event, Report};
 use std::alloc::{AllocError, Global};
 
 /// The post of this number.
@@ -53,13 +52,12 @@ impl Parked {
         })
     }
 
-    /// How many receives it made.
-    fn receive_count(&self) -> usize
-        ensures value { (h : List Occurrence) → IsJoint h self.now
-            → result ≡ length (receives_of (history_line h self.now.number)) }
-        ensures within_limit { result ≤ MAX_EVENTS }
+    /// The report of each of its receives. F6: it fails only where there is no memory.
+    fn reports(&self, alloc: Global) -> Result<Vec<Report>, AllocError>
+        ensures { IfOk result (λ reports. (h : List Occurrence) → IsJoint h self.now
+            → AreReportsOf (chart_of h) (history_line h self.now.number ∷ []) reports.items) }
     {
-        self.recorder.reports().len()
+        self.recorder.reports(alloc)
     }
 
     /// An empty list with room for just the events of its line. F6: it fails only where there is no memory.
@@ -81,13 +79,12 @@ impl<'a> Post<'a> {
         self.parked.room_from(alloc, &sender.parked)
     }
 
-    /// How many receives it made.
-    fn receive_count(&self) -> usize
-        ensures value { (h : List Occurrence) → IsJoint h self.now
-            → result ≡ length (receives_of (history_line h self.now.number)) }
-        ensures within_limit { result ≤ MAX_EVENTS }
+    /// The report of each of its receives. F6: it fails only where there is no memory.
+    fn reports(&self, alloc: Global) -> Result<Vec<Report>, AllocError>
+        ensures { IfOk result (λ reports. (h : List Occurrence) → IsJoint h self.now
+            → AreReportsOf (chart_of h) (history_line h self.now.number ∷ []) reports.items) }
     {
-        self.parked.receive_count()
+        self.parked.reports(alloc)
     }
 
     /// An empty list with room for just the events of its line. F6: it fails only where there is no memory.
@@ -140,17 +137,22 @@ pub(crate) fn make_rooms(
     Ok(rooms)
 }
 
-/// How many receives all posts made.
-pub(crate) fn count_receives(posts: &[Post], instances: usize) -> usize
+/// The report of each receive of all posts, by instance and index. F6: it fails only where there is no memory.
+pub(crate) fn make_reports(
+    alloc: Global,
+    posts: &[Post],
+    instances: usize,
+) -> Result<Vec<Report>, AllocError>
     requires posts { (k : ℕ) × AreOf instances k posts.now }
-    requires within_limit { instances ≤ MAX_INSTANCES }
-    ensures { (h : List Occurrence) → AreJoint h posts.now → AreCounted h instances result }
+    ensures { IfOk result (λ reports. (h : List Occurrence) → AreJoint h posts.now
+        → AreReportsOf (chart_of h) (history_lines instances h) reports.items) }
 {
-    let mut total = 0;
+    let mut reports = Vec::new(alloc);
     for place in 0..instances {
-        total += post_of(posts, place + 1).receive_count();
+        let mut own = post_of(posts, place + 1).reports(alloc)?;
+        reports.append(&mut own)?;
     }
-    total
+    Ok(reports)
 }
 
 /// For each instance a list with room for just the events of its line, by their numbers. F6: it fails only where there

@@ -117,8 +117,9 @@ impl Actor {
         ensures reports { IfOk result (λ parts. parts.1.items ≡ self.recorder.reports) }
     {
         let Actor { recorder, .. } = self;
+        let reports = recorder.reports(alloc)?;
         let events = Vec::with_capacity(alloc, recorder.line().len())?;
-        Ok(recorder.into_parts(events))
+        Ok((recorder.into_line(events), reports))
     }
 
     pub fn region(&self) -> u32

@@ -1,9 +1,8 @@
 use Rattle.std.proofs.Common.{rules, ◌≡◌, ◌+◌, ◌<◌, ◌++◌, ◌∷◌, [], ℕ, List, length, length-append, vec_capacity, sym, ap, subst, arith}
 use Rattle.chart.specs.Charts.{LineView}
-use Rattle.chart.specs.Reports.{ReportView}
 use Rattle.board.specs.declared.parting.Leaver.{Leaver}
 use Rattle.board.specs.Parting.{IsForLine, AreForLinesBehind, HaveParted}
-use Rattle.board.proofs.Leavers.{seen_next, line_fits, own_fits, parted_next}
+use Rattle.board.proofs.Leavers.{seen_next, line_fits, parted_next}
 use Rattle.board.proofs.parting.part_all.Goals as goal
 
 pub unreachable-requires : goal.unreachable-requires
@@ -28,17 +27,6 @@ part-line-requires-clause-room c =
     let list : IsForLine its.2 (place + 1) c.in-Some.events = (subst (AreForLinesBehind its.2 place) c.in-Some.ensures.cases.0 (c.loop-place.invariant.events its.2 all)).0 in
     line_fits n its.0 its.1 its.2 place c.take_post.result met c.take_post.ensures.number c.in-Some.events list
 
-pub unreachable-requires-in_default-append : goal.unreachable-requires-in_default-append
-unreachable-requires-in_default-append c =
-    let n = c.args.instances in
-    let inv = c.loop-place.invariant in
-    let its = c.requires.seen in
-    let among = c.take_post.ensures.among in
-    let met = (inv.seen its.0 its.1 its.2 its.3).each among.0 c.take_post.result among.1 in
-    let fits = own_fits n its.0 its.1 its.2 c.loop-place.place c.take_post.result met c.take_post.ensures.number c.loop-place.lines.items c.loop-place.reports.items c.part-line.result.1.items c.loop-place.leavers.items (inv.parted its.0 its.1 its.2 its.3) c.loop-place-test.true c.part-line.ensures.receives in
-    let full : vec_capacity c.loop-place.reports < length c.loop-place.reports.items + length c.part-line.result.1.items = search rules in
-    absurd (omega (arith, full, fits, its.5, inv.reports))
-
 pub loop-place-preserved : goal.loop-place-preserved
 loop-place-preserved c =
     let n = c.args.instances in
@@ -48,15 +36,12 @@ loop-place-preserved c =
     let taken = c.take_post.ensures in
     let part = c.part-line.ensures in
     let line = c.part-line.result.0 in
-    let own = c.part-line.result.1.items in
-    let leaver = c.part-line.result.2 in
+    let leaver = c.part-line.result.1 in
     let lines : c.push_reserved.new.self.items ≡ c.loop-place.lines.items ++ line ∷ [] = c.push_reserved.ensures.items in
-    let reports : c.append.new.self.items ≡ c.loop-place.reports.items ++ own = search rules in
     let leavers : c.push_reserved-in-loop-place.new.self.items ≡ c.loop-place.leavers.items ++ leaver ∷ [] = c.push_reserved-in-loop-place.ensures.items in
     record {
       lines = omega (arith, inv.lines, c.push_reserved.ensures.capacity);
       leavers = omega (arith, inv.leavers, c.push_reserved-in-loop-place.ensures.capacity);
-      reports = omega (arith, inv.reports, c.append.ensures.capacity);
       events_many = omega (arith, c.in-Some.ensures.cases.1, inv.events_many);
       events = λ h all. (subst (AreForLinesBehind h place) c.in-Some.ensures.cases.0 (inv.events h all)).1;
       lines_many = omega (arith, ap length lines, length-append c.loop-place.lines.items (line ∷ []), inv.lines_many);
@@ -64,13 +49,12 @@ loop-place-preserved c =
       seen = λ k table h first. seen_next n k table h place c.loop-place.posts.items c.take_post.new.posts.items (inv.seen k table h first) taken.kept taken.others;
       parted = λ k table h first.
           let met = (inv.seen k table h first).each taken.among.0 post taken.among.1 in
-          subst (λ (xs : List LineView). HaveParted (record { table = table; size = n; capacity = k }) h (place + 1) xs c.append.new.self.items c.push_reserved-in-loop-place.new.self.items) (sym lines)
-          (subst (λ (xs : List ReportView). HaveParted (record { table = table; size = n; capacity = k }) h (place + 1) (c.loop-place.lines.items ++ line ∷ []) xs c.push_reserved-in-loop-place.new.self.items) (sym reports)
-          (subst (λ (xs : List Leaver). HaveParted (record { table = table; size = n; capacity = k }) h (place + 1) (c.loop-place.lines.items ++ line ∷ []) (c.loop-place.reports.items ++ own) xs) (sym leavers)
-          (parted_next n k table h place post met taken.number c.loop-place.lines.items c.loop-place.reports.items own c.loop-place.leavers.items line leaver (inv.parted k table h first) part.line part.receives part.reports part.table part.left)));
+          subst (λ (xs : List LineView). HaveParted (record { table = table; size = n; capacity = k }) h (place + 1) xs c.push_reserved-in-loop-place.new.self.items) (sym lines)
+          (subst (λ (xs : List Leaver). HaveParted (record { table = table; size = n; capacity = k }) h (place + 1) (c.loop-place.lines.items ++ line ∷ []) xs) (sym leavers)
+          (parted_next n k table h place post met taken.number c.loop-place.lines.items c.loop-place.leavers.items line leaver (inv.parted k table h first) part.line part.table part.left));
     }
 
 pub returns : goal.returns
 returns c = λ k table h first.
     let all : c.loop-place.place ≡ c.args.instances = omega arith in
-    subst (λ (many : ℕ). HaveParted (record { table = table; size = c.args.instances; capacity = k }) h many c.loop-place.lines.items c.loop-place.reports.items c.loop-place.leavers.items) all (c.loop-place.invariant.parted k table h first)
+    subst (λ (many : ℕ). HaveParted (record { table = table; size = c.args.instances; capacity = k }) h many c.loop-place.lines.items c.loop-place.leavers.items) all (c.loop-place.invariant.parted k table h first)
