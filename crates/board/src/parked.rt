@@ -18,7 +18,6 @@ use std::marker::Model;
 /// be kept beside the table that has them, or be sent where that is shared.
 ///
 /// A contract sees of it what it sees of a post. Each call wants the words of its own board.
-#[derive(Drop)]
 pub struct Parked {
     pub(crate) seat: Seat,
     pub(crate) alloc: Global,
@@ -30,6 +29,23 @@ pub struct Parked {
     pub(crate) incoming: Vec<Incoming>,
     /// The open coregion, 0 for none.
     pub(crate) region: u32,
+}
+
+// (by hand, so that who lets go of one calls this, and has no code and no proof of its own for what lies within)
+impl Drop for Parked {
+    #[inline(never)]
+    fn drop(self) {
+        let Parked {
+            seat: _,
+            alloc: _,
+            shape: _,
+            number: _,
+            recorder: _,
+            outgoing: _,
+            incoming: _,
+            region: _,
+        } = self;
+    }
 }
 
 impl Model for Parked {

@@ -54,9 +54,13 @@ impl Parked {
     {
         let Parked {
             mut seat,
+            alloc: _,
+            shape: _,
             number,
             recorder,
-            ..
+            outgoing: _,
+            incoming: _,
+            region: _,
         } = self;
         leave(words, &mut seat);
         (recorder.into_line(events), Leaver { number, seat })

@@ -23,9 +23,17 @@ pub enum LinesError {
 /// A chart: the line of instance 1, of instance 2, and so on. A contract sees the list of lines.
 ///
 /// It has 2 to [`MAX_INSTANCES`] lines, and each event's partner is one of its instances.
-#[derive(Debug, Drop)]
+#[derive(Debug)]
 pub struct Chart {
     lines: Vec<Line>,
+}
+
+// (by hand, so that who lets go of one calls this, and has no code and no proof of its own for what lies within)
+impl Drop for Chart {
+    #[inline(never)]
+    fn drop(self) {
+        let Chart { lines: _ } = self;
+    }
 }
 
 impl Model for Chart {

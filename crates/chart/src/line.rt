@@ -50,10 +50,21 @@ impl<T: Drop> From<AllocFailed<T>> for LineError {
 
 /// The line of one instance, as a chart has it: a [`GrowingLine`] whose room nobody asks for, and its events as a list.
 /// A contract sees a record of the instance and of the events.
-#[derive(Debug, Drop)]
+#[derive(Debug)]
 pub struct Line {
     growing: GrowingLine,
     events: Vec<Event>,
+}
+
+// (by hand, as that of a chart)
+impl Drop for Line {
+    #[inline(never)]
+    fn drop(self) {
+        let Line {
+            growing: _,
+            events: _,
+        } = self;
+    }
 }
 
 impl Model for Line {

@@ -45,9 +45,17 @@ impl<T: Drop> From<AllocFailed<T>> for NamesError {
 
 /// The names of instance 1, of instance 2, and so on: at most [`MAX_INSTANCES`], in the order in which they were
 /// added, none twice. A contract sees the list of names.
-#[derive(Debug, Drop)]
+#[derive(Debug)]
 pub struct Names {
     names: IndexSet<Name>,
+}
+
+// (by hand, as that of a chart)
+impl Drop for Names {
+    #[inline(never)]
+    fn drop(self) {
+        let Names { names: _ } = self;
+    }
 }
 
 impl Model for Names {

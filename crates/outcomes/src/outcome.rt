@@ -10,12 +10,25 @@ use std::marker::Model;
 /// What a schedule comes to: its instances' names, the chart of what happened, the report of each receive by instance
 /// and index, and a note for each command that was refused or found nothing, by line. A contract sees a record of
 /// these. There are as many names as lines, and the reports are those of the chart's receives.
-#[derive(Debug, Drop)]
+#[derive(Debug)]
 pub struct Outcome<'a> {
     names: &'a Names,
     chart: Chart,
     reports: Vec<Report>,
     notes: Vec<Note>,
+}
+
+// (by hand, as that of a chart)
+impl<'a> Drop for Outcome<'a> {
+    #[inline(never)]
+    fn drop(self) {
+        let Outcome {
+            names: _,
+            chart: _,
+            reports: _,
+            notes: _,
+        } = self;
+    }
 }
 
 impl<'a> Model for Outcome<'a> {
