@@ -13,19 +13,31 @@ use crate::post::Post;
 use crate::waking::wake_all;
 use board_table::{BoardTable, Seat, Shape, open};
 use chart::{MAX_CAPACITY, MAX_INSTANCES};
-use std::alloc::Global;
+use std::alloc::{AllocError, Global};
 use std::marker::Model;
 
 /// A board of instances, each with a lane to each other one.
 ///
 /// A contract sees which board it is, and whether its posts were asked for.
-#[derive(Drop)]
 pub struct Board {
     alloc: Global,
     shape: Shape,
     table: BoardTable,
     /// The seat of all posts, until they are asked for.
     seat: Option<Seat>,
+}
+
+// (by hand, so that who lets go of one calls this, and has no code and no proof of its own for what lies within)
+impl Drop for Board {
+    #[inline(never)]
+    fn drop(self) {
+        let Board {
+            alloc: _,
+            shape: _,
+            table: _,
+            seat: _,
+        } = self;
+    }
 }
 
 impl Model for Board {
@@ -103,6 +115,25 @@ impl Board {
     {
         self.seat.take()
     }
+
+    /// The posts of a board that wasn't asked for them, and the table that has its words.
+    fn into_parked(self) -> Result<(BoardTable, Vec<Parked>), AllocError>
+        requires { self.asked ≡ false }
+        ensures { IfOk result (λ made. AreOpened self.board.size self.board.capacity made.0.shared.key
+            made.0.shared.table_id made.1.items) }
+    {
+        let Board {
+            alloc,
+            shape,
+            table,
+            seat,
+        } = self;
+        let Some(seat) = seat else {
+            unreachable!()
+        };
+        let posts = deal_posts(&table.shared, seat, alloc, shape)?;
+        Ok((table, posts))
+    }
 }
 
 /// The posts of a new board, in order of their instances, and the table that has its words, with the caller: each call
@@ -116,11 +147,6 @@ pub fn open_parked(
         made.1.items) }
     ensures err { IfErr result (λ error. IsUnmade instances capacity error) }
 {
-    let mut board = Board::new(alloc, instances, capacity)?;
-    let Some(seat) = board.take_seat() else {
-        unreachable!()
-    };
-    let Board { table, shape, .. } = board;
-    let posts = deal_posts(&table.shared, seat, alloc, shape)?;
-    Ok((table, posts))
+    let board = Board::new(alloc, instances, capacity)?;
+    Ok(board.into_parked()?)
 }
