@@ -128,9 +128,7 @@ impl Board {
             table,
             seat,
         } = self;
-        let Some(seat) = seat else {
-            unreachable!()
-        };
+        let Some(seat) = seat else { unreachable!() };
         let posts = deal_posts(&table.shared, seat, alloc, shape)?;
         Ok((table, posts))
     }

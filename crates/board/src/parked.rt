@@ -1,15 +1,18 @@
 //! A post without its board's words.
-ghost use Rattle.std.specs.Prelude.{◌≡◌, ◌+◌, ◌<◌, ◌≤◌, ◌↔◌, Ok, Err, OnOk, OnErr};
+ghost use Rattle.std.specs.Prelude.{◌≡◌, ◌+◌, ◌<◌, ◌≤◌, ◌↔◌, [], length, vec_capacity, Ok, Err, OnOk, OnErr};
 ghost use Rattle.chart.specs.declared.history.TheConstants.{MAX_CAPACITY};
 ghost use Rattle.chart.specs.declared.instance.TheConstants.{MAX_INSTANCES};
 ghost use Rattle.chart.specs.Events.{greatest_region};
+ghost use Rattle.board_table.specs.Leaving.{HaveLeft};
+ghost use Rattle.board.specs.Parked.{IsAtBoard};
 ghost use Rattle.board.specs.Views.{Sound, line_of};
 ghost use Rattle.board.specs.declared.error.RegionError.TheVariants.{CoregionOpen, CoregionNotOpen};
 
 use crate::ends::{Incoming, Outgoing};
 use crate::error::RegionError;
-use board_table::{Seat, Shape};
-use chart::{GrowingLine, InstanceNo, MAX_EVENTS};
+use crate::parting::Leaver;
+use board_table::{Seat, Shape, Words, leave};
+use chart::{Event, GrowingLine, InstanceNo, Line, MAX_EVENTS};
 use line_recorder::Recorder;
 use std::alloc::Global;
 use std::marker::Model;
@@ -122,5 +125,30 @@ impl Parked {
         }
         self.region = 0;
         Ok(())
+    }
+
+    /// Leaves its board, with the messages that wait for it. Its events go into this list, which has room for them. It
+    /// takes no memory.
+    pub(crate) fn part(self, words: &Words, events: Vec<Event>) -> (Line, Leaver)
+        requires empty { events.items ≡ [] }
+        requires room { length (line_of self) ≤ vec_capacity events }
+        requires board { IsAtBoard words.now.key words.now.table_id self }
+        ensures line { result.0 ≡ record { instance = self.number; events = line_of self } }
+        ensures table { result.1.seat.table_id ≡ self.board.table }
+        ensures left { HaveLeft self.board.size self.board.capacity self.number self.seen 1
+            self.board.size result.1.seat.me.1 }
+    {
+        let Parked {
+            mut seat,
+            alloc: _,
+            shape: _,
+            number,
+            recorder,
+            outgoing: _,
+            incoming: _,
+            region: _,
+        } = self;
+        leave(words, &mut seat);
+        (recorder.into_line(events), Leaver { number, seat })
     }
 }

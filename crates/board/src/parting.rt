@@ -6,7 +6,6 @@ ghost use Rattle.chart.specs.declared.history.Occurrence.{Occurrence};
 ghost use Rattle.board_table.specs.declared.packet.Packet.{Packet};
 ghost use Rattle.board_table.specs.Leaving.{ComeFirst, HaveLeft};
 ghost use Rattle.board.specs.Views.{PostView, line_of};
-ghost use Rattle.board.specs.Parked.{IsAtBoard};
 ghost use Rattle.board.specs.Meeting.{HasPost};
 ghost use Rattle.board.specs.Gathering.{left_view, left_on};
 ghost use Rattle.board.specs.Parting.{IsAmong, room_lane, IsLaneRoom, AreForLines};
@@ -14,9 +13,8 @@ ghost use Rattle.board.specs.Parting.{HaveSeen, HaveParted, AreReady};
 
 use crate::gathering::Left;
 use crate::meeting::place_of;
-use crate::parked::Parked;
 use crate::post::Post;
-use board_table::{Lane, Seat, Words, draw, leave};
+use board_table::{Lane, Seat, Words, draw};
 use chart::{Event, InstanceNo, Line, Message};
 
 /// Room for the messages of a lane that wait.
@@ -38,33 +36,6 @@ pub(crate) struct Room {
 pub(crate) struct Leaver {
     pub number: InstanceNo,
     pub seat: Seat,
-}
-
-impl Parked {
-    /// Leaves its board, with the messages that wait for it. Its events go into this list, which has room for them. It
-    /// takes no memory.
-    fn part(self, words: &Words, events: Vec<Event>) -> (Line, Leaver)
-        requires empty { events.items ≡ [] }
-        requires room { length (line_of self) ≤ vec_capacity events }
-        requires board { IsAtBoard words.now.key words.now.table_id self }
-        ensures line { result.0 ≡ record { instance = self.number; events = line_of self } }
-        ensures table { result.1.seat.table_id ≡ self.board.table }
-        ensures left { HaveLeft self.board.size self.board.capacity self.number self.seen 1
-            self.board.size result.1.seat.me.1 }
-    {
-        let Parked {
-            mut seat,
-            alloc: _,
-            shape: _,
-            number,
-            recorder,
-            outgoing: _,
-            incoming: _,
-            region: _,
-        } = self;
-        leave(words, &mut seat);
-        (recorder.into_line(events), Leaver { number, seat })
-    }
 }
 
 impl<'a> Post<'a> {
