@@ -1,12 +1,12 @@
 -- Posts that leave, one after another.
-use Rattle.std.proofs.Common.{◌≡◌, ◌≢◌, ℕ, zero, suc, ◌+◌, ◌-◌, ◌<◌, ◌≤◌, ◌⊎◌, inl, inr, ⊎_elim, List, [], ◌∷◌, ◌++◌, length, take, drop, map, vec_capacity, refl, sym, ap, ap₂, ◌∙◌, subst, arith, length-append}
+use Rattle.std.proofs.Common.{◌≡◌, ◌≢◌, ℕ, zero, suc, ◌+◌, ◌≤◌, ◌⊎◌, inl, inr, ⊎_elim, List, [], ◌∷◌, ◌++◌, length, take, drop, vec_capacity, refl, sym, ap, ap₂, ◌∙◌, subst, arith, length-append}
 use Rattle.std.specs.Prelude.{slice_get, None, Some}
 use Rattle.std.specs.Global.{Vec}
 use Rattle.atomic_table.specs.Seated.{TableId}
 use Rattle.chart.specs.declared.event.Event.{Event}
 use Rattle.chart.specs.declared.history.Occurrence.{Occurrence}
 use Rattle.chart.specs.Histories.{chart_of}
-use Rattle.chart.specs.HistoryLines.{history_line, history_lines}
+use Rattle.chart.specs.HistoryLines.{history_line}
 use Rattle.chart.specs.Charts.{LineView}
 use Rattle.board.specs.Views.{PostView, line_of}
 use Rattle.board.specs.Meeting.{HasPost}

@@ -1,5 +1,5 @@
 -- What is told of sends of several messages, made one after another.
-use Rattle.std.proofs.Common.{◌≡◌, ℕ, zero, suc, ◌+◌, ◌<◌, List, [], ◌∷◌, ◌++◌, length, take, refl, sym, ap, ◌∙◌, subst, arith}
+use Rattle.std.proofs.Common.{◌≡◌, ℕ, zero, suc, ◌+◌, ◌<◌, List, [], ◌∷◌, ◌++◌, length, take, ap, ◌∙◌, subst, arith}
 use Rattle.chart.specs.Messages.{Content}
 use Rattle.chart.specs.declared.instance.EventNo.{EventNo}
 use Rattle.board.specs.Sending.{numbered}

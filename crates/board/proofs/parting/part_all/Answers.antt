@@ -1,4 +1,4 @@
-use Rattle.std.proofs.Common.{rules, ◌≡◌, ◌+◌, ◌<◌, ◌++◌, ◌∷◌, [], ℕ, List, length, length-append, vec_capacity, sym, ap, subst, arith}
+use Rattle.std.proofs.Common.{◌≡◌, ◌+◌, ◌++◌, ◌∷◌, [], ℕ, List, length, length-append, sym, ap, subst, arith}
 use Rattle.chart.specs.Charts.{LineView}
 use Rattle.board.specs.declared.parting.Leaver.{Leaver}
 use Rattle.board.specs.Parting.{IsForLine, AreForLinesBehind, HaveParted}

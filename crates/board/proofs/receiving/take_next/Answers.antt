@@ -1,4 +1,4 @@
-use Rattle.std.proofs.Common.{refl, arith}
+use Rattle.std.proofs.Common.{arith}
 use Rattle.board.proofs.Receives.{taken_few, next_taken}
 use Rattle.board.proofs.receiving.take_next.Goals as goal
 

@@ -1,4 +1,4 @@
-use Rattle.std.proofs.Common.{rules, ◌≡◌, ℕ, suc, ◌+◌, ◌≤◌, List, [], ◌∷◌, ◌++◌, length, refl, sym, ap, ◌∙◌, subst, arith, append_assoc, append-nil}
+use Rattle.std.proofs.Common.{rules, ◌≡◌, suc, List, [], ◌∷◌, ◌++◌, length, refl, sym, ap, ◌∙◌, subst, arith, append_assoc, append-nil}
 use Rattle.std.proofs.lemmas.List.{length_push}
 use Rattle.std.specs.Vec.Iter.{into_iter_items}
 use Rattle.chart.specs.Histories.{sent}
@@ -6,7 +6,7 @@ use Rattle.chart.specs.Messages.{Content}
 use Rattle.line_recorder.specs.Recorders.{RecorderView, after_send}
 use Rattle.board_table.specs.declared.held.Held.{Held}
 use Rattle.board_table.specs.declared.packet.Packet.{Packet}
-use Rattle.board_table.specs.Knowing.{held, packets_out}
+use Rattle.board_table.specs.Knowing.{packets_out}
 use Rattle.board.specs.SendingMany.{AreFilled}
 use Rattle.board.proofs.FilledSlots.{GoesOn, goes_on, filled_none, filled_more, filled_first}
 use Rattle.board.proofs.sending_several.fill_slots.Goals as goal

@@ -1,4 +1,4 @@
-use Rattle.std.proofs.Common.{rules, ◌≡◌, ◌≢◌, ℕ, suc, ◌+◌, ◌<◌, ◌≤◌, ◌==◌, ◌&&◌, Bool, true, false, refl, ◌∙◌, sym, ap, subst, arith}
+use Rattle.std.proofs.Common.{rules, ◌≡◌, ◌≢◌, ℕ, suc, ◌+◌, ◌<◌, ◌≤◌, ◌==◌, ◌&&◌, true, false, ◌∙◌, sym, ap, subst, arith}
 use Rattle.board.specs.Views.{PostView}
 use Rattle.board.specs.Glancing.{others, AreGlanced, IsFirstWaiting}
 use Rattle.board.proofs.Scanning.{and_true, and_false, HasGlanced, sound-onward, own-passed, lanes-passed, none-there, first-there, empty-since, waits-since, stays-since}

@@ -1,4 +1,4 @@
-use Rattle.std.proofs.Common.{rules, ◌≡◌, ◌+◌, ◌<◌, ℕ, suc, true, false, refl, sym, ap, ◌∙◌, arith}
+use Rattle.std.proofs.Common.{rules, ◌≡◌, ◌+◌, suc, false, refl, sym, ap, ◌∙◌, arith}
 use Rattle.board_table.specs.Layout.{LaneView, put_word}
 use Rattle.board.specs.Views.{PostView}
 use Rattle.board.specs.Taking.{IsFoundEmpty}
