@@ -1,6 +1,5 @@
 use Rattle.std.proofs.Common.{◌≡◌, ℕ, List, ◌+◌, sym, ap, ◌∙◌, subst}
 use Rattle.clock.specs.Clocks.{with_entry}
-use Rattle.std.proofs.lemmas.Bool.{false≢true}
 use Rattle.clock.specs.Diffs.{AgreeBut}
 use Rattle.clock.proofs.EntryLemmas.{stamped_back, agree_stamped}
 use Rattle.line_recorder.specs.Recorders.{RecorderView}
