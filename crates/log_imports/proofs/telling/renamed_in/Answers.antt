@@ -3,4 +3,4 @@ use Rattle.log_imports.proofs.telling.renamed_in.Goals as goal
 
 pub returns : goal.returns
 unfolding renamed_from
-returns c = c.told_names-2.ensures
+returns c = c.told_names.ensures
