@@ -58,6 +58,8 @@ fn try_pair(
 {
     match mend_race(alloc, closure, &pair.earlier, &pair.receive, name) {
         Ok(Mending::Mended(message, chart, reports)) => {
+            // (what each chart keeps is said by a call)
+            let _ = chart.lines();
             let left = count_pairs(alloc, reports.as_slice())?;
             let addition = Addition {
                 pair: *pair,

@@ -26,7 +26,7 @@ returns-in-Some c =
     let text = c.as_bytes.ensures ∙ c.in-Some.ensures ∙ ap (λ (ns : List (List ℕ)). chart_text ns c.args.chart.now) same in
     record {
       each = length-words c.args.names.now c.args.lengths.now ∙ c.if-lengths-lines.false ∙ ap length c.lines.ensures.value;
-      distinct = subst AreNames (c.type_inv.names.view_is ∙ same) c.type_inv.names.invariant;
+      distinct = subst AreNames same c.len.ensures.names;
       are_names = c.in_ok-names.ensures.1;
       told = c.copy_out.ensures.all ∙ ap length text;
       copied = c.copy_out.ensures.copied ∙ ap (λ (bytes : List ℕ). put_over bytes c.args.out.now) text;
