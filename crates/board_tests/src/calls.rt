@@ -1,12 +1,30 @@
-//! Calls of posts, as tests make them. Messages have names of one letter.
+//! Calls of posts, as tests make them, and what is asserted of what they answer. Messages have names of one letter.
+//!
+//! An assertion is a call: the borrow checker's part of a proof grows with each branch of a function, and an `assert!`
+//! or an `assert_eq!` is one.
 ghost use Rattle.std.specs.Prelude.{◌≡◌};
 ghost use Rattle.board.specs.Meeting.{AreOfOneBoard};
 
-use board::{Arrival, Post, SendError, Taken};
-use chart::{InstanceNo, Message, Name};
+use board::{Arrival, Left, Post, SendError, Stop, TakeError, Taken};
+use chart::{EventNo, InstanceNo, Message, Name, Report};
 use std::alloc::{AllocError, Global};
 use std::process::Abort;
 use std::test::Fail;
+
+/// What has to be so, is so.
+pub fn holds(rt: &impl Abort, what: &str, fact: bool) {
+    assert!(rt; fact, "not so: {what}");
+}
+
+/// They are so many.
+pub fn are(rt: &impl Abort, what: &str, many: usize, wanted: usize) {
+    assert_eq!(rt; many, wanted, "{what}");
+}
+
+/// A receive of several ended so.
+pub fn stops(rt: &impl Abort, stop: Stop, wanted: Stop) {
+    assert_eq!(rt; stop, wanted);
+}
 
 pub fn instance(rt: &impl Abort, number: usize) -> InstanceNo {
     InstanceNo::new(number).expect(rt, "an instance")
@@ -25,7 +43,9 @@ pub fn message(rt: &impl Abort, alloc: Global, letter: u8) -> Message {
 
 /// A last growth, whose refusal tells that each one before it was refused in an earlier run of the test.
 pub fn every_growth_was_refused(alloc: Global) -> Result<(), Fail> {
-    Vec::<u8>::with_capacity(alloc, 1).map_err(|_| "every growth was refused")?;
+    Vec::<u8>::with_capacity(alloc, 1)
+        .ok()
+        .ok_or("every growth was refused")?;
     Ok(())
 }
 
@@ -52,12 +72,25 @@ pub fn messages(
     Ok(messages)
 }
 
+/// It has this name.
+fn is_named(rt: &impl Abort, message: &Message, letter: u8) {
+    holds(rt, "the message's name", message.name() == name(rt, letter));
+}
+
 /// They have these names.
 pub fn are_named(rt: &impl Abort, messages: &[Message], letters: &[u8]) {
-    assert_eq!(rt; messages.len(), letters.len());
+    are(rt, "messages", messages.len(), letters.len());
     for (message, letter) in messages.iter().zip(letters) {
-        assert!(rt; message.name() == name(rt, *letter));
+        is_named(rt, message, *letter);
     }
+}
+
+/// One message of this name is left, on the lane from 1 to 2.
+pub fn is_left(rt: &impl Abort, left: &[Left], letter: u8) {
+    assert!(rt; left.len() == 1);
+    holds(rt, "the sender", left[0].sender == instance(rt, 1));
+    holds(rt, "the receiver", left[0].receiver == instance(rt, 2));
+    are_named(rt, left[0].messages.as_slice(), &[letter]);
 }
 
 /// Sends a message of this name, and answers the number of its event, or the refusal.
@@ -74,28 +107,79 @@ pub fn send(
     match post.send(to, message(rt, alloc, letter)) {
         Ok(sent) => Ok(sent.event.index),
         Err((back, error)) => {
-            assert!(rt; back.name() == name(rt, letter));
+            is_named(rt, &back, letter);
             Err(error)
         }
     }
 }
 
+/// Sends a message of this name, once more where memory was refused.
+pub fn sends_again(rt: &impl Abort, alloc: Global, post: &mut Post, to: usize, letter: u8)
+    ensures { post.new.board ≡ post.old.board }
+{
+    let to = instance(rt, to);
+    if let Err((back, _)) = post.send(to, message(rt, alloc, letter)) {
+        is_named(rt, &back, letter);
+        assert!(rt; post.send(to, back).is_ok());
+    }
+}
+
+/// A send answers the number of its event, or the refusal.
+pub fn sends_as(
+    rt: &impl Abort,
+    alloc: Global,
+    post: &mut Post,
+    to: usize,
+    letter: u8,
+    answer: Result<u32, SendError>,
+)
+    ensures { post.new.board ≡ post.old.board }
+{
+    assert_eq!(rt; send(rt, alloc, post, to, letter), answer);
+}
+
+/// It is this event of the instance.
+pub fn is_event(rt: &impl Abort, event: &EventNo, instance: InstanceNo, index: u32) {
+    assert_eq!(rt; *event, EventNo { instance, index });
+}
+
+/// It has these races, events of the receive's instance.
+fn has_races(rt: &impl Abort, report: &Report, races: &[u32]) {
+    let own = report.receive().instance;
+    are(rt, "races", report.earlier().len(), races.len());
+    for (earlier, index) in report.earlier().iter().zip(races) {
+        is_event(rt, &earlier, own, *index);
+    }
+}
+
 /// It has this name and these races.
 pub fn has_come(rt: &impl Abort, arrival: &Arrival, letter: u8, races: &[u32]) {
-    assert!(rt; arrival.message.name() == name(rt, letter));
-    let report = &arrival.report;
-    assert_eq!(rt; report.earlier().len(), races.len());
-    for (earlier, index) in report.earlier().iter().zip(races) {
-        assert!(rt; earlier.instance == report.receive().instance);
-        assert_eq!(rt; earlier.index, *index);
-    }
+    is_named(rt, &arrival.message, letter);
+    has_races(rt, &arrival.report, races);
 }
 
 /// They have these names, and these races each.
 pub fn have_come(rt: &impl Abort, arrivals: &[Arrival], letters: &[u8], races: &[u32]) {
-    assert_eq!(rt; arrivals.len(), letters.len());
+    are(rt, "arrivals", arrivals.len(), letters.len());
     for (arrival, letter) in arrivals.iter().zip(letters) {
         has_come(rt, arrival, *letter, races);
+    }
+}
+
+/// The message of this name, sender and races was got.
+pub fn is_got(
+    rt: &impl Abort,
+    taken: Result<Taken, TakeError>,
+    letter: u8,
+    from: usize,
+    races: &[u32],
+) {
+    match taken {
+        Ok(Taken::Got(arrival)) => {
+            holds(rt, "the sender", arrival.from == instance(rt, from));
+            has_come(rt, &arrival, letter, races)
+        }
+        _ => panic!(rt; "no message came"),
     }
 }
 
@@ -103,8 +187,6 @@ pub fn have_come(rt: &impl Abort, arrivals: &[Arrival], letters: &[u8], races: &
 pub fn gets(rt: &impl Abort, post: &mut Post, from: usize, letter: u8, races: &[u32])
     ensures { post.new.board ≡ post.old.board }
 {
-    match post.receive(instance(rt, from)) {
-        Ok(Taken::Got(arrival)) => has_come(rt, &arrival, letter, races),
-        _ => panic!(rt; "no message came"),
-    }
+    let taken = post.receive(instance(rt, from));
+    is_got(rt, taken, letter, from, races);
 }

@@ -1,9 +1,9 @@
 //! Boards that are gathered.
 ghost use Rattle.board.specs.Meeting.{AreOfOneBoard};
 
-use crate::calls::{apart, every_growth_was_refused, instance, name, send};
+use crate::calls::{apart, are, every_growth_was_refused, holds, is_left, sends_again};
 use crate::tables::{Call, make_all};
-use board::{Board, GatherCause, GatherError, Post, gather};
+use board::{Board, GatherCause, GatherError, Gathered, Post, gather};
 use std::alloc::Global;
 use std::process::Abort;
 use std::test::Fail;
@@ -14,28 +14,37 @@ pub fn sends(rt: &impl Abort, alloc: Global, posts: &mut [Post], letter: u8)
     ensures { AreOfOneBoard posts.new }
 {
     assert!(rt; posts.len() >= 2);
-    if send(rt, alloc, &mut posts[0], 2, letter).is_err() {
-        assert!(rt; send(rt, alloc, &mut posts[0], 2, letter).is_ok());
+    sends_again(rt, alloc, &mut posts[0], 2, letter);
+}
+
+/// It has so many lines and receives, and one message is left.
+fn one_is_left(rt: &impl Abort, gathered: &Gathered, lines: usize, receives: usize) {
+    are(rt, "lines", gathered.chart.lines().len(), lines);
+    are(rt, "reports", gathered.reports.len(), receives);
+    is_left(rt, gathered.left.as_slice(), b'y');
+}
+
+/// What these posts come to, where memory isn't refused.
+fn gathers_at_once(rt: &impl Abort, alloc: Global, posts: Vec<Post>) -> Gathered
+    requires { AreOfOneBoard posts.items }
+{
+    match gather(alloc, posts) {
+        Ok(gathered) => gathered,
+        Err(GatherError { posts: _, cause: _ }) => panic!(rt; "a gathered board"),
     }
 }
 
-/// The board of these posts, which made so many receives, has one message left, on the lane from 1 to 2.
-fn one_is_left(rt: &impl Abort, alloc: Global, posts: Vec<Post>, receives: usize)
+/// What these posts come to. Where memory was refused they came back as they were, and are gathered once more.
+pub fn gathers(rt: &impl Abort, alloc: Global, posts: Vec<Post>) -> Gathered
     requires { AreOfOneBoard posts.items }
 {
-    let many = posts.len();
-    let gathered = match gather(alloc, posts) {
+    match gather(alloc, posts) {
         Ok(gathered) => gathered,
-        Err(GatherError { posts: _, cause: _ }) => panic!(rt; "a gathered board"),
-    };
-    assert_eq!(rt; gathered.chart.lines().len(), many);
-    assert_eq!(rt; gathered.reports.len(), receives);
-    assert_eq!(rt; gathered.left.len(), 1);
-    let left = &gathered.left[0];
-    assert!(rt; left.sender == instance(rt, 1));
-    assert!(rt; left.receiver == instance(rt, 2));
-    assert_eq!(rt; left.messages.len(), 1);
-    assert!(rt; left.messages[0].name() == name(rt, b'y'));
+        Err(GatherError { posts, cause }) => {
+            holds(rt, "memory was refused", cause == GatherCause::Memory);
+            gathers_at_once(rt, alloc, posts)
+        }
+    }
 }
 
 static TWO: [(usize, Call); 3] = [
@@ -49,7 +58,7 @@ fn gathered_board(rt: HostRuntime) {
     let mut board = Board::new(rt.alloc(), 2, 2).expect(&rt, "a board");
     let mut posts = board.posts().expect(&rt, "posts");
     make_all(&rt, rt.alloc(), posts.as_mut_slice(), &TWO);
-    one_is_left(&rt, rt.alloc(), posts, 1);
+    one_is_left(&rt, &gathers_at_once(&rt, rt.alloc(), posts), 2, 1);
 }
 
 /// A board isn't gathered from these posts, so many, which come back.
@@ -60,8 +69,8 @@ fn are_not_all(rt: &impl Abort, alloc: Global, posts: Vec<Post>)
     match gather(alloc, posts) {
         Ok(_) => panic!(rt; "a post is lacking"),
         Err(GatherError { posts, cause }) => {
-            assert_eq!(rt; cause, GatherCause::NotAllPosts);
-            assert_eq!(rt; posts.len(), many);
+            holds(rt, "not all posts", cause == GatherCause::NotAllPosts);
+            are(rt, "posts", posts.len(), many);
         }
     }
 }
@@ -71,23 +80,10 @@ fn are_not_all(rt: &impl Abort, alloc: Global, posts: Vec<Post>)
 fn not_all_gathered(rt: HostRuntime) {
     let mut board = Board::new(rt.alloc(), 3, 1).expect(&rt, "a board");
     let (posts, last) = apart(board.posts().expect(&rt, "posts"));
-    assert!(rt; last.is_some());
-    assert_eq!(rt; posts.len(), 2);
+    holds(&rt, "a last post", last.is_some());
+    are(&rt, "posts", posts.len(), 2);
     are_not_all(&rt, rt.alloc(), posts);
     are_not_all(&rt, rt.alloc(), Vec::new(rt.alloc()));
-}
-
-/// Gathers these posts, once more where memory was refused: then they came back as they were.
-fn gathers(rt: &impl Abort, alloc: Global, posts: Vec<Post>)
-    requires { AreOfOneBoard posts.items }
-{
-    match gather(alloc, posts) {
-        Ok(gathered) => assert_eq!(rt; gathered.left.len(), 1),
-        Err(GatherError { posts, cause }) => {
-            assert_eq!(rt; cause, GatherCause::Memory);
-            one_is_left(rt, alloc, posts, 0);
-        }
-    }
 }
 
 /// A board of so many instances with a message of the first one on its way to the second.
@@ -95,7 +91,7 @@ fn gathered_of(rt: &impl Abort, alloc: Global, instances: usize) {
     if let Ok(mut board) = Board::new(alloc, instances, 1) {
         if let Ok(mut posts) = board.posts() {
             sends(rt, alloc, posts.as_mut_slice(), b'y');
-            gathers(rt, alloc, posts);
+            one_is_left(rt, &gathers(rt, alloc, posts), instances, 0);
         }
     }
 }

@@ -3,7 +3,10 @@
 //! take memory for a difference of nine changes, those of two never.
 ghost use Rattle.std.specs.Prelude.{◌≤◌};
 
-use crate::calls::{are_named, every_growth_was_refused, have_come, instance, message, messages};
+use crate::calls::{
+    are, are_named, every_growth_was_refused, have_come, holds, instance, message, messages,
+    sends_again, stops,
+};
 use board::{Board, Post, PostsError, Stop, TakeError, TakenMany};
 use chart::{InstanceNo, Message};
 use std::alloc::Global;
@@ -18,11 +21,11 @@ fn board_of(rt: &impl Abort, alloc: Global, instances: usize) -> Board {
 }
 
 /// The posts of a board, if memory isn't refused for them: so many. It gives none from then on.
-fn many_posts(rt: &impl Abort, board: &mut Board) -> Option<usize> {
+pub fn many_posts(rt: &impl Abort, board: &mut Board) -> Option<usize> {
     let many = match board.posts() {
         Ok(posts) => Some(posts.len()),
         Err(error) => {
-            assert_eq!(rt; error, PostsError::Memory);
+            holds(rt, "memory was refused", error == PostsError::Memory);
             None
         }
     };
@@ -36,14 +39,7 @@ fn posts_of(rt: &impl Abort, alloc: Global, instances: usize) {
     if many.is_none() {
         many = many_posts(rt, &mut board_of(rt, alloc, instances));
     }
-    assert_eq!(rt; many, Some(instances));
-}
-
-/// Sends a message of this name, once more where memory was refused.
-fn sends(rt: &impl Abort, alloc: Global, post: &mut Post, to: InstanceNo, letter: u8) {
-    if let Err((back, _)) = post.send(to, message(rt, alloc, letter)) {
-        assert!(rt; post.send(to, back).is_ok());
-    }
+    holds(rt, "so many posts", many == Some(instances));
 }
 
 /// Messages of these names, made once more where memory was refused.
@@ -93,14 +89,27 @@ fn gets_several(rt: &impl Abort, post: &mut Post, from: InstanceNo, letters: &[u
     assert!(rt; max > 0);
     let (came, stop) = takes_several(rt, post, from, max, letters, races);
     if came == max {
-        assert_eq!(rt; stop, Stop::Asked);
-        return;
+        stops(rt, stop, Stop::Asked);
+    } else {
+        stops(rt, stop, Stop::Refused(TakeError::Memory));
+        gets_rest(rt, post, from, came, letters, races);
     }
-    assert_eq!(rt; stop, Stop::Refused(TakeError::Memory));
+}
+
+/// The same call made once more gets those that are left, where so many of them have come.
+fn gets_rest(
+    rt: &impl Abort,
+    post: &mut Post,
+    from: InstanceNo,
+    came: usize,
+    letters: &[u8],
+    races: &[u32],
+) {
+    let max = letters.len();
     assert!(rt; came < max);
     let (left, stop) = takes_several(rt, post, from, max, &letters[came..], races);
-    assert_eq!(rt; left, max - came);
-    assert_eq!(rt; stop, if came == 0 { Stop::Asked } else { Stop::NoMore });
+    are(rt, "messages left", left, max - came);
+    stops(rt, stop, if came == 0 { Stop::Asked } else { Stop::NoMore });
 }
 
 /// What a post does, with the partner's number. Of a receive the races too.
@@ -113,7 +122,7 @@ enum Deed {
 
 fn does(rt: &impl Abort, alloc: Global, post: &mut Post, deed: &Deed) {
     match *deed {
-        Deed::Sends(to, letter) => sends(rt, alloc, post, instance(rt, to), letter),
+        Deed::Sends(to, letter) => sends_again(rt, alloc, post, to, letter),
         Deed::SendsSeveral(to, letters) => {
             sends_several(rt, alloc, post, instance(rt, to), letters)
         }
@@ -155,17 +164,26 @@ fn refused_growths_of_several(rt: HostRuntime) -> Result<(), Fail> {
     every_growth_was_refused(rt.alloc())
 }
 
-/// Makes room for two events, once more where memory was refused, and then sends twice with no memory.
-fn sends_with_room(rt: &impl Abort, alloc: Global, post: &mut Post) {
+/// Makes room for two events, once more where memory was refused.
+fn makes_room(rt: &impl Abort, post: &mut Post) {
     if post.reserve(2).is_err() {
-        assert_eq!(rt; post.room(), 0);
-        assert!(rt; post.reserve(2).is_ok());
+        are(rt, "room", post.room(), 0);
+        holds(rt, "room is made", post.reserve(2).is_ok());
     }
-    for left in [1, 0] {
-        let sent = post.send(instance(rt, 2), message(rt, alloc, b'x'));
-        assert!(rt; sent.is_ok());
-        assert_eq!(rt; post.room(), left);
-    }
+}
+
+/// A send within the room, which leaves so much.
+fn sends_in_room(rt: &impl Abort, alloc: Global, post: &mut Post, left: usize) {
+    let sent = post.send(instance(rt, 2), message(rt, alloc, b'x'));
+    holds(rt, "a send with room", sent.is_ok());
+    are(rt, "room", post.room(), left);
+}
+
+/// Makes room for two events, and then sends twice with no memory.
+fn sends_with_room(rt: &impl Abort, alloc: Global, post: &mut Post) {
+    makes_room(rt, post);
+    sends_in_room(rt, alloc, post, 1);
+    sends_in_room(rt, alloc, post, 0);
 }
 
 #[test]

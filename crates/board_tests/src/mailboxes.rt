@@ -1,10 +1,10 @@
 //! Mailboxes: whose turn it is after each receive, and the calls that are the post's.
-use crate::calls::{has_come, instance, message};
-use board::{Board, Stop, TakeError, Taken, TakenMany};
+use crate::calls::{are, have_come, holds, instance, is_got, message, messages, stops};
+use crate::tables::{Missed, why_nothing};
+use board::{Board, Post, Stop, TakeError, TakenMany};
 use mailbox::Mailbox;
 use std::alloc::Global;
 use std::process::Abort;
-use std::test::Fail;
 
 /// A call of a mailbox, and what it answers.
 #[derive(Clone, Copy)]
@@ -19,30 +19,12 @@ enum Call {
     GetsUpTo(u8, usize, &'static [u32]),
 }
 
-/// The message of this name, sender and races was got.
-fn is_got(
-    rt: &impl Abort,
-    taken: Result<Taken, TakeError>,
-    letter: u8,
-    from: usize,
-    races: &[u32],
-) {
-    match taken {
-        Ok(Taken::Got(arrival)) => {
-            assert!(rt; arrival.from == instance(rt, from));
-            has_come(rt, &arrival, letter, races)
-        }
-        _ => panic!(rt; "no message came"),
-    }
-}
-
 /// It alone was got of those that were asked for.
 fn is_got_alone(rt: &impl Abort, taken: Result<TakenMany, TakeError>, letter: u8, races: &[u32]) {
     match taken {
         Ok(TakenMany::Got { arrivals, stop }) => {
-            assert_eq!(rt; stop, Stop::NoMore);
-            assert_eq!(rt; arrivals.len(), 1);
-            has_come(rt, &arrivals[0], letter, races);
+            stops(rt, stop, Stop::NoMore);
+            have_come(rt, arrivals.as_slice(), &[letter], races);
         }
         _ => panic!(rt; "no messages came"),
     }
@@ -53,7 +35,7 @@ fn make(rt: &impl Abort, alloc: Global, mailbox: &mut Mailbox, call: &Call) {
     match *call {
         Call::Sends(letter, to) => {
             let sent = mailbox.send(instance(rt, to), message(rt, alloc, letter));
-            assert!(rt; sent.is_ok());
+            holds(rt, "it is sent", sent.is_ok());
         }
         Call::GetsAny(letter, from, races) => is_got(rt, mailbox.any(), letter, from, races),
         Call::Gets(letter, from, races) => {
@@ -93,41 +75,53 @@ fn make_all(rt: &impl Abort, alloc: Global, mailboxes: &mut [Mailbox], calls: &[
     }
 }
 
-#[test]
-fn turns_after_each_receive(rt: HostRuntime) -> Result<(), Fail> {
-    let alloc = rt.alloc();
-    let mut board = Board::new(alloc, 3, 2)?;
-    let posts = board.posts()?;
-    let mut mailboxes = Vec::with_capacity(alloc, 3)?;
+/// The mailboxes of these posts.
+fn mailboxes<'a>(rt: &impl Abort, alloc: Global, posts: Vec<Post<'a>>) -> Vec<Mailbox<'a>> {
+    let mut mailboxes = Vec::new(alloc);
     for post in posts {
-        mailboxes.push(Mailbox::new(post))?;
+        assert!(rt; mailboxes.push(Mailbox::new(post)).is_ok());
     }
-    make_all(&rt, alloc, mailboxes.as_mut_slice(), &TURNS);
-    Ok(())
+    mailboxes
+}
+
+#[test]
+fn turns_after_each_receive(rt: HostRuntime) {
+    let mut board = Board::new(rt.alloc(), 3, 2).expect(&rt, "a board");
+    let posts = board.posts().expect(&rt, "posts");
+    let mut mailboxes = mailboxes(&rt, rt.alloc(), posts);
+    make_all(&rt, rt.alloc(), mailboxes.as_mut_slice(), &TURNS);
+}
+
+/// The calls that are the post's: with room for three events it sends two messages at once.
+fn calls(rt: &impl Abort, alloc: Global, mailbox: &mut Mailbox) {
+    holds(rt, "its number", mailbox.number() == instance(rt, 2));
+    holds(rt, "room is made", mailbox.reserve(3).is_ok());
+    let messages = messages(rt, alloc, b"xy").expect(rt, "messages");
+    let sent = mailbox.send_all(instance(rt, 1), messages);
+    holds(rt, "they are sent", sent.is_ok());
+    are(rt, "room", mailbox.room(), 1);
+    holds(rt, "a coregion begins", mailbox.open_coregion().is_ok());
+    holds(rt, "a coregion ends", mailbox.close_coregion().is_ok());
+    are(rt, "events", mailbox.line().len(), 2);
+}
+
+/// Nothing waits for the post of a mailbox.
+fn nothing_waits(rt: &impl Abort, mailbox: Mailbox) {
+    let mut post = mailbox.into_post();
+    let taken = post.receive(instance(rt, 1));
+    holds(
+        rt,
+        "nothing waits",
+        why_nothing(rt, taken) == Missed::Nothing,
+    );
 }
 
 /// Each call that is the post's, once.
 #[test]
-fn calls_of_the_post(rt: HostRuntime) -> Result<(), Fail> {
-    let alloc = rt.alloc();
-    let mut board = Board::new(alloc, 2, 2)?;
-    let mut posts = board.posts()?;
-    let Some(post) = posts.pop() else {
-        panic!(rt; "a post")
-    };
-    let mut mailbox = Mailbox::new(post);
-    let first = instance(&rt, 1);
-    assert!(rt; mailbox.number() == instance(&rt, 2));
-    assert!(rt; mailbox.reserve(3).is_ok());
-    let mut messages = Vec::with_capacity(alloc, 2)?;
-    messages.push(message(&rt, alloc, b'x'))?;
-    messages.push(message(&rt, alloc, b'y'))?;
-    assert!(rt; mailbox.send_all(first, messages).is_ok());
-    assert_eq!(rt; mailbox.room(), 1);
-    assert_eq!(rt; mailbox.open_coregion(), Ok(()));
-    assert_eq!(rt; mailbox.close_coregion(), Ok(()));
-    assert_eq!(rt; mailbox.line().len(), 2);
-    let mut post = mailbox.into_post();
-    assert!(rt; matches!(post.receive(first), Ok(Taken::Nothing)));
-    Ok(())
+fn calls_of_the_post(rt: HostRuntime) {
+    let mut board = Board::new(rt.alloc(), 2, 2).expect(&rt, "a board");
+    let mut posts = board.posts().expect(&rt, "posts");
+    let mut mailbox = Mailbox::new(posts.pop().expect(&rt, "a post"));
+    calls(&rt, rt.alloc(), &mut mailbox);
+    nothing_waits(&rt, mailbox);
 }

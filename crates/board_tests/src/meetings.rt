@@ -1,7 +1,7 @@
 //! Meetings of posts.
 ghost use Rattle.board.specs.Meeting.{AreOfOneBoard};
 
-use crate::calls::{apart, send};
+use crate::calls::{apart, holds, sends_as};
 use crate::tables::{Call, make_all};
 use board::{Board, MeetError, Post, meet, meet_all};
 use std::alloc::Global;
@@ -15,13 +15,21 @@ pub fn all_meet(rt: &impl Abort, posts: &mut [Post])
     assert!(rt; meet_all(posts).is_ok());
 }
 
+/// These posts, which aren't all of a board, don't meet.
+fn dont_meet(rt: &impl Abort, posts: &mut [Post])
+    requires { AreOfOneBoard posts.old }
+{
+    let met = meet_all(posts);
+    holds(rt, "not all posts", met == Err(MeetError::NotAllPosts));
+}
+
 #[test]
 fn not_all_posts(rt: HostRuntime) {
     let mut board = Board::new(rt.alloc(), 3, 1).expect(&rt, "a board");
     let (mut posts, last) = apart(board.posts().expect(&rt, "posts"));
-    assert!(rt; last.is_some());
-    assert_eq!(rt; meet_all(&mut []), Err(MeetError::NotAllPosts));
-    assert_eq!(rt; meet_all(posts.as_mut_slice()), Err(MeetError::NotAllPosts));
+    holds(&rt, "a last post", last.is_some());
+    dont_meet(&rt, &mut []);
+    dont_meet(&rt, posts.as_mut_slice());
 }
 
 /// A message of the third waits at the first, and one of the second is sent.
@@ -43,7 +51,7 @@ fn they_meet(posts: &mut [Post])
 fn two_meet(rt: &impl Abort, alloc: Global, posts: &mut [Post], third: &mut Post)
     requires { AreOfOneBoard posts.old }
 {
-    assert_eq!(rt; send(rt, alloc, third, 1, b'x'), Ok(1));
+    sends_as(rt, alloc, third, 1, b'x', Ok(1));
     they_meet(posts);
     make_all(rt, alloc, posts, &MET);
 }

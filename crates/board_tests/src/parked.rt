@@ -3,12 +3,10 @@ ghost use Rattle.std.specs.Prelude.{◌≡◌};
 ghost use Rattle.board.specs.Parked.{IsAtBoard, AreAtBoard};
 ghost use Rattle.board.specs.Meeting.{AreOfOneBoard};
 
-use crate::calls::{instance, message, name};
-use crate::gathered::sends;
-use board::{
-    BoardError, GatherCause, GatherError, Gathered, Parked, Post, Taken, Words, gather,
-    open_parked, park_all, wake_all,
-};
+use crate::calls::{are, every_growth_was_refused, holds, instance, is_got, is_left, message};
+use crate::gathered::{gathers, sends};
+use crate::tables::{Missed, why_nothing};
+use board::{BoardError, Gathered, Parked, Post, Words, open_parked, park_all, wake_all};
 use std::alloc::Global;
 use std::process::Abort;
 use std::test::Fail;
@@ -17,7 +15,8 @@ use std::test::Fail;
 fn closes(rt: &impl Abort, post: &mut Post)
     ensures { post.new.board ≡ post.old.board }
 {
-    assert!(rt; post.close(instance(rt, 2)).is_ok());
+    let closed = post.close(instance(rt, 2));
+    holds(rt, "the lane is closed", closed.is_ok());
 }
 
 /// The first of two posts closes its lane to the second one, on which a message waits.
@@ -57,46 +56,38 @@ fn put_down<'a>(rt: &impl Abort, alloc: Global, posts: Vec<Post<'a>>) -> Vec<Par
     }
 }
 
-/// One message is left on the lane from 1 to 2, which is the one that was closed.
+/// The lane from 1 to 2 is the one that was closed, and one message is left on it.
 fn one_is_left(rt: &impl Abort, gathered: &Gathered) {
-    assert_eq!(rt; gathered.left.len(), 1);
-    assert_eq!(rt; gathered.left[0].messages.len(), 1);
-    assert!(rt; gathered.left[0].messages[0].name() == name(rt, b'x'));
-    assert_eq!(rt; gathered.closed.len(), 1);
-    assert!(rt; gathered.closed[0].sender == instance(rt, 1));
-    assert!(rt; gathered.closed[0].receiver == instance(rt, 2));
+    is_left(rt, gathered.left.as_slice(), b'x');
+    assert!(rt; gathered.closed.len() == 1);
+    holds(
+        rt,
+        "the sender",
+        gathered.closed[0].sender == instance(rt, 1),
+    );
+    holds(
+        rt,
+        "the receiver",
+        gathered.closed[0].receiver == instance(rt, 2),
+    );
 }
 
-/// Gathers these posts, once more where memory was refused.
-fn gathers(rt: &impl Abort, alloc: Global, posts: Vec<Post>)
-    requires { AreOfOneBoard posts.items }
-{
-    match gather(alloc, posts) {
-        Ok(gathered) => one_is_left(rt, &gathered),
-        Err(GatherError { posts, cause }) => {
-            assert_eq!(rt; cause, GatherCause::Memory);
-            match gather(alloc, posts) {
-                Ok(gathered) => one_is_left(rt, &gathered),
-                Err(GatherError { posts: _, cause: _ }) => panic!(rt; "a gathered board"),
-            }
-        }
+/// Parks posts and wakes them, if memory isn't refused for their board.
+fn park_and_wake(rt: &impl Abort, alloc: Global) {
+    if let Ok((table, parked)) = open_parked(alloc, 2, 2) {
+        let words = &table.shared;
+        let posts = woken(rt, alloc, words, parked);
+        let parked = put_down(rt, alloc, posts);
+        let mut posts = woken(rt, alloc, words, parked);
+        sends_last(rt, alloc, posts.as_mut_slice());
+        one_is_left(rt, &gathers(rt, alloc, posts));
     }
 }
 
 #[test]
 fn parked_and_woken(rt: HostRuntime) -> Result<(), Fail> {
-    let alloc = rt.alloc();
-    let Ok((table, parked)) = open_parked(alloc, 2, 2) else {
-        return Ok(());
-    };
-    let words = &table.shared;
-    let posts = woken(&rt, alloc, words, parked);
-    let parked = put_down(&rt, alloc, posts);
-    let mut posts = woken(&rt, alloc, words, parked);
-    sends_last(&rt, alloc, posts.as_mut_slice());
-    gathers(&rt, alloc, posts);
-    Vec::<u8>::with_capacity(alloc, 1).map_err(|_| "every growth was refused")?;
-    Ok(())
+    park_and_wake(&rt, rt.alloc());
+    every_growth_was_refused(rt.alloc())
 }
 
 /// A parked post sends a message to the second one, and closes the lane.
@@ -105,12 +96,11 @@ fn sends_parked(rt: &impl Abort, alloc: Global, words: &Words, post: &mut Parked
     requires { IsAtBoard words.now.key words.now.table_id post.old }
     ensures { IsAtBoard words.now.key words.now.table_id post.new }
 {
-    assert!(rt;
-        post.send(words, instance(rt, 2), message(rt, alloc, b'x'))
-            .is_ok()
-    );
-    assert!(rt; post.close(words, instance(rt, 2)).is_ok());
-    assert_eq!(rt; post.line().len(), 1);
+    let sent = post.send(words, instance(rt, 2), message(rt, alloc, b'x'));
+    holds(rt, "it is sent", sent.is_ok());
+    let closed = post.close(words, instance(rt, 2));
+    holds(rt, "the lane is closed", closed.is_ok());
+    are(rt, "events", post.line().len(), 1);
 }
 
 /// A parked post receives this message from the first one, and then the lane's end.
@@ -118,12 +108,15 @@ fn sends_parked(rt: &impl Abort, alloc: Global, words: &Words, post: &mut Parked
 fn gets_parked(rt: &impl Abort, words: &Words, post: &mut Parked)
     requires { IsAtBoard words.now.key words.now.table_id post.old }
 {
-    let Ok(Taken::Got(arrival)) = post.receive(words, instance(rt, 1)) else {
-        panic!(rt; "a message")
-    };
-    assert!(rt; arrival.message.name() == name(rt, b'x'));
-    assert!(rt; matches!(post.receive(words, instance(rt, 1)), Ok(Taken::Ended)));
-    assert_eq!(rt; post.line().len(), 1);
+    let taken = post.receive(words, instance(rt, 1));
+    is_got(rt, taken, b'x', 1, &[]);
+    let taken = post.receive(words, instance(rt, 1));
+    holds(
+        rt,
+        "the lane's end",
+        why_nothing(rt, taken) == Missed::Ended,
+    );
+    are(rt, "events", post.line().len(), 1);
 }
 
 /// One parked post sends, and the other one receives.
@@ -144,10 +137,23 @@ fn parked_calls(rt: HostRuntime) -> Result<(), Fail> {
     Ok(())
 }
 
+/// There is no board of so many instances and slots.
+fn is_no_board(
+    rt: &impl Abort,
+    alloc: Global,
+    instances: usize,
+    capacity: usize,
+    error: BoardError,
+) {
+    match open_parked(alloc, instances, capacity) {
+        Ok(_) => panic!(rt; "there is no such board"),
+        Err(refused) => holds(rt, "why", refused == error),
+    }
+}
+
 #[test]
 fn no_parked_board(rt: HostRuntime) {
-    let alloc = rt.alloc();
-    assert!(&rt; matches!(open_parked(alloc, 1, 2), Err(BoardError::Instances)));
-    assert!(&rt; matches!(open_parked(alloc, 33, 0), Err(BoardError::Instances)));
-    assert!(&rt; matches!(open_parked(alloc, 2, 65), Err(BoardError::Capacity)));
+    is_no_board(&rt, rt.alloc(), 1, 2, BoardError::Instances);
+    is_no_board(&rt, rt.alloc(), 33, 0, BoardError::Instances);
+    is_no_board(&rt, rt.alloc(), 2, 65, BoardError::Capacity);
 }

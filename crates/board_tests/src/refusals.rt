@@ -1,6 +1,10 @@
 //! What no text of a schedule can ask for: boards past the limits, and partners that there are not.
+use crate::calls::holds;
+use crate::growths::many_posts;
 use crate::tables::{Call, Missed, play};
-use board::{Board, BoardError, CloseError, PostsError, SendError, TakeError};
+use board::{Board, BoardError, CloseError, SendError, TakeError};
+use std::alloc::Global;
+use std::process::Abort;
 
 /// Instances and slots of no board, and why.
 static NO_BOARDS: [(usize, usize, BoardError); 5] = [
@@ -11,16 +15,25 @@ static NO_BOARDS: [(usize, usize, BoardError); 5] = [
     (32, 65, BoardError::Capacity),
 ];
 
+/// There is no board of so many instances and slots.
+fn is_no_board(
+    rt: &impl Abort,
+    alloc: Global,
+    instances: usize,
+    capacity: usize,
+    error: BoardError,
+) {
+    let refused = Board::new(alloc, instances, capacity).err();
+    assert_eq!(rt; refused, Some(error));
+}
+
 #[test]
 fn a_board_within_limits(rt: HostRuntime) {
     for (instances, capacity, error) in &NO_BOARDS {
-        let refused = Board::new(rt.alloc(), *instances, *capacity).err();
-        assert_eq!(rt; refused, Some(*error));
+        is_no_board(&rt, rt.alloc(), *instances, *capacity, *error);
     }
     let mut board = Board::new(rt.alloc(), 32, 64).expect(&rt, "a board");
-    let many = board.posts().expect(&rt, "posts").len();
-    assert_eq!(rt; many, 32);
-    assert!(rt; matches!(board.posts(), Err(PostsError::PostsTaken)));
+    holds(&rt, "32 posts", many_posts(&rt, &mut board) == Some(32));
 }
 
 static NO_SUCH_PARTNER: [(usize, Call); 8] = [

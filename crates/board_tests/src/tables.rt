@@ -1,8 +1,10 @@
 //! Tables of calls: what posts are asked, and what they answer.
-ghost use Rattle.std.specs.Prelude.{◌≡◌, ◌≤◌};
+ghost use Rattle.std.specs.Prelude.{◌≡◌};
 ghost use Rattle.board.specs.Meeting.{AreOfOneBoard};
 
-use crate::calls::{are_named, gets, have_come, instance, message, messages, send};
+use crate::calls::{
+    are, are_named, gets, have_come, holds, instance, is_event, message, messages, sends_as, stops,
+};
 use board::{
     Board, CloseError, Post, RegionError, SendError, Sent, Stop, TakeError, Taken, TakenMany,
 };
@@ -56,11 +58,28 @@ fn sends(rt: &impl Abort, alloc: Global, post: &mut Post, to: usize, letters: &[
 
 /// They are these events of the instance.
 fn are_events(rt: &impl Abort, sents: &[Sent], instance: InstanceNo, events: &[u32]) {
-    assert_eq!(rt; sents.len(), events.len());
+    are(rt, "sends", sents.len(), events.len());
     for (sent, index) in sents.iter().zip(events) {
-        assert!(rt; sent.event.instance == instance);
-        assert_eq!(rt; sent.event.index, *index);
+        is_event(rt, &sent.event, instance, *index);
     }
+}
+
+/// They are these events of the instance, and were to be sent.
+fn are_answered(
+    rt: &impl Abort,
+    sents: &[Sent],
+    instance: InstanceNo,
+    answer: &Result<&'static [u32], SendError>,
+) {
+    match answer {
+        Ok(events) => are_events(rt, sents, instance, events),
+        Err(_) => panic!(rt; "they were sent"),
+    }
+}
+
+/// This refusal was to come.
+fn is_refused(rt: &impl Abort, error: SendError, answer: &Result<&'static [u32], SendError>) {
+    assert!(rt; matches!(answer, Err(wanted) if *wanted == error));
 }
 
 /// Sends messages of these names at once. Refused, they come back, and no event is made.
@@ -77,14 +96,11 @@ fn send_all(
     let messages = messages(rt, alloc, letters).expect(rt, "messages");
     let before = post.line().len();
     match post.send_all(instance(rt, to), messages) {
-        Ok(sents) => match answer {
-            Ok(events) => are_events(rt, sents.as_slice(), post.number(), events),
-            Err(_) => panic!(rt; "they were sent"),
-        },
+        Ok(sents) => are_answered(rt, sents.as_slice(), post.number(), answer),
         Err((back, error)) => {
-            assert!(rt; matches!(answer, Err(wanted) if *wanted == error));
+            is_refused(rt, error, answer);
             are_named(rt, back.as_slice(), letters);
-            assert_eq!(rt; post.line().len(), before);
+            are(rt, "events", post.line().len(), before);
         }
     }
 }
@@ -108,9 +124,9 @@ fn get_all(
     races: &[u32],
     stop: Stop,
 )
-    requires { 1 ≤ max }
     ensures { post.new.board ≡ post.old.board }
 {
+    assert!(rt; 1 <= max);
     match post.receive_up_to(instance(rt, from), max) {
         Ok(
             TakenMany::Got {
@@ -119,16 +135,15 @@ fn get_all(
             },
         ) => {
             have_come(rt, arrivals.as_slice(), letters, races);
-            assert_eq!(rt; stopped, stop);
+            stops(rt, stopped, stop);
         }
         _ => panic!(rt; "no messages came"),
     }
 }
 
-fn misses(rt: &impl Abort, post: &mut Post, from: usize) -> Missed
-    ensures { post.new.board ≡ post.old.board }
-{
-    match post.receive(instance(rt, from)) {
+/// Why no message came.
+pub fn why_nothing(rt: &impl Abort, taken: Result<Taken, TakeError>) -> Missed {
+    match taken {
         Ok(Taken::Nothing) => Missed::Nothing,
         Ok(Taken::Ended) => Missed::Ended,
         Err(error) => Missed::Refused(error),
@@ -136,11 +151,9 @@ fn misses(rt: &impl Abort, post: &mut Post, from: usize) -> Missed
     }
 }
 
-fn misses_all(rt: &impl Abort, post: &mut Post, from: usize, max: usize) -> Missed
-    requires { 1 ≤ max }
-    ensures { post.new.board ≡ post.old.board }
-{
-    match post.receive_up_to(instance(rt, from), max) {
+/// Why no messages came.
+fn why_none(rt: &impl Abort, taken: Result<TakenMany, TakeError>) -> Missed {
+    match taken {
         Ok(TakenMany::Nothing) => Missed::Nothing,
         Ok(TakenMany::Ended) => Missed::Ended,
         Err(error) => Missed::Refused(error),
@@ -148,34 +161,69 @@ fn misses_all(rt: &impl Abort, post: &mut Post, from: usize, max: usize) -> Miss
     }
 }
 
-/// Makes the call, which answers so.
+/// By a receive nothing comes.
+fn misses(rt: &impl Abort, post: &mut Post, from: usize, why: Missed)
+    ensures { post.new.board ≡ post.old.board }
+{
+    let taken = post.receive(instance(rt, from));
+    assert_eq!(rt; why_nothing(rt, taken), why);
+}
+
+/// By a receive of so many at most nothing comes.
+fn misses_all(rt: &impl Abort, post: &mut Post, from: usize, max: usize, why: Missed)
+    ensures { post.new.board ≡ post.old.board }
+{
+    assert!(rt; 1 <= max);
+    let taken = post.receive_up_to(instance(rt, from), max);
+    assert_eq!(rt; why_none(rt, taken), why);
+}
+
+/// Sends messages of these names at once, whatever the numbers of their events are.
+fn sends_all(rt: &impl Abort, alloc: Global, post: &mut Post, to: usize, letters: &[u8])
+    ensures { post.new.board ≡ post.old.board }
+{
+    let messages = messages(rt, alloc, letters).expect(rt, "messages");
+    let sent = post.send_all(instance(rt, to), messages);
+    holds(rt, "they are sent", sent.is_ok());
+}
+
+/// Makes the call, which answers so: one that receives, or else another one.
 fn make(rt: &impl Abort, alloc: Global, post: &mut Post, call: &Call)
     ensures { post.new.board ≡ post.old.board }
 {
     match *call {
-        Call::Send(to, letter, answer) => {
-            assert_eq!(rt; send(rt, alloc, post, to, letter), answer)
-        }
-        Call::Sends(to, letters) => sends(rt, alloc, post, to, letters),
-        Call::SendAll(to, letters, answer) => send_all(rt, alloc, post, to, letters, &answer),
-        Call::SendsAll(to, letters) => {
-            let messages = messages(rt, alloc, letters).expect(rt, "messages");
-            assert!(rt; post.send_all(instance(rt, to), messages).is_ok())
-        }
         Call::Gets(from, letters, races) => gets_each(rt, post, from, letters, races),
         Call::GetAll(from, max, letters, races, stop) => {
-            assert!(rt; 1 <= max);
             get_all(rt, post, from, max, letters, races, stop)
         }
-        Call::Miss(from, why) => assert_eq!(rt; misses(rt, post, from), why),
-        Call::MissAll(from, max, why) => {
-            assert!(rt; 1 <= max);
-            assert_eq!(rt; misses_all(rt, post, from, max), why)
-        }
-        Call::Close(to, answer) => assert_eq!(rt; post.close(instance(rt, to)), answer),
-        Call::Open(answer) => assert_eq!(rt; post.open_coregion(), answer),
-        Call::Shut(answer) => assert_eq!(rt; post.close_coregion(), answer),
-        Call::HasEvents(many) => assert_eq!(rt; post.line().len(), many),
+        Call::Miss(from, why) => misses(rt, post, from, why),
+        Call::MissAll(from, max, why) => misses_all(rt, post, from, max, why),
+        _ => make_other(rt, alloc, post, call),
+    }
+}
+
+/// One that sends, or else one with no message.
+fn make_other(rt: &impl Abort, alloc: Global, post: &mut Post, call: &Call)
+    ensures { post.new.board ≡ post.old.board }
+{
+    match *call {
+        Call::Send(to, letter, answer) => sends_as(rt, alloc, post, to, letter, answer),
+        Call::Sends(to, letters) => sends(rt, alloc, post, to, letters),
+        Call::SendAll(to, letters, answer) => send_all(rt, alloc, post, to, letters, &answer),
+        Call::SendsAll(to, letters) => sends_all(rt, alloc, post, to, letters),
+        _ => make_without_message(rt, post, call),
+    }
+}
+
+fn make_without_message(rt: &impl Abort, post: &mut Post, call: &Call)
+    ensures { post.new.board ≡ post.old.board }
+{
+    match *call {
+        Call::Close(to, answer) => { holds(rt, "a close", post.close(instance(rt, to)) == answer) }
+        Call::Open(answer) => holds(rt, "a coregion begins", post.open_coregion() == answer),
+        Call::Shut(answer) => holds(rt, "a coregion ends", post.close_coregion() == answer),
+        Call::HasEvents(many) => are(rt, "events", post.line().len(), many),
+        _ => panic!(rt; "no such call"),
     }
 }
 

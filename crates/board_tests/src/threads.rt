@@ -2,7 +2,7 @@
 ghost use Rattle.std.specs.Prelude.{◌≡◌};
 ghost use Rattle.board.specs.Meeting.{AreOfOneBoard};
 
-use crate::calls::instance;
+use crate::calls::{holds, instance};
 use crate::meetings::all_meet;
 use board::{Arrival, Board, Post, SendError, Taken, TakenMany};
 use chart::{InstanceNo, MAX_EVENTS, Message, Name};
@@ -44,10 +44,20 @@ fn offer(rt: &impl Abort, alloc: Global, post: &mut Post, to: InstanceNo, number
     match post.send(to, numbered(rt, alloc, number)) {
         Ok(_) => number.wrapping_add(1),
         Err((_, error)) => {
-            assert_eq!(rt; error, SendError::Full);
+            holds(rt, "the lane is full", error == SendError::Full);
             number
         }
     }
+}
+
+/// The messages of these numbers.
+fn all_numbered(rt: &impl Abort, alloc: Global, next: u32, end: u32) -> Vec<Message> {
+    let mut messages = Vec::new(alloc);
+    for number in next..end {
+        let pushed = messages.push(numbered(rt, alloc, number));
+        holds(rt, "memory", pushed.is_ok());
+    }
+    messages
 }
 
 /// Sends the messages of these numbers at once, unless they find no slot. Answers the number of the next one to send.
@@ -59,25 +69,38 @@ fn offer_several(
     next: u32,
     end: u32,
 ) -> u32 {
-    let mut messages = Vec::new(alloc);
-    for number in next..end {
-        let message = numbered(rt, alloc, number);
-        assert!(rt; messages.push(message).is_ok());
-    }
-    match post.send_all(to, messages) {
+    match post.send_all(to, all_numbered(rt, alloc, next, end)) {
         Ok(_) => end,
         Err((_, error)) => {
-            assert_eq!(rt; error, SendError::Full);
+            holds(rt, "the lane is full", error == SendError::Full);
             next
         }
     }
 }
 
 /// Answers the number of the next message, where this one has come in its turn.
-fn is_next(rt: &impl Abort, arrival: &Arrival, number: u32) -> u32 {
-    assert_eq!(rt; arrival.message.body(), number.to_le_bytes().as_slice());
-    assert!(rt; arrival.report.earlier().is_empty());
+fn is_numbered(rt: &impl Abort, arrival: &Arrival, number: u32) -> u32 {
+    let wanted = number.to_le_bytes();
+    assert!(rt;
+        arrival.message.body() == wanted.as_slice(),
+        "not message {number}"
+    );
     number.wrapping_add(1)
+}
+
+/// The same of one with no races.
+fn is_next(rt: &impl Abort, arrival: &Arrival, number: u32) -> u32 {
+    holds(rt, "no races", arrival.report.earlier().is_empty());
+    is_numbered(rt, arrival, number)
+}
+
+/// The same of several.
+fn are_next(rt: &impl Abort, arrivals: &[Arrival], number: u32) -> u32 {
+    let mut next = number;
+    for arrival in arrivals {
+        next = is_next(rt, arrival, next);
+    }
+    next
 }
 
 impl Calls {
@@ -114,11 +137,7 @@ impl Calls {
                     .expect(rt, "no refusal")
                 {
                     TakenMany::Got { arrivals, stop: _ } => {
-                        let mut next = next;
-                        for arrival in arrivals.iter() {
-                            next = is_next(rt, arrival, next);
-                        }
-                        Some(next)
+                        Some(are_next(rt, arrivals.as_slice(), next))
                     }
                     TakenMany::Nothing => Some(next),
                     TakenMany::Ended => None,
@@ -143,8 +162,8 @@ fn send_all(rt: &impl Abort, alloc: Global, calls: Calls, post: Post, to: usize,
             thread::yield_now();
         }
     }
-    assert_eq!(rt; next, many);
-    assert_eq!(rt; post.close(to), Ok(()));
+    holds(rt, "all are sent", next == many);
+    holds(rt, "the lane is closed", post.close(to).is_ok());
 }
 
 /// Receives so many messages in their order, and then the end.
@@ -152,20 +171,22 @@ fn get_all(rt: &impl Abort, calls: Calls, post: Post, from: usize, many: u32) {
     let mut post = post;
     let from = instance(rt, from);
     let mut next = 0;
+    let mut ended = false;
     for _ in 0..CALLS {
         let before = next;
         match calls.receive(rt, &mut post, from, next) {
             Some(number) => next = number,
             None => {
-                assert_eq!(rt; next, many);
-                return;
+                ended = true;
+                break;
             }
         }
         if next == before {
             thread::yield_now();
         }
     }
-    panic!(rt; "the end didn't come");
+    holds(rt, "the end came", ended);
+    holds(rt, "all are got", next == many);
 }
 
 /// Two threads hold a post each: one sends so many messages and closes the lane, the other gets them and the end.
@@ -225,6 +246,16 @@ struct Passed {
     got: u32,
 }
 
+/// Receives the message of this number, if one waits. Answers the number of the next one to receive.
+fn take(rt: &impl Abort, post: &mut Post, from: InstanceNo, number: u32) -> u32
+    ensures { post.new.board ≡ post.old.board }
+{
+    match post.receive(from).expect(rt, "no refusal") {
+        Taken::Got(arrival) => is_numbered(rt, &arrival, number),
+        _ => number,
+    }
+}
+
 /// Sends to an instance and receives from it, once each, if it is their turn.
 fn exchange(rt: &impl Abort, alloc: Global, post: &mut Post, other: usize, passed: &mut Passed)
     ensures { post.new.board ≡ post.old.board }
@@ -233,9 +264,36 @@ fn exchange(rt: &impl Abort, alloc: Global, post: &mut Post, other: usize, passe
     if passed.sent < share(post.number().number(), other) {
         passed.sent = offer(rt, alloc, post, partner, passed.sent);
     }
-    if let Taken::Got(arrival) = post.receive(partner).expect(rt, "no refusal") {
-        assert_eq!(rt; arrival.message.body(), passed.got.to_le_bytes().as_slice());
-        passed.got = passed.got.wrapping_add(1);
+    passed.got = take(rt, post, partner, passed.got);
+}
+
+/// The same with three others.
+fn exchange_each(rt: &impl Abort, alloc: Global, post: &mut Post, passed: &mut [Passed; 4])
+    ensures { post.new.board ≡ post.old.board }
+{
+    let own = post.number().number();
+    for place in 0..4 {
+        if place + 1 != own {
+            exchange(rt, alloc, post, place + 1, &mut passed[place]);
+        }
+    }
+}
+
+/// Each of the three others was sent its share, and sent one.
+fn have_passed(rt: &impl Abort, own: usize, passed: &[Passed; 4]) {
+    for place in 0..4 {
+        if place + 1 != own {
+            holds(
+                rt,
+                "all are sent",
+                passed[place].sent == share(own, place + 1),
+            );
+            holds(
+                rt,
+                "all are got",
+                passed[place].got == share(place + 1, own),
+            );
+        }
     }
 }
 
@@ -244,28 +302,18 @@ fn exchange_all(rt: &impl Abort, alloc: Global, post: &mut Post)
     ensures { post.new.board ≡ post.old.board }
 {
     let mut passed = [Passed { sent: 0, got: 0 }; 4];
-    let own = post.number().number();
     for _ in 0..CALLS / 6 {
         let before = post.line().len();
         if before == MAX_EVENTS {
             break;
         }
-        for place in 0..4 {
-            if place + 1 != own {
-                exchange(rt, alloc, post, place + 1, &mut passed[place]);
-            }
-        }
+        exchange_each(rt, alloc, post, &mut passed);
         if post.line().len() == before {
             thread::yield_now();
         }
     }
-    for place in 0..4 {
-        if place + 1 != own {
-            assert_eq!(rt; passed[place].sent, share(own, place + 1));
-            assert_eq!(rt; passed[place].got, share(place + 1, own));
-        }
-    }
-    assert_eq!(rt; post.line().len(), MAX_EVENTS);
+    have_passed(rt, post.number().number(), &passed);
+    holds(rt, "the line is full", post.line().len() == MAX_EVENTS);
 }
 
 /// Four threads hold a post each until all lines are full; then all posts meet.

@@ -1,8 +1,5 @@
 use Rattle.std.proofs.Common.{◌≡◌}
 use Rattle.board_tests.proofs.threads.exchange_all.Given as goal
 
-abbrev pub invariant-loop-place : goal.invariant-loop-place
-invariant-loop-place g l = l.post.board ≡ l.fn.post.board
-
 abbrev pub invariant-loop : goal.invariant-loop
 invariant-loop g l = l.post.board ≡ l.fn.post.board
