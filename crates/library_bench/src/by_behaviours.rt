@@ -3,7 +3,7 @@ ghost use Rattle.board.specs.Meeting.{AreOfOneBoard};
 
 use crate::load::{Load, events_of};
 use crate::patient_script::PatientScript;
-use crate::timing::nanoseconds_since;
+use crate::timing::{nanoseconds_since, when_all};
 use anyhow::bail;
 use behaviour::{Behaviour, Script};
 use board::{Board, Post};
@@ -25,11 +25,29 @@ fn time_run<R: Threads + Sync + Clock>(
     let Ok(ran) = run(rt, posts, behaviours, MAX_TURNS, &Open) else {
         bail!("no memory for a run");
     };
-    let took = nanoseconds_since(rt, &start)?;
-    if events_of(&ran.gathered.chart) != events {
-        bail!("a message was refused, or didn't come");
+    let took = nanoseconds_since(rt, &start);
+    when_all(took, events_of(&ran.gathered.chart), events)
+}
+
+/// Adds the behaviour of an instance.
+fn add_behaviour(
+    behaviours: &mut Vec<Box<dyn Behaviour + Send>>,
+    alloc: Global,
+    load: Load,
+    place: usize,
+) -> anyhow::Result<()> {
+    let script = Script::new(load.acts(alloc, place)?);
+    behaviours.push(Box::new(alloc, PatientScript { script })?)?;
+    Ok(())
+}
+
+/// The behaviour of each instance.
+fn behaviours(alloc: Global, load: Load) -> anyhow::Result<Vec<Box<dyn Behaviour + Send>>> {
+    let mut behaviours: Vec<Box<dyn Behaviour + Send>> = Vec::new(alloc);
+    for place in 0..load.instances {
+        add_behaviour(&mut behaviours, alloc, load, place)?;
     }
-    Ok(took)
+    Ok(behaviours)
 }
 
 /// How many nanoseconds it takes behaviours to pass these messages, on a fresh board.
@@ -38,11 +56,7 @@ pub fn time_behaviours<R: Threads + Sync + Clock>(
     alloc: Global,
     load: Load,
 ) -> anyhow::Result<u64> {
-    let mut behaviours: Vec<Box<dyn Behaviour + Send>> = Vec::new(alloc);
-    for place in 0..load.instances {
-        let script = Script::new(load.acts(alloc, place)?);
-        behaviours.push(Box::new(alloc, PatientScript { script })?)?;
-    }
+    let behaviours = behaviours(alloc, load)?;
     let mut board = Board::new(alloc, load.instances, load.capacity)?;
     let posts = board.posts()?;
     time_run(rt, posts, behaviours, load.events())
