@@ -70,4 +70,12 @@ impl Handle {
     {
         drop(self.take(alloc));
     }
+
+    /// Lets go of what it keeps, and of the handle itself: for who has one in this language. In another one a handle lies
+    /// in memory of its caller's, and isn't let go of.
+    pub fn end(self, alloc: Global) {
+        let mut handle = self;
+        handle.free(alloc);
+        let Handle { word: _, slot: _ } = handle;
+    }
 }
