@@ -4,7 +4,8 @@ use crate::calls::{gets, holds, is_refused, nothing_told, pair, sends};
 use board::Glance;
 use handles::Found;
 
-/// Two messages one way and one back, of which the second is a race of nothing, a lane that is full, and one that ends.
+/// Messages that cross: each receive has races with what its instance did before, which the message's sender doesn't know
+/// of. The lane is full by its second message, and it ends.
 #[test]
 fn messages_both_ways(rt: HostRuntime) {
     let alloc = rt.alloc();
