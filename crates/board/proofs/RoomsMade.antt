@@ -1,6 +1,6 @@
 -- Room for what a board comes to, of whatever history its posts have in common.
 use Rattle.std.proofs.Common.{◌≡◌, ◌≢◌, ℕ, suc, ◌+◌, ◌-◌, ◌≤◌, ⊎_elim, Bool, true, false, cond, List, [], ◌∷◌, ◌++◌, length, map, refl, sym, ap, ap₂, ◌∙◌, subst, arith, append-nil, append_assoc}
-use Rattle.std.specs.Prelude.{filter, nat_lt, vec_capacity, Result, Ok, Err, IfOk}
+use Rattle.std.specs.Prelude.{filter, nat_lt, vec_capacity, Result, Ok, Err, IfOk, OnOk}
 use Rattle.std.specs.List.{range_with_len, flat_map}
 use Rattle.std.specs.Global.{Vec}
 use Rattle.std.proofs.lemmas.List.{map-append, map_push}
@@ -10,6 +10,7 @@ use Rattle.std.proofs.lemmas.List.Elements.{All-append, All-push, filter-append}
 use Rattle.std.proofs.lemmas.List.FromFn.{map-range_with_len_more}
 use Rattle.chart.specs.declared.history.Occurrence.{Occurrence}
 use Rattle.chart.specs.declared.event.Event.{Event}
+use Rattle.chart.specs.Charts.{LineView}
 use Rattle.chart.specs.Histories.{own, sent, received, waiting, chart_of, AreTwo, IsLegal}
 use Rattle.chart.specs.HistoryLines.{history_line, history_lines}
 use Rattle.chart.specs.Reports.{ReportView, IsReportIn, AreReportsOf, receives_of}
@@ -120,18 +121,18 @@ lines_next h place = map-range_with_len_more (history_line h) 1 place (place + 1
 pub own_reports : (n : ℕ) (h : List Occurrence) (p : ℕ) (r : RecorderView) → IsRecorder n h p r → AreReportsOf (chart_of h) (history_line h p ∷ []) r.reports
 own_reports n h p r its = record { receives = its.receives ∙ ap receives_of its.line ∙ sym (append-nil (receives_of (history_line h p))); each = its.reports }
 
--- a list that is made of them
-pub reports_made : {E : Type 0} (made : Result (Vec ReportView) E) (p : ℕ) (reports : List ReportView) (its : List Occurrence → Type 0) → IfOk made (λ (v : Vec ReportView). v.items ≡ reports) → ((h : List Occurrence) → its h → AreReportsOf (chart_of h) (history_line h p ∷ []) reports)
-    → IfOk made (λ (v : Vec ReportView). (h : List Occurrence) → its h → AreReportsOf (chart_of h) (history_line h p ∷ []) v.items)
-reports_made (Ok v) p reports its same are = λ h holds. subst (AreReportsOf (chart_of h) (history_line h p ∷ [])) (sym same) (are h holds)
-reports_made (Err e) p reports its same are = record {}
-
 -- those of one line more
-pub reports_push : (h : List Occurrence) (place : ℕ) (reports own : List ReportView) → AreReportsOf (chart_of h) (history_lines place h) reports → AreReportsOf (chart_of h) (history_line h (place + 1) ∷ []) own → AreReportsOf (chart_of h) (history_lines (place + 1) h) (reports ++ own)
-reports_push h place reports own before its = subst (λ ls. AreReportsOf (chart_of h) ls (reports ++ own)) (sym (lines_next h place)) (record {
-  receives = map-append (λ (r : ReportView). r.receive) reports own ∙ ap₂ (λ xs ys. xs ++ ys) before.receives its.receives ∙ sym (flat_map-append receives_of (history_lines place h) (history_line h (place + 1) ∷ []));
+pub reports_push : (h : List Occurrence) (lines : List LineView) (line : LineView) (reports own : List ReportView) → AreReportsOf (chart_of h) lines reports → AreReportsOf (chart_of h) (line ∷ []) own → AreReportsOf (chart_of h) (lines ++ line ∷ []) (reports ++ own)
+reports_push h lines line reports own before its = record {
+  receives = map-append (λ (r : ReportView). r.receive) reports own ∙ ap₂ (λ xs ys. xs ++ ys) before.receives its.receives ∙ sym (flat_map-append receives_of lines (line ∷ []));
   each = All-append (IsReportIn (chart_of h)) reports own before.each its.each;
-})
+}
+
+-- a list that has got them behind those of other lines
+pub reports_added : {A E : Type 0} (result : Result A E) (p : ℕ) (own before after : List ReportView) (its : List Occurrence → Type 0) → OnOk result (after ≡ before ++ own) → ((h : List Occurrence) → its h → AreReportsOf (chart_of h) (history_line h p ∷ []) own)
+    → OnOk result ((h : List Occurrence) (lines : List LineView) → its h → AreReportsOf (chart_of h) lines before → AreReportsOf (chart_of h) (lines ++ history_line h p ∷ []) after)
+reports_added (Ok v) p own before after its same are = λ h lines holds there. subst (AreReportsOf (chart_of h) (lines ++ history_line h p ∷ [])) (sym same) (reports_push h lines (history_line h p) before own there (are h holds))
+reports_added (Err e) p own before after its same are = record {}
 
 -- the room of two of these posts is theirs by any history that all of them have in common
 pub room_for : (n k : ℕ) (posts : List PostView) → AreOf n k posts → (to from : PostView) (q p : ℕ) (room : Room) → IsAmong posts to → IsAmong posts from → to.number ≡ p → from.number ≡ q

@@ -2,6 +2,7 @@
 ghost use Rattle.std.specs.Prelude.{◌≡◌, ◌≢◌, ◌+◌, ◌≤◌, ℕ, [], ◌∷◌, ◌++◌, List, length, map, vec_capacity, IfOk, OnOk};
 ghost use Rattle.std.specs.Prelude.{IfSome};
 ghost use Rattle.chart.specs.declared.history.Occurrence.{Occurrence};
+ghost use Rattle.chart.specs.Charts.{LineView};
 ghost use Rattle.chart.specs.Histories.{chart_of};
 ghost use Rattle.chart.specs.HistoryLines.{history_line, history_lines};
 ghost use Rattle.chart.specs.Reports.{AreReportsOf};
@@ -52,12 +53,14 @@ impl Parked {
         })
     }
 
-    /// The report of each of its receives. F6: it fails only where there is no memory.
-    fn reports(&self, alloc: Global) -> Result<Vec<Report>, AllocError>
-        ensures { IfOk result (λ reports. (h : List Occurrence) → IsJoint h self.now
-            → AreReportsOf (chart_of h) (history_line h self.now.number ∷ []) reports.items) }
+    /// Adds the report of each of its receives to a list. F6: it fails only where there is no memory, and never without
+    /// a receive.
+    fn add_reports(&self, alloc: Global, reports: &mut Vec<Report>) -> Result<(), AllocError>
+        ensures { OnOk result ((h : List Occurrence) (lines : List LineView) → IsJoint h self.now
+            → AreReportsOf (chart_of h) lines reports.old.items
+            → AreReportsOf (chart_of h) (lines ++ history_line h self.now.number ∷ []) reports.new.items) }
     {
-        self.recorder.reports(alloc)
+        self.recorder.add_reports(alloc, reports)
     }
 
     /// An empty list with room for just the events of its line. F6: it fails only where there is no memory.
@@ -79,12 +82,14 @@ impl<'a> Post<'a> {
         self.parked.room_from(alloc, &sender.parked)
     }
 
-    /// The report of each of its receives. F6: it fails only where there is no memory.
-    fn reports(&self, alloc: Global) -> Result<Vec<Report>, AllocError>
-        ensures { IfOk result (λ reports. (h : List Occurrence) → IsJoint h self.now
-            → AreReportsOf (chart_of h) (history_line h self.now.number ∷ []) reports.items) }
+    /// Adds the report of each of its receives to a list. F6: it fails only where there is no memory, and never without
+    /// a receive.
+    fn add_reports(&self, alloc: Global, reports: &mut Vec<Report>) -> Result<(), AllocError>
+        ensures { OnOk result ((h : List Occurrence) (lines : List LineView) → IsJoint h self.now
+            → AreReportsOf (chart_of h) lines reports.old.items
+            → AreReportsOf (chart_of h) (lines ++ history_line h self.now.number ∷ []) reports.new.items) }
     {
-        self.parked.reports(alloc)
+        self.parked.add_reports(alloc, reports)
     }
 
     /// An empty list with room for just the events of its line. F6: it fails only where there is no memory.
@@ -149,8 +154,7 @@ pub(crate) fn make_reports(
 {
     let mut reports = Vec::new(alloc);
     for place in 0..instances {
-        let mut own = post_of(posts, place + 1).reports(alloc)?;
-        reports.append(&mut own)?;
+        post_of(posts, place + 1).add_reports(alloc, &mut reports)?;
     }
     Ok(reports)
 }

@@ -6,11 +6,11 @@ use std::alloc::Global;
 
 /// A message could not be made, or not be passed. (A result with `anyhow`'s error has some 300 bytes, which would be
 /// timed.)
-#[derive(Clone, Copy, Debug)]
+#[derive(Clone, Copy)]
 pub struct Stopped;
 
 /// What reports list: how many events, and the sum of their ranges' first numbers.
-#[derive(Clone, Copy, Debug)]
+#[derive(Clone, Copy)]
 pub struct Seen {
     pub listed: u64,
     pub firsts: u64,

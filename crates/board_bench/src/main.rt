@@ -4,10 +4,13 @@
 #![tactic(auto)]
 
 mod ends;
+mod plan;
 mod rings;
 mod rounds;
 
-use rounds::{Peer, Plan, Traffic, run_round};
+use ends::Seen;
+use plan::{Outcome, Peer, Plan, Traffic};
+use rounds::run_round;
 use std::convert::AsStr;
 use std::env;
 use std::rt::Env;
@@ -23,7 +26,25 @@ const ROUNDS: [(Traffic, usize, usize); 5] = [
     (Traffic::AllToAll, 4, 8),
 ];
 
-/// Passes rounds by turns, and tells how many messages came and what their reports list, which the traffic decides.
+/// Passes a round by turns, and tells how many messages came and what their reports list, which the traffic decides.
+fn tell_report<R: Threads + Sync + Clock + AllocGlobal + Print>(
+    rt: &R,
+    peer: Peer,
+    plan: &Plan,
+) -> anyhow::Result<()> {
+    let Outcome { messages, seen, .. } = run_round(rt, rt.alloc(), peer, plan)?;
+    let Plan {
+        traffic,
+        instances,
+        capacity,
+        ..
+    } = *plan;
+    let Seen { listed, firsts } = seen;
+    println!(rt; "{traffic},{peer},{instances},{capacity},{messages},{listed},{firsts}")?;
+    Ok(())
+}
+
+/// The same of each of the rounds.
 fn tell_reports<R: Threads + Sync + Clock + AllocGlobal + Print>(
     rt: &R,
     peer: Peer,
@@ -37,11 +58,7 @@ fn tell_reports<R: Threads + Sync + Clock + AllocGlobal + Print>(
             body: 0,
             messages: 4000,
         };
-        let outcome = run_round(rt, rt.alloc(), peer, &plan)?;
-        let messages = outcome.messages;
-        let listed = outcome.seen.listed;
-        let firsts = outcome.seen.firsts;
-        println!(rt; "{traffic},{peer},{instances},{capacity},{messages},{listed},{firsts}")?;
+        tell_report(rt, peer, &plan)?;
     }
     Ok(())
 }
@@ -52,7 +69,11 @@ enum Asked {
     /// What reports list.
     Reports,
     /// So many rounds of a plan.
-    Rounds { peer: Peer, plan: Plan, rounds: u64 },
+    Rounds {
+        peer: Peer,
+        plan: Plan,
+        rounds: usize,
+    },
 }
 
 fn peer_in(word: &str) -> Option<Peer> {
@@ -81,27 +102,36 @@ fn traffic_in(word: &str) -> Option<Traffic> {
     }
 }
 
+/// The numbers in these words.
+fn numbers_in(words: &[String]) -> anyhow::Result<[usize; 5]> {
+    let mut numbers = [0; 5];
+    for (number, word) in numbers.iter_mut().zip(words) {
+        *number = word.as_str().parse()?;
+    }
+    Ok(numbers)
+}
+
 /// What the words of a round ask for: PEER TRAFFIC threads|turns INSTANCES SLOTS BODY MESSAGES ROUNDS.
 fn rounds_in(words: &[String]) -> anyhow::Result<Asked> {
-    let [peer, traffic, how, instances, slots, body, messages, rounds] = words else {
+    let [peer, traffic, how, numbers @ ..] = words else {
         anyhow::bail!("a round has eight words");
     };
+    if numbers.len() != 5 {
+        anyhow::bail!("a round has eight words");
+    }
     let (Some(peer), Some(traffic)) = (peer_in(peer.as_str()), traffic_in(traffic.as_str())) else {
         anyhow::bail!("board or rings, and burst, batch, one_way, ping_pong or all_to_all");
     };
+    let [instances, capacity, body, messages, rounds] = numbers_in(numbers)?;
     let plan = Plan {
         traffic,
         on_threads: how.as_str() == "threads",
-        instances: instances.as_str().parse()?,
-        capacity: slots.as_str().parse()?,
-        body: body.as_str().parse()?,
-        messages: messages.as_str().parse()?,
+        instances,
+        capacity,
+        body,
+        messages,
     };
-    Ok(Asked::Rounds {
-        peer,
-        plan,
-        rounds: rounds.as_str().parse()?,
-    })
+    Ok(Asked::Rounds { peer, plan, rounds })
 }
 
 /// What is asked for.
@@ -118,14 +148,15 @@ fn tell_rounds<R: Threads + Sync + Clock + AllocGlobal + Print>(
     rt: &R,
     peer: Peer,
     plan: &Plan,
-    rounds: u64,
+    rounds: usize,
 ) -> anyhow::Result<()> {
     for _ in 0..rounds {
-        let outcome = run_round(rt, rt.alloc(), peer, plan)?;
-        let nanoseconds = outcome.nanoseconds;
-        let messages = outcome.messages;
-        let listed = outcome.seen.listed;
-        let firsts = outcome.seen.firsts;
+        let Outcome {
+            nanoseconds,
+            messages,
+            seen,
+        } = run_round(rt, rt.alloc(), peer, plan)?;
+        let Seen { listed, firsts } = seen;
         println!(rt; "{nanoseconds} {messages} {listed} {firsts}")?;
     }
     Ok(())

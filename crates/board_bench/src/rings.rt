@@ -13,7 +13,7 @@ const MAX_INSTANCES: usize = 32;
 const MAX_EVENTS: usize = 4096;
 
 /// A message: its name, and its body.
-#[derive(Debug, Drop)]
+#[derive(Drop)]
 pub struct Message {
     pub name: [u8; 32],
     pub body: Vec<u8>,
@@ -26,14 +26,14 @@ struct Parcel {
     clock: [u32; MAX_INSTANCES],
 }
 
-#[derive(Clone, Copy, Debug, PartialEq, Eq)]
+#[derive(Clone, Copy, PartialEq, Eq)]
 enum Kind {
     Send,
     Receive,
 }
 
 /// An event of a line.
-#[derive(Clone, Copy, Debug)]
+#[derive(Clone, Copy)]
 struct Event {
     kind: Kind,
     partner: u8,
@@ -44,21 +44,21 @@ struct Event {
 }
 
 /// So many neighbouring events of a line, the first of which has this number, from 1.
-#[derive(Clone, Copy, Debug)]
+#[derive(Clone, Copy)]
 pub struct Range {
     pub first: u32,
     pub count: u32,
 }
 
 /// The races of a receive, the first of the line first.
-#[derive(Debug, Drop)]
+#[derive(Drop)]
 pub struct Report {
     pub receive: u32,
     pub ranges: Vec<Range>,
 }
 
 /// Why a message isn't passed.
-#[derive(Clone, Copy, Debug)]
+#[derive(Clone, Copy)]
 pub enum Refusal {
     NoSuchInstance,
     LineFull,
@@ -227,6 +227,52 @@ impl Instance {
     }
 }
 
+/// An instance without rings.
+fn alone(alloc: Global, own: usize, instances: usize) -> Instance {
+    Instance {
+        alloc,
+        own,
+        instances,
+        clock: [0; MAX_INSTANCES],
+        events: Vec::new(alloc),
+        reports: Vec::new(alloc),
+        outgoing: Vec::new(alloc),
+        incoming: Vec::new(alloc),
+    }
+}
+
+/// The two ends of a ring from one instance to another. There is none to itself.
+fn ends_of_ring(
+    alloc: Global,
+    from: usize,
+    to: usize,
+    capacity: usize,
+) -> Result<(Option<Producer<Parcel>>, Option<Consumer<Parcel>>), AllocError> {
+    if from == to {
+        return Ok((None, None));
+    }
+    let (producer, consumer) = RingBuffer::new(alloc, capacity)?;
+    Ok((Some(producer), Some(consumer)))
+}
+
+/// Makes the ring from one of these instances to another.
+fn connect(
+    made: &mut [Instance],
+    alloc: Global,
+    from: usize,
+    to: usize,
+    capacity: usize,
+) -> Result<(), AllocError> {
+    let (producer, consumer) = ends_of_ring(alloc, from, to, capacity)?;
+    if let Some(instance) = made.get_mut(from) {
+        instance.outgoing.push(producer)?;
+    }
+    if let Some(instance) = made.get_mut(to) {
+        instance.incoming.push(consumer)?;
+    }
+    Ok(())
+}
+
 /// So many instances, with a ring for each two of them, each way.
 pub fn make_instances(
     alloc: Global,
@@ -235,32 +281,11 @@ pub fn make_instances(
 ) -> Result<Vec<Instance>, AllocError> {
     let mut made = Vec::new(alloc);
     for own in 0..instances {
-        let clock = [0; MAX_INSTANCES];
-        made.push(Instance {
-            alloc,
-            own,
-            instances,
-            clock,
-            events: Vec::new(alloc),
-            reports: Vec::new(alloc),
-            outgoing: Vec::new(alloc),
-            incoming: Vec::new(alloc),
-        })?;
+        made.push(alone(alloc, own, instances))?;
     }
     for from in 0..instances {
         for to in 0..instances {
-            let (producer, consumer) = if from == to {
-                (None, None)
-            } else {
-                let (producer, consumer) = RingBuffer::new(alloc, capacity)?;
-                (Some(producer), Some(consumer))
-            };
-            if let Some(instance) = made.get_mut(from) {
-                instance.outgoing.push(producer)?;
-            }
-            if let Some(instance) = made.get_mut(to) {
-                instance.incoming.push(consumer)?;
-            }
+            connect(made.as_mut_slice(), alloc, from, to, capacity)?;
         }
     }
     Ok(made)

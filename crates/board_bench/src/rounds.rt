@@ -1,101 +1,16 @@
 //! Rounds of messages, which `bench/pass_on_boards` times: over a board, or over rings by hand. The peer in C has the
 //! same rounds, in `bench/peers/rounds.c`.
 use crate::ends::{End, Seen, Stopped, body_of, hand_ends, post_ends};
+use crate::plan::{Outcome, Peer, Plan, Traffic};
 use board::Board;
 use std::alloc::{AllocError, Global};
 use std::sync::atomic::{AtomicU64, Ordering};
+use std::thread;
 use std::thread::Threads;
 use std::time::{Clock, Instant};
-use std::{fmt, thread};
-
-/// Which messages go in a round.
-#[derive(Clone, Copy, Debug, PartialEq, Eq)]
-pub enum Traffic {
-    /// The first instance sends as many as the lane has slots to the second, and then they are received. On one thread.
-    Burst,
-    /// The same, by one call that sends and one that receives.
-    Batch,
-    /// The first instance sends to the second.
-    OneWay,
-    /// The first two instances answer each other's messages.
-    PingPong,
-    /// Each instance sends to each other one.
-    AllToAll,
-}
-
-/// What a round passes messages over.
-#[derive(Clone, Copy, Debug, PartialEq, Eq)]
-pub enum Peer {
-    Board,
-    Rings,
-}
-
-impl fmt::Display for Traffic {
-    fn fmt<W: fmt::Write>(&self, f: &mut fmt::Formatter<W>) -> fmt::Result {
-        match self {
-            Traffic::Burst => write!(f, "burst"),
-            Traffic::Batch => write!(f, "batch"),
-            Traffic::OneWay => write!(f, "one_way"),
-            Traffic::PingPong => write!(f, "ping_pong"),
-            Traffic::AllToAll => write!(f, "all_to_all"),
-        }
-    }
-}
-
-impl fmt::Display for Peer {
-    fn fmt<W: fmt::Write>(&self, f: &mut fmt::Formatter<W>) -> fmt::Result {
-        match self {
-            Peer::Board => write!(f, "board"),
-            Peer::Rings => write!(f, "rings"),
-        }
-    }
-}
-
-/// What is passed in a round, and how.
-#[derive(Clone, Copy, Debug)]
-pub struct Plan {
-    pub traffic: Traffic,
-    /// Each instance on a thread of its own, or all of them on one, a step of each in its turn.
-    pub on_threads: bool,
-    pub instances: usize,
-    pub capacity: usize,
-    pub body: usize,
-    pub messages: usize,
-}
-
-/// What came of a round.
-#[derive(Clone, Copy, Debug)]
-pub struct Outcome {
-    pub nanoseconds: u64,
-    pub messages: u64,
-    pub seen: Seen,
-}
-
-impl Plan {
-    /// How many messages go from one instance to another one.
-    fn share(&self, from: usize, to: usize) -> usize {
-        if from == to {
-            return 0;
-        }
-        match self.traffic {
-            Traffic::Burst | Traffic::Batch | Traffic::OneWay if from == 0 && to == 1 => {
-                self.messages
-            }
-            Traffic::PingPong if from < 2 && to < 2 => self.messages / 2,
-            Traffic::AllToAll => {
-                self.messages
-                    / self
-                        .instances
-                        .saturating_mul(self.instances.saturating_sub(1))
-                        .max(1)
-            }
-            _ => 0,
-        }
-    }
-}
 
 /// What goes between an instance and another one, and what went.
-#[derive(Clone, Copy, Debug)]
+#[derive(Clone, Copy)]
 struct Passed {
     to_send: usize,
     sent: usize,
@@ -117,6 +32,43 @@ struct Player<E> {
     seen: Seen,
 }
 
+/// What goes between an instance and each other one.
+fn lanes_of(alloc: Global, plan: &Plan, own: usize) -> Result<Vec<Passed>, AllocError> {
+    let mut lanes = Vec::new(alloc);
+    for other in 0..plan.instances {
+        lanes.push(Passed {
+            to_send: plan.share(own, other),
+            sent: 0,
+            to_get: plan.share(other, own),
+            got: 0,
+        })?;
+    }
+    Ok(lanes)
+}
+
+/// An instance, before it has passed anything.
+fn new_player<E>(alloc: Global, plan: &Plan, own: usize, end: E, lanes: Vec<Passed>) -> Player<E> {
+    let mut left = 0usize;
+    for lane in &lanes {
+        left = left
+            .saturating_add(lane.to_send)
+            .saturating_add(lane.to_get);
+    }
+    Player {
+        end,
+        alloc,
+        body: plan.body,
+        answers: plan.traffic == Traffic::PingPong,
+        is_first: own == 0,
+        lanes,
+        left,
+        seen: Seen {
+            listed: 0,
+            firsts: 0,
+        },
+    }
+}
+
 /// The instances of a round, in their order.
 fn make_players<E: Drop>(
     alloc: Global,
@@ -125,32 +77,8 @@ fn make_players<E: Drop>(
 ) -> Result<Vec<Player<E>>, AllocError> {
     let mut players = Vec::new(alloc);
     for (own, end) in ends.into_iter().enumerate() {
-        let mut lanes = Vec::new(alloc);
-        let mut left = 0usize;
-        for other in 0..plan.instances {
-            let to_send = plan.share(own, other);
-            let to_get = plan.share(other, own);
-            left = left.saturating_add(to_send).saturating_add(to_get);
-            lanes.push(Passed {
-                to_send,
-                sent: 0,
-                to_get,
-                got: 0,
-            })?;
-        }
-        players.push(Player {
-            end,
-            alloc,
-            body: plan.body,
-            answers: plan.traffic == Traffic::PingPong,
-            is_first: own == 0,
-            lanes,
-            left,
-            seen: Seen {
-                listed: 0,
-                firsts: 0,
-            },
-        })?;
+        let lanes = lanes_of(alloc, plan, own)?;
+        players.push(new_player(alloc, plan, own, end, lanes))?;
     }
     Ok(players)
 }
@@ -210,7 +138,7 @@ impl<E: End> Player<E> {
 const MOST_STEPS: u64 = 1 << 40;
 
 /// Runs all instances on this thread, a step of each in its turn.
-fn pass_by_turns<E: End>(players: &mut Vec<Player<E>>) -> Result<(), Stopped> {
+fn pass_by_turns<E: End>(players: &mut [Player<E>]) -> Result<(), Stopped> {
     for _ in 0..MOST_STEPS {
         let mut passed = 0usize;
         for player in players.iter_mut() {
@@ -286,34 +214,61 @@ fn told<E>(plan: &Plan, players: &Vec<Player<E>>, nanoseconds: u64) -> anyhow::R
     })
 }
 
+/// The first two of these.
+fn first_two<E>(players: &mut [Player<E>]) -> Result<(&mut Player<E>, &mut Player<E>), Stopped> {
+    match players {
+        [first, second, ..] => Ok((first, second)),
+        _ => Err(Stopped),
+    }
+}
+
 /// Passes all messages on this thread.
-fn run_here<R: Clock, E: End + Drop>(
+fn pass_here<E: End>(plan: &Plan, players: &mut [Player<E>]) -> Result<(), Stopped> {
+    match plan.traffic {
+        Traffic::Burst => {
+            let (first, second) = first_two(players)?;
+            pass_bursts(plan, first, second)
+        }
+        Traffic::Batch => {
+            let (first, second) = first_two(players)?;
+            pass_batches(plan, first, second)
+        }
+        _ => pass_by_turns(players),
+    }
+}
+
+/// How many nanoseconds that took.
+fn time_here<R: Clock, E: End>(
     rt: &R,
     plan: &Plan,
-    players: Vec<Player<E>>,
-) -> anyhow::Result<Outcome> {
-    let mut players = players;
+    players: &mut [Player<E>],
+) -> anyhow::Result<u64> {
     let start = Instant::now(rt)?;
-    let passed = match (plan.traffic, players.as_mut_slice()) {
-        (Traffic::Burst, [first, second, ..]) => pass_bursts(plan, first, second),
-        (Traffic::Batch, [first, second, ..]) => pass_batches(plan, first, second),
-        _ => pass_by_turns(&mut players),
-    };
+    let passed = pass_here(plan, players);
     let took = start.elapsed(rt)?;
     if passed.is_err() {
         anyhow::bail!("a message was refused");
     }
-    told(plan, &players, u64::try_from(took.as_nanos())?)
+    Ok(u64::try_from(took.as_nanos())?)
+}
+
+/// Passes all messages on this thread, and tells of it.
+fn run_here<R: Clock, E: End + Drop>(
+    rt: &R,
+    plan: &Plan,
+    mut players: Vec<Player<E>>,
+) -> anyhow::Result<Outcome> {
+    let nanoseconds = time_here(rt, plan, players.as_mut_slice())?;
+    told(plan, &players, nanoseconds)
 }
 
 /// Waits until all threads are there, and passes the messages of an instance. Answers how many nanoseconds it took.
-fn run_player<R: Clock, E: End + Drop>(
+fn time_player<R: Clock, E: End>(
     rt: &R,
-    player: Player<E>,
+    player: &mut Player<E>,
     instances: usize,
     there: &AtomicU64,
-) -> anyhow::Result<(Player<E>, u64)> {
-    let mut player = player;
+) -> anyhow::Result<u64> {
     there.fetch_add(1, Ordering::SeqCst);
     for _ in 0..MOST_STEPS {
         if there.load(Ordering::SeqCst) >= instances as u64 {
@@ -327,7 +282,18 @@ fn run_player<R: Clock, E: End + Drop>(
     if passed.is_err() {
         anyhow::bail!("a message was refused, or didn't come");
     }
-    Ok((player, u64::try_from(took.as_nanos())?))
+    Ok(u64::try_from(took.as_nanos())?)
+}
+
+/// The same, and gives the instance back.
+fn run_player<R: Clock, E: End + Drop>(
+    rt: &R,
+    mut player: Player<E>,
+    instances: usize,
+    there: &AtomicU64,
+) -> anyhow::Result<(Player<E>, u64)> {
+    let nanoseconds = time_player(rt, &mut player, instances, there)?;
+    Ok((player, nanoseconds))
 }
 
 /// Passes all messages, each instance on a thread of its own. The slowest one counts.

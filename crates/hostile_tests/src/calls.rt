@@ -1,11 +1,40 @@
-//! Instances, messages and arrivals, as tests make and look at them.
+//! Instances, messages and arrivals, as tests make and look at them, and what is asserted.
+//!
+//! An assertion is a call: the borrow checker's part of a proof grows with each branch of a function, and an `assert!`
+//! or an `assert_eq!` is one.
+ghost use Rattle.std.specs.Prelude.{◌≡◌};
 ghost use Rattle.board.specs.Meeting.{AreOfOneBoard};
 
-use board::{Arrival, Post};
-use chart::{InstanceNo, Message, Name};
+use board::{Arrival, Post, SendError, TakeError, Taken};
+use chart::{EventNo, InstanceNo, Message, Name, Report};
 use std::alloc::Global;
 use std::process::Abort;
 use std::test::Fail;
+
+/// What has to be so, is so.
+pub fn holds(rt: &impl Abort, what: &str, fact: bool) {
+    assert!(rt; fact, "not so: {what}");
+}
+
+/// They are so many.
+pub fn are(rt: &impl Abort, what: &str, many: usize, wanted: usize) {
+    assert!(rt; many == wanted, "{what}: {many}, and not {wanted}");
+}
+
+/// The call succeeds. What it answers is let go of.
+pub fn succeeds<T: Drop, E: Drop>(rt: &impl Abort, what: &str, answer: Result<T, E>) {
+    assert!(rt; answer.is_ok(), "not so: {what}");
+}
+
+/// Whether the call succeeds. What it answers is let go of.
+pub fn is_done<T: Drop, E: Drop>(answer: Result<T, E>) -> bool {
+    answer.is_ok()
+}
+
+/// Puts a value behind those of the list.
+pub fn put<T: Drop>(rt: &impl Abort, list: &mut Vec<T>, value: T) {
+    assert!(rt; list.push(value).is_ok());
+}
 
 pub fn instance(rt: &impl Abort, number: usize) -> InstanceNo {
     InstanceNo::new(number).expect(rt, "an instance")
@@ -17,7 +46,9 @@ pub fn name(rt: &impl Abort, letter: u8) -> Name {
 
 /// A last growth, whose refusal tells that each one before it was refused in an earlier run of the test.
 pub fn every_growth_was_refused(alloc: Global) -> Result<(), Fail> {
-    Vec::<u8>::with_capacity(alloc, 1).map_err(|_| "every growth was refused")?;
+    Vec::<u8>::with_capacity(alloc, 1)
+        .ok()
+        .ok_or("every growth was refused")?;
     Ok(())
 }
 
@@ -39,11 +70,64 @@ pub fn message(rt: &impl Abort, alloc: Global, letter: u8) -> Message {
     }
 }
 
+/// Sends a message.
+pub fn sends(rt: &impl Abort, post: &mut Post, to: InstanceNo, message: Message)
+    ensures { post.new.board ≡ post.old.board }
+{
+    succeeds(rt, "it is sent", post.send(to, message));
+}
+
+/// The message that was got.
+pub fn arrival_of(rt: &impl Abort, taken: Result<Taken, TakeError>) -> Arrival {
+    match taken {
+        Ok(Taken::Got(arrival)) => arrival,
+        _ => panic!(rt; "no message came"),
+    }
+}
+
+/// It has this name.
+fn is_named(rt: &impl Abort, message: &Message, letter: u8) {
+    holds(rt, "the message's name", message.name() == name(rt, letter));
+}
+
+/// A send of a message of this name answers the number of its event, or the refusal, by which the message comes back.
+pub fn sends_as(
+    rt: &impl Abort,
+    alloc: Global,
+    post: &mut Post,
+    to: usize,
+    letter: u8,
+    answer: Result<u32, SendError>,
+)
+    ensures { post.new.board ≡ post.old.board }
+{
+    match post.send(instance(rt, to), message(rt, alloc, letter)) {
+        Ok(sent) => holds(rt, "its event", answer == Ok(sent.event.index)),
+        Err((back, error)) => {
+            holds(rt, "the refusal", answer == Err(error));
+            is_named(rt, &back, letter);
+        }
+    }
+}
+
+/// It is the event of this number, or none.
+fn is_race(rt: &impl Abort, event: Option<EventNo>, race: Option<u32>) {
+    match event {
+        Some(event) => holds(rt, "the race", race == Some(event.index)),
+        None => holds(rt, "no race", race.is_none()),
+    }
+}
+
+/// It has this race, or none.
+fn has_race(rt: &impl Abort, report: &Report, race: Option<u32>) {
+    let mut earlier = report.earlier().iter();
+    is_race(rt, earlier.next(), race);
+    is_race(rt, earlier.next(), None);
+}
+
 /// It has this name, this sender and this race, or none.
 pub fn has_come(rt: &impl Abort, arrival: &Arrival, letter: u8, from: usize, race: Option<u32>) {
-    assert!(rt; arrival.message.name() == name(rt, letter));
-    assert!(rt; arrival.from == instance(rt, from));
-    let mut earlier = arrival.report.earlier().iter();
-    assert_eq!(rt; earlier.next().map(|event| event.index), race);
-    assert!(rt; earlier.next().is_none());
+    is_named(rt, &arrival.message, letter);
+    holds(rt, "the sender", arrival.from == instance(rt, from));
+    has_race(rt, &arrival.report, race);
 }

@@ -2,38 +2,15 @@
 ghost use Rattle.std.specs.Prelude.{◌≡◌, ◌<◌, length};
 ghost use Rattle.board.specs.Meeting.{AreOfOneBoard};
 
-use crate::calls::{apart, has_come, instance, message, name};
-use board::{Board, MeetError, Post, SendError, Taken, meet, meet_all};
+use crate::calls::{apart, are, arrival_of, has_come, holds, instance, sends_as};
+use board::{Board, MeetError, Post, SendError, meet, meet_all};
 use std::alloc::Global;
 use std::process::Abort;
 
-/// A post's send of a message of this name.
-fn send(
-    rt: &impl Abort,
-    alloc: Global,
-    post: &mut Post,
-    to: usize,
-    letter: u8,
-) -> Result<u32, SendError>
-    ensures { post.new.board ≡ post.old.board }
-{
-    match post.send(instance(rt, to), message(rt, alloc, letter)) {
-        Ok(sent) => Ok(sent.event.index),
-        Err((back, error)) => {
-            assert!(rt; back.name() == name(rt, letter));
-            Err(error)
-        }
-    }
-}
-
 /// A post gets the message of this name from an instance.
-fn gets(rt: &impl Abort, post: &mut Post, from: usize, letter: u8)
-    ensures { post.new.board ≡ post.old.board }
-{
-    match post.receive(instance(rt, from)) {
-        Ok(Taken::Got(arrival)) => has_come(rt, &arrival, letter, from, None),
-        _ => panic!(rt; "no message came"),
-    }
+fn gets(rt: &impl Abort, post: &mut Post, from: usize, letter: u8) {
+    let arrival = arrival_of(rt, post.receive(instance(rt, from)));
+    has_come(rt, &arrival, letter, from, None);
 }
 
 /// These aren't all posts of their board, and a meeting of all changes nothing.
@@ -41,23 +18,33 @@ fn are_not_all(rt: &impl Abort, posts: &mut [Post])
     requires { AreOfOneBoard posts.old }
     ensures { AreOfOneBoard posts.new }
 {
-    assert_eq!(rt; meet_all(posts), Err(MeetError::NotAllPosts));
+    let met = meet_all(posts);
+    holds(rt, "not all posts", met == Err(MeetError::NotAllPosts));
 }
 
-/// The first of them sends.
+/// A send of the first of them to the third answers so.
 fn first_sends(
     rt: &impl Abort,
     alloc: Global,
     posts: &mut [Post],
-    to: usize,
     letter: u8,
-) -> Result<u32, SendError>
+    answer: Result<u32, SendError>,
+)
     requires some { 0 < length posts.old }
     requires one_board { AreOfOneBoard posts.old }
     ensures one_board { AreOfOneBoard posts.new }
     ensures as_many { length posts.new ≡ length posts.old }
 {
-    send(rt, alloc, &mut posts[0], to, letter)
+    sends_as(rt, alloc, &mut posts[0], 3, letter, answer);
+}
+
+/// The first has an event and the second has none, and a message passes from one to the other.
+fn go_on(rt: &impl Abort, alloc: Global, posts: &mut [Post]) {
+    assert!(rt; posts.len() == 2);
+    are(rt, "events", posts[0].line().len(), 1);
+    are(rt, "events", posts[1].line().len(), 0);
+    sends_as(rt, alloc, &mut posts[0], 2, b'z', Ok(2));
+    gets(rt, &mut posts[1], 1, b'z');
 }
 
 /// One of the two that stay sends to the third, which then goes. Its lane stays full; the two meet, but not as all
@@ -66,18 +53,12 @@ fn lose_third(rt: &impl Abort, alloc: Global, posts: &mut [Post], third: Post)
     requires { AreOfOneBoard posts.old }
 {
     assert!(rt; posts.len() == 2);
-    assert_eq!(rt; first_sends(rt, alloc, posts, 3, b'x'), Ok(1));
+    first_sends(rt, alloc, posts, b'x', Ok(1));
     drop(third);
-    assert_eq!(rt;
-        first_sends(rt, alloc, posts, 3, b'y'),
-        Err(SendError::Full)
-    );
+    first_sends(rt, alloc, posts, b'y', Err(SendError::Full));
     are_not_all(rt, posts);
     meet(posts);
-    assert_eq!(rt; posts[0].line().len(), 1);
-    assert!(rt; posts[1].line().is_empty());
-    assert_eq!(rt; send(rt, alloc, &mut posts[0], 2, b'z'), Ok(2));
-    gets(rt, &mut posts[1], 1, b'z');
+    go_on(rt, alloc, posts);
 }
 
 #[test]

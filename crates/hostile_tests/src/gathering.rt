@@ -4,8 +4,8 @@ ghost use Rattle.std.specs.Prelude.{◌≡◌};
 ghost use Rattle.board.specs.Meeting.{AreOfOneBoard};
 ghost use Rattle.chart.specs.Reports.{AreReports};
 
-use crate::calls::{every_growth_was_refused, instance, message};
-use crate::replays::{TEXTS, schedule_of};
+use crate::calls::{are, every_growth_was_refused, holds, instance, is_done, message, succeeds};
+use crate::replays::schedule_of;
 use crate::schedules::{Deed, WORKED, Worked};
 use board::{Board, GatherCause, GatherError, Gathered, Post, SendError, gather};
 use chart::Names;
@@ -20,8 +20,8 @@ fn sends(rt: &impl Abort, alloc: Global, post: &mut Post, letter: u8, to: usize)
 {
     let to = instance(rt, to);
     if let Err((back, error)) = post.send(to, message(rt, alloc, letter)) {
-        assert_eq!(rt; error, SendError::Memory);
-        assert!(rt; post.send(to, back).is_ok());
+        holds(rt, "memory was refused", error == SendError::Memory);
+        succeeds(rt, "it is sent", post.send(to, back));
     }
 }
 
@@ -30,8 +30,8 @@ fn gets(rt: &impl Abort, post: &mut Post, from: usize)
     ensures { post.new.board ≡ post.old.board }
 {
     let from = instance(rt, from);
-    if post.receive(from).is_err() {
-        assert!(rt; post.receive(from).is_ok());
+    if !is_done(post.receive(from)) {
+        succeeds(rt, "a message", post.receive(from));
     }
 }
 
@@ -76,10 +76,23 @@ fn gathers_again(rt: &impl Abort, alloc: Global, posts: Vec<Post>) -> Gathered
     match gather(alloc, posts) {
         Ok(gathered) => gathered,
         Err(GatherError { posts, cause }) => {
-            assert_eq!(rt; cause, GatherCause::Memory);
+            holds(rt, "memory was refused", cause == GatherCause::Memory);
             gathers(rt, alloc, posts)
         }
     }
+}
+
+/// Its chart and its races are put there, in full.
+fn puts_text(rt: &impl Abort, names: &Names, gathered: &Gathered, out: &mut StreamOut<&mut [u8]>)
+    requires { AreReports gathered.now.chart gathered.now.reports.items }
+{
+    assert!(rt; names.len() == gathered.chart.lines().len());
+    let mut written = TextBuffer::new(out);
+    let chart = add_chart(&mut written, names, &gathered.chart);
+    holds(rt, "the chart's text", chart.is_ok());
+    let races = add_races(&mut written, names, gathered.reports.as_slice());
+    holds(rt, "the races' text", races.is_ok());
+    holds(rt, "the end", written.finish().is_ok());
 }
 
 /// Its chart and its races have this text, which is written without memory.
@@ -88,34 +101,29 @@ fn has_text(rt: &impl Abort, names: &Names, gathered: &Gathered, text: &[u8])
 {
     let mut place = [0; 512];
     assert!(rt; text.len() <= 512);
-    assert!(rt; names.len() == gathered.chart.lines().len());
-    let room = &mut place[..text.len()];
-    let mut out = StreamOut::new(room);
-    let mut written = TextBuffer::new(&mut out);
-    assert!(rt; add_chart(&mut written, names, &gathered.chart).is_ok());
-    assert!(rt; add_races(&mut written, names, gathered.reports.as_slice()).is_ok());
-    assert!(rt; written.finish().is_ok());
+    let mut out = StreamOut::new(&mut place[..text.len()]);
+    puts_text(rt, names, gathered, &mut out);
     drop(out);
-    assert!(rt; place.starts_with(text));
+    holds(rt, "the text", place.starts_with(text));
 }
 
-/// The deeds of a schedule come to this text, unless memory was refused for the board or its posts.
-fn comes_to(rt: &impl Abort, alloc: Global, names: &Names, worked: &Worked, text: &[u8]) {
+/// The deeds of a schedule come to its text, unless memory was refused for the board or its posts.
+fn comes_to(rt: &impl Abort, alloc: Global, names: &Names, worked: &Worked) {
     if let Ok(mut board) = Board::new(alloc, worked.instances, worked.capacity) {
         if let Ok(mut posts) = board.posts() {
             make_all(rt, alloc, posts.as_mut_slice(), worked.deeds);
             let gathered = gathers_again(rt, alloc, posts);
-            assert!(rt; gathered.left.is_empty());
-            has_text(rt, names, &gathered, text);
+            are(rt, "left messages", gathered.left.len(), 0);
+            has_text(rt, names, &gathered, worked.written);
         }
     }
 }
 
 #[test]
 fn refused_growths_of_gathered_boards(rt: HostRuntime) -> Result<(), Fail> {
-    for (worked, (text, written)) in WORKED.iter().zip(&TEXTS) {
-        let schedule = schedule_of(&rt, rt.alloc(), text);
-        comes_to(&rt, rt.alloc(), schedule.names(), worked, written);
+    for worked in &WORKED {
+        let schedule = schedule_of(&rt, rt.alloc(), worked.text);
+        comes_to(&rt, rt.alloc(), schedule.names(), worked);
     }
     every_growth_was_refused(rt.alloc())
 }

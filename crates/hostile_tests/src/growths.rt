@@ -2,7 +2,7 @@
 //! refused call is made once more, and then answers in full. A test ends with a growth of its own, whose refusal tells
 //! that each one before it was refused in an earlier run of the test.
 use crate::callers::{Caller, Listed, Single};
-use crate::calls::{every_growth_was_refused, has_come, instance, message};
+use crate::calls::{every_growth_was_refused, has_come, holds, instance, message, put};
 use crate::schedules::{Deed, WORKED, Worked};
 use board::{Arrival, Board, SendError, TakeError};
 use chart::InstanceNo;
@@ -20,8 +20,8 @@ fn sends<'a, C: Caller<'a>>(
     to: InstanceNo,
 ) {
     if let Err((back, error)) = caller.send(to, message(rt, alloc, letter)) {
-        assert_eq!(rt; error, SendError::Memory);
-        assert!(rt; caller.send(to, back).is_ok());
+        holds(rt, "memory was refused", error == SendError::Memory);
+        holds(rt, "it is sent", caller.send(to, back).is_ok());
     }
 }
 
@@ -95,7 +95,7 @@ fn follow<'a, C: Caller<'a>>(
     let mut callers = Vec::new(alloc);
     if callers.reserve(posts.len()).is_ok() {
         for post in posts {
-            assert!(rt; callers.push(C::over(alloc, post)).is_ok());
+            put(rt, &mut callers, C::over(alloc, post));
         }
         make_all(rt, alloc, callers.as_mut_slice(), worked.deeds);
     }

@@ -1,6 +1,6 @@
 //! Posts and mailboxes that are let go while messages wait.
-use crate::calls::{instance, name};
-use board::{Board, Post, Taken};
+use crate::calls::{arrival_of, instance, name, sends};
+use board::{Board, Post};
 use chart::{MAX_BODY, Message};
 use mailbox::Mailbox;
 use std::alloc::Global;
@@ -21,7 +21,7 @@ fn send_to_others(rt: &impl Abort, alloc: Global, post: &mut Post, many: usize) 
         let to = instance(rt, number);
         if to != post.number() {
             for _ in 0..many {
-                assert!(rt; post.send(to, longest(rt, alloc)).is_ok());
+                sends(rt, post, to, longest(rt, alloc));
             }
         }
     }
@@ -45,15 +45,15 @@ fn all_is_given_back(rt: HostRuntime) {
 /// The one takes a message and keeps it; then the other one goes first.
 fn takes_one(rt: &impl Abort, taker: Mailbox, other: Mailbox) {
     let mut taker = taker;
-    let taken = taker.any().expect(rt, "an answer");
-    assert!(rt; matches!(taken, Taken::Got(_)));
+    let taken = arrival_of(rt, taker.any());
     drop(other);
     drop(taker);
+    drop(taken);
 }
 
 /// How many instances pass messages to each other, over lanes of how many slots that they fill, and how many messages
 /// each of them takes of each other one.
-const BOARDS: [(usize, usize, usize); 4] = [(2, 1, 0), (3, 2, 1), (9, 4, 4), (4, 64, 40)];
+static BOARDS: [(usize, usize, usize); 4] = [(2, 1, 0), (3, 2, 1), (9, 4, 4), (4, 64, 40)];
 
 /// Takes so many messages of each other instance.
 fn take_of_others(rt: &impl Abort, post: &mut Post, many: usize) {
@@ -61,8 +61,7 @@ fn take_of_others(rt: &impl Abort, post: &mut Post, many: usize) {
         let from = instance(rt, number);
         if from != post.number() {
             for _ in 0..many {
-                let taken = post.receive(from).expect(rt, "an answer");
-                assert!(rt; matches!(taken, Taken::Got(_)));
+                drop(arrival_of(rt, post.receive(from)));
             }
         }
     }
@@ -71,14 +70,14 @@ fn take_of_others(rt: &impl Abort, post: &mut Post, many: usize) {
 /// Lanes of each size are filled and emptied in part. Then the posts go, one after the other, and the board.
 #[test]
 fn full_lanes_are_given_back(rt: HostRuntime) {
-    for (instances, slots, many) in BOARDS {
-        let mut board = Board::new(rt.alloc(), instances, slots).expect(&rt, "a board");
+    for (instances, slots, many) in &BOARDS {
+        let mut board = Board::new(rt.alloc(), *instances, *slots).expect(&rt, "a board");
         let mut posts = board.posts().expect(&rt, "posts");
         for post in posts.iter_mut() {
-            send_to_others(&rt, rt.alloc(), post, slots);
+            send_to_others(&rt, rt.alloc(), post, *slots);
         }
         for post in posts.iter_mut() {
-            take_of_others(&rt, post, many);
+            take_of_others(&rt, post, *many);
         }
     }
 }

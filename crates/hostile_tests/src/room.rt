@@ -1,5 +1,5 @@
 //! Sends with room: once it is there, they take no memory.
-use crate::calls::{every_growth_was_refused, instance, message};
+use crate::calls::{are, every_growth_was_refused, instance, message, sends};
 use board::{Board, Post};
 use chart::MAX_EVENTS;
 use std::alloc::Global;
@@ -9,17 +9,22 @@ use std::test::Fail;
 /// How many messages are sent: as many as the lane has slots.
 const MESSAGES: usize = 64;
 
-/// Makes room for a whole line, if memory isn't refused, and then sends messages, whatever is refused from then on.
-fn sends_with_room(rt: &impl Abort, alloc: Global, post: &mut Post) {
-    if post.reserve(MAX_EVENTS).is_err() {
-        assert_eq!(rt; post.room(), 0);
-        return;
-    }
+/// Sends the messages.
+fn send_all(rt: &impl Abort, alloc: Global, post: &mut Post) {
     let second = instance(rt, 2);
     for _ in 0..MESSAGES {
-        assert!(rt; post.send(second, message(rt, alloc, b'x')).is_ok());
+        sends(rt, post, second, message(rt, alloc, b'x'));
     }
-    assert_eq!(rt; post.room(), MAX_EVENTS - MESSAGES);
+}
+
+/// Makes room for a whole line, if memory isn't refused, and then sends messages, whatever is refused from then on.
+fn sends_with_room(rt: &impl Abort, alloc: Global, post: &mut Post) {
+    let mut room = 0;
+    if post.reserve(MAX_EVENTS).is_ok() {
+        send_all(rt, alloc, post);
+        room = MAX_EVENTS - MESSAGES;
+    }
+    are(rt, "room", post.room(), room);
 }
 
 /// It also holds where not one growth is refused but all from there on.

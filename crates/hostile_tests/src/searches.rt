@@ -1,10 +1,10 @@
 //! The charts of worked schedules, searched and audited with each growth of memory refused in turn: each refused call
 //! is made once more, and then answers in full.
-use crate::calls::every_growth_was_refused;
-use crate::replays::{TEXTS, outcome_of, schedule_of};
+use crate::calls::{are, every_growth_was_refused, holds};
+use crate::replays::{outcome_of, schedule_of};
+use crate::schedules::WORKED;
 use chart::{Chart, EventNo, Report};
 use closure::{Closure, audit};
-use outcomes::Outcome;
 use std::alloc::Global;
 use std::process::Abort;
 use std::test::Fail;
@@ -35,31 +35,44 @@ fn is_before(rt: &impl Abort, closure: &Closure, earlier: &EventNo, later: &Even
     }
 }
 
-/// The search finds these reports, of which none has an event that is before the receive.
-fn finds(rt: &impl Abort, closure: &Closure, reports: &[Report]) {
-    let found = match closure.races() {
+/// The reports that the search finds.
+fn races_of(rt: &impl Abort, closure: &Closure) -> Vec<Report> {
+    match closure.races() {
         Ok(found) => found,
         Err(_) => closure.races().expect(rt, "reports"),
-    };
-    assert_eq!(rt; found.len(), reports.len());
+    }
+}
+
+/// The report is the other one, and none of its events is before the receive.
+fn is_right(rt: &impl Abort, closure: &Closure, report: &Report, other: &Report) {
+    holds(rt, "the same report", report.is(other));
+    let receive = report.receive();
+    for earlier in report.earlier().iter() {
+        let before = is_before(rt, closure, &earlier, &receive);
+        holds(rt, "no order", !before);
+    }
+}
+
+/// The search finds these reports, of which none has an event that is before the receive.
+fn finds(rt: &impl Abort, closure: &Closure, reports: &[Report]) {
+    let found = races_of(rt, closure);
+    are(rt, "reports", found.len(), reports.len());
     for (report, other) in found.iter().zip(reports) {
-        assert!(rt; report.is(other));
-        let receive = report.receive();
-        for earlier in report.earlier().iter() {
-            assert!(rt; !is_before(rt, closure, &earlier, &receive));
-        }
+        is_right(rt, closure, report, other);
     }
 }
 
 /// The audit accepts the chart with its reports.
 fn accepts(rt: &impl Abort, alloc: Global, chart: &Chart, reports: &[Report]) {
     if audit(alloc, chart, reports).is_err() {
-        assert!(rt; audit(alloc, chart, reports).is_ok());
+        holds(rt, "the audit", audit(alloc, chart, reports).is_ok());
     }
 }
 
-/// What the schedule comes to is searched and audited.
-fn is_searched(rt: &impl Abort, alloc: Global, outcome: &Outcome) {
+/// What the schedule of the text comes to is searched and audited.
+fn is_searched(rt: &impl Abort, alloc: Global, text: &[u8]) {
+    let schedule = schedule_of(rt, alloc, text);
+    let outcome = outcome_of(rt, alloc, &schedule);
     let closure = closure_of(rt, alloc, outcome.chart());
     finds(rt, &closure, outcome.reports());
     accepts(rt, alloc, outcome.chart(), outcome.reports());
@@ -67,9 +80,8 @@ fn is_searched(rt: &impl Abort, alloc: Global, outcome: &Outcome) {
 
 #[test]
 fn refused_growths_of_searches(rt: HostRuntime) -> Result<(), Fail> {
-    for (text, _) in &TEXTS {
-        let schedule = schedule_of(&rt, rt.alloc(), text);
-        is_searched(&rt, rt.alloc(), &outcome_of(&rt, rt.alloc(), &schedule));
+    for worked in &WORKED {
+        is_searched(&rt, rt.alloc(), worked.text);
     }
     every_growth_was_refused(rt.alloc())
 }

@@ -3,7 +3,7 @@ ghost use Rattle.board.specs.Meeting.{AreOfOneBoard};
 
 use crate::load::{Load, events_of};
 use crate::patient_script::PatientScript;
-use crate::timing::nanoseconds_since;
+use crate::timing::{nanoseconds_since, when_all};
 use anyhow::bail;
 use behaviour::{Behaviour, Script};
 use board::{Board, Post};
@@ -25,11 +25,8 @@ fn time_run<R: Threads + Sync + Clock>(
     let Ok(ran) = run(rt, posts, behaviours, MAX_TURNS, &Open) else {
         bail!("no memory for a run");
     };
-    let took = nanoseconds_since(rt, &start)?;
-    if events_of(&ran.gathered.chart) != events {
-        bail!("a message was refused, or didn't come");
-    }
-    Ok(took)
+    let took = nanoseconds_since(rt, &start);
+    when_all(took, events_of(&ran.gathered.chart), events)
 }
 
 /// How many nanoseconds it takes behaviours to pass these messages, on a fresh board.

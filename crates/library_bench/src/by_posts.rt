@@ -3,7 +3,7 @@ ghost use Rattle.std.specs.Prelude.{◌≡◌};
 ghost use Rattle.board.specs.Meeting.{AreOfOneBoard};
 
 use crate::load::{Load, events_of};
-use crate::timing::nanoseconds_since;
+use crate::timing::{nanoseconds_since, when_all};
 use anyhow::bail;
 use behaviour::{Act, BareAct};
 use board::{Board, Post, SendError, Taken, gather};
@@ -76,11 +76,22 @@ fn do_all<'a>(alloc: Global, mut post: Post<'a>, lists: &[Vec<BareAct>]) -> Post
     post
 }
 
+/// Adds the acts of an instance.
+fn add_list(
+    lists: &mut Vec<Vec<BareAct>>,
+    alloc: Global,
+    load: Load,
+    place: usize,
+) -> anyhow::Result<()> {
+    lists.push(load.acts(alloc, place)?)?;
+    Ok(())
+}
+
 /// The acts of each instance.
 fn lists(alloc: Global, load: Load) -> anyhow::Result<Vec<Vec<BareAct>>> {
     let mut lists = Vec::new(alloc);
     for place in 0..load.instances {
-        lists.push(load.acts(alloc, place)?)?;
+        add_list(&mut lists, alloc, load, place)?;
     }
     Ok(lists)
 }
@@ -95,6 +106,22 @@ fn gathered_events(alloc: Global, posts: Vec<Post>) -> anyhow::Result<usize>
     }
 }
 
+/// How many events the posts come to, each of which does its acts in a job of its own.
+fn events_by_lists<R: Threads + Sync>(
+    rt: &R,
+    alloc: Global,
+    posts: Vec<Post>,
+    lists: &[Vec<BareAct>],
+) -> anyhow::Result<usize>
+    requires { AreOfOneBoard posts.items }
+{
+    let each = |post| -> Post
+        ensures { result.board ≡ post.entry.board }
+    { do_all(alloc, post, lists) };
+    let left = thread::map_vec(rt, posts, &each)?;
+    gathered_events(alloc, left)
+}
+
 /// The nanoseconds from before the threads are made until the board is gathered, whose lines have so many events then.
 fn time_lists<R: Threads + Sync + Clock>(
     rt: &R,
@@ -105,17 +132,10 @@ fn time_lists<R: Threads + Sync + Clock>(
 ) -> anyhow::Result<u64>
     requires { AreOfOneBoard posts.items }
 {
-    let each = |post| -> Post
-        ensures { result.board ≡ post.entry.board }
-    { do_all(alloc, post, lists) };
     let start = Instant::now(rt)?;
-    let left = thread::map_vec(rt, posts, &each)?;
-    let had = gathered_events(alloc, left)?;
-    let took = nanoseconds_since(rt, &start)?;
-    if had != events {
-        bail!("a message was refused, or didn't come");
-    }
-    Ok(took)
+    let had = events_by_lists(rt, alloc, posts, lists)?;
+    let took = nanoseconds_since(rt, &start);
+    when_all(took, had, events)
 }
 
 /// How many nanoseconds it takes posts to pass these messages, on a fresh board.

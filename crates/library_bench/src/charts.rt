@@ -4,7 +4,7 @@ ghost use Rattle.std.specs.Prelude.{◌≡◌, length, IfOk};
 use crate::patterns::{Pattern, write_chart};
 use crate::timing::{median, nanoseconds_since};
 use anyhow::bail;
-use chart::{Chart, Names};
+use chart::{Chart, Names, Report};
 use closure::Closure;
 use msc_reader::read;
 use msc_text::{StreamOut, write};
@@ -25,58 +25,84 @@ fn chart_in(alloc: Global, text: &[u8]) -> anyhow::Result<(Names, Chart)>
     }
 }
 
+/// How many races these reports tell.
+fn races_of(reports: &[Report]) -> usize {
+    let mut races = 0usize;
+    for report in reports {
+        races = races.saturating_add(report.earlier().len());
+    }
+    races
+}
+
 /// How many races the chart has.
 fn races_in(alloc: Global, chart: &Chart) -> anyhow::Result<usize> {
     let Ok(closure) = Closure::of(alloc, chart) else {
         bail!("the chart isn't possible");
     };
-    let mut races = 0usize;
-    for report in closure.races()?.as_slice() {
-        races = races.saturating_add(report.earlier().len());
-    }
-    Ok(races)
+    let reports = closure.races()?;
+    Ok(races_of(reports.as_slice()))
+}
+
+/// What reading the text takes once, in nanoseconds.
+fn read_once<R: Clock + AllocGlobal>(rt: &R, text: &[u8]) -> anyhow::Result<u64> {
+    let start = Instant::now(rt)?;
+    let _read = chart_in(rt.alloc(), text)?;
+    nanoseconds_since(rt, &start)
 }
 
 /// What reading the text takes, in microseconds.
 fn time_reading<R: Clock + AllocGlobal>(rt: &R, text: &[u8]) -> anyhow::Result<u64> {
-    let mut took = Vec::new(rt.alloc());
-    for _ in 0..REPETITIONS {
-        let start = Instant::now(rt)?;
-        let _read = chart_in(rt.alloc(), text)?;
-        took.push(nanoseconds_since(rt, &start)?)?;
+    let mut took = [0u64; REPETITIONS];
+    for place in 0..REPETITIONS {
+        took[place] = read_once(rt, text)?;
     }
-    Ok(median(took)? / 1000)
+    Ok(median(took.as_mut_slice()) / 1000)
+}
+
+/// What searching the chart takes once, in nanoseconds.
+fn search_once<R: Clock + AllocGlobal>(rt: &R, chart: &Chart) -> anyhow::Result<u64> {
+    let start = Instant::now(rt)?;
+    let _races = races_in(rt.alloc(), chart)?;
+    nanoseconds_since(rt, &start)
 }
 
 /// What searching the chart takes, in microseconds.
 fn time_searching<R: Clock + AllocGlobal>(rt: &R, chart: &Chart) -> anyhow::Result<u64> {
-    let mut took = Vec::new(rt.alloc());
-    for _ in 0..REPETITIONS {
-        let start = Instant::now(rt)?;
-        let _races = races_in(rt.alloc(), chart)?;
-        took.push(nanoseconds_since(rt, &start)?)?;
+    let mut took = [0u64; REPETITIONS];
+    for place in 0..REPETITIONS {
+        took[place] = search_once(rt, chart)?;
     }
-    Ok(median(took)? / 1000)
+    Ok(median(took.as_mut_slice()) / 1000)
+}
+
+/// Writes the text of the chart to standard output, and answers whether it was written.
+fn is_written<R: Print>(rt: &R, names: &Names, chart: &Chart) -> bool
+    requires { length names.now ≡ length chart.now }
+{
+    let mut out = StreamOut::new(io::writer(rt));
+    write(names, chart, &mut out).is_ok()
+}
+
+/// What writing its text to standard output takes once, in nanoseconds.
+fn write_once<R: Clock + Print>(rt: &R, names: &Names, chart: &Chart) -> anyhow::Result<u64>
+    requires { length names.now ≡ length chart.now }
+{
+    let start = Instant::now(rt)?;
+    if !is_written(rt, names, chart) {
+        bail!("the chart could not be written");
+    }
+    nanoseconds_since(rt, &start)
 }
 
 /// What writing its text to standard output takes, in microseconds.
-fn time_writing<R: Clock + AllocGlobal + Print>(
-    rt: &R,
-    names: &Names,
-    chart: &Chart,
-) -> anyhow::Result<u64>
+fn time_writing<R: Clock + Print>(rt: &R, names: &Names, chart: &Chart) -> anyhow::Result<u64>
     requires { length names.now ≡ length chart.now }
 {
-    let mut took = Vec::new(rt.alloc());
-    for _ in 0..REPETITIONS {
-        let mut out = StreamOut::new(io::writer(rt));
-        let start = Instant::now(rt)?;
-        if write(names, chart, &mut out).is_err() {
-            bail!("the chart could not be written");
-        }
-        took.push(nanoseconds_since(rt, &start)?)?;
+    let mut took = [0u64; REPETITIONS];
+    for place in 0..REPETITIONS {
+        took[place] = write_once(rt, names, chart)?;
     }
-    Ok(median(took)? / 1000)
+    Ok(median(took.as_mut_slice()) / 1000)
 }
 
 /// Writes the chart with this traffic to standard output.
@@ -88,7 +114,31 @@ pub fn make_chart<R: Print>(rt: &R, pattern: Pattern) -> anyhow::Result<()> {
     Ok(())
 }
 
-/// Tells the times on standard error and writes the text to standard output, or else tells how many races there are.
+/// Tells the times on standard error and writes the text to standard output.
+fn tell_times<R: Clock + AllocGlobal + Print + Eprint>(
+    rt: &R,
+    text: &[u8],
+    names: &Names,
+    chart: &Chart,
+) -> anyhow::Result<()>
+    requires { length names.now ≡ length chart.now }
+{
+    let reading = time_reading(rt, text)?;
+    let searching = time_searching(rt, chart)?;
+    let writing = time_writing(rt, names, chart)?;
+    eprintln!(rt; "read {reading}, searched {searching}, written {writing} microseconds")?;
+    Ok(())
+}
+
+/// Tells how many races there are.
+fn tell_races<R: AllocGlobal + Print>(rt: &R, chart: &Chart) -> anyhow::Result<()> {
+    let instances = chart.lines().len();
+    let races = races_in(rt.alloc(), chart)?;
+    println!(rt; "{instances} instances, {races} races")?;
+    Ok(())
+}
+
+/// Tells the times and writes the text, or else tells how many races there are.
 pub fn tell_charts<R: Clock + AllocGlobal + Print + Eprint>(
     rt: &R,
     text: &[u8],
@@ -96,14 +146,8 @@ pub fn tell_charts<R: Clock + AllocGlobal + Print + Eprint>(
 ) -> anyhow::Result<()> {
     let (names, chart) = chart_in(rt.alloc(), text)?;
     if timed {
-        let reading = time_reading(rt, text)?;
-        let searching = time_searching(rt, &chart)?;
-        let writing = time_writing(rt, &names, &chart)?;
-        eprintln!(rt; "read {reading}, searched {searching}, written {writing} microseconds")?;
+        tell_times(rt, text, &names, &chart)
     } else {
-        let instances = chart.lines().len();
-        let races = races_in(rt.alloc(), &chart)?;
-        println!(rt; "{instances} instances, {races} races")?;
+        tell_races(rt, &chart)
     }
-    Ok(())
 }

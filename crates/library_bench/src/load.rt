@@ -64,6 +64,18 @@ fn instance(place: usize) -> anyhow::Result<InstanceNo> {
     }
 }
 
+/// A send of this name to the partner, or with no name a receive from it.
+fn act_with(partner: InstanceNo, name: Option<Name>) -> BareAct {
+    match name {
+        Some(name) => BareAct::Send(partner, name),
+        None => BareAct::Receive(partner),
+    }
+}
+
+fn listed(alloc: Global, acts: &[BareAct]) -> anyhow::Result<Vec<BareAct>> {
+    Ok(acts.to_vec(alloc)?)
+}
+
 impl Load {
     /// How many others an instance passes messages to or from.
     fn others(self) -> usize {
@@ -106,19 +118,26 @@ impl Load {
         }
     }
 
+    /// Adds the sends of this name to all others, or the receives from all of them.
+    fn add_each(
+        self,
+        acts: &mut Vec<BareAct>,
+        place: usize,
+        name: Option<Name>,
+    ) -> anyhow::Result<()> {
+        for other in 0..self.instances {
+            if other != place {
+                acts.push(act_with(instance(other)?, name))?;
+            }
+        }
+        Ok(())
+    }
+
     /// The sends to all others, and then the receives from all of them.
     fn with_all(self, alloc: Global, place: usize, name: Name) -> anyhow::Result<Vec<BareAct>> {
         let mut acts = Vec::new(alloc);
-        for other in 0..self.instances {
-            if other != place {
-                acts.push(BareAct::Send(instance(other)?, name))?;
-            }
-        }
-        for other in 0..self.instances {
-            if other != place {
-                acts.push(BareAct::Receive(instance(other)?))?;
-            }
-        }
+        self.add_each(&mut acts, place, Some(name))?;
+        self.add_each(&mut acts, place, None)?;
         Ok(acts)
     }
 
@@ -129,10 +148,10 @@ impl Load {
         let send = BareAct::Send(partner, name);
         let receive = BareAct::Receive(partner);
         match self.pattern {
-            Pattern::OneWay if place % 2 == 0 => Ok([send].to_vec(alloc)?),
-            Pattern::OneWay => Ok([receive].to_vec(alloc)?),
-            Pattern::ToAndFro if place % 2 == 0 => Ok([send, receive].to_vec(alloc)?),
-            Pattern::ToAndFro => Ok([receive, send].to_vec(alloc)?),
+            Pattern::OneWay if place % 2 == 0 => listed(alloc, &[send]),
+            Pattern::OneWay => listed(alloc, &[receive]),
+            Pattern::ToAndFro if place % 2 == 0 => listed(alloc, &[send, receive]),
+            Pattern::ToAndFro => listed(alloc, &[receive, send]),
             Pattern::AllToAll => self.with_all(alloc, place, name),
         }
     }

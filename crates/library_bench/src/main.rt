@@ -28,6 +28,8 @@ use recorders::tell_recorders;
 use replays::tell_replays;
 use std::convert::AsStr;
 use std::rt::{Env, Files};
+use std::thread::Threads;
+use std::time::Clock;
 use std::{env, fs};
 use threads::tell_threads;
 
@@ -49,33 +51,82 @@ fn times_in(words: &[String]) -> anyhow::Result<Option<u32>> {
     }
 }
 
-fn main(rt: HostRuntime) -> anyhow::Result<()> {
-    let words: Vec<String> = env::args(&rt)?.collect(rt.alloc())?;
-    match words.as_slice() {
+/// Tells of the replays of a schedule that is in a file.
+fn replays_of<R: Clock + AllocGlobal + Print + Eprint + Files>(
+    rt: &R,
+    file: &str,
+    times: Option<u32>,
+) -> anyhow::Result<()> {
+    let text = fs::read(rt, file)?;
+    tell_replays(rt, text.as_slice(), times)
+}
+
+/// Tells of a chart that is in a file.
+fn charts_of<R: Clock + AllocGlobal + Print + Eprint + Files>(
+    rt: &R,
+    file: &str,
+    timed: bool,
+) -> anyhow::Result<()> {
+    let text = fs::read(rt, file)?;
+    tell_charts(rt, text.as_slice(), timed)
+}
+
+/// Writes the chart with the traffic of this name.
+fn make_named<R: Print>(rt: &R, name: &str) -> anyhow::Result<()> {
+    match pattern_in(name) {
+        Some(pattern) => make_chart(rt, pattern),
+        None => bail!("the traffic is token, mixed or bursts"),
+    }
+}
+
+/// Tells what each of the four would time.
+fn tell_all<R: Threads + Sync + Clock + AllocGlobal + Print + Eprint>(
+    rt: &R,
+    chart: &[u8],
+    schedule: &[u8],
+) -> anyhow::Result<()> {
+    tell_recorders(rt, false)?;
+    tell_threads(rt, false)?;
+    tell_replays(rt, schedule, None)?;
+    tell_charts(rt, chart, false)
+}
+
+/// The same of a chart and a schedule that are in files.
+fn all<R: Threads + Sync + Clock + AllocGlobal + Print + Eprint + Files>(
+    rt: &R,
+    chart: &str,
+    schedule: &str,
+) -> anyhow::Result<()> {
+    let chart = fs::read(rt, chart)?;
+    let schedule = fs::read(rt, schedule)?;
+    tell_all(rt, chart.as_slice(), schedule.as_slice())
+}
+
+/// Does what the words say.
+fn tell<R: Threads + Sync + Clock + AllocGlobal + Print + Eprint + Files>(
+    rt: &R,
+    words: &[String],
+) -> anyhow::Result<()> {
+    match words {
         [_, word, rest @ ..] if word.as_str() == "recorders" => {
-            tell_recorders(&rt, is_timed(rest)?)
+            tell_recorders(rt, is_timed(rest)?)
         }
-        [_, word, rest @ ..] if word.as_str() == "threads" => tell_threads(&rt, is_timed(rest)?),
+        [_, word, rest @ ..] if word.as_str() == "threads" => tell_threads(rt, is_timed(rest)?),
         [_, word, file, rest @ ..] if word.as_str() == "replays" => {
-            let text = fs::read(&rt, file.as_str())?;
-            tell_replays(&rt, text.as_slice(), times_in(rest)?)
+            replays_of(rt, file.as_str(), times_in(rest)?)
         }
         [_, word, file, rest @ ..] if word.as_str() == "charts" => {
-            let text = fs::read(&rt, file.as_str())?;
-            tell_charts(&rt, text.as_slice(), is_timed(rest)?)
+            charts_of(rt, file.as_str(), is_timed(rest)?)
         }
-        [_, word, name] if word.as_str() == "make" => match pattern_in(name.as_str()) {
-            Some(pattern) => make_chart(&rt, pattern),
-            None => bail!("the traffic is token, mixed or bursts"),
-        },
+        [_, word, name] if word.as_str() == "make" => make_named(rt, name.as_str()),
         [_, word, chart, schedule] if word.as_str() == "all" => {
-            let chart = fs::read(&rt, chart.as_str())?;
-            let schedule = fs::read(&rt, schedule.as_str())?;
-            tell_recorders(&rt, false)?;
-            tell_threads(&rt, false)?;
-            tell_replays(&rt, schedule.as_slice(), None)?;
-            tell_charts(&rt, chart.as_slice(), false)
+            all(rt, chart.as_str(), schedule.as_str())
         }
         _ => bail!("the words are recorders, threads, replays, charts, make or all"),
     }
+}
+
+fn main(rt: HostRuntime) -> anyhow::Result<()> {
+    let words: Vec<String> = env::args(&rt)?.collect(rt.alloc())?;
+    tell(&rt, words.as_slice())
 }

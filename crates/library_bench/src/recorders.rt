@@ -53,6 +53,15 @@ fn time_messages<R: Clock>(
     Ok(took)
 }
 
+/// The nanoseconds that the timed messages of two fresh lines took, with so many events on each line before them.
+fn time_pair<R: Clock + AllocGlobal>(rt: &R, load: Load, events: usize) -> anyhow::Result<u64>
+    requires at_least_two { 2 ≤ load.instances }
+    requires at_most { load.instances ≤ MAX_INSTANCES }
+{
+    let (mut first, mut second) = partners(rt.alloc(), load.instances)?;
+    time_messages(rt, &mut first, &mut second, load.pattern, events)
+}
+
 /// The nanoseconds that the timed messages of fresh lines took in all, with so many events on each line before them.
 fn repetition<R: Clock + AllocGlobal>(rt: &R, load: Load, events: usize) -> anyhow::Result<u64>
     requires at_least_two { 2 ≤ load.instances }
@@ -60,9 +69,7 @@ fn repetition<R: Clock + AllocGlobal>(rt: &R, load: Load, events: usize) -> anyh
 {
     let mut nanoseconds = 0u64;
     for _ in 0..FRESH {
-        let (mut first, mut second) = partners(rt.alloc(), load.instances)?;
-        let took = time_messages(rt, &mut first, &mut second, load.pattern, events)?;
-        nanoseconds = nanoseconds.saturating_add(took);
+        nanoseconds = nanoseconds.saturating_add(time_pair(rt, load, events)?);
     }
     Ok(nanoseconds)
 }
@@ -72,15 +79,15 @@ fn tell_times<R: Clock + AllocGlobal + Print>(rt: &R, load: Load) -> anyhow::Res
     requires at_least_two { 2 ≤ load.instances }
     requires at_most { load.instances ≤ MAX_INSTANCES }
 {
-    let mut on_short = Vec::new(rt.alloc());
-    let mut on_long = Vec::new(rt.alloc());
-    for _ in 0..REPETITIONS {
-        on_short.push(repetition(rt, load, SHORT)?)?;
-        on_long.push(repetition(rt, load, LONG)?)?;
+    let mut on_short = [0u64; REPETITIONS];
+    let mut on_long = [0u64; REPETITIONS];
+    for place in 0..REPETITIONS {
+        on_short[place] = repetition(rt, load, SHORT)?;
+        on_long[place] = repetition(rt, load, LONG)?;
     }
     let messages = (FRESH * TIMED) as u64;
-    let short = median(on_short)? / messages;
-    let long = median(on_long)? / messages;
+    let short = median(on_short.as_mut_slice()) / messages;
+    let long = median(on_long.as_mut_slice()) / messages;
     let percent = long.saturating_mul(100) / short.max(1);
     let Load { pattern, instances } = load;
     println!(rt;

@@ -1,4 +1,5 @@
 //! What it costs to replay a schedule over running posts, and plainly.
+use crate::load::events_of;
 use crate::timing::{median, nanoseconds_since};
 use anyhow::bail;
 use outcomes::Outcome;
@@ -35,11 +36,21 @@ fn outcome_of<'a>(alloc: Global, by: By, schedule: &'a Schedule) -> anyhow::Resu
 /// How many events the outcome has, and how many notes.
 fn counts(alloc: Global, by: By, schedule: &Schedule) -> anyhow::Result<(usize, usize)> {
     let outcome = outcome_of(alloc, by, schedule)?;
-    let mut events = 0usize;
-    for line in outcome.chart().lines() {
-        events = events.saturating_add(line.len());
+    Ok((events_of(outcome.chart()), outcome.notes().len()))
+}
+
+/// What so many replays take once, in nanoseconds.
+fn time_once<R: Clock + AllocGlobal>(
+    rt: &R,
+    by: By,
+    schedule: &Schedule,
+    times: u32,
+) -> anyhow::Result<u64> {
+    let start = Instant::now(rt)?;
+    for _ in 0..times {
+        outcome_of(rt.alloc(), by, schedule)?;
     }
-    Ok((events, outcome.notes().len()))
+    nanoseconds_since(rt, &start)
 }
 
 /// What so many replays take, in microseconds: the median of some repetitions.
@@ -49,18 +60,35 @@ fn time<R: Clock + AllocGlobal>(
     schedule: &Schedule,
     times: u32,
 ) -> anyhow::Result<u64> {
-    let mut took = Vec::new(rt.alloc());
-    for _ in 0..REPETITIONS {
-        let start = Instant::now(rt)?;
-        for _ in 0..times {
-            outcome_of(rt.alloc(), by, schedule)?;
-        }
-        took.push(nanoseconds_since(rt, &start)?)?;
+    let mut took = [0u64; REPETITIONS];
+    for place in 0..REPETITIONS {
+        took[place] = time_once(rt, by, schedule, times)?;
     }
-    Ok(median(took)? / 1000)
+    Ok(median(took.as_mut_slice()) / 1000)
 }
 
-/// Tells on standard error what so many replays take by each, or else what the schedule comes to by each.
+/// Tells on standard error what so many replays take by each.
+fn tell_times<R: Clock + AllocGlobal + Eprint>(
+    rt: &R,
+    schedule: &Schedule,
+    times: u32,
+) -> anyhow::Result<()> {
+    let posts = time(rt, By::Posts, schedule, times)?;
+    let queues = time(rt, By::Queues, schedule, times)?;
+    eprintln!(rt; "by posts {posts}, by queues {queues} microseconds")?;
+    Ok(())
+}
+
+/// Tells what the schedule comes to by each.
+fn tell_counts<R: AllocGlobal + Print>(rt: &R, schedule: &Schedule) -> anyhow::Result<()> {
+    let (events, notes) = counts(rt.alloc(), By::Posts, schedule)?;
+    println!(rt; "by posts {events} events and {notes} notes")?;
+    let (events, notes) = counts(rt.alloc(), By::Queues, schedule)?;
+    println!(rt; "by queues {events} events and {notes} notes")?;
+    Ok(())
+}
+
+/// Tells what so many replays take, or else what the schedule comes to.
 pub fn tell_replays<R: Clock + AllocGlobal + Print + Eprint>(
     rt: &R,
     text: &[u8],
@@ -68,17 +96,7 @@ pub fn tell_replays<R: Clock + AllocGlobal + Print + Eprint>(
 ) -> anyhow::Result<()> {
     let schedule = schedule_in(rt.alloc(), text)?;
     match times {
-        Some(times) => {
-            let posts = time(rt, By::Posts, &schedule, times)?;
-            let queues = time(rt, By::Queues, &schedule, times)?;
-            eprintln!(rt; "by posts {posts}, by queues {queues} microseconds")?;
-        }
-        None => {
-            let (events, notes) = counts(rt.alloc(), By::Posts, &schedule)?;
-            println!(rt; "by posts {events} events and {notes} notes")?;
-            let (events, notes) = counts(rt.alloc(), By::Queues, &schedule)?;
-            println!(rt; "by queues {events} events and {notes} notes")?;
-        }
+        Some(times) => tell_times(rt, &schedule, times),
+        None => tell_counts(rt, &schedule),
     }
-    Ok(())
 }

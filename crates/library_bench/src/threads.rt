@@ -15,6 +15,23 @@ const FEW: usize = 16;
 
 const PATTERNS: [Pattern; 3] = [Pattern::OneWay, Pattern::ToAndFro, Pattern::AllToAll];
 
+const INSTANCES: [usize; 3] = [2, 4, 8];
+
+const CAPACITIES: [usize; 3] = [1, 8, 64];
+
+/// Each pattern among so many instances, on lanes of so many slots.
+const LOADS: usize = 27;
+
+/// The load of this number, from 0: of three patterns, three numbers of instances and three of slots.
+fn load_at(number: usize) -> Load {
+    Load {
+        pattern: PATTERNS[number / 9 % 3],
+        instances: INSTANCES[number / 3 % 3],
+        capacity: CAPACITIES[number % 3],
+        most: MAX_EVENTS,
+    }
+}
+
 /// How many of these a second, where so many took so many nanoseconds.
 fn per_second(many: usize, took: u64) -> u64 {
     (many as u64).saturating_mul(1_000_000_000) / took.max(1)
@@ -25,14 +42,14 @@ fn tell_times<R: Threads + Sync + Clock + AllocGlobal + Print>(
     rt: &R,
     load: Load,
 ) -> anyhow::Result<()> {
-    let mut by_behaviours = Vec::new(rt.alloc());
-    let mut by_posts = Vec::new(rt.alloc());
-    for _ in 0..RUNS {
-        by_behaviours.push(time_behaviours(rt, rt.alloc(), load)?)?;
-        by_posts.push(time_posts(rt, rt.alloc(), load)?)?;
+    let mut by_behaviours = [0u64; RUNS];
+    let mut by_posts = [0u64; RUNS];
+    for place in 0..RUNS {
+        by_behaviours[place] = time_behaviours(rt, rt.alloc(), load)?;
+        by_posts[place] = time_posts(rt, rt.alloc(), load)?;
     }
-    let run = median(by_behaviours)?;
-    let posts = median(by_posts)?;
+    let run = median(by_behaviours.as_mut_slice());
+    let posts = median(by_posts.as_mut_slice());
     let run_messages = per_second(load.messages(), run);
     let run_events = per_second(load.events(), run);
     let post_messages = per_second(load.messages(), posts);
@@ -65,21 +82,11 @@ pub fn tell_threads<R: Threads + Sync + Clock + AllocGlobal + Print>(
     } else {
         println!(rt; "pattern,instances,capacity,messages,events")?;
     }
-    for pattern in PATTERNS {
-        for instances in [2, 4, 8] {
-            for capacity in [1, 8, 64] {
-                let load = Load {
-                    pattern,
-                    instances,
-                    capacity,
-                    most: MAX_EVENTS,
-                };
-                if timed {
-                    tell_times(rt, load)?;
-                } else {
-                    tell_messages(rt, load)?;
-                }
-            }
+    for number in 0..LOADS {
+        if timed {
+            tell_times(rt, load_at(number))?;
+        } else {
+            tell_messages(rt, load_at(number))?;
         }
     }
     Ok(())

@@ -7,11 +7,19 @@ pub fn nanoseconds_since<R: Clock>(rt: &R, start: &Instant) -> anyhow::Result<u6
     Ok(u64::try_from(start.elapsed(rt)?.as_nanos())?)
 }
 
+/// What it took, where as many events were made as were to be.
+pub fn when_all(took: anyhow::Result<u64>, had: usize, events: usize) -> anyhow::Result<u64> {
+    if had != events {
+        bail!("a message was refused, or didn't come");
+    }
+    took
+}
+
 /// The middle one of what something took each time.
-pub fn median(mut took: Vec<u64>) -> anyhow::Result<u64> {
-    took.sort()?;
+pub fn median(took: &mut [u64]) -> u64 {
+    took.sort_unstable();
     match took.get(took.len() / 2) {
-        Some(middle) => Ok(*middle),
-        None => bail!("nothing was timed"),
+        Some(middle) => *middle,
+        None => 0,
     }
 }

@@ -47,6 +47,11 @@ pub read_before : (p : ℕ) (kept : List KeptRange) (place : ℕ) (d : KeptRange
 read_before p kept place d range old new inside is before put =
     put ∙ ap₂ (λ (r : EventRange) (es : List EventNo). events_of r ++ es) is before ∙ ap (λ (ranges : List KeptRange). events_in (map (range_of p) ranges)) (sym (drop-cons kept place d inside))
 
+-- without a report there is no receive
+pub no_receives : (p : ℕ) (receives : List KeptReceive) (ranges : List EventRange) → reports_of p receives ranges ≡ [] → length receives ≡ 0
+no_receives p [] ranges none = refl
+no_receives p (kept ∷ receives) ranges none = omega (arith, ap length none)
+
 -- one report more, made again of the first ranges that are left
 pub listed_next : (p q : ℕ) (receives : List KeptReceive) (k : ℕ) (d : KeptReceive) (left own others : List KeptRange) (so_far all : List ReportView) (earlier : List EventNo) (report : ReportView) → q ≡ p → k < length receives → AreKept p (drop k receives) left
     → so_far ++ reports_of p (drop k receives) (map (range_of p) left) ≡ all → own ≡ take (get_or receives k d).ranges left → others ≡ drop (get_or receives k d).ranges left → earlier ≡ events_in (map (range_of q) own)

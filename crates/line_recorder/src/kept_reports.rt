@@ -1,6 +1,6 @@
 //! The reports of a line's receives, as a recorder keeps them.
 ghost use Rattle.std.specs.Prelude.{◌≡◌, ◌≤◌, ◌+◌, ◌++◌, ◌∷◌, [], List, ℕ, length, map, All, vec_len, vec_capacity};
-ghost use Rattle.std.specs.Prelude.{IfOk, OnOk};
+ghost use Rattle.std.specs.Prelude.{IfOk, IsOk, OnOk};
 ghost use Rattle.chart.specs.declared.line.TheConstants.{MAX_EVENTS};
 ghost use Rattle.chart.specs.Ranges.{IsRange, events_in};
 ghost use Rattle.line_recorder.specs.Kept.{range_of, IsOnLine, IsOfLine, HasRoomFor};
@@ -28,7 +28,7 @@ struct KeptReceive {
 /// The reports of a line's receives, in their order. A contract sees a record of the line's instance, of the reports,
 /// and of the room for more.
 ///
-/// A report takes four bytes, and four for each of its ranges. So it isn't there to be lent: [`KeptReports::listed`]
+/// A report takes four bytes, and four for each of its ranges. So it isn't there to be lent: [`KeptReports::add_to`]
 /// makes it again.
 #[derive(Drop)]
 pub(crate) struct KeptReports {
@@ -96,13 +96,14 @@ impl KeptReports {
         });
     }
 
-    /// The reports.
+    /// Adds the reports to a list.
     ///
-    /// F6: it fails only where there is no memory.
-    pub fn listed(&self, alloc: Global) -> Result<Vec<Report>, AllocError>
-        ensures { IfOk result (λ reports. reports.items ≡ self.now.reports) }
+    /// F6: it fails only where there is no memory, and never without a report. The list then has some of them.
+    pub fn add_to(&self, alloc: Global, reports: &mut Vec<Report>) -> Result<(), AllocError>
+        ensures ok { OnOk result (reports.new.items ≡ reports.old.items ++ self.now.reports) }
+        ensures none { self.now.reports ≡ [] → IsOk result }
     {
-        let mut reports = Vec::with_capacity(alloc, self.receives.len())?;
+        reports.reserve(self.receives.len())?;
         let receives = self.receives.as_slice();
         let mut left = self.ranges.as_slice();
         for receive in receives {
@@ -114,7 +115,7 @@ impl KeptReports {
             reports.push_reserved(Report::new(number, ranges_of(alloc, self.instance, own)?));
             left = others;
         }
-        Ok(reports)
+        Ok(())
     }
 }
 

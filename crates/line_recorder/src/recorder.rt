@@ -1,5 +1,5 @@
 //! The recorder of one instance.
-ghost use Rattle.std.specs.Prelude.{◌≡◌, ◌≢◌, ◌≤◌, ◌<◌, ◌+◌, ◌↔◌, [], length, vec_capacity, All, Err};
+ghost use Rattle.std.specs.Prelude.{◌≡◌, ◌≢◌, ◌≤◌, ◌<◌, ◌+◌, ◌++◌, ◌↔◌, [], length, vec_capacity, All, Err};
 ghost use Rattle.std.specs.Prelude.{OnOk, OnErr, IfOk, IsOk};
 ghost use Rattle.chart.specs.Events.{MayHaveRegion};
 ghost use Rattle.clock.specs.Clocks.{with_entry};
@@ -143,13 +143,15 @@ impl Recorder {
             .stamped(self.alloc, self.line.instance(), next)
     }
 
-    /// The report of each receive of the line, in their order. They are made again of what is kept of them.
+    /// Adds the report of each receive of the line, in their order, to a list. They are made again of what is kept of
+    /// them.
     ///
-    /// F6: it fails only where there is no memory.
-    pub fn reports(&self, alloc: Global) -> Result<Vec<Report>, AllocError>
-        ensures { IfOk result (λ reports. reports.items ≡ self.now.reports) }
+    /// F6: it fails only where there is no memory, and never without a receive. The list then has some of them.
+    pub fn add_reports(&self, alloc: Global, reports: &mut Vec<Report>) -> Result<(), AllocError>
+        ensures ok { OnOk result (reports.new.items ≡ reports.old.items ++ self.now.reports) }
+        ensures none { self.now.reports ≡ [] → IsOk result }
     {
-        self.reports.listed(alloc)
+        self.reports.add_to(alloc, reports)
     }
 
     /// The line, of which the recorder is made no more. Its events go into this list, which has room for them. It takes

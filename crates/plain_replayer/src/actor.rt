@@ -117,7 +117,8 @@ impl Actor {
         ensures reports { IfOk result (λ parts. parts.1.items ≡ self.recorder.reports) }
     {
         let Actor { recorder, .. } = self;
-        let reports = recorder.reports(alloc)?;
+        let mut reports = Vec::new(alloc);
+        recorder.add_reports(alloc, &mut reports)?;
         let events = Vec::with_capacity(alloc, recorder.line().len())?;
         Ok((recorder.into_line(events), reports))
     }

@@ -1,5 +1,6 @@
 //! That a schedule comes to the same over running posts and plainly: worked schedules and drawn ones.
 
+use crate::calls::are_bytes;
 use closure::audit;
 use interleaver::drawn;
 use msc_text::MemoryOut;
@@ -23,7 +24,14 @@ fn agree(rt: &impl Abort, alloc: Global, schedule: &Schedule) {
     let outcome = replay(alloc, schedule).expect(rt, "an outcome");
     let plain = plain_replay(alloc, schedule).expect(rt, "a plain outcome");
     let text = text_of(rt, alloc, &outcome);
-    assert_eq!(rt; text_of(rt, alloc, &plain).as_bytes(), text.as_bytes());
+    let plain = text_of(rt, alloc, &plain);
+    are_bytes(rt, "the same text", plain.as_bytes(), text.as_bytes());
+}
+
+/// The schedule of this text comes to the same.
+fn agrees(rt: &impl Abort, alloc: Global, text: &[u8]) {
+    let schedule = Schedule::read(alloc, text).expect(rt, "a schedule");
+    agree(rt, alloc, &schedule);
 }
 
 /// Schedules of `cases/`, which tell what they come to.
@@ -56,9 +64,8 @@ static WORKED: [&[u8]; 24] = [
 
 #[test]
 fn worked_schedules(rt: HostRuntime) {
-    for text in WORKED {
-        let schedule = Schedule::read(rt.alloc(), text).expect(&rt, "a schedule");
-        agree(&rt, rt.alloc(), &schedule);
+    for text in &WORKED {
+        agrees(&rt, rt.alloc(), text);
     }
 }
 

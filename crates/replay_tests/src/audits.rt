@@ -1,6 +1,6 @@
 //! Reports that are not those of their chart.
-use crate::calls::event;
-use chart::{EventNo, Report};
+use crate::calls::{event, put};
+use chart::{Chart, EventNo, Report};
 use closure::{AuditError, audit};
 use msc_reader::read;
 use std::alloc::Global;
@@ -32,7 +32,7 @@ fn b(rt: &impl Abort, index: u32) -> EventNo {
 fn report(rt: &impl Abort, alloc: Global, receive: u32, earlier: &[u32]) -> Report {
     let mut events = Vec::new(alloc);
     for index in earlier {
-        assert!(rt; events.push(b(rt, *index)).is_ok());
+        put(rt, &mut events, b(rt, *index));
     }
     Report::of(alloc, b(rt, receive), events.as_slice()).expect(rt, "a report")
 }
@@ -40,10 +40,21 @@ fn report(rt: &impl Abort, alloc: Global, receive: u32, earlier: &[u32]) -> Repo
 fn reports_of(rt: &impl Abort, alloc: Global, told: &[Races]) -> Vec<Report> {
     let mut reports = Vec::new(alloc);
     for (receive, earlier) in told {
-        let report = report(rt, alloc, *receive, earlier);
-        assert!(rt; reports.push(report).is_ok());
+        put(rt, &mut reports, report(rt, alloc, *receive, earlier));
     }
     reports
+}
+
+/// The chart's audit with these reports answers so.
+fn answers(
+    rt: &impl Abort,
+    alloc: Global,
+    chart: &Chart,
+    told: &[Races],
+    answer: Result<(), AuditError>,
+) {
+    let reports = reports_of(rt, alloc, told);
+    assert_eq!(rt; audit(alloc, chart, reports.as_slice()), answer);
 }
 
 #[test]
@@ -51,12 +62,8 @@ fn wrong_reports(rt: HostRuntime) {
     let alloc = rt.alloc();
     let (_, chart) = read(alloc, TURNS).expect(&rt, "a chart");
     for (told, receive) in &WRONG {
-        let wrong = reports_of(&rt, alloc, told);
-        assert_eq!(rt;
-            audit(alloc, &chart, wrong.as_slice()),
-            Err(AuditError::WrongReport(b(&rt, *receive)))
-        );
+        let wrong = AuditError::WrongReport(b(&rt, *receive));
+        answers(&rt, alloc, &chart, told, Err(wrong));
     }
-    let right = reports_of(&rt, alloc, &RIGHT);
-    assert_eq!(rt; audit(alloc, &chart, right.as_slice()), Ok(()));
+    answers(&rt, alloc, &chart, &RIGHT, Ok(()));
 }

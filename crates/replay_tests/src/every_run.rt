@@ -1,5 +1,6 @@
 //! Small schedules, all of whose other runs are tried.
 
+use crate::calls::{holds, put};
 use crate::recorded::{event_no, found, steps_of};
 use crate::runs::{Moved, Told, as_other_run, events_of, is_witness, overtakes};
 use chart::{Chart, EventNo, MAX_CAPACITY, Report};
@@ -25,19 +26,25 @@ fn orders(many: usize) -> usize {
     orders
 }
 
+/// Puts one of the events that are left behind the run, the one that an order's number says. What is left of the number
+/// is answered.
+fn take_one(rt: &impl Abort, left: &mut Vec<Told>, run: &mut Vec<Told>, order: usize) -> usize {
+    let many = left.len();
+    if many == 0 {
+        return order;
+    }
+    put(rt, run, left.remove(order % many));
+    order / many
+}
+
 /// The events in the order of this number.
 fn ordered(rt: &impl Abort, alloc: Global, events: &[Told], order: usize) -> Vec<Told> {
     let mut left = Vec::new(alloc);
-    assert!(rt; left.extend_from_slice(events).is_ok());
+    left.extend_from_slice(events).expect(rt, "memory");
     let mut run = Vec::new(alloc);
     let mut order = order;
     for _ in events {
-        let many = left.len();
-        if many == 0 {
-            break;
-        }
-        assert!(rt; run.push(left.remove(order % many)).is_ok());
-        order /= many;
+        order = take_one(rt, &mut left, &mut run, order);
     }
     run
 }
@@ -48,7 +55,7 @@ fn other_runs(rt: &impl Abort, alloc: Global, events: &[Told], slots: usize) -> 
     for order in 0..orders(events.len()) {
         let run = ordered(rt, alloc, events, order);
         if let Some(all) = as_other_run(rt, alloc, events, run.as_slice(), slots) {
-            assert!(rt; runs.push(all).is_ok());
+            put(rt, &mut runs, all);
         }
     }
     runs
@@ -63,14 +70,19 @@ fn some_overtakes(runs: &[Vec<Moved>], receive: usize, earlier: usize) -> bool {
     false
 }
 
+fn has_event(report: &Report, earlier: &EventNo) -> bool {
+    for event in report.earlier().iter() {
+        if event == *earlier {
+            return true;
+        }
+    }
+    false
+}
+
 fn has_race(reports: &[Report], receive: EventNo, earlier: EventNo) -> bool {
     for report in reports {
-        if report.receive() == receive {
-            for event in report.earlier().iter() {
-                if event == earlier {
-                    return true;
-                }
-            }
+        if report.receive() == receive && has_event(report, &earlier) {
+            return true;
         }
     }
     false
@@ -98,25 +110,51 @@ pub fn has_witness(
     match found(rt, alloc, steps, slots, receive, earlier) {
         Some(run) => {
             let run = run.as_slice();
-            assert!(rt; is_witness(rt, alloc, steps, run, slots, receive, earlier));
+            let is_one = is_witness(rt, alloc, steps, run, slots, receive, earlier);
+            holds(rt, "it is a witness", is_one);
             true
         }
         None => false,
     }
 }
 
+/// Of this receive and another step a run is found within so many slots exactly where one of these has the receive
+/// first. For how many steps one is found is answered.
+fn finds_of_receive(
+    rt: &impl Abort,
+    alloc: Global,
+    steps: &[Step],
+    runs: &[Vec<Moved>],
+    slots: usize,
+    receive: usize,
+) -> usize {
+    let mut many = 0usize;
+    for earlier in 0..steps.len() {
+        let found = has_witness(rt, alloc, steps, slots, receive, earlier);
+        holds(
+            rt,
+            "as runs do",
+            found == some_overtakes(runs, receive, earlier),
+        );
+        many = many.saturating_add(usize::from(found));
+    }
+    many
+}
+
+fn is_receive(steps: &[Step], number: usize) -> bool {
+    matches!(steps.get(number), Some(Step::Receive { .. }))
+}
+
 /// For each receive and other step a run is found within so many slots exactly where one has the receive first.
 fn finds_what_runs_do(rt: &impl Abort, alloc: Global, steps: &[Step], slots: usize) -> usize {
     let events = events_of(rt, alloc, steps);
     let runs = other_runs(rt, alloc, events.as_slice(), slots);
+    let runs = runs.as_slice();
     let mut many = 0usize;
     for receive in 0..steps.len() {
-        if let Step::Receive { .. } = steps[receive] {
-            for earlier in 0..steps.len() {
-                let found = has_witness(rt, alloc, steps, slots, receive, earlier);
-                assert_eq!(rt; found, some_overtakes(runs.as_slice(), receive, earlier));
-                many = many.saturating_add(usize::from(found));
-            }
+        if is_receive(steps, receive) {
+            let found = finds_of_receive(rt, alloc, steps, runs, slots, receive);
+            many = many.saturating_add(found);
         }
     }
     many
@@ -132,10 +170,10 @@ fn is_found_unordered(
     number: usize,
 ) -> bool {
     let found = found(rt, alloc, steps, MAX_CAPACITY, receive, number).is_some();
-    let earlier = event_no(steps, number).expect(rt, "an event");
-    let later = event_no(steps, receive).expect(rt, "a receive");
+    let earlier = event_no(rt, steps, number);
+    let later = event_no(rt, steps, receive);
     let before = closure.before(earlier, later).expect(rt, "an order");
-    assert!(rt; number == receive || found != before);
+    holds(rt, "found unordered", number == receive || found != before);
     found
 }
 
@@ -147,19 +185,37 @@ fn has_race_of(
     receive: usize,
     number: usize,
 ) -> bool {
-    let earlier = event_no(steps, number).expect(rt, "an event");
-    let later = event_no(steps, receive).expect(rt, "a receive");
+    let earlier = event_no(rt, steps, number);
+    let later = event_no(rt, steps, receive);
     has_race(reports, later, earlier)
 }
 
 /// Whether the other step's event stands above the receive on its line, and not in its coregion.
 fn may_race(rt: &impl Abort, steps: &[Step], receive: usize, number: usize) -> bool {
-    let earlier = event_no(steps, number).expect(rt, "an event");
-    let later = event_no(steps, receive).expect(rt, "a receive");
+    let earlier = event_no(rt, steps, number);
+    let later = event_no(rt, steps, receive);
     let on_line = earlier.instance == later.instance && earlier.index < later.index;
     match (steps.get(receive), steps.get(number)) {
         (Some(receive), Some(other)) => on_line && !share_region(receive, other),
         _ => false,
+    }
+}
+
+/// Of this receive and another step a run is found exactly where the search has no order, and the race is reported
+/// exactly where one is found and both may race.
+fn finds_reported(
+    rt: &impl Abort,
+    alloc: Global,
+    closure: &Closure,
+    reports: &[Report],
+    steps: &[Step],
+    receive: usize,
+) {
+    for number in 0..steps.len() {
+        let found = is_found_unordered(rt, alloc, closure, steps, receive, number);
+        let wanted = found && may_race(rt, steps, receive, number);
+        let races = has_race_of(rt, reports, steps, receive, number);
+        holds(rt, "the race is reported", races == wanted);
     }
 }
 
@@ -169,31 +225,30 @@ fn finds_what_is_reported(rt: &impl Abort, alloc: Global, chart: &Chart, steps: 
     let closure = Closure::of(alloc, chart).expect(rt, "a closure");
     let reports = closure.races().expect(rt, "the reports");
     for receive in 0..steps.len() {
-        if let Step::Receive { .. } = steps[receive] {
-            for number in 0..steps.len() {
-                let found = is_found_unordered(rt, alloc, &closure, steps, receive, number);
-                let wanted = found && may_race(rt, steps, receive, number);
-                let races = has_race_of(rt, reports.as_slice(), steps, receive, number);
-                assert_eq!(rt; races, wanted);
-            }
+        if is_receive(steps, receive) {
+            finds_reported(rt, alloc, &closure, reports.as_slice(), steps, receive);
         }
     }
+}
+
+/// What is found of the steps of a chart's run, whose lanes have so many slots, as `finds_all` says.
+fn finds_in(rt: &impl Abort, alloc: Global, chart: &Chart, steps: &[Step], slots: usize) -> usize {
+    if steps.len() > MOST {
+        return 0;
+    }
+    finds_what_is_reported(rt, alloc, chart, steps);
+    let within = finds_what_runs_do(rt, alloc, steps, slots);
+    let any = finds_what_runs_do(rt, alloc, steps, MAX_CAPACITY);
+    holds(rt, "as many or more", within <= any);
+    any
 }
 
 /// What is found of a schedule's steps, unless they are more than so many. How many pairs are turned round is answered.
 pub fn finds_all(rt: &impl Abort, alloc: Global, schedule: &Schedule) -> usize {
     let outcome = plain_replay(alloc, schedule).expect(rt, "an outcome");
     let steps = steps_of(rt, alloc, schedule, &outcome);
-    let steps = steps.as_slice();
-    if steps.len() > MOST {
-        return 0;
-    }
-    finds_what_is_reported(rt, alloc, outcome.chart(), steps);
     let slots = schedule.capacity().slots();
-    let within = finds_what_runs_do(rt, alloc, steps, slots);
-    let any = finds_what_runs_do(rt, alloc, steps, MAX_CAPACITY);
-    assert!(rt; within <= any);
-    any
+    finds_in(rt, alloc, outcome.chart(), steps.as_slice(), slots)
 }
 
 /// The commands that are drawn from; a command that isn't accepted makes no step.
@@ -234,10 +289,10 @@ pub fn drawn_schedule(rt: &impl Abort, alloc: Global, seed: u64, commands: usize
     let mut generator = Lcg64Xsh32::seed_from_u64(seed);
     let mut text = Vec::new(alloc);
     let front = piece(FRONTS.as_slice(), generator.next_word());
-    assert!(rt; text.extend_from_slice(front).is_ok());
+    text.extend_from_slice(front).expect(rt, "a front");
     for _ in 0..commands {
         let command = piece(COMMANDS.as_slice(), generator.next_word());
-        assert!(rt; text.extend_from_slice(command).is_ok());
+        text.extend_from_slice(command).expect(rt, "a command");
     }
     Schedule::read(alloc, text.as_slice()).expect(rt, "a schedule")
 }

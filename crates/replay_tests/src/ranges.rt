@@ -1,5 +1,5 @@
 //! That a run of events is one range, which no contract says.
-use crate::calls::{event, instance, name};
+use crate::calls::{are, event, holds, instance, name, put};
 use chart::{Event, EventNo, EventRanges, Line};
 use online_races::{race_ranges, races};
 use std::alloc::Global;
@@ -9,8 +9,7 @@ use std::process::Abort;
 fn events(rt: &impl Abort, alloc: Global, indices: &[u32]) -> Vec<EventNo> {
     let mut events = Vec::new(alloc);
     for index in indices {
-        let event = event(rt, 1, *index);
-        assert!(rt; events.push(event).is_ok());
+        put(rt, &mut events, event(rt, 1, *index));
     }
     events
 }
@@ -20,9 +19,13 @@ fn event_ranges(rt: HostRuntime) {
     let alloc = rt.alloc();
     let events = events(&rt, alloc, &[2, 3, 4, 7, 9, 10]);
     let ranges = EventRanges::of(alloc, events.as_slice()).expect(&rt, "ranges");
-    assert_eq!(rt; ranges.as_slice().len(), 3, "2 to 4, 7, and 9 to 10");
+    are(&rt, "2 to 4, 7, and 9 to 10", ranges.as_slice().len(), 3);
     let listed = ranges.listed(alloc).expect(&rt, "a list");
-    assert!(rt; listed.as_slice() == events.as_slice());
+    holds(
+        &rt,
+        "the same events",
+        listed.as_slice() == events.as_slice(),
+    );
 }
 
 /// A line that received from these instances.
@@ -53,8 +56,9 @@ fn has_ranges(
         rt, "ranges",
     );
     let found = found.as_slice();
-    assert_eq!(rt; found.len(), ranges);
-    assert!(rt; found.first().is_some_and(|range| range.count == count));
+    are(rt, "ranges", found.len(), ranges);
+    let first = found.first().expect(rt, "a range");
+    are(rt, "events of the first range", first.count, count);
 }
 
 /// Events 2 to 4 and 6, and earlier on the line 3 and 4.
@@ -70,5 +74,5 @@ fn races_of_a_line(rt: HostRuntime) {
     let line = line_from(&rt, rt.alloc(), &[2, 3, 3, 3, 2, 4]);
     let found = races(rt.alloc(), &line, 1, instance(&rt, 2), 0).expect(&rt, "the races");
     let wanted = events(&rt, rt.alloc(), &[2, 3, 4, 6]);
-    assert!(rt; found.as_slice() == wanted.as_slice());
+    holds(&rt, "the races", found.as_slice() == wanted.as_slice());
 }

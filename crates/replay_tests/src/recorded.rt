@@ -1,8 +1,9 @@
 //! The steps that a schedule's accepted commands make, and what is asked of them.
 
+use crate::calls::put;
 use chart::{Event, EventNo, InstanceNo};
 use outcomes::Outcome;
-use schedule::{Action, Note, Schedule};
+use schedule::{Action, Command, Note, Schedule};
 use std::alloc::Global;
 use std::process::Abort;
 use witness::{Step, overtake};
@@ -50,8 +51,21 @@ fn step_of(maker: InstanceNo, event: Event) -> Step {
     }
 }
 
+/// Whether the command makes a step where it is accepted.
+fn may_step(command: &Command) -> bool {
+    matches!(
+        command.action,
+        Action::Send { .. } | Action::Receive { .. } | Action::Any
+    )
+}
+
 fn has_note(notes: &[Note], line: u64) -> bool {
-    notes.iter().any(|note| note.line == line)
+    for note in notes {
+        if note.line == line {
+            return true;
+        }
+    }
+    false
 }
 
 /// The steps that the accepted commands make, in their order.
@@ -63,15 +77,11 @@ pub fn steps_of(
 ) -> Vec<Step> {
     let mut steps = Vec::new(alloc);
     for command in schedule.commands() {
-        let makes = matches!(
-            command.action,
-            Action::Send { .. } | Action::Receive { .. } | Action::Any
-        );
-        if makes && !has_note(outcome.notes(), command.line) {
+        if may_step(command) && !has_note(outcome.notes(), command.line) {
             let actor = command.actor;
             let number = made_by(steps.as_slice(), actor);
             if let Some(event) = event_of(outcome, actor, number) {
-                assert!(rt; steps.push(step_of(actor, event)).is_ok());
+                put(rt, &mut steps, step_of(actor, event));
             }
         }
     }
@@ -106,11 +116,11 @@ pub fn numbers_of(
 }
 
 /// The event that a step makes.
-pub fn event_no(steps: &[Step], number: usize) -> Option<EventNo> {
-    let instance = maker(steps.get(number)?);
-    let before = made_by(steps.get(..number)?, instance);
-    let index = u32::try_from(before.saturating_add(1)).ok()?;
-    Some(EventNo { instance, index })
+pub fn event_no(rt: &impl Abort, steps: &[Step], number: usize) -> EventNo {
+    let instance = maker(steps.get(number).expect(rt, "a step"));
+    let before = made_by(steps.get(..number).expect(rt, "steps"), instance);
+    let index = u32::try_from(before.saturating_add(1)).expect(rt, "an index");
+    EventNo { instance, index }
 }
 
 /// What is found for two steps, where the first receives.

@@ -2,8 +2,8 @@
 //! once more, and then answers in full.
 ghost use Rattle.std.specs.Prelude.{◌≡◌, ◌≢◌, ◌≤◌, length};
 
-use crate::calls::{every_growth_was_refused, instance, name};
-use chart::{InstanceNo, Name, Report};
+use crate::calls::{are, every_growth_was_refused, instance, name};
+use chart::{EventNo, InstanceNo, Name, Report};
 use clock::Clock;
 use line_recorder::Recorder;
 use std::alloc::Global;
@@ -57,10 +57,11 @@ fn other(rt: &impl Abort, recorder: &Recorder, number: usize) -> InstanceNo
 }
 
 /// The clock's entries are these.
-fn holds(rt: &impl Abort, clock: &Clock, entries: &[u32]) {
-    assert_eq!(rt; clock.len(), entries.len());
+fn has_entries(rt: &impl Abort, clock: &Clock, entries: &[u32]) {
+    assert!(rt; clock.len() == entries.len());
     for (place, entry) in entries.iter().enumerate() {
-        assert_eq!(rt; clock.entry(InstanceNo::at_place(place)), *entry);
+        let known = clock.entry(InstanceNo::at_place(place));
+        are(rt, "an entry", known as usize, *entry as usize);
     }
 }
 
@@ -72,7 +73,7 @@ fn send(rt: &impl Abort, recorder: &mut Recorder, to: usize, letter: u8, entries
         Ok(clock) => clock,
         Err(_) => recorder.send(to, message).expect(rt, "a send"),
     };
-    holds(rt, &clock, entries);
+    has_entries(rt, &clock, entries);
     clock
 }
 
@@ -85,13 +86,18 @@ fn send_two(rt: &impl Abort, recorder: &mut Recorder, to: usize, names: &[Name])
     }
 }
 
+/// It is this event of the instance.
+fn is_event(rt: &impl Abort, event: &EventNo, instance: InstanceNo, index: u32) {
+    assert_eq!(rt; *event, EventNo { instance, index });
+}
+
 /// The report is of the receive of this index, and has these earlier events.
 fn reports(rt: &impl Abort, report: &Report, receive: usize, earlier: &[u32]) {
-    assert_eq!(rt; report.receive().index as usize, receive);
-    assert_eq!(rt; report.earlier().len(), earlier.len());
+    let own = report.receive();
+    are(rt, "the receive", own.index as usize, receive);
+    are(rt, "races", report.earlier().len(), earlier.len());
     for (race, index) in report.earlier().iter().zip(earlier) {
-        assert_eq!(rt; race.instance, report.receive().instance);
-        assert_eq!(rt; race.index, *index);
+        is_event(rt, &race, own.instance, *index);
     }
 }
 
@@ -132,7 +138,7 @@ fn record(rt: &impl Abort, recorder: &mut Recorder, clocks: &mut Vec<Clock>, ste
         }
         SendTwo(_, to, first, second) => {
             let two = send_two(rt, recorder, to, &[name(rt, &[first]), name(rt, &[second])]);
-            assert_eq!(rt; two.len(), 2);
+            are(rt, "sends", two.len(), 2);
             for clock in two {
                 keep(rt, clocks, clock);
             }
@@ -141,8 +147,16 @@ fn record(rt: &impl Abort, recorder: &mut Recorder, clocks: &mut Vec<Clock>, ste
             let clock = clocks.get(clock).expect(rt, "a clock");
             receive(rt, recorder, from, letter, clock, earlier);
         }
-        Knows(_, entries) => holds(rt, recorder.knowledge(), entries),
+        Knows(_, entries) => has_entries(rt, recorder.knowledge(), entries),
     }
+}
+
+/// Takes a step by the recorder of its instance.
+fn take(rt: &impl Abort, recorders: &mut [Recorder], clocks: &mut Vec<Clock>, step: &Step) {
+    let (Send(at, ..) | SendTwo(at, ..) | Receive(at, ..) | Knows(at, ..)) = *step;
+    let place = instance(rt, at).place();
+    let recorder = recorders.get_mut(place).expect(rt, "a recorder");
+    record(rt, recorder, clocks, step);
 }
 
 /// Plays a schedule.
@@ -154,10 +168,7 @@ fn play(rt: &impl Abort, alloc: Global, steps: &[Step]) {
     ];
     let mut clocks = Vec::new(alloc);
     for step in steps {
-        let (Send(at, ..) | SendTwo(at, ..) | Receive(at, ..) | Knows(at, ..)) = *step;
-        let place = instance(rt, at).place();
-        let recorder = recorders.get_mut(place).expect(rt, "a recorder");
-        record(rt, recorder, &mut clocks, step);
+        take(rt, &mut recorders[..], &mut clocks, step);
     }
 }
 

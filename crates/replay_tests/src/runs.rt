@@ -1,5 +1,6 @@
 //! Runs whose events are told by lane and turn, and what it takes to be another run of the same events.
 
+use crate::calls::put;
 use chart::InstanceNo;
 use std::alloc::Global;
 use std::process::Abort;
@@ -57,7 +58,7 @@ pub fn events_of(rt: &impl Abort, alloc: Global, steps: &[Step]) -> Vec<Told> {
     for step in steps {
         let mut event = Told::first(step);
         event.turn = count(events.as_slice(), &event, event.receives).saturating_add(1);
-        assert!(rt; events.push(event).is_ok());
+        put(rt, &mut events, event);
     }
     events
 }
@@ -91,7 +92,7 @@ fn events_in(
     for event in recorded {
         let event = *event;
         let place = place_of(run, &event)?;
-        assert!(rt; all.push(Moved { event, place }).is_ok());
+        put(rt, &mut all, Moved { event, place });
     }
     Some(all)
 }

@@ -1,5 +1,6 @@
 //! Worked schedules: each reported race has a witness.
 
+use crate::calls::{are, holds};
 use crate::every_run::{finds_all, has_witness};
 use crate::recorded::{numbers_of, steps_of};
 use chart::MAX_CAPACITY;
@@ -77,15 +78,24 @@ fn has_both(
     receive: usize,
     earlier: usize,
 ) -> bool {
-    assert!(rt; has_witness(rt, alloc, steps, MAX_CAPACITY, receive, earlier));
+    let found = has_witness(rt, alloc, steps, MAX_CAPACITY, receive, earlier);
+    holds(rt, "a witness", found);
     has_witness(rt, alloc, steps, slots, receive, earlier)
+}
+
+/// The schedule has so many races and witnesses, and all is found of its steps.
+fn is_witnessed(rt: &impl Abort, alloc: Global, worked: &Worked) {
+    let (text, races, within) = *worked;
+    let schedule = Schedule::read(alloc, text).expect(rt, "a schedule");
+    let found = witnessed(rt, alloc, &schedule);
+    are(rt, "races", found.0, races);
+    are(rt, "witnesses", found.1, within);
+    finds_all(rt, alloc, &schedule);
 }
 
 #[test]
 fn worked_schedules(rt: HostRuntime) {
-    for (text, races, within) in WORKED {
-        let schedule = Schedule::read(rt.alloc(), text).expect(&rt, "a schedule");
-        assert!(rt; witnessed(&rt, rt.alloc(), &schedule) == (races, within));
-        finds_all(&rt, rt.alloc(), &schedule);
+    for worked in &WORKED {
+        is_witnessed(&rt, rt.alloc(), worked);
     }
 }

@@ -1,8 +1,5 @@
 //! Writers that fail in mid-stream or are interrupted, which of its faults a sink tells, and the words of an error.
-ghost use Rattle.std.specs.Prelude.{◌≡◌, length};
-
-use crate::calls::every_growth_was_refused;
-use chart::{Chart, Names};
+use crate::calls::{are, are_bytes, every_growth_was_refused, holds};
 use msc_reader::read;
 use msc_text::{Cause, Fault, MemoryOut, Out, OutFault, StreamOut, WriteError, write};
 use std::alloc::Global;
@@ -13,21 +10,20 @@ use std::test::Fail;
 const CHART: &[u8] =
     b"msc run;\ninstance a;\nout ping to b;\nendinstance;\ninstance b;\nin ping from a;\nendinstance;\nendmsc;\n";
 
-fn chart_of(rt: &impl Abort, alloc: Global) -> (Names, Chart)
-    ensures { length result.0 ≡ length result.1 }
-{
-    read(alloc, CHART).expect(rt, "a chart")
+/// The chart's text is written so.
+fn writes<W: Out>(rt: &impl Abort, alloc: Global, out: &mut W, wanted: Result<(), WriteError>) {
+    let (names, chart) = read(alloc, CHART).expect(rt, "a chart");
+    assert_eq!(rt; write(&names, &chart, out), wanted);
 }
 
 #[test]
 fn a_full_stream_fails(rt: HostRuntime) {
-    let (names, chart) = chart_of(&rt, rt.alloc());
     let mut place = [0; 20];
     let mut out = StreamOut::new(&mut place[..]);
-    let result = write(&names, &chart, &mut out);
-    assert_eq!(rt; result, Err(WriteError::Put(OutFault::Full)));
+    let full = WriteError::Put(OutFault::Full);
+    writes(&rt, rt.alloc(), &mut out, Err(full));
     drop(out);
-    assert_eq!(rt; place.as_slice(), &CHART[..20]);
+    are_bytes(&rt, "its front", place.as_slice(), &CHART[..20]);
 }
 
 /// Is interrupted by a signal so many times, and then takes one byte a call.
@@ -58,31 +54,35 @@ impl Write for Interrupted {
 
 #[test]
 fn interrupted_writes_are_tried_again(rt: HostRuntime) {
-    let (names, chart) = chart_of(&rt, rt.alloc());
     let mut out = StreamOut::new(Interrupted {
         times: 1,
         taken: Vec::new(rt.alloc()),
     });
-    assert_eq!(rt; write(&names, &chart, &mut out), Ok(()));
-    assert_eq!(rt; out.into_inner().taken.as_slice(), CHART);
+    writes(&rt, rt.alloc(), &mut out, Ok(()));
+    let taken = out.into_inner().taken;
+    are_bytes(&rt, "its text", taken.as_slice(), CHART);
 }
 
 #[test]
 fn tells_a_fault(rt: HostRuntime) {
     let fault = Fault::Line(3, Cause::ToItself);
     let text = format!(in rt.alloc(); "{fault}").expect(&rt, "a text");
-    assert_eq!(rt; text.as_str(), "line 3: an instance sends to itself");
+    let words = b"line 3: an instance sends to itself";
+    are_bytes(&rt, "its words", text.as_str().as_bytes(), words);
+}
+
+/// Puts bytes where there are none, once more where memory was refused: then there were none still.
+fn puts(rt: &impl Abort, out: &mut MemoryOut, bytes: &[u8]) {
+    if let Err(fault) = out.put(bytes) {
+        holds(rt, "memory was refused", fault == OutFault::Memory);
+        are(rt, "bytes", out.as_bytes().len(), 0);
+        holds(rt, "it is put", out.put(bytes).is_ok());
+    }
+    are_bytes(rt, "the bytes", out.as_bytes(), bytes);
 }
 
 #[test]
 fn refused_growths(rt: HostRuntime) -> Result<(), Fail> {
-    let mut out = MemoryOut::new(rt.alloc());
-    if let Err(fault) = out.put(b"abc") {
-        assert_eq!(rt; fault, OutFault::Memory);
-        assert!(rt; out.as_bytes().is_empty());
-        assert!(rt; out.put(b"abc").is_ok());
-    }
-    assert_eq!(rt; out.as_bytes(), b"abc".as_slice());
-    drop(out);
+    puts(&rt, &mut MemoryOut::new(rt.alloc()), b"abc");
     every_growth_was_refused(rt.alloc())
 }

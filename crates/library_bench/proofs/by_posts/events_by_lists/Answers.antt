@@ -1,7 +1,7 @@
 use Rattle.std.proofs.Common.{sym, ap, ◌∙◌}
 use Rattle.board.specs.Views.{PostView}
 use Rattle.instances.proofs.Boards.{one-board-each}
-use Rattle.library_bench.proofs.by_posts.time_lists.Goals as goal
+use Rattle.library_bench.proofs.by_posts.events_by_lists.Goals as goal
 
 -- each job gives its post back at its board
 pub gathered_events-requires : goal.gathered_events-requires

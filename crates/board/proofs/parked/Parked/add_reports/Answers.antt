@@ -7,11 +7,11 @@ use Rattle.board_table.specs.Knowing.{held}
 use Rattle.board_core.proofs.OwnEvents.{same_recorder}
 use Rattle.board.specs.Views.{PostView}
 use Rattle.board.specs.Meeting.{IsJoint}
-use Rattle.board.proofs.RoomsMade.{own_reports, reports_made}
-use Rattle.board.proofs.parked.Parked.reports.Goals as goal
+use Rattle.board.proofs.RoomsMade.{own_reports, reports_added}
+use Rattle.board.proofs.parked.Parked.add_reports.Goals as goal
 
 pub returns : goal.returns
-returns c = reports_made c.reports.result c.args.self.now.number c.self.inside.recorder.reports (λ (h : List Occurrence). IsJoint h c.args.self.now) c.reports.ensures (λ h joint.
+returns c = reports_added c.add_reports.result c.args.self.now.number c.self.inside.recorder.reports c.args.reports.now.items c.add_reports.new.reports.items (λ (h : List Occurrence). IsJoint h c.args.self.now) c.add_reports.ensures.ok (λ h joint.
     let its = c.self.invariant in
     let inside = c.self.inside in
     let seen = (held inside.seat.me).seen in
