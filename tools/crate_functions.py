@@ -5,6 +5,7 @@ import re
 FUNCTION = re.compile(r"( {4})?(?:pub(?:\([^)]*\))? )?(?:const )?(?:unsafe )?(?:extern \"C\" )?fn (\w+)")
 IMPL = re.compile(r"impl\b(?:<[^{]*?>)? *([^{]*)")
 TYPE = re.compile(r"^(?:pub(?:\([^)]*\))? )?(?:struct|enum) (\w+)", re.M)
+CONSTANT = re.compile(r"(?:pub(?:\([^)]*\))? )?(?:const|static) (\w+):")
 TEST_MODULE = re.compile(r"^#\[cfg\(test\)\]\n(?:pub(?:\([^)]*\))? )?mod (\w+);", re.M)
 
 
@@ -92,6 +93,17 @@ def bodies_in(texts, types):
             name, body = function_named(path, lines, at, found, types), body_of(lines, at, found[1] or "")
             if name and body:
                 yield name, path, body
+
+
+def users_of(path, lines, texts, types):
+    """The functions whose bodies name the constant that the last of these first lines of a file is in."""
+    margin = next((line for line in reversed(lines) if line[:1].isalpha()), "")
+    constant = CONSTANT.match(margin)
+    if not path.startswith("src/") or not constant:
+        return set()
+    named = re.compile(rf"\b{constant[1]}\b")
+    bodies = ((name, texts[file].split("\n")[begin:end]) for name, file, (begin, end) in bodies_in(texts, types))
+    return {name for name, body in bodies if named.search("\n".join(body))}
 
 
 def emptied(crate, texts, types, functions):
