@@ -53,8 +53,7 @@ impl Parked {
         })
     }
 
-    /// Adds the report of each of its receives to a list. F6: it fails only where there is no memory, and never without
-    /// a receive.
+    /// Adds the report of each of its receives to a list. F6: it fails only where there is no memory.
     fn add_reports(&self, alloc: Global, reports: &mut Vec<Report>) -> Result<(), AllocError>
         ensures { OnOk result ((h : List Occurrence) (lines : List LineView) → IsJoint h self.now
             → AreReportsOf (chart_of h) lines reports.old.items
@@ -82,8 +81,7 @@ impl<'a> Post<'a> {
         self.parked.room_from(alloc, &sender.parked)
     }
 
-    /// Adds the report of each of its receives to a list. F6: it fails only where there is no memory, and never without
-    /// a receive.
+    /// Adds the report of each of its receives to a list. F6: it fails only where there is no memory.
     fn add_reports(&self, alloc: Global, reports: &mut Vec<Report>) -> Result<(), AllocError>
         ensures { OnOk result ((h : List Occurrence) (lines : List LineView) → IsJoint h self.now
             → AreReportsOf (chart_of h) lines reports.old.items

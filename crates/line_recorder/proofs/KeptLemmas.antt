@@ -1,6 +1,7 @@
 -- Reports that are kept as two lists: one more, and what fits into them.
+use Rattle.std.specs.Prelude.{Result, Ok, Err, OnErr}
 use Rattle.std.proofs.Common.{◌≡◌, ℕ, zero, suc, ◌+◌, ◌-◌, ◌<◌, ◌≤◌, List, [], ◌∷◌, ◌++◌, length, length-append, take, drop, map, get_or, All, AllPairs, refl, sym, ap, ap₂, ◌∙◌, subst, arith, append_assoc, drop-cons}
-use Rattle.std.proofs.Math.Seq.{take-length}
+use Rattle.std.proofs.Math.Seq.{take-length, take-append_seam, take-append-add}
 use Rattle.std.proofs.lemmas.List.{take-append-le, drop-append-le, take-map, drop-map, length-drop, length-map, get_or-map, get_or_append_left, get_or-append-add}
 use Rattle.std.proofs.lemmas.List.Elements.{All-nil, All-cons, All-head, All-tail, All-drop, Contains-get_or}
 use Rattle.chart.specs.declared.instance.EventNo.{EventNo}
@@ -51,6 +52,15 @@ read_before p kept place d range old new inside is before put =
 pub no_receives : (p : ℕ) (receives : List KeptReceive) (ranges : List EventRange) → reports_of p receives ranges ≡ [] → length receives ≡ 0
 no_receives p [] ranges none = refl
 no_receives p (kept ∷ receives) ranges none = omega (arith, ap length none)
+
+-- what holds, holds where the answer is a refusal
+pub refused : {X E : Type 0} (r : Result X E) (P : Type 0) → P → OnErr r P
+refused (Ok x) P its = tt
+refused (Err e) P its = its
+
+-- the first k reports are behind those of old, and the others are yet to come
+pub begun_with : {A : Type 0} (so_far rest old all : List A) (k : ℕ) → so_far ++ rest ≡ old ++ all → length so_far ≡ length old + k → so_far ≡ old ++ take k all
+begun_with so_far rest old all k listed many = sym (take-append_seam so_far rest) ∙ ap (take (length so_far)) listed ∙ ap (λ n. take n (old ++ all)) many ∙ take-append-add old all k
 
 -- one report more, made again of the first ranges that are left
 pub listed_next : (p q : ℕ) (receives : List KeptReceive) (k : ℕ) (d : KeptReceive) (left own others : List KeptRange) (so_far all : List ReportView) (earlier : List EventNo) (report : ReportView) → q ≡ p → k < length receives → AreKept p (drop k receives) left

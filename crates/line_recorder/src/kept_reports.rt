@@ -1,6 +1,6 @@
 //! The reports of a line's receives, as a recorder keeps them.
 ghost use Rattle.std.specs.Prelude.{◌≡◌, ◌≤◌, ◌+◌, ◌++◌, ◌∷◌, [], List, ℕ, length, map, All, vec_len, vec_capacity};
-ghost use Rattle.std.specs.Prelude.{IfOk, IsOk, OnOk};
+ghost use Rattle.std.specs.Prelude.{take, IfOk, IsOk, OnOk, OnErr};
 ghost use Rattle.chart.specs.declared.line.TheConstants.{MAX_EVENTS};
 ghost use Rattle.chart.specs.Ranges.{IsRange, events_in};
 ghost use Rattle.line_recorder.specs.Kept.{range_of, IsOnLine, IsOfLine, HasRoomFor};
@@ -98,9 +98,11 @@ impl KeptReports {
 
     /// Adds the reports to a list.
     ///
-    /// F6: it fails only where there is no memory, and never without a report. The list then has some of them.
+    /// F6: it fails only where there is no memory, and never without a report. The list then has the first ones behind
+    /// what it had.
     pub fn add_to(&self, alloc: Global, reports: &mut Vec<Report>) -> Result<(), AllocError>
         ensures ok { OnOk result (reports.new.items ≡ reports.old.items ++ self.now.reports) }
+        ensures err { OnErr result ((n : ℕ) × (reports.new.items ≡ reports.old.items ++ take n self.now.reports)) }
         ensures none { self.now.reports ≡ [] → IsOk result }
     {
         reports.reserve(self.receives.len())?;

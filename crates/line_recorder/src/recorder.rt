@@ -1,6 +1,6 @@
 //! The recorder of one instance.
 ghost use Rattle.std.specs.Prelude.{◌≡◌, ◌≢◌, ◌≤◌, ◌<◌, ◌+◌, ◌++◌, ◌↔◌, [], length, vec_capacity, All, Err};
-ghost use Rattle.std.specs.Prelude.{OnOk, OnErr, IfOk, IsOk};
+ghost use Rattle.std.specs.Prelude.{ℕ, take, OnOk, OnErr, IfOk, IsOk};
 ghost use Rattle.chart.specs.Events.{MayHaveRegion};
 ghost use Rattle.clock.specs.Clocks.{with_entry};
 ghost use Rattle.clock.specs.Diffs.{IsDiff, apply_diff, AgreeBut};
@@ -146,9 +146,11 @@ impl Recorder {
     /// Adds the report of each receive of the line, in their order, to a list. They are made again of what is kept of
     /// them.
     ///
-    /// F6: it fails only where there is no memory, and never without a receive. The list then has some of them.
+    /// F6: it fails only where there is no memory, and never without a receive. The list then has the first ones behind
+    /// what it had.
     pub fn add_reports(&self, alloc: Global, reports: &mut Vec<Report>) -> Result<(), AllocError>
         ensures ok { OnOk result (reports.new.items ≡ reports.old.items ++ self.now.reports) }
+        ensures err { OnErr result ((n : ℕ) × (reports.new.items ≡ reports.old.items ++ take n self.now.reports)) }
         ensures none { self.now.reports ≡ [] → IsOk result }
     {
         self.reports.add_to(alloc, reports)

@@ -2,13 +2,14 @@
 ghost use Rattle.std.specs.Prelude.{◌≡◌, ◌∷◌, [], map, option_map, IfOk, Some};
 ghost use Rattle.viewing.specs.FileBytes.{bytes_of};
 ghost use Rattle.viewing.specs.Given.{file_said, files_said, told_files, AreAnswered};
+ghost use Rattle.viewing.specs.Opening.{OpensLog};
 ghost use Rattle.viewing.specs.Views.{ViewsLog, ViewsLogPage, ViewsLogRaces};
 ghost use Rattle.viewing.specs.Wanted.{AreJudged, IsNameOf, first_path, titled_path};
 
 use crate::drawing::file_title;
 use crate::file_bytes::FileBytes;
 use crate::giving::{Giver, first_in};
-use crate::log_words::{log_words, options_of, peers_by};
+use crate::log_words::{LogWords, log_words, options_of, peers_by};
 use crate::racing::wanted_by;
 use files::ProgramError;
 use log_imports::import;
@@ -87,6 +88,46 @@ fn slices_of<'a>(alloc: Global, texts: &'a [FileBytes<'_>]) -> Result<Vec<&'a [u
     texts.iter().map(|text| text.as_slice()).collect(alloc)
 }
 
+/// A log that was opened: what the words say of how it is read, the bytes of its files, and the names by which the lines of
+/// several files are told.
+struct OpenLog<'a> {
+    words: LogWords<'a>,
+    texts: Vec<FileBytes<'a>>,
+    names: Vec<&'a [u8]>,
+}
+
+// (by hand, so that each exit of a function that holds one calls this, and has no proof of its own for what lies within)
+impl Drop for OpenLog<'_> {
+    #[inline(never)]
+    fn drop(self) {
+        let OpenLog {
+            words: _,
+            texts: _,
+            names: _,
+        } = self;
+    }
+}
+
+/// Opens a log: reads the words first, and then the files.
+fn open_log<'a, G: Giver>(
+    alloc: Global,
+    log: &ImportLog<'a>,
+    giver: &'a G,
+) -> Result<OpenLog<'a>, ProgramError>
+    ensures { OpensLog (G.gives giver.now) log.now result }
+{
+    let words = log_words(alloc, log)?;
+    let texts = texts_in(alloc, giver, &log.files)?;
+    let Ok(names) = told_files(alloc, &log.files) else {
+        return Err(ProgramError::Memory);
+    };
+    Ok(OpenLog {
+        words,
+        texts,
+        names,
+    })
+}
+
 /// Writes the chart of a log.
 pub(crate) fn view_log<G: Giver, W: Out, V: Out>(
     alloc: Global,
@@ -97,17 +138,13 @@ pub(crate) fn view_log<G: Giver, W: Out, V: Out>(
 ) -> Result<u8, ProgramError>
     ensures { ViewsLog (G.gives giver.now) W.sink out.old out.new V.sink err.old err.new imported.now result }
 {
-    let words = log_words(alloc, imported)?;
-    let peers = peers_by(alloc, &words)?;
-    let texts = texts_in(alloc, giver, &imported.files)?;
-    let Ok(files) = told_files(alloc, &imported.files) else {
+    let log = open_log(alloc, imported, giver)?;
+    let peers = peers_by(alloc, &log.words)?;
+    let Ok(slices) = slices_of(alloc, &log.texts) else {
         return Err(ProgramError::Memory);
     };
-    let Ok(slices) = slices_of(alloc, &texts) else {
-        return Err(ProgramError::Memory);
-    };
-    let options = options_of(&words, &peers);
-    Ok(import(alloc, options, &slices, &files, out, err))
+    let options = options_of(&log.words, &peers);
+    Ok(import(alloc, options, &slices, &log.names, out, err))
 }
 
 /// The title that a log gives: the name of its first file alone, and of standard input none.
@@ -130,18 +167,14 @@ pub(crate) fn view_log_page<G: Giver, W: Out, V: Out>(
 ) -> Result<u8, ProgramError>
     ensures { ViewsLogPage (G.gives giver.now) W.sink out.old out.new V.sink err.old err.new wanted.now result }
 {
-    let words = log_words(alloc, wanted)?;
-    let peers = peers_by(alloc, &words)?;
-    let texts = texts_in(alloc, giver, &wanted.files)?;
-    let Ok(files) = told_files(alloc, &wanted.files) else {
+    let log = open_log(alloc, wanted, giver)?;
+    let peers = peers_by(alloc, &log.words)?;
+    let Ok(slices) = slices_of(alloc, &log.texts) else {
         return Err(ProgramError::Memory);
     };
-    let Ok(slices) = slices_of(alloc, &texts) else {
-        return Err(ProgramError::Memory);
-    };
-    let options = options_of(&words, &peers);
+    let options = options_of(&log.words, &peers);
     let title = log_title(&wanted.files);
-    Ok(page_of_log(alloc, options, &slices, &files, title, out, err))
+    Ok(page_of_log(alloc, options, &slices, &log.names, title, out, err))
 }
 
 /// Which races of a log are to be shown, and how.
@@ -164,16 +197,12 @@ pub(crate) fn view_log_races<G: Giver, W: Out, V: Out>(
 ) -> Result<u8, ProgramError>
     ensures { ViewsLogRaces (G.gives giver.now) W.sink out.old out.new V.sink err.old err.new asked.now result }
 {
-    let words = log_words(alloc, &asked.log)?;
-    let peers = peers_by(alloc, &words)?;
-    let texts = texts_in(alloc, giver, &asked.log.files)?;
-    let Ok(files) = told_files(alloc, &asked.log.files) else {
+    let log = open_log(alloc, &asked.log, giver)?;
+    let peers = peers_by(alloc, &log.words)?;
+    let Ok(slices) = slices_of(alloc, &log.texts) else {
         return Err(ProgramError::Memory);
     };
-    let Ok(slices) = slices_of(alloc, &texts) else {
-        return Err(ProgramError::Memory);
-    };
-    let options = options_of(&words, &peers);
+    let options = options_of(&log.words, &peers);
     let wanted = judged_by(&asked.showing);
-    Ok(races_of_log(alloc, options, &slices, &files, &wanted, out, err))
+    Ok(races_of_log(alloc, options, &slices, &log.names, &wanted, out, err))
 }

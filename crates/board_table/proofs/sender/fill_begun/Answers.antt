@@ -1,5 +1,6 @@
 use Rattle.std.proofs.Common.{◌≡◌, ℕ, suc, ◌∷◌, [], ◌++◌, sym, ap, ◌∙◌, subst, length}
-use Rattle.std.specs.Prelude.{Option, Some, None, Result, Ok, Err, OnErr}
+use Rattle.std.specs.Prelude.{Option, Some, None}
+use Rattle.line_recorder.proofs.KeptLemmas.{refused}
 use Rattle.atomic_table.specs.Table.{rest}
 use Rattle.line_recorder.specs.Recorders.{send_clock}
 use Rattle.board_table.specs.declared.packet.Packet.{Packet}
@@ -36,11 +37,6 @@ returns-clause-packet c = let a = after c in let l = c.args.lane.now in let me =
 pub returns-clause-vacant : goal.returns-clause-vacant
 returns-clause-vacant c = let a = after c in let l = c.args.lane.now in let me = c.args.seat.now.me in
     ap suc (ap (λ (m : Mine). vacant_out m) a.2 ∙ filling_vacant l.instances l.capacity l.sender l.receiver (length (sent (held me).seen l.sender l.receiver)) a.0 (packets_out me ++ (put c).0 ∷ [])) ∙ a.1
-
--- what holds, holds where the answer is a refusal
-refused : {X E : Type 0} (r : Result X E) (P : Type 0) → P → OnErr r P
-refused (Ok x) P its = tt
-refused (Err e) P its = its
 
 -- the slot is empty as before
 emptied : (c : goal.After-from_residual) → (c.args.seat.now.me.0, (c.slot.result, c.begin_in.new.slot) ∷ rest c.args.seat.now.me.1) ≡ c.args.seat.now.me

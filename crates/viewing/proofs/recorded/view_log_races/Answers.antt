@@ -3,23 +3,22 @@ use Rattle.files.specs.Answers.{Answers}
 use Rattle.log_imports.specs.Options.{options_view}
 use Rattle.log_races.specs.Showing.{ShowsLog, races_said}
 use Rattle.viewing.specs.FileBytes.{bytes_of}
-use Rattle.viewing.specs.Given.{AreGiven, files_said, told_files}
+use Rattle.viewing.specs.Given.{AreGiven, files_said}
 use Rattle.viewing.specs.Wanted.{IsLog}
 use Rattle.viewing.proofs.recorded.view_log_races.Goals as goal
 
 pub returns : goal.returns
-returns g c = (
+returns g c = let opened = c.in_ok-log.ensures in (
   options_view c.options_of-options.result,
-  map (λ t. t.now) c.in-Ok-slices_of.slices.items,
-  subst (λ o. IsLog c.args.asked.now.log o) (sym c.options_of-options.ensures) c.in_ok-words.ensures,
-  subst₂ (λ (fs : List (Bor (List ℕ))) (ts : List (List ℕ)). AreGiven (g.G.Giver.gives c.args.giver.now) 0 (files_said (map (λ w. w.now) fs)) ts) c.deref.ensures.value
-      (sym (c.in-Ok-slices_of.ensures ∙ ap (map bytes_of) c.deref-3.ensures.value)) c.in_ok-texts.ensures,
+  map (λ t. t.now) c.in-Ok.slices.items,
+  subst (λ o. IsLog c.args.asked.now.log o) (sym c.options_of-options.ensures) opened.words,
+  subst (AreGiven (g.G.Giver.gives c.args.giver.now) 0 (files_said (map (λ w. w.now) c.args.asked.now.log.files.items))) (sym (c.in-Ok.ensures ∙ ap (map bytes_of) c.deref.ensures.value)) opened.texts,
   (
     c.judged_by-wanted.result,
-    map (λ w. w.now) c.in-Ok.files.items,
+    map (λ w. w.now) c.in_ok-log.log.names.items,
     c.judged_by-wanted.ensures,
-    c.in-Ok.ensures ∙ ap (λ (fs : List (Bor (List ℕ))). told_files (map (λ w. w.now) fs)) c.deref-2.ensures.value,
+    opened.names,
     subst₂ (λ (ts ns : List (Bor (List ℕ))). Answers (ShowsLog g.W.Out.sink c.args.out.now c.races_of_log.new.out (options_view c.options_of-options.result) (map (λ w. w.now) ts) c.judged_by-wanted.result) (races_said (map (λ w. w.now) ns)) g.V.Out.sink c.args.err.now c.races_of_log.new.err c.races_of_log.result)
-        c.deref-5.ensures.value c.deref-6.ensures.value c.races_of_log.ensures,
+        c.deref-3.ensures.value c.deref-4.ensures.value c.races_of_log.ensures,
   ),
 )
