@@ -73,7 +73,7 @@ def body_of(lines, at, margin):
         is_head = begin == at or line.startswith(f"{margin})")
         if line == f"{margin}{{" or is_head and line.endswith(" {"):
             return begin, lines.index(f"{margin}}}", begin)
-        if line.endswith((";", "{}")) or not line:
+        if line.endswith((";", "{}", " }")) or not line:
             return None
     return None
 
