@@ -73,7 +73,8 @@ def body_of(lines, at, margin):
         is_head = begin == at or line.startswith(f"{margin})")
         if line == f"{margin}{{" or is_head and line.endswith(" {"):
             return begin, lines.index(f"{margin}}}", begin)
-        if line.endswith((";", "{}", " }")) or not line:
+        # (a clause of its contract ends as a body on one line does)
+        if line.endswith((";", "{}")) or begin == at and line.endswith(" }") or not line:
             return None
     return None
 
