@@ -5,10 +5,10 @@ use crate::recorded::{event_no, found, steps_of};
 use crate::runs::{Moved, Told, as_other_run, events_of, is_witness, overtakes};
 use chart::{Chart, EventNo, MAX_CAPACITY, Report};
 use closure::Closure;
-use plain_replayer::plain_replay;
 use rand_core::SeedableRng;
 use rand_core::utils::NextWord;
 use rand_pcg::Lcg64Xsh32;
+use replayer::replay;
 use schedule::Schedule;
 use std::alloc::Global;
 use std::process::Abort;
@@ -245,7 +245,7 @@ fn finds_in(rt: &impl Abort, alloc: Global, chart: &Chart, steps: &[Step], slots
 
 /// What is found of a schedule's steps, unless they are more than so many. How many pairs are turned round is answered.
 pub fn finds_all(rt: &impl Abort, alloc: Global, schedule: &Schedule) -> usize {
-    let outcome = plain_replay(alloc, schedule).expect(rt, "an outcome");
+    let outcome = replay(alloc, schedule).expect(rt, "an outcome");
     let steps = steps_of(rt, alloc, schedule, &outcome);
     let slots = schedule.capacity().slots();
     finds_in(rt, alloc, outcome.chart(), steps.as_slice(), slots)

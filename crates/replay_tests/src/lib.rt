@@ -1,6 +1,6 @@
-//! Tests of replays and of what they stand on, by what is public: that both come to the same, recorders among nine
-//! instances, ranges of races, audits, and writers; and of witnesses, against all runs of small schedules, and over worked
-//! schedules.
+//! Tests of replays and of what they stand on, by what is public: that they come to what the plain model in Python
+//! says, recorders among nine instances, ranges of races, audits, and writers; and of witnesses, against all runs of
+//! small schedules, and over worked schedules.
 //!
 //! They are in a crate of their own, since a crate with tests is proved twice.
 #![tactic(auto)]
@@ -21,6 +21,8 @@ mod recorded;
 mod recorders;
 #[cfg(test)]
 mod runs;
+#[cfg(test)]
+mod stored;
 #[cfg(test)]
 mod worked;
 #[cfg(test)]

@@ -4,7 +4,7 @@ use crate::calls::{are, holds};
 use crate::every_run::{finds_all, has_witness};
 use crate::recorded::{numbers_of, steps_of};
 use chart::MAX_CAPACITY;
-use plain_replayer::plain_replay;
+use replayer::replay;
 use schedule::Schedule;
 use std::alloc::Global;
 use std::process::Abort;
@@ -53,7 +53,7 @@ pub static WORKED: [Worked; 7] = [
 
 /// How many races are reported, and how many of them have a witness with as many slots; each has one with the most.
 fn witnessed(rt: &impl Abort, alloc: Global, schedule: &Schedule) -> (usize, usize) {
-    let outcome = plain_replay(alloc, schedule).expect(rt, "an outcome");
+    let outcome = replay(alloc, schedule).expect(rt, "an outcome");
     let steps = steps_of(rt, alloc, schedule, &outcome);
     let slots = schedule.capacity().slots();
     let mut races = 0usize;
