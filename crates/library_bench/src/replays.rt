@@ -1,23 +1,14 @@
-//! What it costs to replay a schedule over running posts, and plainly.
+//! What it costs to replay a schedule.
 use crate::load::events_of;
 use crate::timing::{median, nanoseconds_since};
 use anyhow::bail;
-use outcomes::Outcome;
-use plain_replayer::plain_replay;
 use replayer::replay;
 use schedule::Schedule;
 use std::alloc::Global;
 use std::time::{Clock, Instant};
 
-/// How often each is timed; the median is told.
+/// How often so many replays are timed; the median is told.
 const REPETITIONS: usize = 5;
-
-/// Which replay.
-#[derive(Clone, Copy)]
-enum By {
-    Posts,
-    Queues,
-}
 
 fn schedule_in(alloc: Global, text: &[u8]) -> anyhow::Result<Schedule> {
     match Schedule::read(alloc, text) {
@@ -26,65 +17,45 @@ fn schedule_in(alloc: Global, text: &[u8]) -> anyhow::Result<Schedule> {
     }
 }
 
-fn outcome_of<'a>(alloc: Global, by: By, schedule: &'a Schedule) -> anyhow::Result<Outcome<'a>> {
-    match by {
-        By::Posts => Ok(replay(alloc, schedule)?),
-        By::Queues => Ok(plain_replay(alloc, schedule)?),
-    }
-}
-
-/// How many events the outcome has, and how many notes.
-fn counts(alloc: Global, by: By, schedule: &Schedule) -> anyhow::Result<(usize, usize)> {
-    let outcome = outcome_of(alloc, by, schedule)?;
-    Ok((events_of(outcome.chart()), outcome.notes().len()))
-}
-
 /// What so many replays take once, in nanoseconds.
 fn time_once<R: Clock + AllocGlobal>(
     rt: &R,
-    by: By,
     schedule: &Schedule,
     times: u32,
 ) -> anyhow::Result<u64> {
     let start = Instant::now(rt)?;
     for _ in 0..times {
-        outcome_of(rt.alloc(), by, schedule)?;
+        replay(rt.alloc(), schedule)?;
     }
     nanoseconds_since(rt, &start)
 }
 
 /// What so many replays take, in microseconds: the median of some repetitions.
-fn time<R: Clock + AllocGlobal>(
-    rt: &R,
-    by: By,
-    schedule: &Schedule,
-    times: u32,
-) -> anyhow::Result<u64> {
+fn time<R: Clock + AllocGlobal>(rt: &R, schedule: &Schedule, times: u32) -> anyhow::Result<u64> {
     let mut took = [0u64; REPETITIONS];
     for place in 0..REPETITIONS {
-        took[place] = time_once(rt, by, schedule, times)?;
+        took[place] = time_once(rt, schedule, times)?;
     }
     Ok(median(took.as_mut_slice()) / 1000)
 }
 
-/// Tells on standard error what so many replays take by each.
+/// Tells on standard error what so many replays take.
 fn tell_times<R: Clock + AllocGlobal + Eprint>(
     rt: &R,
     schedule: &Schedule,
     times: u32,
 ) -> anyhow::Result<()> {
-    let posts = time(rt, By::Posts, schedule, times)?;
-    let queues = time(rt, By::Queues, schedule, times)?;
-    eprintln!(rt; "by posts {posts}, by queues {queues} microseconds")?;
+    let took = time(rt, schedule, times)?;
+    eprintln!(rt; "{took} microseconds")?;
     Ok(())
 }
 
-/// Tells what the schedule comes to by each.
+/// Tells what the schedule comes to: how many events, and how many notes.
 fn tell_counts<R: AllocGlobal + Print>(rt: &R, schedule: &Schedule) -> anyhow::Result<()> {
-    let (events, notes) = counts(rt.alloc(), By::Posts, schedule)?;
-    println!(rt; "by posts {events} events and {notes} notes")?;
-    let (events, notes) = counts(rt.alloc(), By::Queues, schedule)?;
-    println!(rt; "by queues {events} events and {notes} notes")?;
+    let outcome = replay(rt.alloc(), schedule)?;
+    let events = events_of(outcome.chart());
+    let notes = outcome.notes().len();
+    println!(rt; "a replay: {events} events and {notes} notes")?;
     Ok(())
 }
 
