@@ -4,7 +4,7 @@ use Rattle.std.specs.List.{flat_map}
 use Rattle.diagrams.specs.declared.renaming.Renamed.{Renamed}
 use Rattle.diagrams.specs.declared.left_out.LeftOut.{LeftOut}
 use Rattle.joined_diagrams.specs.declared.moves.Overtaking.{Overtaking}
-use Rattle.mscgen_text.specs.Faults.{printable}
+use Rattle.text_bytes.specs.Classes.{printable}
 use Rattle.import_answers.specs.KindWords.{kind_word, kind_words, kind_reading}
 
 -- that one such thing is left out, with its line, and what is read of it

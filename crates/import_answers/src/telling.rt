@@ -9,7 +9,7 @@ use crate::kind_words::{kind_reading, kind_word, kind_words};
 use diagrams::{LeftOut, Renamed};
 use joined_diagrams::Overtaking;
 use msc_text::{Out, TextBuffer, WriteError};
-use mscgen_text::printable;
+use text_bytes::printable;
 use text_parts::{Piece, add_pieces};
 
 /// Adds that one such thing is left out, with its line, and what is read of it.

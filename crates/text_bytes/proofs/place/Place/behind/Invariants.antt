@@ -1,6 +1,6 @@
 use Rattle.std.proofs.Common.{◌≡◌, ◌≤◌, ◌+◌, drop}
-use Rattle.mscgen_text.specs.Places.{behind}
-use Rattle.mscgen_text.proofs.place.Place.behind.Given as goal
+use Rattle.text_bytes.specs.Places.{behind}
+use Rattle.text_bytes.proofs.place.Place.behind.Given as goal
 
 abbrev pub invariant-loop-byte : goal.invariant-loop-byte
 invariant-loop-byte l = record {

@@ -1,6 +1,6 @@
 -- Where bytes stand in a text: lines and columns are counted from 1, and columns in bytes.
 use Rattle.std.specs.Prelude.{ℕ, ◌+◌, ◌==◌, List, [], ◌∷◌, if◌then◌else◌}
-use Rattle.mscgen_text.specs.declared.place.Place.{Place}
+use Rattle.text_bytes.specs.declared.place.Place.{Place}
 
 -- where a text begins
 abbrev pub start : Place

@@ -1,6 +1,6 @@
 //! Where bytes stand in a text.
 ghost use Rattle.std.specs.Prelude.{◌≡◌, ◌≤◌, ◌<◌, ◌+◌, ◌^◌, length};
-ghost use Rattle.mscgen_text.specs.Places.{behind, behind_byte};
+ghost use Rattle.text_bytes.specs.Places.{behind, behind_byte};
 
 /// Where a byte stands in a text.
 #[derive(Clone, Copy, Debug, PartialEq, Eq)]
@@ -12,7 +12,7 @@ pub struct Place {
 }
 
 /// Where a text begins.
-pub(crate) const START: Place = Place { line: 1, column: 1 };
+pub const START: Place = Place { line: 1, column: 1 };
 
 impl Place {
     /// The place behind a byte that stands here.

@@ -2,8 +2,8 @@ use Rattle.std.proofs.Common.{map}
 use Rattle.std.proofs.lemmas.Bool.Decides.{same_from_decides}
 use Rattle.std.proofs.lemmas.Slice.Eq.{bytes_eq-Decides}
 use Rattle.std.specs.Char.{to_ascii_lowercase}
-use Rattle.mscgen_text.specs.Words.{is_spelled}
-use Rattle.mscgen_text.proofs.words.is_spelled.Goals as goal
+use Rattle.text_bytes.specs.Words.{is_spelled}
+use Rattle.text_bytes.proofs.words.is_spelled.Goals as goal
 
 pub returns : goal.returns
 unfolding is_spelled
