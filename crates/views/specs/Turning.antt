@@ -18,7 +18,7 @@ use Rattle.turned_runs.specs.Turns.{IsLeastTurn, IsKept}
 use Rattle.turned_runs.specs.declared.scheduling.TheConstants.{FIRST_LINE}
 use Rattle.turned_runs.specs.declared.turning.Turned.{Turned}
 use Rattle.witness.specs.Orders.{IsInOrder}
-use Rattle.witness.specs.declared.step.Step.{Step}
+use Rattle.run_steps.specs.declared.step.Step.{Step}
 use Rattle.views.specs.declared.error.ViewError.{ViewError}
 use Rattle.views.specs.declared.error.ViewError.TheVariants.{Program, ManySlots}
 use Rattle.views.specs.declared.pair.Asked.{Asked}

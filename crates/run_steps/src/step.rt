@@ -1,6 +1,6 @@
 //! The steps of a run.
 ghost use Rattle.std.specs.Prelude.{◌≡◌};
-ghost use Rattle.witness.specs.Steps.{maker_of, step_made, outside_regions};
+ghost use Rattle.run_steps.specs.Steps.{maker_of, step_made, outside_regions};
 
 use chart::{Event, InstanceNo, Name};
 
