@@ -1,9 +1,9 @@
-//! Lines and their events, by places that begin at 0.
+//! Lines and their events, by instances and by places that begin at 0.
 ghost use Rattle.std.specs.Prelude.{◌≡◌, ◌<◌, ◌≤◌, suc, length, Some};
 ghost use Rattle.chart.specs.declared.line.TheConstants.{MAX_EVENTS};
 ghost use Rattle.chart.specs.Charts.{at, chart_event, chart_lines, IsNumbered};
 
-use chart::{Event, Line, MAX_EVENTS};
+use chart::{Event, InstanceNo, Line, MAX_EVENTS};
 
 /// How many events a line has.
 pub fn len_of(lines: &[Line], line: usize) -> usize
@@ -24,7 +24,7 @@ pub fn line_of(lines: &[Line], line: usize) -> &Line
 }
 
 /// The events of a line.
-pub fn events_of(lines: &[Line], line: usize) -> &[Event]
+pub fn events_at(lines: &[Line], line: usize) -> &[Event]
     requires { line < length lines.now }
     ensures { result.now ≡ chart_lines lines.now (suc line) }
 {
@@ -37,5 +37,16 @@ pub fn event_at(lines: &[Line], line: usize, place: usize) -> Event
     requires place { place < length (chart_lines lines.now (suc line)) }
     ensures { chart_event (chart_lines lines.now) (at (suc line) (suc place)) ≡ Some result }
 {
-    events_of(lines, line)[place]
+    events_at(lines, line)[place]
+}
+
+/// The events of an instance's line, none where the chart has no such instance.
+pub fn events_of(lines: &[Line], instance: InstanceNo) -> &[Event]
+    ensures events { result.now ≡ chart_lines lines.now instance }
+    ensures short { length result.now ≤ MAX_EVENTS }
+{
+    match lines.get(instance.place()) {
+        Some(line) => line.events(),
+        None => &[],
+    }
 }
