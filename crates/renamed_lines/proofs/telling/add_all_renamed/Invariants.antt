@@ -1,8 +1,8 @@
 use Rattle.std.proofs.Common.{take}
 use Rattle.std.specs.List.{flat_map}
 use Rattle.msc_text.specs.Writing.{Buffers}
-use Rattle.import_answers.specs.Telling.{renamed_line}
-use Rattle.import_answers.proofs.telling.add_all_renamed.Given as goal
+use Rattle.renamed_lines.specs.Telling.{renamed_line}
+use Rattle.renamed_lines.proofs.telling.add_all_renamed.Given as goal
 
 -- what came so far was added
 abbrev pub invariant-loop-name : goal.invariant-loop-name

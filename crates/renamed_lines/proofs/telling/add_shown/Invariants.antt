@@ -1,8 +1,8 @@
 use Rattle.std.proofs.Common.{take}
 use Rattle.std.specs.List.{flat_map}
 use Rattle.msc_text.specs.Writing.{Buffers}
-use Rattle.import_answers.specs.Telling.{shown_byte}
-use Rattle.import_answers.proofs.telling.add_shown.Given as goal
+use Rattle.renamed_lines.specs.Telling.{shown_byte}
+use Rattle.renamed_lines.proofs.telling.add_shown.Given as goal
 
 -- what came so far was added
 abbrev pub invariant-loop-byte : goal.invariant-loop-byte
