@@ -7,9 +7,9 @@ ghost use Rattle.circles.specs.Fronts.{IsHeard};
 
 use crate::numbers::copied;
 use crate::passing::pass_event;
-use crate::reading::len_of;
 use chart::Line;
 use closure::Numbers;
+use line_events::len_of;
 use std::alloc::{AllocError, Global};
 use std::marker::Model;
 

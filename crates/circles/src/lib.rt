@@ -13,7 +13,6 @@ mod finding;
 mod hearing;
 mod numbers;
 mod passing;
-mod reading;
 mod receiving;
 mod round;
 

@@ -5,9 +5,9 @@ ghost use Rattle.chart.specs.Charts.{Place, at, chart_lines, IsChart, HasNoSend}
 ghost use Rattle.closure.specs.Links.{IsNextSend, HasPassed};
 ghost use Rattle.circles.specs.Fronts.{IsHeard};
 
-use crate::reading::{event_at, events_of};
 use chart::{Event, InstanceNo, Line};
 use closure::Numbers;
+use line_events::{event_at, events_at};
 
 /// Whether the event is a send to this instance.
 pub(crate) fn is_send_to(event: &Event, receiver: InstanceNo) -> bool
@@ -54,7 +54,7 @@ pub(crate) fn pass_event(lines: &[Line], passed: &mut Numbers, line: usize, plac
         Event::Send { .. } => {}
         Event::Receive { from, .. } => {
             let sender = from.place();
-            let events = events_of(lines, sender);
+            let events = events_at(lines, sender);
             match next_send(events, passed.at(sender), InstanceNo::at_place(line)) {
                 None => unreachable!(),
                 Some(index) => passed.set(sender, index),

@@ -6,8 +6,8 @@ ghost use Rattle.closure.specs.Faults.{place_of};
 ghost use Rattle.circles.specs.Turns.{IsReceiveInTurn};
 
 use crate::passing::is_send_to;
-use crate::reading::{event_at, events_of};
 use chart::{Event, EventNo, InstanceNo, Line};
+use line_events::{event_at, events_at};
 
 /// How many of the first events are sends to the receiver.
 fn sends_among(events: &[Event], first: usize, receiver: InstanceNo) -> usize
@@ -60,8 +60,8 @@ pub(crate) fn receive_of(lines: &[Line], send: &EventNo) -> EventNo
         Event::Send { to, .. } => to,
         Event::Receive { .. } => unreachable!(),
     };
-    let turn = sends_among(events_of(lines, line), index, receiver);
-    match receive_in_turn(events_of(lines, receiver.place()), send.instance, turn) {
+    let turn = sends_among(events_at(lines, line), index, receiver);
+    match receive_in_turn(events_at(lines, receiver.place()), send.instance, turn) {
         None => unreachable!(),
         Some(index) => EventNo {
             instance: receiver,

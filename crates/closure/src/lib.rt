@@ -26,7 +26,6 @@ mod numbers;
 mod order;
 mod partner;
 mod past;
-mod reading;
 mod reporting;
 mod row;
 mod running;

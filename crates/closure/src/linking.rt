@@ -9,9 +9,9 @@ ghost use Rattle.closure.specs.Links.{IsPartner, IsNextSend, HasPassed, IsFaultO
 use crate::error::ChartError;
 use crate::numbers::Numbers;
 use crate::partner::Partner;
-use crate::reading::{event_at, events_of, len_of};
 use crate::row::Row;
 use chart::{Event, EventNo, InstanceNo, Line, Name};
+use line_events::{event_at, events_at, len_of};
 use std::alloc::Global;
 
 /// What is wrong with a receive.
@@ -78,7 +78,7 @@ fn link_event(
         }
         Event::Receive { from, name, .. } => (from.place(), name),
     };
-    let events = events_of(lines, sender);
+    let events = events_at(lines, sender);
     let Some(index) = next_send(events, passed.at(sender), InstanceNo::at_place(line)) else {
         return Err(Fault::NoSend);
     };

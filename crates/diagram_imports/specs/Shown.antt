@@ -1,7 +1,7 @@
 -- The words that are told of a place.
 use Rattle.std.specs.Prelude.{ℕ, zero, suc, ◌-◌, ◌==◌, List, Option, None, Some, map, take, drop, position}
 use Rattle.line_statements.specs.Lines.{line_length}
-use Rattle.mscgen_text.specs.Faults.{printable}
+use Rattle.text_bytes.specs.Classes.{printable}
 use Rattle.diagrams.specs.declared.place.Place.{Place}
 
 abbrev pub before_at : List ℕ → Option ℕ → List ℕ

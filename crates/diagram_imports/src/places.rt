@@ -4,7 +4,7 @@ ghost use Rattle.diagram_imports.specs.Shown.{before, without_lines, from_column
 
 use diagrams::Place;
 use line_statements::behind_line;
-use mscgen_text::printable;
+use text_bytes::printable;
 use std::alloc::{AllocError, Global};
 
 /// The place of the first such byte.

@@ -3,7 +3,8 @@ use Rattle.std.specs.Prelude.{ℕ, ◌+◌, ◌-◌, min, Bool, not, ◌==◌, �
 use Rattle.std.specs.Prelude.{Option, None, Some}
 use Rattle.diagram_imports.specs.Shown.{without_lines, from_column}
 use Rattle.line_statements.specs.Lines.{line_length}
-use Rattle.line_statements.specs.Words.{is_blank, first_place, place_of}
+use Rattle.line_statements.specs.Words.{first_place, place_of}
+use Rattle.text_bytes.specs.Classes.{is_blank}
 use Rattle.line_statements.specs.declared.statement.Place.{Place}
 
 abbrev pub least_at : ℕ → Option ℕ → ℕ

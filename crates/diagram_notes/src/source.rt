@@ -3,7 +3,8 @@ ghost use Rattle.std.specs.Prelude.{◌≡◌, ◌≤◌, length, map, not, posi
 ghost use Rattle.diagram_notes.specs.Sources.{least, up_to, first_line, words_at, note_words, is_sign, behind_signs, divider_words};
 
 use diagram_imports::{from_column, without_lines};
-use line_statements::{Place, first_place, is_blank, line_length, place_of};
+use line_statements::{Place, first_place, line_length, place_of};
+use text_bytes::is_blank;
 
 /// The words that end a note of several lines.
 const NOTE_ENDS: [&[u8]; 6] = [

@@ -1,9 +1,8 @@
--- The names that are told, one after the other; and a diagram's chart, of its parts.
-use Rattle.std.proofs.Common.{◌≡◌, ℕ, ◌+◌, ◌<◌, ◌≤◌, inl, inr, List, [], ◌∷◌, ◌++◌, None, Some, Result, Ok, Bool, true, false, ◌||◌, length, map, drop, get_or, refl, sym, ap, ◌∙◌, arith}
-use Rattle.std.specs.Prelude.{slice_get, nat_lt}
+-- A diagram's chart, of its parts.
+use Rattle.std.proofs.Common.{◌≡◌, ℕ, ◌+◌, ◌≤◌, List, [], ◌∷◌, ◌++◌, Result, Ok, Bool, true, false, ◌||◌, length, map, refl, sym, ap, ◌∙◌, arith}
+use Rattle.std.specs.Prelude.{nat_lt}
 use Rattle.std.proofs.lemmas.Bool.{ltb-false}
-use Rattle.std.proofs.lemmas.List.{drop_all, length-append}
-use Rattle.std.proofs.lemmas.Option.{slice_get_within, get_or_from_slice_get, slice_get_cases}
+use Rattle.std.proofs.lemmas.List.{length-append}
 use Rattle.chart.specs.Charts.{LineView}
 use Rattle.chart.specs.declared.instance.TheConstants.{MAX_INSTANCES}
 use Rattle.label_names.specs.Giving.{called}
@@ -11,7 +10,8 @@ use Rattle.label_names.specs.Labels.{none}
 use Rattle.label_names.specs.Spelling.{spelled}
 use Rattle.diagrams.specs.Collecting.{CollectedView, collected}
 use Rattle.diagrams.specs.Diagrams.{ParticipantView, ItemView, DiagramView, participant_view}
-use Rattle.diagrams.specs.Drawing.{DrawnView, with_renamed, renamed_from, staying, drawn_of, drawn_by, has_no_chart, drawn, Fails, ◌>>=◌}
+use Rattle.diagrams.specs.Drawing.{DrawnView, staying, drawn_of, drawn_by, has_no_chart, drawn, Fails, ◌>>=◌}
+use Rattle.label_names.specs.Renaming.{renamed_from}
 use Rattle.diagrams.specs.Naming.{names_from, named_from, labels_from}
 use Rattle.message_charts.specs.Lines.{lines_from}
 use Rattle.message_charts.specs.Turns.{all_ends}
@@ -21,34 +21,6 @@ use Rattle.diagrams.specs.declared.drawn.DrawError.TheVariants.{Memory, Instance
 use Rattle.diagrams.specs.declared.left_out.LeftOut.{LeftOut}
 use Rattle.diagrams.specs.declared.message.Message.{Message}
 use Rattle.message_charts.proofs.LinesLemmas.{length-lines}
-use Rattle.message_charts.proofs.ListLemmas.{from_here}
-
--- one name more
-pub renamed_more : {A : Type 0} (f : A → List ℕ) (told more : List (List ℕ × List ℕ)) (n : ℕ) (xs : List A) (x : A) (names : List (List ℕ)) (name : List ℕ)
-    → n < length xs → x ≡ get_or xs n x → slice_get names n ≡ Some name → more ≡ with_renamed told (f x) name
-    → renamed_from more (map f (drop (n + 1) xs)) (drop (n + 1) names) ≡ renamed_from told (map f (drop n xs)) (drop n names)
-unfolding renamed_from
-renamed_more f told more n xs x names name within is at_n e =
-    rw (from_here xs n x within is, from_here names n name (slice_get_within names n name at_n) (sym (get_or_from_slice_get names n name name at_n)), e) refl
-
--- no name is left
-nothing_named : (told : List (List ℕ × List ℕ)) (labels : List (List ℕ)) → renamed_from told labels [] ≡ told
-unfolding renamed_from
-nothing_named told [] = refl
-nothing_named told (label ∷ labels) = refl
-
-pub renamed_stop : {A : Type 0} (f : A → List ℕ) (told : List (List ℕ × List ℕ)) (n : ℕ) (xs : List A) (names : List (List ℕ)) → slice_get names n ≡ None
-    → renamed_from told (map f (drop n xs)) (drop n names) ≡ told
-renamed_stop f told n xs names none = elim (slice_get_cases names n).1 [
-  | inl found ↦ absurd (cc (sym none ∙ found.2))
-  | inr past ↦ rw (drop_all n names past.0) (nothing_named told (map f (drop n xs)))
-]
-
--- all labels
-pub renamed_end : {A : Type 0} (f : A → List ℕ) (told : List (List ℕ × List ℕ)) (n : ℕ) (xs : List A) (names : List (List ℕ)) → length xs ≤ n
-    → renamed_from told (map f (drop n xs)) (drop n names) ≡ told
-unfolding renamed_from
-renamed_end f told n xs names past = rw (drop_all n xs past) refl
 
 -- a step that failed decides
 fails_first : {A B : Type 0} (error : DrawError) (r : Result A DrawError) (f : A → Result B DrawError) → Fails error r → Fails error (r >>= f)

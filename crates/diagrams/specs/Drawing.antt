@@ -1,8 +1,9 @@
 -- The chart that a diagram comes to, and what is told of it.
-use Rattle.std.specs.Prelude.{◌≡◌, ℕ, Bool, ◌||◌, nat_lt, List, [], ◌∷◌, ◌++◌, length, map, Option, None, Some, Result, Ok, Err, if◌then◌else◌}
+use Rattle.std.specs.Prelude.{◌≡◌, ℕ, Bool, ◌||◌, nat_lt, List, [], length, map, Option, None, Some, Result, Ok, Err, if◌then◌else◌}
 use Rattle.chart.specs.Charts.{LineView}
 use Rattle.chart.specs.declared.instance.TheConstants.{MAX_INSTANCES}
-use Rattle.label_names.specs.Labels.{Labelling, none, is_told}
+use Rattle.label_names.specs.Labels.{Labelling, none}
+use Rattle.label_names.specs.Renaming.{renamed_view, renamed_from}
 use Rattle.diagrams.specs.Collecting.{CollectedView, collected}
 use Rattle.diagrams.specs.Crossing.{fault_from}
 use Rattle.diagrams.specs.Diagrams.{ParticipantView, ItemView, DiagramView}
@@ -14,7 +15,6 @@ use Rattle.message_charts.specs.Turns.{all_ends}
 use Rattle.diagrams.specs.declared.drawn.DrawError.{DrawError}
 use Rattle.diagrams.specs.declared.drawn.DrawError.TheVariants.{Memory, Instances, LineFull, NotPossible}
 use Rattle.diagrams.specs.declared.drawn.Drawn.{Drawn}
-use Rattle.diagrams.specs.declared.renaming.Renamed.{Renamed}
 use Rattle.diagrams.specs.declared.left_out.LeftOut.{LeftOut}
 use Rattle.diagrams.specs.declared.message.Message.{Message}
 
@@ -35,20 +35,6 @@ Fails (NotPossible line) read = read ≡ Err (NotPossible line)
 abbrev pub Gives : {X Y : Type 0} → (X → Y) → Result X DrawError → Result Y DrawError → Type 0
 Gives view (Ok x) read = read ≡ Ok (view x)
 Gives view (Err e) read = Fails e read
-
--- a label, and the name that stands for it
-abbrev pub renamed_view : Renamed → List ℕ × List ℕ
-renamed_view r = (r.label.items, r.name)
-
--- it is told, unless the name is the label with one _ for each blank
-abbrev pub with_renamed : List (List ℕ × List ℕ) → List ℕ → List ℕ → List (List ℕ × List ℕ)
-with_renamed told label name = if is_told label name then told ++ (label, name) ∷ [] else told
-
--- the labels and their names, in this order
-unfoldable pub renamed_from : List (List ℕ × List ℕ) → List (List ℕ) → List (List ℕ) → List (List ℕ × List ℕ)
-renamed_from told [] names = told
-renamed_from told (label ∷ labels) [] = told
-renamed_from told (label ∷ labels) (name ∷ names) = renamed_from (with_renamed told label name) labels names
 
 -- the participants' names are told first, and then the messages'
 abbrev pub renamed : List ParticipantView → List (List ℕ) → Labelling → List (List ℕ × List ℕ)

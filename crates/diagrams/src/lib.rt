@@ -27,4 +27,4 @@ pub use losing::without_lost;
 pub use message::Message;
 pub use naming::{name_messages, names_of};
 pub use place::Place;
-pub use renaming::{Renamed, told_names};
+pub use renaming::told_names;

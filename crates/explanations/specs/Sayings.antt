@@ -12,7 +12,7 @@ use Rattle.schedule_notes.specs.declared.notes.Noted.{Noted}
 use Rattle.fault_places.specs.ToldCircles.{step_text}
 use Rattle.fault_places.specs.declared.want.Want.{Want}
 use Rattle.import_answers.specs.Telling.{left_out_line, overtaking_line}
-use Rattle.mscgen_text.specs.Faults.{printable}
+use Rattle.text_bytes.specs.Classes.{printable}
 
 abbrev pub blank : ℕ → List ℕ
 blank b = 32 ∷ []

@@ -6,7 +6,7 @@ ghost use Rattle.msc_text.specs.Writing.{Adds};
 
 use itoa::Buffer;
 use msc_text::{Out, TextBuffer, WriteError};
-use mscgen_text::printable;
+use text_bytes::printable;
 
 /// Adds a blank for each of the bytes.
 pub(crate) fn add_blanks<W: Out>(

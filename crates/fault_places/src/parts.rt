@@ -1,9 +1,10 @@
 //! Words that have a form: names with a semicolon, and numbers.
 ghost use Rattle.std.specs.Prelude.{◌≡◌, ◌<◌, length, position, is_some, IfSome};
+ghost use Rattle.std.specs.Char.{is_ascii_digit};
 ghost use Rattle.std.specs.List.{list_all};
 ghost use Rattle.fault_places.specs.Spots.{name_in};
 ghost use Rattle.msc_reader.specs.Steps.{is_semicolon, is_other, name_part, is_plain};
-ghost use Rattle.schedule.specs.FirstLines.{is_digit, is_number};
+ghost use Rattle.schedule.specs.FirstLines.{is_number};
 
 fn is_semicolon(byte: u8) -> bool
     ensures { result ≡ is_semicolon byte }
@@ -66,16 +67,10 @@ pub(crate) fn is_plain(word: &[u8]) -> bool
     !word.is_empty() && has_others_alone(word)
 }
 
-fn is_digit(byte: u8) -> bool
-    ensures { result ≡ is_digit byte }
-{
-    b'0' <= byte && byte <= b'9'
-}
-
 fn are_digits(bytes: &[u8]) -> bool
-    ensures { result ≡ list_all is_digit bytes.now }
+    ensures { result ≡ list_all is_ascii_digit bytes.now }
 {
-    bytes.iter().all(|byte| is_digit(*byte))
+    bytes.iter().all(|byte| byte.is_ascii_digit())
 }
 
 /// Whether the word is a number in decimal, with no zero before it.
@@ -86,7 +81,7 @@ pub(crate) fn is_number(word: &[u8]) -> bool
     match word {
         [] => false,
         [first, rest @ ..] => {
-            is_digit(*first) && are_digits(rest) && (rest.is_empty() || *first != b'0')
+            first.is_ascii_digit() && are_digits(rest) && (rest.is_empty() || *first != b'0')
         }
     }
 }

@@ -1,4 +1,3 @@
-pub mod ColumnLemmas
 pub mod RefusedLemmas
 pub mod SpanLemmas
 pub mod WindowLemmas

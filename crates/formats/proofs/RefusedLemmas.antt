@@ -7,10 +7,10 @@ use Rattle.margin_notes.specs.declared.MarginNote.{MarginNote}
 use Rattle.msc_text.specs.Outs.{Sink}
 use Rattle.formats.specs.declared.drawing.Wanted.{Wanted}
 use Rattle.formats.specs.declared.error.DrawError.TheVariants.{Format}
-use Rattle.formats.specs.declared.error.FormatError.{FormatError}
-use Rattle.formats.specs.declared.error.FormatError.TheVariants.{Program, NoSuchName}
+use Rattle.wanted_columns.specs.declared.error.FormatError.{FormatError}
+use Rattle.wanted_columns.specs.declared.error.FormatError.TheVariants.{Program, NoSuchName}
 use Rattle.formats.specs.declared.target.Target.{Target}
-use Rattle.formats.specs.Columns.{AreColumns, RefusesColumns}
+use Rattle.wanted_columns.specs.Columns.{AreColumns, RefusesColumns}
 use Rattle.formats.specs.Drawing.{only_of, Draws}
 use Rattle.formats.specs.Exporting.{Exports}
 

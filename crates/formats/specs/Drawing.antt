@@ -16,9 +16,9 @@ use Rattle.files.specs.Files.{Named, IsRefused}
 use Rattle.formats.specs.declared.drawing.Wanted.{Wanted}
 use Rattle.formats.specs.declared.error.DrawError.{DrawError}
 use Rattle.formats.specs.declared.error.DrawError.TheVariants.{Format, NoSuchEvent}
-use Rattle.formats.specs.declared.error.FormatError.TheVariants.{Program, NoSuchName}
+use Rattle.wanted_columns.specs.declared.error.FormatError.TheVariants.{Program, NoSuchName}
 use Rattle.formats.specs.declared.windows.Window.{Window}
-use Rattle.formats.specs.Columns.{AreColumns}
+use Rattle.wanted_columns.specs.Columns.{AreColumns}
 use Rattle.formats.specs.Windows.{IsWindow, HasNoWindow}
 use Rattle.formats.specs.Preparing.{turns_in, IsPrepared}
 

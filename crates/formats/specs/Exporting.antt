@@ -21,12 +21,12 @@ use Rattle.files.specs.declared.error.ProgramError.TheVariants as errors
 use Rattle.files.specs.Answers.{Said, said_of}
 use Rattle.files.specs.Texts.{OfFile, named_of}
 use Rattle.files.specs.Files.{Named, IsRefused}
-use Rattle.formats.specs.declared.error.FormatError.{FormatError}
-use Rattle.formats.specs.declared.error.FormatError.TheVariants.{Program, NoSuchName}
+use Rattle.wanted_columns.specs.declared.error.FormatError.{FormatError}
+use Rattle.wanted_columns.specs.declared.error.FormatError.TheVariants.{Program, NoSuchName}
 use Rattle.formats.specs.declared.exporting.Told.{Told}
 use Rattle.formats.specs.declared.target.Target.{Target}
 use Rattle.formats.specs.declared.target.Target.TheVariants.{Diagram, ShiViz}
-use Rattle.formats.specs.Answers.{error_said}
+use Rattle.wanted_columns.specs.Answers.{error_said}
 use Rattle.formats.specs.Preparing.{turns_in, IsPrepared}
 
 -- the tool that an export is for; a log is the same for each

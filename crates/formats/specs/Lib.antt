@@ -1,5 +1,4 @@
 pub mod Answers
-pub mod Columns
 pub mod Drawing
 pub mod Exporting
 pub mod Preparing

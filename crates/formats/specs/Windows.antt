@@ -11,7 +11,7 @@ use Rattle.formats.specs.declared.windows.Around as arounds
 use Rattle.formats.specs.declared.windows.Rows.{Rows}
 use Rattle.formats.specs.declared.windows.Rows.TheVariants.{Between, Around}
 use Rattle.formats.specs.declared.windows.Window.{Window}
-use Rattle.formats.specs.Columns.{instance_said}
+use Rattle.named_refusals.specs.Naming.{instance_said}
 use Rattle.layout.specs.declared.row.Row.{Row}
 use Rattle.layout.specs.Layouts.{row_of}
 use Rattle.named_refusals.specs.declared.missing.Missing.{Missing}

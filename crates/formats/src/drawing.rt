@@ -6,12 +6,11 @@ ghost use Rattle.chart.specs.Reports.{AreReports};
 ghost use Rattle.files.specs.Answers.{Answers};
 ghost use Rattle.files.specs.Texts.{named_of, ComesFrom};
 ghost use Rattle.formats.specs.Answers.{drawn_said};
-ghost use Rattle.formats.specs.Columns.{AreColumns};
+ghost use Rattle.wanted_columns.specs.Columns.{AreColumns};
 ghost use Rattle.formats.specs.Drawing.{only_of, Draws, DrawsText};
 ghost use Rattle.formats.specs.Preparing.{turns_in};
 
-use crate::columns::columns_in;
-use crate::error::{DrawError, FormatError};
+use crate::error::DrawError;
 use crate::events::Events;
 use crate::preparing::{Reports, prepare_by, turns_in};
 use crate::windows::{Rows, window_in};
@@ -22,6 +21,7 @@ use margin_notes::MarginNote;
 use msc_text::Out;
 use pictures::{Part, Picture, write_picture};
 use std::alloc::Global;
+use wanted_columns::{FormatError, columns_in};
 
 /// What of a file is to be drawn, and how.
 #[derive(Clone, Copy, Debug)]

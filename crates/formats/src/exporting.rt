@@ -10,7 +10,6 @@ ghost use Rattle.formats.specs.Exporting.{tool_of, text_of, has_region, has_part
 ghost use Rattle.formats.specs.Preparing.{turns_in};
 ghost use Rattle.formats.specs.Exporting.{both_text, told_said, export_said, Writes, Exports, ExportsText};
 
-use crate::error::FormatError;
 use crate::preparing::{Reports, prepare};
 use crate::target::Target;
 use chart::{Line, Names, Report};
@@ -20,6 +19,7 @@ use files::{Answer, ProgramError, Source, Text, answered, closure_of};
 use msc_text::{Out, TextBuffer, WriteError};
 use std::alloc::Global;
 use tool_text::Tool;
+use wanted_columns::FormatError;
 
 /// What is to be told beside a text, since it doesn't say so.
 #[derive(Clone, Copy)]

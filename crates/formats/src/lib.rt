@@ -17,7 +17,6 @@
 #![tactic(auto)]
 
 mod answering;
-mod columns;
 mod drawing;
 mod error;
 mod events;
@@ -27,10 +26,9 @@ mod target;
 mod title;
 mod windows;
 
-pub use answering::{refused, refused_picture};
-pub use columns::columns_in;
+pub use answering::refused_picture;
 pub use drawing::{Wanted, draw, draw_chart};
-pub use error::{DrawError, FormatError};
+pub use error::DrawError;
 pub use events::{Events, events_in};
 pub use exporting::export;
 pub use preparing::{Prepared, Reports, prepare_by, turns_in};

@@ -6,11 +6,10 @@ ghost use Rattle.formats.specs.Windows.{has_event, event_on, event_said, round, 
 ghost use Rattle.formats.specs.declared.windows.Rows.TheVariants as rows;
 ghost use Rattle.layout.specs.Layouts.{IsDrawing};
 
-use crate::columns::instance_said;
 use crate::events::Events;
 use chart::{Event, EventNo, InstanceNo, Line, Names};
 use layout::Layout;
-use named_refusals::{Missing, missing_on};
+use named_refusals::{Missing, instance_said, missing_on};
 
 /// An event: the name of its instance, and its number on the line, from 1.
 #[derive(Clone, Copy, Debug)]

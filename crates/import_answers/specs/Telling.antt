@@ -1,10 +1,10 @@
 -- What is told of a chart beside its text: what is left out of the diagram, and names that aren't their labels.
-use Rattle.std.specs.Prelude.{ℕ, ◌==◌, List, [], ◌∷◌, ◌++◌, codes, decimal, if◌then◌else◌}
+use Rattle.std.specs.Prelude.{ℕ, ◌==◌, List, ◌++◌, codes, decimal, if◌then◌else◌}
 use Rattle.std.specs.List.{flat_map}
-use Rattle.diagrams.specs.declared.renaming.Renamed.{Renamed}
+use Rattle.label_names.specs.declared.renaming.Renamed.{Renamed}
 use Rattle.diagrams.specs.declared.left_out.LeftOut.{LeftOut}
 use Rattle.joined_diagrams.specs.declared.moves.Overtaking.{Overtaking}
-use Rattle.mscgen_text.specs.Faults.{printable}
+use Rattle.renamed_lines.specs.Telling.{renamed_line}
 use Rattle.import_answers.specs.KindWords.{kind_word, kind_words, kind_reading}
 
 -- that one such thing is left out, with its line, and what is read of it
@@ -26,23 +26,6 @@ left_out_line l =
 unfoldable pub overtaking_line : Overtaking → List ℕ
 overtaking_line o =
     codes "the message in line " ++ (decimal o.place.line ++ (codes " overtakes the one in line " ++ (decimal o.overtaken ++ codes ", and is left out\n")))
-
--- a byte of a label: a line feed as `\n`, and `?` for what doesn't print
-abbrev pub shown_byte : ℕ → List ℕ
-shown_byte b = if b == 10 then 92 ∷ 110 ∷ [] else printable b ∷ []
-
-unfoldable pub start : List ℕ
-start = codes "name "
-
-unfoldable pub is : List ℕ
-is = codes " is \""
-
-unfoldable pub end : List ℕ
-end = codes "\"\n"
-
--- a name, with the label that it isn't
-unfoldable pub renamed_line : Renamed → List ℕ
-renamed_line r = start ++ (r.name ++ (is ++ (flat_map shown_byte r.label.items ++ end)))
 
 -- what is left out, the messages that overtake, and then the names
 unfoldable pub told_text : List LeftOut → List Overtaking → List Renamed → List ℕ

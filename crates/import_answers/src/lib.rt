@@ -13,4 +13,4 @@ mod telling;
 
 pub use importing::{Drawing, Told, Untranslated, drawing_in, import, refused_drawing};
 pub use order::in_order;
-pub use telling::{add_all_renamed, add_left_out, add_overtaking};
+pub use telling::{add_left_out, add_overtaking};

@@ -2,14 +2,16 @@
 ghost use Rattle.std.specs.Prelude.{◌≡◌};
 ghost use Rattle.std.specs.List.{flat_map};
 ghost use Rattle.msc_text.specs.Writing.{Wrote, Adds};
-ghost use Rattle.import_answers.specs.Telling.{one_line, several_line, left_out_line, overtaking_line, shown_byte, start, is, end};
-ghost use Rattle.import_answers.specs.Telling.{renamed_line, told_text};
+ghost use Rattle.import_answers.specs.Telling.{one_line, several_line, left_out_line, overtaking_line};
+ghost use Rattle.renamed_lines.specs.Telling.{is};
+ghost use Rattle.import_answers.specs.Telling.{told_text};
 
 use crate::kind_words::{kind_reading, kind_word, kind_words};
-use diagrams::{LeftOut, Renamed};
+use diagrams::LeftOut;
 use joined_diagrams::Overtaking;
+use label_names::Renamed;
 use msc_text::{Out, TextBuffer, WriteError};
-use mscgen_text::printable;
+use renamed_lines::add_all_renamed;
 use text_parts::{Piece, add_pieces};
 
 /// Adds that one such thing is left out, with its line, and what is read of it.
@@ -117,73 +119,6 @@ fn add_all_overtaking<V: Out>(
 {
     for message in overtaking {
         add_overtaking(text, message)?;
-    }
-    Ok(())
-}
-
-/// Adds a byte of a label.
-fn add_shown_byte<V: Out>(text: &mut TextBuffer<'_, V>, byte: u8) -> Result<(), WriteError>
-    ensures { Adds V.sink text.old text.new result (shown_byte byte) }
-{
-    if byte == b'\n' {
-        text.add(b"\\n")
-    } else {
-        text.add(&[printable(byte)])
-    }
-}
-
-/// Adds a label.
-fn add_shown<V: Out>(text: &mut TextBuffer<'_, V>, label: &[u8]) -> Result<(), WriteError>
-    ensures { Adds V.sink text.old text.new result (flat_map shown_byte label.now) }
-{
-    for byte in label {
-        add_shown_byte(text, *byte)?;
-    }
-    Ok(())
-}
-
-#[tactic(auto, unfolding(crate::specs::Telling::start))]
-fn add_start<V: Out>(text: &mut TextBuffer<'_, V>) -> Result<(), WriteError>
-    ensures { Adds V.sink text.old text.new result start }
-{
-    text.add(b"name ")
-}
-
-#[tactic(auto, unfolding(crate::specs::Telling::is))]
-fn add_is<V: Out>(text: &mut TextBuffer<'_, V>) -> Result<(), WriteError>
-    ensures { Adds V.sink text.old text.new result is }
-{
-    text.add(b" is \"")
-}
-
-#[tactic(auto, unfolding(crate::specs::Telling::end))]
-fn add_end<V: Out>(text: &mut TextBuffer<'_, V>) -> Result<(), WriteError>
-    ensures { Adds V.sink text.old text.new result end }
-{
-    text.add(b"\"\n")
-}
-
-/// Adds a name, with the label that it isn't.
-#[tactic(auto, using(msc_text::proofs::Writes::joining), unfolding(crate::specs::Telling::renamed_line))]
-fn add_renamed<V: Out>(text: &mut TextBuffer<'_, V>, renamed: &Renamed) -> Result<(), WriteError>
-    ensures { Adds V.sink text.old text.new result (renamed_line renamed.now) }
-{
-    add_start(text)?;
-    text.add(renamed.name.as_bytes())?;
-    add_is(text)?;
-    add_shown(text, renamed.label.as_slice())?;
-    add_end(text)
-}
-
-/// Adds names that aren't their labels' words, a line for each.
-pub fn add_all_renamed<V: Out>(
-    text: &mut TextBuffer<'_, V>,
-    renamed: &[Renamed],
-) -> Result<(), WriteError>
-    ensures { Adds V.sink text.old text.new result (flat_map renamed_line renamed.now) }
-{
-    for name in renamed {
-        add_renamed(text, name)?;
     }
     Ok(())
 }

@@ -6,11 +6,13 @@ ghost use Rattle.import_answers.specs.Telling.{left_out_line, overtaking_line, t
 ghost use Rattle.import_pictures.specs.Told.{is_drawn, undrawn, pictured_said};
 ghost use Rattle.msc_text.specs.Writing.{Wrote, Adds};
 
-use diagrams::{Kind, LeftOut, Renamed};
+use diagrams::{Kind, LeftOut};
 use files::Answer;
-use import_answers::{add_all_renamed, add_left_out, add_overtaking, in_order};
+use import_answers::{add_left_out, add_overtaking, in_order};
 use joined_diagrams::Overtaking;
+use label_names::Renamed;
 use msc_text::{Out, TextBuffer, WriteError};
+use renamed_lines::add_all_renamed;
 use std::alloc::{AllocError, Global};
 
 /// What is told of a picture: what is left out of it, in the order of the first places, the messages that overtake another

@@ -3,7 +3,7 @@ use Rattle.std.specs.Prelude.{◌≡◌, List, ℕ, Some, Option, Result, Ok, Er
 use Rattle.diagram_imports.specs.Importing.{OptionsView, imported}
 use Rattle.diagram_imports.specs.Refusals.{Fails}
 use Rattle.files.specs.Answers.{Said, refusal, said_of}
-use Rattle.formats.specs.Answers as formats
+use Rattle.wanted_columns.specs.Answers as columns
 use Rattle.import_answers.specs.Importing.{IsChartOf, IsToldOf}
 use Rattle.import_answers.specs.Refusals.{drawing_refusal_text}
 use Rattle.import_answers.specs.Telling.{told_text}
@@ -37,7 +37,7 @@ shown_said shown = record {
 -- what is said of a refusal
 abbrev pub unshown_said : Unshown → Said
 unshown_said (Drawing error) = refusal (drawing_refusal_text error)
-unshown_said (Races error) = formats.error_said error
+unshown_said (Races error) = columns.error_said error
 
 -- what is said of races that were shown or refused
 abbrev pub races_said : Result Shown Unshown → Said

@@ -5,12 +5,12 @@ ghost use Rattle.import_races.specs.Showing.{ShowsDrawing, shown_said, unshown_s
 
 use diagram_imports::{ImportError, Options};
 use files::{Answer, answered};
-use formats::FormatError;
 use import_answers::{Told, drawing_in, refused_drawing};
 use msc_text::Out;
 use race_answers::{Status, Wanted, show_chart};
 use std::alloc::Global;
 use tool_text::Tool;
+use wanted_columns::FormatError;
 
 /// What is told of races that were shown: whether there is one, and what an import tells of the chart.
 #[derive(Debug, Drop)]

@@ -7,7 +7,8 @@ use Rattle.message_charts.specs.Turns.{all_ends}
 use Rattle.message_charts.proofs.LinesLemmas.{length-lines}
 use Rattle.diagrams.specs.Collecting.{CollectedView, collected}
 use Rattle.diagrams.specs.Diagrams.{ParticipantView, ItemView, DiagramView, participant_view}
-use Rattle.diagrams.specs.Drawing.{◌>>=◌, renamed_from, has_no_chart, drawn}
+use Rattle.diagrams.specs.Drawing.{◌>>=◌, has_no_chart, drawn}
+use Rattle.label_names.specs.Renaming.{renamed_from}
 use Rattle.diagrams.specs.Naming.{names_from, labels_from, named_from}
 use Rattle.diagrams.specs.declared.diagram.Participant.{Participant}
 use Rattle.diagrams.specs.declared.message.Message.{Message}

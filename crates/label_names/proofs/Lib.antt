@@ -9,3 +9,4 @@ pub mod Called
 pub mod Tables
 pub mod Labellings
 pub mod Labelled
+pub mod RenamingLemmas

@@ -2,4 +2,5 @@ pub mod Giving
 pub mod Hints
 pub mod Labels
 pub mod Laws
+pub mod Renaming
 pub mod Spelling

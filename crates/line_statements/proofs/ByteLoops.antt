@@ -1,7 +1,8 @@
 -- Loops over bytes: what is left of them, a byte at a time.
 use Rattle.std.proofs.Common.{◌≡◌, ℕ, zero, suc, ◌+◌, ◌<◌, ◌≤◌, ◌==◌, ◌&&◌, Bool, true, false, arith, List, [], ◌∷◌, length, drop, get_or, Option, None, Some, option_map, refl, ap, ◌∙◌, add-one, if◌then◌else◌}
 use Rattle.std.proofs.Math.Seq.{drop-cons}
-use Rattle.line_statements.specs.Words.{is_blank, kept, kept_by}
+use Rattle.line_statements.specs.Words.{kept, kept_by}
+use Rattle.text_bytes.specs.Classes.{is_blank}
 
 pub drop_next : (bytes : List ℕ) (i : ℕ) → i < length bytes → drop i bytes ≡ get_or bytes i 0 ∷ drop (i + 1) bytes
 drop_next bytes i lt = rw add-one (drop-cons bytes i 0 lt)

@@ -1,16 +1,14 @@
 -- Words at the beginning and the end of bytes. A diagram's blanks are a space, a tab and a carriage return.
-use Rattle.std.specs.Prelude.{◌≡◌, ℕ, zero, suc, Bool, true, false, not, ◌||◌, ◌&&◌, ◌==◌, nat_le, List, [], ◌∷◌, length, map, take, drop, position}
-use Rattle.std.specs.Prelude.{Option, None, Some, unwrap_or, bytes_eq, nat_eq, option_map, if◌then◌else◌}
-use Rattle.std.specs.Char.{to_ascii_lowercase}
+use Rattle.std.specs.Prelude.{◌≡◌, ℕ, zero, suc, Bool, true, false, not, ◌&&◌, ◌==◌, nat_le, List, [], ◌∷◌, length, take, drop, position}
+use Rattle.std.specs.Prelude.{Option, None, Some, unwrap_or, nat_eq, option_map, if◌then◌else◌}
 use Rattle.std.specs.List.{starts_with}
+use Rattle.text_bytes.specs.Classes.{is_blank}
+use Rattle.text_bytes.specs.Words.{is_spelled}
 
 -- what a call found, seen by view
 abbrev pub Finds : {X Y : Type 0} → (X → Y) → Option X → Option Y → Type 0
 Finds view None found = found ≡ None
 Finds view (Some x) found = found ≡ Some (view x)
-
-abbrev pub is_blank : ℕ → Bool
-is_blank b = b == 32 || b == 9 || b == 13
 
 -- with how many blanks the bytes begin
 unfoldable pub blank_length : List ℕ → ℕ
@@ -37,10 +35,6 @@ end_stripped bytes = take (kept bytes) bytes
 -- the bytes without the blanks at their ends
 unfoldable pub stripped : List ℕ → List ℕ
 stripped bytes = end_stripped (behind_blanks bytes)
-
--- the word is this one, in any letters
-unfoldable pub is_spelled : List ℕ → List ℕ → Bool
-is_spelled known word = bytes_eq (map to_ascii_lowercase word) (map to_ascii_lowercase known)
 
 -- the bytes begin with this word, in any letters
 unfoldable pub begins : List ℕ → List ℕ → Bool

@@ -1,15 +1,12 @@
 //! Words at the beginning and the end of bytes.
 ghost use Rattle.std.specs.Prelude.{◌≡◌, ◌≤◌, ◌<◌, ◌+◌, ◌^◌, if◌then◌else◌, length, take, drop, not, position, IfSome, IsTrue, map, nat_eq};
 ghost use Rattle.std.specs.List.{starts_with};
-ghost use Rattle.line_statements.specs.Words.{Finds, is_blank, blank_length, behind_blanks, kept, end_stripped, stripped, is_spelled, begins};
+ghost use Rattle.line_statements.specs.Words.{Finds, blank_length, behind_blanks, kept, end_stripped, stripped, begins};
+ghost use Rattle.text_bytes.specs.Classes.{is_blank};
+ghost use Rattle.text_bytes.specs.Words.{is_spelled};
 ghost use Rattle.line_statements.specs.Words.{behind_word, ends_word, behind_keyword, behind_keyword_of, skip_word, first_place, place_of};
 
-/// A space, a tab or a carriage return.
-pub fn is_blank(byte: u8) -> bool
-    ensures { result ≡ is_blank byte }
-{
-    byte == b' ' || byte == b'\t' || byte == b'\r'
-}
+use text_bytes::{is_blank, is_spelled};
 
 /// The place of the first byte that is no blank.
 fn first_other(bytes: &[u8]) -> Option<usize>
@@ -77,14 +74,6 @@ pub fn stripped(bytes: &[u8]) -> &[u8]
     ensures within { length result.now ≤ length bytes.now }
 {
     end_stripped(behind_blanks(bytes))
-}
-
-/// Whether the word is this one, in any letters.
-#[tactic(auto, unfolding(crate::specs::Words::is_spelled))]
-pub fn is_spelled(known: &[u8], word: &[u8]) -> bool
-    ensures { result ≡ is_spelled known.now word.now }
-{
-    word.eq_ignore_ascii_case(known)
 }
 
 /// Whether the bytes begin with this word, in any letters.

@@ -2,8 +2,8 @@
 use Rattle.std.specs.Prelude.{ℕ, ◌==◌, List, [], ◌++◌, length, codes, if◌then◌else◌}
 use Rattle.std.specs.List.{flat_map}
 use Rattle.chart.specs.declared.instance.EventNo.{EventNo}
-use Rattle.diagrams.specs.declared.renaming.Renamed.{Renamed}
-use Rattle.import_answers.specs.Telling.{renamed_line}
+use Rattle.label_names.specs.declared.renaming.Renamed.{Renamed}
+use Rattle.renamed_lines.specs.Telling.{renamed_line}
 use Rattle.log_lines.specs.declared.event.Place.{Place}
 use Rattle.log_answers.specs.Telling.{others_text, others_of_text, lost_text, overtaking_text, freed_text, invented_text}
 use Rattle.log_answers.specs.declared.overtaking.Overtaking.{Overtaking}

@@ -9,10 +9,10 @@ use crate::telling::{
     add_all_freed, add_all_invented, add_all_lost, add_all_overtaking, add_others, add_others_of,
 };
 use chart::{EventNo, Names};
-use diagrams::Renamed;
-use import_answers::add_all_renamed;
+use label_names::Renamed;
 use log_lines::{Others, Place};
 use msc_text::{Out, TextBuffer, WriteError};
+use renamed_lines::add_all_renamed;
 
 /// What is told of a chart that was drawn from a log.
 #[derive(Debug, Drop)]

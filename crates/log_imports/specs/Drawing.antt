@@ -1,7 +1,7 @@
 -- The chart of a log, and what is told of it.
 use Rattle.std.specs.Prelude.{◌≡◌, ℕ, ◌<◌, ◌≤◌, ◌⊎◌, List, [], length, map, None, Some, Result, Ok, Err}
 use Rattle.chart.specs.Charts.{chart_lines, IsPossible}
-use Rattle.diagrams.specs.Drawing.{renamed_view, renamed_from}
+use Rattle.label_names.specs.Renaming.{renamed_view, renamed_from}
 use Rattle.label_names.specs.Labels.{Labelling}
 use Rattle.log_answers.specs.declared.overtaking.Overtaking.{Overtaking}
 use Rattle.log_answers.specs.declared.told.Told.{Told}

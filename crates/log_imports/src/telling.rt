@@ -1,11 +1,9 @@
 //! What is told of a log's chart.
 ghost use Rattle.std.specs.Prelude.{◌≡◌, map, IfOk};
-ghost use Rattle.diagrams.specs.Drawing.{renamed_view};
+ghost use Rattle.label_names.specs.Renaming.{renamed_view};
 ghost use Rattle.log_imports.specs.Drawing.{told_place, told_overtaking, told_labels};
 
-use chart::Names;
-use diagrams::{Renamed, told_names};
-use label_names::LabelNames;
+use label_names::{LabelNames, Renamed, tell_labels};
 use log_answers::Overtaking;
 use log_lines::Place;
 use std::alloc::{AllocError, Global};
@@ -53,5 +51,7 @@ pub(crate) fn overtakings_of(
 pub(crate) fn renamed_in(alloc: Global, labels: &LabelNames) -> Result<Vec<Renamed>, AllocError>
     ensures { IfOk result (λ told. map renamed_view told.items ≡ told_labels labels.now) }
 {
-    told_names(alloc, &[], &Names::new(alloc), labels)
+    let mut told = Vec::new(alloc);
+    tell_labels(alloc, &mut told, labels.labels(), labels.names())?;
+    Ok(told)
 }

@@ -1,7 +1,7 @@
 -- The words of a line.
 use Rattle.std.specs.Prelude.{ℕ, Bool, not, ◌==◌, List, length, filter}
 use Rattle.std.specs.List.{slice_split}
-use Rattle.line_statements.specs.Words.{is_blank}
+use Rattle.text_bytes.specs.Classes.{is_blank}
 
 -- a word has a byte at least
 abbrev pub is_word : List ℕ → Bool

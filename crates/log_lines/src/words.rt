@@ -2,7 +2,7 @@
 ghost use Rattle.std.specs.Prelude.{◌≡◌, map, IfOk};
 ghost use Rattle.log_lines.specs.Words.{words_of};
 
-use line_statements::is_blank;
+use text_bytes::is_blank;
 use std::alloc::{AllocError, Global};
 
 /// The words of a line: what stands between its blanks.

@@ -4,8 +4,8 @@ use Rattle.chart.specs.declared.instance.EventNo.{EventNo}
 use Rattle.chart.specs.Charts.{at, LineView}
 use Rattle.files.specs.Answers.{Said, refusal, said_of}
 use Rattle.files.specs.Files.{Named}
-use Rattle.formats.specs.Answers.{refusal_text}
-use Rattle.formats.specs.declared.error.FormatError.{FormatError}
+use Rattle.wanted_columns.specs.Answers.{refusal_text}
+use Rattle.wanted_columns.specs.declared.error.FormatError.{FormatError}
 use Rattle.log_answers.specs.Told.{told_text}
 use Rattle.log_imports.specs.Drawing.{IsRefusalOf}
 use Rattle.log_imports.specs.Options.{OptionsView}

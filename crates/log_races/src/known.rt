@@ -9,7 +9,6 @@ ghost use Rattle.log_races.specs.Showing.{verdict_in, ShowsRecording};
 use chart::EventNo;
 use closure::Closure;
 use files::{ProgramError, closure_of};
-use formats::{FormatError, columns_in};
 use log_imports::LogRecording;
 use luck::Judge;
 use msc_text::Out;
@@ -17,6 +16,7 @@ use race_answers::{LuckWanted, Status, show_judged, show_unknown};
 use recordings::Verdict;
 use std::alloc::Global;
 use told_luck::Verdicts;
+use wanted_columns::{FormatError, columns_in};
 
 /// What is said of the races of a recording.
 #[derive(Drop)]

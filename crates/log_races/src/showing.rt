@@ -9,12 +9,12 @@ ghost use Rattle.log_races.specs.Showing.{ShowsRecording, ShowsLog, unshown_text
 
 use crate::known::show_recording;
 use files::Answer;
-use formats::FormatError;
 use log_answers::{Told, write_told};
 use log_imports::{LogImportError, LogRecording, Options, recording_in, refused_log};
 use msc_text::Out;
 use race_answers::{LuckWanted, Status};
 use std::alloc::Global;
+use wanted_columns::FormatError;
 
 /// What is told of races that were shown: whether there is one, and what an import tells of the chart.
 #[derive(Debug, Drop)]

@@ -8,11 +8,12 @@ use Rattle.files.specs.Files.{Named}
 use Rattle.msc_text.specs.Outs.{Sink}
 use Rattle.named_refusals.specs.declared.missing.Missing.TheVariants.{Instance}
 use Rattle.named_refusals.specs.NamedRefusals.{missing_on}
-use Rattle.views.specs.declared.error.ViewError.{ViewError}
-use Rattle.views.specs.declared.error.ViewError.TheVariants.{Program, NoSuchEvent, NotEarlier, NotAReceive, ManySlots}
-use Rattle.views.specs.declared.pair.Asked.{Asked}
-use Rattle.views.specs.declared.pair.Pair.{Pair}
-use Rattle.views.specs.Pairs.{instance_said, has_event, receives, pair_on, pair_at, pair_of}
+use Rattle.asked_pairs.specs.declared.error.ViewError.{ViewError}
+use Rattle.asked_pairs.specs.declared.error.ViewError.TheVariants.{Program, NoSuchEvent, NotEarlier, NotAReceive, ManySlots}
+use Rattle.asked_pairs.specs.declared.pair.Asked.{Asked}
+use Rattle.asked_pairs.specs.declared.pair.Pair.{Pair}
+use Rattle.asked_pairs.specs.Pairs.{has_event, receives, pair_on, pair_at, pair_of}
+use Rattle.named_refusals.specs.Naming.{instance_said}
 use Rattle.mend_answers.specs.declared.error.MendRefusal.TheVariants.{View}
 use Rattle.mend_answers.specs.declared.showing.Wanted.{Wanted}
 use Rattle.mend_answers.specs.Showing.{Shows}

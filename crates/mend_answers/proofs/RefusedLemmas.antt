@@ -5,9 +5,9 @@ use Rattle.files.specs.declared.error.ProgramError.{ProgramError}
 use Rattle.files.specs.declared.error.ProgramError.TheVariants.{Usage, File, Memory, Text, ReceiveWithoutSend, NameMismatch, Cyclic, Write}
 use Rattle.files.specs.Files.{Named, IsRefused}
 use Rattle.msc_text.specs.Outs.{Sink}
-use Rattle.views.specs.declared.error.ViewError.{ViewError}
-use Rattle.views.specs.declared.error.ViewError.TheVariants.{Program}
-use Rattle.views.specs.Pairs.{pair_of}
+use Rattle.asked_pairs.specs.declared.error.ViewError.{ViewError}
+use Rattle.asked_pairs.specs.declared.error.ViewError.TheVariants.{Program}
+use Rattle.asked_pairs.specs.Pairs.{pair_of}
 use Rattle.mend_answers.specs.Answers.{by_program}
 use Rattle.mend_answers.specs.declared.error.MendRefusal.TheVariants.{View}
 use Rattle.mend_answers.specs.declared.showing.Wanted.{Wanted}

@@ -8,9 +8,9 @@ use Rattle.mending.specs.declared.error.MendError.TheVariants as fulls
 use Rattle.mending.specs.declared.mending.Mending.{Mending}
 use Rattle.mending.specs.Mends.{Fails}
 use Rattle.msc_text.specs.Outs.{Sink}
-use Rattle.views.specs.declared.error.ViewError.TheVariants.{Program, NoSuchEvent, NotEarlier, NotAReceive, ManySlots}
-use Rattle.views.specs.declared.pair.Pair.{Pair}
-use Rattle.views.specs.Pairs.{pair_of}
+use Rattle.asked_pairs.specs.declared.error.ViewError.TheVariants.{Program, NoSuchEvent, NotEarlier, NotAReceive, ManySlots}
+use Rattle.asked_pairs.specs.declared.pair.Pair.{Pair}
+use Rattle.asked_pairs.specs.Pairs.{pair_of}
 use Rattle.mend_answers.specs.declared.answering.Outcome.{Outcome}
 use Rattle.mend_answers.specs.declared.error.MendRefusal.{MendRefusal}
 use Rattle.mend_answers.specs.declared.error.MendRefusal.TheVariants.{View, LineFull}

@@ -2,8 +2,8 @@
 use Rattle.std.specs.Prelude.{ℕ, List, ◌++◌, Some, Result}
 use Rattle.files.specs.Answers.{Said, refusal, program_said, said_of}
 use Rattle.files.specs.declared.error.ProgramError.{ProgramError}
-use Rattle.views.specs.Answers as views
-use Rattle.views.specs.declared.error.ViewError.TheVariants.{Program}
+use Rattle.asked_pairs.specs.Answers as pairs
+use Rattle.asked_pairs.specs.declared.error.ViewError.TheVariants.{Program}
 use Rattle.mend_answers.specs.declared.answering.Outcome.{Outcome}
 use Rattle.mend_answers.specs.declared.answering.Status.{Status}
 use Rattle.mend_answers.specs.declared.answering.Status.TheVariants.{Done, Undone}
@@ -22,7 +22,7 @@ full_text name = word_text words.LineFull ++ (name ++ word_text words.End)
 
 -- the line of a refusal
 abbrev pub refusal_text : MendRefusal → List ℕ
-refusal_text (View cause) = views.refusal_text cause
+refusal_text (View cause) = pairs.refusal_text cause
 refusal_text (LineFull name) = full_text name
 
 abbrev pub refusal_said : MendRefusal → Said

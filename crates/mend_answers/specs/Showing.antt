@@ -16,9 +16,9 @@ use Rattle.mending.specs.Mends.{Mends, IsFull}
 use Rattle.msc_text.specs.ChartText.{name_at, chart_text}
 use Rattle.msc_text.specs.Outs.{Sink}
 use Rattle.msc_text.specs.Writing.{Puts, Breaks}
-use Rattle.views.specs.declared.error.ViewError.TheVariants.{Program, ManySlots}
-use Rattle.views.specs.declared.pair.Pair.{Pair}
-use Rattle.views.specs.Pairs.{pair_of}
+use Rattle.asked_pairs.specs.declared.error.ViewError.TheVariants.{Program, ManySlots}
+use Rattle.asked_pairs.specs.declared.pair.Pair.{Pair}
+use Rattle.asked_pairs.specs.Pairs.{pair_of}
 use Rattle.mend_answers.specs.Answers.{by_program}
 use Rattle.mend_answers.specs.declared.answering.Outcome.{Outcome}
 use Rattle.mend_answers.specs.declared.error.MendRefusal.{MendRefusal}

@@ -14,8 +14,8 @@ use Rattle.mending.specs.declared.mending.Mending.{Mending}
 use Rattle.mending.specs.declared.mending.Mending.TheVariants.{Enforced, Hidden, Crossed, OnItsWay, Mended}
 use Rattle.msc_text.specs.ChartText.{name_at}
 use Rattle.told_races.specs.Words.{text_at}
-use Rattle.views.specs.declared.pair.Pair.{Pair}
-use Rattle.views.specs.SayingText.{step_text}
+use Rattle.asked_pairs.specs.declared.pair.Pair.{Pair}
+use Rattle.asked_pairs.specs.SayingText.{step_text}
 use Rattle.mend_answers.specs.declared.answering.Outcome.{Outcome}
 use Rattle.mend_answers.specs.declared.answering.Status.{Status}
 use Rattle.mend_answers.specs.declared.answering.Status.TheVariants.{Done, Undone}

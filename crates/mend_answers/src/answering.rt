@@ -74,7 +74,7 @@ fn tell_refusal<V: Out>(error: &MendRefusal, err: &mut V)
 {
     match error {
         MendRefusal::View(cause) => {
-            let _ = views::refused(cause, err);
+            let _ = asked_pairs::refused(cause, err);
         }
         MendRefusal::LineFull(name) => {
             let _ = write_full(name, err);

@@ -9,10 +9,10 @@ ghost use Rattle.mend_answers.specs.ChangeText.{pair_text, addition_text, additi
 use crate::change::Change;
 use crate::word::{Word, add_word};
 use chart::{Event, EventNo, EventRange, Line, Names, Report};
+use line_events::events_of;
 use mending::{Addition, Message, RacePair};
 use msc_text::{Out, TextBuffer, WriteError};
 use told_races::{add_line, add_name};
-use views::events_of;
 
 /// `NAME from SENDER to RECEIVER`.
 #[tactic(auto, using(msc_text::proofs::Writes::joining), unfolding(crate::specs::ChangeText::ends_text))]

@@ -1,9 +1,9 @@
 //! What the command refuses.
 
+use asked_pairs::ViewError;
 use chart::Name;
 use files::ProgramError;
 use thiserror::Error;
-use views::ViewError;
 
 /// Why no message was looked for: the first of these that applies.
 #[derive(Clone, Copy, Debug, PartialEq, Eq, Error)]

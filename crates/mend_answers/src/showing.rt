@@ -6,19 +6,19 @@ ghost use Rattle.files.specs.Texts.{named_of};
 ghost use Rattle.mending.specs.Mends.{IsMadeOf};
 ghost use Rattle.mend_answers.specs.Answers.{by_program, mend_said};
 ghost use Rattle.mend_answers.specs.Showing.{IsNamedFor, refused_so, Writes, Shows, ShowsText};
-ghost use Rattle.views.specs.Explaining.{IsPair};
+ghost use Rattle.asked_pairs.specs.Pairs.{IsPair};
 
 use crate::answering::Outcome;
 use crate::error::MendRefusal;
 use crate::naming::message_name;
 use crate::told::told_of;
+use asked_pairs::{Asked, Pair, ViewError, pair_in};
 use chart::{Chart, Names};
 use closure::Closure;
 use files::{ProgramError, Source, Text, answered, closure_of};
 use mending::{MendError, Mending};
 use msc_text::{Out, named, write};
 use std::alloc::Global;
-use views::{Asked, Pair, ViewError, pair_in};
 
 /// Which race is to go, and what the new message is called; without a name by one of its own.
 #[derive(Clone, Copy, Debug)]

@@ -6,23 +6,24 @@ ghost use Rattle.chart.specs.Reports.{AreReports};
 ghost use Rattle.chart.specs.Events.{ith};
 ghost use Rattle.mending.specs.Mends.{IsMadeOf};
 ghost use Rattle.msc_text.specs.Writing.{Wrote, Adds};
-ghost use Rattle.views.specs.SayingText.{step_text};
+ghost use Rattle.asked_pairs.specs.SayingText.{step_text};
 ghost use Rattle.mend_answers.specs.ChangeText.{additions_text};
 ghost use Rattle.mend_answers.specs.Telling.{hidden_text, none_text, IsNone, IsTold, IsToldAll, IsChangeText, status_left};
-ghost use Rattle.views.specs.Explaining.{IsPair};
+ghost use Rattle.asked_pairs.specs.Pairs.{IsPair};
 
 use crate::answering::{Outcome, Status};
 use crate::change::changed_by;
 use crate::change_text::{write_additions, write_change};
 use crate::word::{Word, add_word};
+use asked_pairs::{Pair, write_chain};
 use causes::Link;
 use chart::{Chart, Event, EventNo, InstanceNo, Line, Names, Report};
 use closure::Closure;
+use line_events::events_of;
 use mending::{MendedChart, Mending, Message};
 use msc_text::{MemoryOut, Out, TextBuffer, WriteError};
 use std::alloc::{AllocError, Global};
 use told_races::{add_event_at, add_name};
-use views::{Pair, events_of, write_chain};
 
 #[tactic(auto, unfolding(crate::specs::Telling::hidden_text))]
 fn hidden_text() -> &'static [u8]

@@ -7,9 +7,9 @@ ghost use Rattle.closure.specs.Faults.{place_of};
 ghost use Rattle.closure.specs.Searches.{IsSend};
 ghost use Rattle.mending.specs.Crossings.{IsLastIn, HasNoneIn, TellsHeard, IsHeardFrom, IsFirstAfter, IsBeforeNone};
 
-use crate::events::events_of;
 use chart::{Event, EventNo, InstanceNo};
 use closure::Closure;
+use line_events::events_of;
 use std::alloc::{AllocError, Global};
 
 /// Some events of a line: those behind its first `low`, up to that of number `high`.

@@ -1,23 +1,10 @@
 //! What is read off the events of a line.
 ghost use Rattle.std.specs.Prelude.{◌≡◌, ◌≤◌, ◌<◌, length};
-ghost use Rattle.chart.specs.declared.line.TheConstants.{MAX_EVENTS};
 ghost use Rattle.chart.specs.Events.{is_send_to, is_receive_from, tally};
-ghost use Rattle.chart.specs.Charts.{chart_lines};
 ghost use Rattle.chart.specs.Places.{IsSendAfter};
 ghost use Rattle.mending.specs.Messages.{EndsBehind};
 
-use chart::{Event, InstanceNo, Line};
-
-/// The events of an instance's line, none where the chart has no such instance.
-pub(crate) fn events_of(lines: &[Line], instance: InstanceNo) -> &[Event]
-    ensures events { result.now ≡ chart_lines lines.now instance }
-    ensures short { length result.now ≤ MAX_EVENTS }
-{
-    match lines.get(instance.place()) {
-        Some(line) => line.events(),
-        None => &[],
-    }
-}
+use chart::{Event, InstanceNo};
 
 /// Behind how many events the coregion ends that the event of this number is in; just behind it where it is in none.
 pub(crate) fn end_behind(events: &[Event], index: usize) -> usize

@@ -14,12 +14,13 @@ ghost use Rattle.mending.specs.Mends.{IsAsked, Tells, Mends, IsMadeOf, Fails};
 
 use crate::asking::first_after;
 use crate::error::MendError;
-use crate::events::{end_behind, events_of, receives_among, send_after, sends_among};
+use crate::events::{end_behind, receives_among, send_after, sends_among};
 use crate::growing::chart_with;
 use crate::message::Message;
 use causes::{Link, shortest_chain};
 use chart::{Chart, EventNo, MAX_EVENTS, Name, Report};
 use closure::{ChartError, Closure};
+use line_events::events_of;
 use std::alloc::Global;
 
 /// What becomes of a pair of events.

@@ -3,7 +3,8 @@
 use Rattle.std.specs.Prelude.{ℕ, suc, ◌+◌, ◌==◌, nat_lt, Bool, List, [], ◌∷◌, codes, length, take, drop, Option, None, Some}
 use Rattle.std.specs.Prelude.{option_map, if◌then◌else◌}
 use Rattle.line_statements.specs.Statements.{EndView, SaidView, Named, Renamed}
-use Rattle.line_statements.specs.Words.{behind_blanks, behind_keyword, behind_keyword_of, end_stripped, ends_word, is_blank, place_of, or_else}
+use Rattle.line_statements.specs.Words.{behind_blanks, behind_keyword, behind_keyword_of, end_stripped, ends_word, place_of, or_else}
+use Rattle.text_bytes.specs.Classes.{is_blank}
 use Rattle.mermaid_text.specs.Names.{is_listed}
 use Rattle.mermaid_text.specs.Texts.{text_of}
 use Rattle.mermaid_text.specs.declared.participant.Label.{Label}

@@ -1,11 +1,12 @@
 -- The pieces of a text that are statements (Mermaid's documentation of its syntax: "Frontmatter", "Directives",
 -- "Comments", and of accessibility options).
-use Rattle.std.specs.Prelude.{◌≡◌, ℕ, zero, suc, ◌+◌, ◌-◌, ◌≤◌, Bool, false, not, ◌&&◌, ◌||◌, ◌==◌, nat_le, nat_lt, List, [], ◌∷◌, ◌++◌}
+use Rattle.std.specs.Prelude.{◌≡◌, ℕ, zero, suc, ◌+◌, ◌-◌, ◌≤◌, Bool, false, not, ◌&&◌, ◌||◌, ◌==◌, nat_lt, List, [], ◌∷◌, ◌++◌}
 use Rattle.std.specs.Prelude.{codes, length, drop, position, Option, None, Some, unwrap_or, bytes_eq, nat_eq, if◌then◌else◌}
 use Rattle.std.specs.List.{starts_with}
 use Rattle.line_statements.specs.Lines.{after, front_of, stripped_line}
 use Rattle.line_statements.specs.Statements.{LineView, line_view}
 use Rattle.line_statements.specs.Words.{behind_blanks, behind_word, place_of}
+use Rattle.text_bytes.specs.Classes.{is_word_byte}
 use Rattle.mermaid_text.specs.declared.piece.Block.{Block}
 use Rattle.mermaid_text.specs.declared.piece.Block.TheVariants.{Directive, Description}
 use Rattle.mermaid_text.specs.declared.piece.Opened.{Opened}
@@ -75,10 +76,6 @@ unfoldable pub is_remark : List ℕ → Bool
 is_remark words =
     starts_with nat_eq words (codes "%%") || is_described (codes "accTitle") (codes ":") words
     || is_described (codes "accDescr") (codes ":") words
-
--- a digit, a letter or `_`
-abbrev pub is_word_byte : ℕ → Bool
-is_word_byte b = nat_le 48 b && nat_le b 57 || nat_le 65 b && nat_le b 90 || nat_le 97 b && nat_le b 122 || b == 95
 
 -- with how many bytes of a word the bytes begin
 unfoldable pub word_length : List ℕ → ℕ

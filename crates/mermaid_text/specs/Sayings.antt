@@ -4,7 +4,8 @@ use Rattle.std.specs.Prelude.{Option, None, Some, option_map, nat_eq, ifâ—Œthenâ
 use Rattle.std.specs.List.{starts_with}
 use Rattle.line_statements.specs.Statements.{SaidView, said_view, StatementView, Named, ArrowSaid, NoteSaid, Begin, Branch, EndSaid, BeginBox}
 use Rattle.line_statements.specs.Statements.{AtParticipant, AtSeveral}
-use Rattle.line_statements.specs.Words.{behind_blanks, behind_keyword, behind_keyword_of, behind_word, first_place, is_blank}
+use Rattle.line_statements.specs.Words.{behind_blanks, behind_keyword, behind_keyword_of, behind_word, first_place}
+use Rattle.text_bytes.specs.Classes.{is_blank}
 use Rattle.line_statements.specs.Words.{skip_word, stripped, or_else}
 use Rattle.line_statements.specs.declared.statement.Group.TheVariants.{Choice, Parallel, Break}
 use Rattle.line_statements.specs.declared.statement.Place.{Place}

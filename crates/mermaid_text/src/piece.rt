@@ -2,11 +2,13 @@
 ghost use Rattle.std.specs.Prelude.{◌≡◌, ◌++◌, ◌≤◌, ◌<◌, ◌+◌, ◌^◌, length, map, IfSome, IfOk, OnOk, not, position, bytes_eq, codes, ◌-◌};
 ghost use Rattle.line_statements.specs.Words.{Finds};
 ghost use Rattle.line_statements.specs.Statements.{line_view};
-ghost use Rattle.mermaid_text.specs.Pieces.{opened_view, end_of, is_described, block_at, behind_end, behind_blocks, Room, is_remark, is_word_byte};
+ghost use Rattle.text_bytes.specs.Classes.{is_word_byte};
+ghost use Rattle.mermaid_text.specs.Pieces.{opened_view, end_of, is_described, block_at, behind_end, behind_blocks, Room, is_remark};
 ghost use Rattle.mermaid_text.specs.Pieces.{word_length, character_length, next_within, piece_length, listed, pieces_of, open_pieces, stepped, Steps};
 
 use line_statements::{Line, begins_with, behind_blanks, behind_word, place_of};
 use std::alloc::AllocError;
+use text_bytes::is_word_byte;
 
 /// What may go over several lines.
 #[derive(Clone, Copy, Debug)]
@@ -113,16 +115,6 @@ fn is_remark(words: &[u8]) -> bool
     begins_with(words, b"%%")
         || is_described(b"accTitle", b":", words)
         || is_described(b"accDescr", b":", words)
-}
-
-/// A digit, a letter or `_`.
-fn is_word_byte(byte: u8) -> bool
-    ensures { result ≡ is_word_byte byte }
-{
-    (b'0' <= byte && byte <= b'9')
-        || (b'A' <= byte && byte <= b'Z')
-        || (b'a' <= byte && byte <= b'z')
-        || byte == b'_'
 }
 
 /// The place of the first byte that no word has.

@@ -9,10 +9,8 @@ use crate::arrow::arrow_of;
 use crate::names::is_listed;
 use crate::note::{Note, add_names, note_of};
 use crate::participant::{behind_participant, participant_of};
-use line_statements::{
-    End, Group, NoteAt, Place, Said, Statement, begins_with, behind_blanks, behind_keyword,
-    behind_keyword_of, behind_word, first_place, is_blank, skip_word, stripped,
-};
+use line_statements::{End, Group, NoteAt, Place, Said, Statement, begins_with, behind_blanks, behind_keyword, behind_keyword_of, behind_word, first_place, skip_word, stripped};
+use text_bytes::is_blank;
 use std::alloc::AllocError;
 
 /// What a statement means.

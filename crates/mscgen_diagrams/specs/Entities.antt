@@ -8,7 +8,7 @@ use Rattle.diagrams.specs.declared.left_out.Kind.TheVariants as kinds
 use Rattle.diagrams.specs.declared.left_out.LeftOut.{LeftOut}
 use Rattle.diagrams.specs.declared.place.Place.{Place}
 use Rattle.mscgen_text.specs.Charts.{EntityView}
-use Rattle.mscgen_text.specs.declared.place.Place as tokens
+use Rattle.text_bytes.specs.declared.place.Place as tokens
 use Rattle.mscgen_diagrams.specs.declared.error.Fault.TheVariants.{Instances}
 use Rattle.mscgen_diagrams.specs.declared.error.ReadError.{ReadError}
 use Rattle.mscgen_diagrams.specs.declared.error.ReadError.TheVariants as errors

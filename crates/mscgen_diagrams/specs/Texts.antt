@@ -1,6 +1,6 @@
 -- Texts between quotation marks, as mscgen 0.20 draws them (its documentation on labels, and by trying it).
 use Rattle.std.specs.Prelude.{ℕ, ◌==◌, ◌||◌, List, [], ◌∷◌, ◌++◌, if◌then◌else◌}
-use Rattle.mscgen_text.specs.Lengths.{is_blank}
+use Rattle.text_bytes.specs.Classes.{is_white_space}
 use Rattle.mscgen_diagrams.specs.declared.texts.Mode.{Mode}
 use Rattle.mscgen_diagrams.specs.declared.texts.Mode.TheVariants.{Plain, Escaped, LineEnd}
 
@@ -23,7 +23,7 @@ escaped_step b =
 abbrev pub step : Mode → ℕ → Step
 step Plain b = plain_step b
 step Escaped b = escaped_step b
-step LineEnd b = if is_blank b then ([], LineEnd) else plain_step b
+step LineEnd b = if is_white_space b then ([], LineEnd) else plain_step b
 
 -- what is said at the end
 abbrev pub ended : Mode → List ℕ

@@ -36,7 +36,7 @@ impl<'a> Model for Known<'a> {
 }
 
 /// A place of a token, as a diagram has it.
-pub(crate) fn place_of(place: mscgen_text::Place) -> Place
+pub(crate) fn place_of(place: text_bytes::Place) -> Place
     ensures { result ≡ place_of place }
 {
     Place {

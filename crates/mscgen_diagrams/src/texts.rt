@@ -1,9 +1,10 @@
 //! What texts between quotation marks say.
 ghost use Rattle.std.specs.Prelude.{◌≡◌, ◌++◌, IfOk, OnOk};
-ghost use Rattle.mscgen_text.specs.Lengths.{is_blank};
+ghost use Rattle.text_bytes.specs.Classes.{is_white_space};
 ghost use Rattle.mscgen_diagrams.specs.Texts.{plain_step, escaped_step, step, ended, text_of};
 
 use std::alloc::{AllocError, Global};
+use text_bytes::is_white_space;
 
 /// What stands before a byte.
 #[derive(Clone, Copy, Debug)]
@@ -13,12 +14,6 @@ pub(crate) enum Mode {
     Escaped,
     /// A line's end and blanks.
     LineEnd,
-}
-
-fn is_blank(byte: u8) -> bool
-    ensures { result ≡ is_blank byte }
-{
-    byte == b' ' || byte == b'\t' || byte == b'\n' || byte == b'\r'
 }
 
 /// Adds what a byte says.
@@ -63,7 +58,7 @@ fn add_byte(mode: Mode, byte: u8, said: &mut Vec<u8>) -> Result<Mode, AllocError
         Mode::Plain => add_plain(byte, said),
         Mode::Escaped => add_escaped(byte, said),
         Mode::LineEnd => {
-            if is_blank(byte) {
+            if is_white_space(byte) {
                 Ok(Mode::LineEnd)
             } else {
                 add_plain(byte, said)

@@ -1,25 +1,5 @@
--- Loops over bytes: what is left of them, a byte at a time.
-use Rattle.std.proofs.Common.{◌≡◌, ℕ, zero, suc, ◌+◌, ◌<◌, ◌≤◌, arith, List, [], ◌∷◌, length, drop, get_or, Option, None, Some, option_map, refl, ap, add-one}
-use Rattle.std.proofs.Math.Seq.{drop-cons}
-use Rattle.mscgen_text.specs.Places.{behind, behind_byte}
-use Rattle.mscgen_text.specs.declared.place.Place.{Place}
-
-drop_next : (bytes : List ℕ) (i : ℕ) → i < length bytes → drop i bytes ≡ get_or bytes i 0 ∷ drop (i + 1) bytes
-drop_next bytes i lt = rw add-one (drop-cons bytes i 0 lt)
-
-drop_all : (bytes : List ℕ) (i : ℕ) → length bytes ≤ i → drop i bytes ≡ []
-drop_all [] zero h = refl
-drop_all [] (suc i) h = refl
-drop_all (x ∷ xs) zero h = absurd (omega arith)
-drop_all (x ∷ xs) (suc i) h = drop_all xs i (omega arith)
-
-pub behind_next : (p : Place) (bytes : List ℕ) (i : ℕ) → i < length bytes → behind p (drop i bytes) ≡ behind (behind_byte p (get_or bytes i 0)) (drop (i + 1) bytes)
-unfolding behind
-behind_next p bytes i lt = ap (behind p) (drop_next bytes i lt)
-
-pub behind_all : (p : Place) (bytes : List ℕ) (i : ℕ) → length bytes ≤ i → behind p (drop i bytes) ≡ p
-unfolding behind
-behind_all p bytes i h = ap (behind p) (drop_all bytes i h)
+-- Places of bytes, counted on.
+use Rattle.std.proofs.Common.{◌≡◌, ℕ, suc, ◌+◌, arith, Option, None, Some, option_map, refl, ap}
 
 -- a place that is one more further on
 pub moved_on : (n : ℕ) (place : Option ℕ) → option_map (λ k. n + k) (option_map suc place) ≡ option_map (λ k. n + 1 + k) place

@@ -2,10 +2,10 @@
 use Rattle.std.proofs.Common.{◌≡◌, ℕ, zero, suc, ◌+◌, ◌-◌, ◌<◌, ◌≤◌, List, [], ◌∷◌, ◌++◌, length, take, drop, refl, sym, ap, ◌∙◌, append_assoc, arith, length-drop, length-take-le}
 use Rattle.std.proofs.lemmas.List.{append-nil}
 use Rattle.mscgen_text.specs.Pieces.{piece_at}
-use Rattle.mscgen_text.specs.Places.{behind, start}
+use Rattle.text_bytes.specs.Places.{behind, start}
 use Rattle.mscgen_text.specs.Tokens.{TokenView, first_token, tokens_from, tokens_of, mark_length}
 use Rattle.mscgen_text.specs.declared.piece.Piece.{Piece}
-use Rattle.mscgen_text.specs.declared.place.Place.{Place}
+use Rattle.text_bytes.specs.declared.place.Place.{Place}
 
 -- the tokens so far and those of what is left are those of the text, and there are steps enough for what is left
 pub record AreTokens (text : List ℕ) (tokens : List TokenView) (place : Place) (rest : List ℕ) : Type 0 where

@@ -8,7 +8,7 @@ use Rattle.mscgen_text.specs.declared.arc.Arc.{Arc}
 use Rattle.mscgen_text.specs.declared.arc.ArcKind.{ArcKind}
 use Rattle.mscgen_text.specs.declared.arc.ArcKind.TheVariants as arcs
 use Rattle.mscgen_text.specs.declared.arc.Ends.{Ends}
-use Rattle.mscgen_text.specs.declared.place.Place.{Place}
+use Rattle.text_bytes.specs.declared.place.Place.{Place}
 use Rattle.mscgen_text.specs.declared.relation.Relation.{Relation}
 use Rattle.mscgen_text.specs.declared.relation.Relation.TheVariants as relations
 

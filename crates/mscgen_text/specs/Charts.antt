@@ -7,7 +7,7 @@ use Rattle.mscgen_text.specs.Reading.{Tokens, ◌>>=◌, behind_mark, skip_mark,
 use Rattle.mscgen_text.specs.Words.{is_option}
 use Rattle.mscgen_text.specs.declared.entity.Entity.{Entity}
 use Rattle.mscgen_text.specs.declared.chart.Msc.{Msc}
-use Rattle.mscgen_text.specs.declared.place.Place.{Place}
+use Rattle.text_bytes.specs.declared.place.Place.{Place}
 
 -- an entity: the word for it, its label, if it has one, and its place
 pub record EntityView : Type 0 where

@@ -1,19 +1,15 @@
 -- What a text says, or its first fault.
-use Rattle.std.specs.Prelude.{◌≡◌, ℕ, ◌||◌, ◌&&◌, ◌==◌, nat_le, nat_lt, List, [], ◌∷◌, length, take, position}
+use Rattle.std.specs.Prelude.{◌≡◌, ℕ, ◌||◌, ◌==◌, nat_lt, List, [], ◌∷◌, length, take, position}
 use Rattle.std.specs.Prelude.{Result, Ok, Err, unwrap_or, if◌then◌else◌}
 use Rattle.mscgen_text.specs.Charts.{MscView, msc_in, msc_view}
-use Rattle.mscgen_text.specs.Places.{start, behind}
+use Rattle.text_bytes.specs.Places.{start, behind}
 use Rattle.mscgen_text.specs.Reading.{Tokens}
 use Rattle.mscgen_text.specs.Tokens.{tokens_of}
 use Rattle.mscgen_text.specs.declared.chart.Msc.{Msc}
 use Rattle.mscgen_text.specs.declared.fault.Fault.{Fault}
 use Rattle.mscgen_text.specs.declared.fault.MscgenError.{MscgenError}
 use Rattle.mscgen_text.specs.declared.fault.MscgenError.TheVariants as errors
-use Rattle.mscgen_text.specs.declared.place.Place.{Place}
-
--- the byte as it is shown: `?` for what doesn't print
-abbrev pub printable : ℕ → ℕ
-printable b = if nat_le 32 b && nat_le b 126 then b else 63
+use Rattle.text_bytes.specs.declared.place.Place.{Place}
 
 -- how many bytes stand before the end of the line
 unfoldable pub shown_line : List ℕ → ℕ

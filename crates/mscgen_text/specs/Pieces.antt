@@ -2,7 +2,9 @@
 use Rattle.std.specs.Prelude.{ℕ, ◌+◌, ◌==◌, Bool, ◌||◌, List, [], ◌∷◌, codes, length, drop, Option, None, Some}
 use Rattle.std.specs.Prelude.{nat_eq, if◌then◌else◌}
 use Rattle.std.specs.List.{starts_with}
-use Rattle.mscgen_text.specs.Lengths.{is_blank, is_word_byte, word_length, line_length, comment_length, closing}
+use Rattle.mscgen_text.specs.Lengths.{word_length, comment_length, closing}
+use Rattle.text_bytes.specs.Classes.{is_white_space, is_word_byte}
+use Rattle.text_bytes.specs.Lines.{line_length}
 use Rattle.mscgen_text.specs.Signs.{sign_at}
 use Rattle.mscgen_text.specs.declared.piece.Shape.{Shape}
 use Rattle.mscgen_text.specs.declared.piece.Shape.TheVariants.{Gap, Word, Text, Unknown}
@@ -32,7 +34,7 @@ begins bytes known = starts_with nat_eq bytes known
 unfoldable pub piece_at : List ℕ → Piece
 piece_at [] = piece Gap 0
 piece_at (b ∷ bs) =
-    if is_blank b then piece Gap 1 else (
+    if is_white_space b then piece Gap 1 else (
     if b == 35 || begins (b ∷ bs) (codes "//") then piece Gap (line_length bs + 1) else (
     if begins (b ∷ bs) (codes "/*") then piece Gap (comment_length (drop 1 bs) + 2) else (
     if b == 34 then text_by (length bs) (closing 34 bs) else sign_or_word (sign_at (b ∷ bs)) b bs)))

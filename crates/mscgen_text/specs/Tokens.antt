@@ -2,10 +2,10 @@
 use Rattle.std.specs.Prelude.{ℕ, zero, suc, ◌-◌, List, [], ◌∷◌, ◌++◌, length, take, drop}
 use Rattle.std.specs.Prelude.{Option, None, Some, if◌then◌else◌}
 use Rattle.mscgen_text.specs.Pieces.{piece_at, begins}
-use Rattle.mscgen_text.specs.Places.{start, behind}
+use Rattle.text_bytes.specs.Places.{start, behind}
 use Rattle.mscgen_text.specs.declared.piece.Shape.{Shape}
 use Rattle.mscgen_text.specs.declared.piece.Shape.TheVariants as shapes
-use Rattle.mscgen_text.specs.declared.place.Place.{Place}
+use Rattle.text_bytes.specs.declared.place.Place.{Place}
 use Rattle.mscgen_text.specs.declared.relation.Relation.{Relation}
 use Rattle.mscgen_text.specs.declared.token.Kind.{Kind}
 use Rattle.mscgen_text.specs.declared.token.Kind.TheVariants as kinds

@@ -1,15 +1,11 @@
 -- The words of mscgen 0.20's language (its documentation on options, attributes and boxes), in any letters.
-use Rattle.std.specs.Prelude.{ℕ, Bool, List, [], ◌∷◌, codes, map, Option, None, Some, bytes_eq, if◌then◌else◌}
-use Rattle.std.specs.Char.{to_ascii_lowercase}
+use Rattle.std.specs.Prelude.{ℕ, Bool, List, [], ◌∷◌, codes, Option, None, Some, if◌then◌else◌}
 use Rattle.std.specs.List.{list_any}
+use Rattle.text_bytes.specs.Words.{is_spelled}
 use Rattle.mscgen_text.specs.declared.relation.Relation.{Relation}
 use Rattle.mscgen_text.specs.declared.relation.Relation.TheVariants.{Box, Note}
 use Rattle.mscgen_text.specs.declared.words.AttributeName.{AttributeName}
 use Rattle.mscgen_text.specs.declared.words.AttributeName.TheVariants.{Label, Skip, Style}
-
--- the word is this one, in any letters
-unfoldable pub is_spelled : List ℕ → List ℕ → Bool
-is_spelled known word = bytes_eq (map to_ascii_lowercase word) (map to_ascii_lowercase known)
 
 -- the word is one of these, in any letters
 unfoldable pub is_one_of : List (List ℕ) → List ℕ → Bool

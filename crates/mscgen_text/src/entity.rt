@@ -5,7 +5,7 @@ ghost use Rattle.mscgen_text.specs.Reading.{Sees};
 ghost use Rattle.mscgen_text.specs.Tokens.{seen};
 
 use crate::attributes::attributes_in;
-use crate::place::Place;
+use text_bytes::Place;
 use crate::reading::{end_in, name_in};
 use crate::token::Token;
 

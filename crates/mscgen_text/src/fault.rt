@@ -1,10 +1,11 @@
 //! Why a text could not be read.
 ghost use Rattle.std.specs.Prelude.{◌≡◌, ◌≤◌, ◌||◌, ◌==◌, length, map, position, IfSome};
-ghost use Rattle.mscgen_text.specs.Faults.{fault_at, fault_view, printable, shown, shown_line, shown_length};
+ghost use Rattle.mscgen_text.specs.Faults.{fault_at, fault_view, shown, shown_line, shown_length};
+ghost use Rattle.text_bytes.specs.Classes.{printable};
 ghost use Rattle.mscgen_text.specs.Tokens.{seen};
 ghost use Rattle.mscgen_text.specs.declared.fault.MscgenError.TheVariants.{Memory};
 
-use crate::place::{Place, START};
+use text_bytes::{Place, START};
 use crate::token::Token;
 use std::alloc::AllocError;
 
@@ -32,17 +33,6 @@ impl<'a> From<AllocError> for MscgenError<'a> {
 
     fn from(_e: AllocError) -> MscgenError<'a> {
         MscgenError::Memory
-    }
-}
-
-/// The byte as it is shown: `?` for what doesn't print.
-pub fn printable(byte: u8) -> u8
-    ensures { result ≡ printable byte }
-{
-    if b' ' <= byte && byte <= b'~' {
-        byte
-    } else {
-        b'?'
     }
 }
 

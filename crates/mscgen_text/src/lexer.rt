@@ -3,9 +3,8 @@ ghost use Rattle.std.specs.Prelude.{◌≡◌, ◌++◌, ◌≤◌, ◌<◌, len
 ghost use Rattle.mscgen_text.specs.Tokens.{seen, first_token, tokens_of, mark_length};
 ghost use Rattle.mscgen_text.specs.Pieces.{piece_at};
 
-use crate::lengths::begins;
 use crate::piece::{Piece, piece_at};
-use crate::place::{Place, START};
+use text_bytes::{Place, START, begins};
 use crate::token::{Token, kind_of};
 use std::alloc::{AllocError, Global};
 

@@ -3,11 +3,10 @@ ghost use Rattle.std.specs.Prelude.{◌≡◌, ◌≤◌, ◌<◌, length, ◌+�
 ghost use Rattle.mscgen_text.specs.Pieces.{piece_at, text_by, word_or_unknown};
 ghost use Rattle.mscgen_text.specs.Lengths.{closing};
 
-use crate::lengths::{
-    begins, closing, comment_length, is_blank, is_word_byte, line_length, word_length,
-};
+use crate::lengths::{closing, comment_length, word_length};
 use crate::relation::Relation;
 use crate::signs::sign_at;
+use text_bytes::{begins, is_white_space, is_word_byte, line_length};
 
 /// What a piece of a text is.
 #[derive(Clone, Copy, Debug)]
@@ -83,7 +82,7 @@ pub(crate) fn piece_at(bytes: &[u8]) -> Piece
             length: 0,
         };
     };
-    if is_blank(*first) {
+    if is_white_space(*first) {
         return Piece {
             shape: Shape::Gap,
             length: 1,

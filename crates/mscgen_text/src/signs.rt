@@ -2,9 +2,9 @@
 ghost use Rattle.std.specs.Prelude.{◌≡◌, ◌≤◌, ◌<◌, length, map, IfSome};
 ghost use Rattle.mscgen_text.specs.Signs.{first_spelled, sign_at};
 
-use crate::lengths::begins;
 use crate::piece::{Piece, Shape};
 use crate::relation::Relation;
+use text_bytes::begins;
 
 /// Punctuation.
 const MARKS: [(&[u8], Shape); 7] = [

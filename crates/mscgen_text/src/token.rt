@@ -4,7 +4,7 @@ ghost use Rattle.mscgen_text.specs.Tokens.{seen, inner, kind_of, kind_view, firs
 ghost use Rattle.mscgen_text.specs.Pieces.{piece_at};
 
 use crate::piece::Shape;
-use crate::place::Place;
+use text_bytes::Place;
 use crate::relation::Relation;
 
 /// What a token is.

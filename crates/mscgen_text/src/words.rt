@@ -2,9 +2,11 @@
 ghost use Rattle.std.specs.Prelude.{◌≡◌, ◌↔◌, IsTrue, map};
 ghost use Rattle.std.specs.List.{list_any};
 ghost use Rattle.std.specs.Char.{to_ascii_lowercase};
-ghost use Rattle.mscgen_text.specs.Words.{is_spelled, is_one_of, is_option, is_style, box_of, attribute_name};
+ghost use Rattle.mscgen_text.specs.Words.{is_one_of, is_option, is_style, box_of, attribute_name};
+ghost use Rattle.text_bytes.specs.Words.{is_spelled};
 
 use crate::relation::Relation;
+use text_bytes::is_spelled;
 
 /// What stands before `=` in an option.
 const OPTIONS: [&[u8]; 4] = [b"hscale", b"width", b"arcgradient", b"wordwraparcs"];
@@ -39,14 +41,6 @@ pub(crate) enum AttributeName {
     Skip,
     /// How something is drawn.
     Style,
-}
-
-/// Whether the word is this one, in any letters.
-#[tactic(auto, unfolding(crate::specs::Words::is_spelled))]
-fn is_spelled(known: &[u8], word: &[u8]) -> bool
-    ensures { result ≡ is_spelled known.now word.now }
-{
-    word.eq_ignore_ascii_case(known)
 }
 
 fn has_word(words: &[&[u8]], word: &[u8]) -> bool

@@ -1,1 +1,2 @@
 pub mod NamedRefusals
+pub mod Naming

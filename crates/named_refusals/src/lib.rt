@@ -1,4 +1,4 @@
-//! Refusals that name an instance of the chart: what is missing, and the line.
+//! Refusals that name an instance of the chart: which instance was meant, what is missing, and the line.
 //!
 //! What is promised ([`refused_at`], [`refused_missing`]): the line has the refusal's number and name, then the name of the
 //! instance, and then a number where there is one. It was written, or a beginning of it where a put failed. Nothing here
@@ -7,6 +7,8 @@
 
 mod line;
 mod missing;
+mod naming;
 
 pub use line::refused_at;
 pub use missing::{Missing, missing_on, refused_missing};
+pub use naming::instance_said;

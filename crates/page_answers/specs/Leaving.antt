@@ -7,7 +7,7 @@ use Rattle.msc_text.specs.Outs.{Sink, Stored}
 use Rattle.views.specs.Answers.{why_said, witness_said}
 use Rattle.views.specs.Views.{Whys}
 use Rattle.views.specs.Witnessing.{Witnesses}
-use Rattle.views.specs.declared.pair.Asked.{Asked}
+use Rattle.asked_pairs.specs.declared.pair.Asked.{Asked}
 use Rattle.page_answers.specs.declared.left.Left.{Left}
 
 -- what is known of a text in memory

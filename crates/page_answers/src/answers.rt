@@ -5,11 +5,11 @@ ghost use Rattle.page_answers.specs.Answering.{plus, texts, IsWhyExcerpt, IsWitn
 
 use crate::left::{Left, mend_left, why_left, witness_left};
 use crate::rows::row_in;
+use asked_pairs::Asked;
 use chart::{Event, InstanceNo, Names};
 use files::Source;
 use page_text::{Answers, Excerpt};
 use std::alloc::{AllocError, Global};
-use views::Asked;
 
 /// Of what the answers are: a race of a file's chart.
 #[derive(Clone, Copy)]

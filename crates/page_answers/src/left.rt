@@ -4,10 +4,11 @@ ghost use Rattle.files.specs.Texts.{ComesFrom, IsSaid};
 ghost use Rattle.page_answers.specs.Leaving.{IsWhole, IsWhy, IsWitness, IsMend};
 
 use crate::collected::Collected;
+use asked_pairs::Asked;
 use files::Source;
 use mend_answers::mend_of_source;
 use std::alloc::{AllocError, Global};
-use views::{Asked, why_of_source, witness_of_source};
+use views::{why_of_source, witness_of_source};
 
 /// What a command left: on standard output, on standard error, and its exit status.
 #[derive(Drop)]

@@ -2,7 +2,7 @@
 use Rattle.std.proofs.Common.{◌≡◌, ℕ, ◌-◌, List, sym, ap, ◌∙◌}
 use Rattle.chart.specs.declared.event.Event.{Event}
 use Rattle.closure.specs.Rows.{entry}
-use Rattle.views.specs.Sayings.{passing, comes_too}
+use Rattle.asked_pairs.specs.Sayings.{passing, comes_too}
 
 -- they are those of the line, by its number among all
 pub also_is : (events line : List Event) (count p q above index : ℕ) (also counts before : List ℕ) → also ≡ passing (comes_too events count q) above → events ≡ line → count ≡ entry counts p → before ≡ counts

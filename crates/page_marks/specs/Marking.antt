@@ -5,7 +5,7 @@ use Rattle.chart.specs.Charts.{Chart, IsReceiveFrom}
 use Rattle.causes.specs.Pasts.{IsPast}
 use Rattle.closure.specs.Faults.{place_of}
 use Rattle.closure.specs.Rows.{entry}
-use Rattle.views.specs.Sayings.{passing, comes_too}
+use Rattle.asked_pairs.specs.Sayings.{passing, comes_too}
 
 -- Of each of n lines so many first events have to come before a receive, and so have these other receives of its line,
 -- which come from its sender. Where it is no receive, there is nothing.

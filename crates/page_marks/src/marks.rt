@@ -3,14 +3,14 @@ ghost use Rattle.std.specs.Prelude.{◌≡◌, ◌<◌, suc, length, IfOk};
 ghost use Rattle.chart.specs.Charts.{chart_lines};
 ghost use Rattle.closure.specs.Faults.{place_of};
 ghost use Rattle.closure.specs.Rows.{entry};
-ghost use Rattle.views.specs.Sayings.{passing, comes_too};
+ghost use Rattle.asked_pairs.specs.Sayings.{passing, comes_too};
 ghost use Rattle.page_marks.specs.Marking.{AreMarks};
 
 use causes::past;
 use chart::{Event, EventNo, InstanceNo};
 use closure::{Closure, Numbers};
+use line_events::events_of;
 use std::alloc::{AllocError, Global};
-use views::events_of;
 
 /// What has to come before a receive.
 #[derive(Drop)]

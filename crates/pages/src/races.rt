@@ -8,6 +8,7 @@ ghost use Rattle.page_answers.specs.Answering.{plus};
 ghost use Rattle.page_marks.specs.Pairing.{HasRange};
 ghost use Rattle.pages.specs.Races.{title_text, IsAnswered, HasAnswers, IsRace, AreRaces};
 
+use asked_pairs::Asked;
 use chart::{Event, Names};
 use closure::Closure;
 use files::Source;
@@ -17,7 +18,6 @@ use page_marks::{Marks, RaceRange, line_of, marks_of};
 use page_text::{Answers, Race};
 use std::alloc::{AllocError, Global};
 use told_races::{Word, add_event_at, add_name, add_range, add_word, event_at, last_of};
-use views::Asked;
 
 /// A file that was read: its bytes, and where the chart comes from that they say.
 #[derive(Clone, Copy)]

@@ -2,7 +2,8 @@
 -- in participants").
 use Rattle.std.specs.Prelude.{ℕ, List, [], ◌∷◌, codes, Option, None, Some, if◌then◌else◌}
 use Rattle.line_statements.specs.Statements.{EndView}
-use Rattle.line_statements.specs.Words.{behind_blanks, behind_word, is_blank, or_else}
+use Rattle.line_statements.specs.Words.{behind_blanks, behind_word, or_else}
+use Rattle.text_bytes.specs.Classes.{is_blank}
 use Rattle.plantuml_arrows.specs.Runs.{◌>>=◌, run_at, behind_byte}
 use Rattle.plantuml_arrows.specs.declared.runs.Class.TheVariants.{Name, Quoted}
 

@@ -1,7 +1,8 @@
 -- Runs of bytes of one kind.
 use Rattle.std.specs.Prelude.{ℕ, Bool, not, ◌&&◌, ◌||◌, ◌==◌, nat_le, List, [], ◌∷◌, length, take, drop, position}
 use Rattle.std.specs.Prelude.{Option, None, Some, unwrap_or, if◌then◌else◌}
-use Rattle.line_statements.specs.Words.{is_blank}
+use Rattle.text_bytes.specs.Classes.{is_blank, is_word_byte}
+use Rattle.std.specs.Char.{is_ascii_digit}
 use Rattle.plantuml_arrows.specs.declared.runs.Class.{Class}
 use Rattle.plantuml_arrows.specs.declared.runs.Class.TheVariants as classes
 
@@ -11,18 +12,12 @@ abbrev pub ◌>>=◌ : {A B : Type 0} → Option A → (A → Option B) → Opti
 None >>= f = None
 (Some x) >>= f = f x
 
-abbrev pub is_digit : ℕ → Bool
-is_digit b = nat_le 48 b && nat_le b 57
-
-abbrev pub is_word_byte : ℕ → Bool
-is_word_byte b = is_digit b || nat_le 65 b && nat_le b 90 || nat_le 97 b && nat_le b 122 || b == 95
-
 -- the byte is of this kind
 abbrev pub is_in : Class → ℕ → Bool
 is_in classes.Name b = is_word_byte b || b == 46 || b == 64 || nat_le 128 b
 is_in classes.Word b = is_word_byte b
 is_in classes.Style b = is_word_byte b || b == 46
-is_in classes.Digit b = is_digit b
+is_in classes.Digit b = is_ascii_digit b
 is_in classes.Dash b = b == 45
 is_in classes.Sign b = b == 43 || b == 42 || b == 33 || b == 45
 is_in classes.Solid b = not (is_blank b)

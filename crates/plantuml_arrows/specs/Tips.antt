@@ -1,6 +1,7 @@
 -- The ends of arrows (PlantUML's documentation of sequence diagrams, "Change arrow style").
 use Rattle.std.specs.Prelude.{ℕ, Bool, true, false, not, ◌&&◌, ◌||◌, ◌==◌, List, [], ◌∷◌, Option, None, Some, unwrap_or, if◌then◌else◌}
-use Rattle.line_statements.specs.Words.{is_blank, or_else}
+use Rattle.line_statements.specs.Words.{or_else}
+use Rattle.text_bytes.specs.Classes.{is_blank}
 use Rattle.plantuml_arrows.specs.Runs.{◌>>=◌, behind_byte}
 use Rattle.plantuml_arrows.specs.declared.tips.Tip.{Tip}
 

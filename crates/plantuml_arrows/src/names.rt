@@ -5,7 +5,8 @@ ghost use Rattle.line_statements.specs.Statements.{end_view};
 ghost use Rattle.plantuml_arrows.specs.Names.{quoted_at, name_at, behind_gap, plain_end, word_behind_as, label_behind_as, labelled_end, worded_end, participant_at};
 
 use crate::runs::{Class, behind_byte, run_at};
-use line_statements::{End, behind_blanks, behind_word, is_blank};
+use line_statements::{End, behind_blanks, behind_word};
+use text_bytes::is_blank;
 
 /// What stands between two quotation marks that come next, and what stands behind them. It has a byte at least.
 #[tactic(auto, unfolding(crate::specs::Names::quoted_at))]

@@ -1,9 +1,9 @@
 //! Runs of bytes of one kind.
 ghost use Rattle.std.specs.Prelude.{◌≡◌, ◌≤◌, ◌<◌, not, length, position, IfSome};
 ghost use Rattle.line_statements.specs.Words.{Finds};
-ghost use Rattle.plantuml_arrows.specs.Runs.{is_digit, is_word_byte, is_in, run_length, run_at, behind_run, behind_byte};
+ghost use Rattle.plantuml_arrows.specs.Runs.{is_in, run_length, run_at, behind_run, behind_byte};
 
-use line_statements::is_blank;
+use text_bytes::{is_blank, is_word_byte};
 
 /// A kind of bytes.
 #[derive(Clone, Copy, Debug)]
@@ -28,21 +28,6 @@ pub enum Class {
     Bracketed,
 }
 
-fn is_digit(byte: u8) -> bool
-    ensures { result ≡ is_digit byte }
-{
-    b'0' <= byte && byte <= b'9'
-}
-
-fn is_word_byte(byte: u8) -> bool
-    ensures { result ≡ is_word_byte byte }
-{
-    is_digit(byte)
-        || (b'A' <= byte && byte <= b'Z')
-        || (b'a' <= byte && byte <= b'z')
-        || byte == b'_'
-}
-
 fn is_in(class: Class, byte: u8) -> bool
     ensures { result ≡ is_in class byte }
 {
@@ -50,7 +35,7 @@ fn is_in(class: Class, byte: u8) -> bool
         Class::Name => is_word_byte(byte) || byte == b'.' || byte == b'@' || 128 <= byte,
         Class::Word => is_word_byte(byte),
         Class::Style => is_word_byte(byte) || byte == b'.',
-        Class::Digit => is_digit(byte),
+        Class::Digit => byte.is_ascii_digit(),
         Class::Dash => byte == b'-',
         Class::Sign => byte == b'+' || byte == b'*' || byte == b'!' || byte == b'-',
         Class::Solid => !is_blank(byte),

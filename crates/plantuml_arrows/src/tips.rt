@@ -5,7 +5,7 @@ ghost use Rattle.plantuml_arrows.specs.Tips.{behind_double, behind_head, cross_o
 ghost use Rattle.plantuml_arrows.specs.Tips.{begins_blank};
 
 use crate::runs::behind_byte;
-use line_statements::is_blank;
+use text_bytes::is_blank;
 
 /// What stands at an end of an arrow.
 #[derive(Clone, Copy, Debug)]

@@ -5,7 +5,8 @@ use Rattle.std.specs.Prelude.{Option, None, Some, option_map, bytes_eq, nat_eq, 
 use Rattle.std.specs.List.{starts_with}
 use Rattle.line_statements.specs.Statements.{SaidView, said_view, Named, NoteSaid, Deactivate, Return, ArrowsActivate, Begin, Branch, EndSaid}
 use Rattle.line_statements.specs.Statements.{Box, Divider, Delay, Reference, AtArrow, AtParticipant, AtSeveral}
-use Rattle.line_statements.specs.Words.{behind_blanks, behind_keyword, behind_word, ends_word, is_spelled, stripped, or_else}
+use Rattle.line_statements.specs.Words.{behind_blanks, behind_keyword, behind_word, ends_word, stripped, or_else}
+use Rattle.text_bytes.specs.Words.{is_spelled}
 use Rattle.line_statements.specs.declared.statement.Group.{Group}
 use Rattle.line_statements.specs.declared.statement.Group.TheVariants.{Choice, Parallel, Break}
 use Rattle.plantuml_arrows.specs.Arrows.{FoundView, found_view, arrow_of, row_at}

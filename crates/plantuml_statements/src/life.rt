@@ -5,7 +5,8 @@ ghost use Rattle.line_statements.specs.Statements.{said_view};
 ghost use Rattle.plantuml_statements.specs.Sayings.{meaning_view, are_colours, verb_at, life_of, signs_at, short_life_of, switch_of};
 
 use crate::said::Meaning;
-use line_statements::{Said, behind_blanks, behind_word, is_spelled};
+use line_statements::{Said, behind_blanks, behind_word};
+use text_bytes::is_spelled;
 use plantuml_arrows::{Class, behind_colour, behind_gap, name_at, run_at};
 
 /// Whether nothing but colours comes next: two at most.

@@ -5,9 +5,8 @@ ghost use Rattle.plantuml_statements.specs.Participants.{declared_view, last_pla
 ghost use Rattle.plantuml_statements.specs.Participants.{opens, with_decoration, behind_as, labelled, worded, shortened, plain, named_in};
 ghost use Rattle.plantuml_statements.specs.Participants.{behind_create, behind_kind, kind_in, participant_of};
 
-use line_statements::{
-    End, begins, begins_with, behind_keyword_of, behind_word, blank_length, is_blank,
-};
+use line_statements::{End, begins, begins_with, behind_keyword_of, behind_word, blank_length};
+use text_bytes::is_blank;
 use plantuml_arrows::{Class, behind_gap, name_at, quoted_at, run_at, run_length};
 
 /// The words that say what a participant is.

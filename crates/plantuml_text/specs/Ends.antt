@@ -1,6 +1,8 @@
 -- The ends of blocks (PlantUML's documentation of sequence diagrams, with each block).
 use Rattle.std.specs.Prelude.{ℕ, ◌+◌, ◌%◌, ◌^◌, Bool, false, ◌||◌, ◌==◌, List, [], ◌∷◌, codes, Option, None, Some, bytes_eq, if◌then◌else◌}
-use Rattle.line_statements.specs.Words.{behind_word, is_blank, is_spelled}
+use Rattle.line_statements.specs.Words.{behind_word}
+use Rattle.text_bytes.specs.Classes.{is_blank}
+use Rattle.text_bytes.specs.Words.{is_spelled}
 use Rattle.plantuml_statements.specs.Looks.{ends_with_brace}
 use Rattle.plantuml_statements.specs.declared.look.Block.{Block}
 use Rattle.plantuml_statements.specs.declared.look.Block.TheVariants as blocks

@@ -5,9 +5,9 @@ use Rattle.files.specs.declared.error.ProgramError.{ProgramError}
 use Rattle.files.specs.declared.error.ProgramError.TheVariants.{Usage, File, Memory, Text, ReceiveWithoutSend, NameMismatch, Cyclic, Write}
 use Rattle.files.specs.Files.{Named, IsRefused}
 use Rattle.msc_text.specs.Outs.{Sink}
-use Rattle.formats.specs.declared.error.FormatError.{FormatError}
-use Rattle.formats.specs.declared.error.FormatError.TheVariants.{Program, NoSuchName}
-use Rattle.formats.specs.Columns.{AreColumns, RefusesColumns}
+use Rattle.wanted_columns.specs.declared.error.FormatError.{FormatError}
+use Rattle.wanted_columns.specs.declared.error.FormatError.TheVariants.{Program, NoSuchName}
+use Rattle.wanted_columns.specs.Columns.{AreColumns, RefusesColumns}
 use Rattle.race_answers.specs.declared.judging.LuckWanted.{LuckWanted}
 use Rattle.race_answers.specs.Judging.{ShowsJudged}
 use Rattle.race_answers.specs.Showing.{only_of}

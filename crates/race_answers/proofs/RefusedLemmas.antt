@@ -4,8 +4,8 @@ use Rattle.files.specs.declared.error.ProgramError.{ProgramError}
 use Rattle.files.specs.declared.error.ProgramError.TheVariants.{Usage, File, Memory, Text, ReceiveWithoutSend, NameMismatch, Cyclic, Write}
 use Rattle.files.specs.Files.{Named, IsRefused}
 use Rattle.msc_text.specs.Outs.{Sink}
-use Rattle.formats.specs.declared.error.FormatError.TheVariants.{Program}
-use Rattle.formats.specs.Columns.{AreColumns}
+use Rattle.wanted_columns.specs.declared.error.FormatError.TheVariants.{Program}
+use Rattle.wanted_columns.specs.Columns.{AreColumns}
 use Rattle.race_answers.specs.declared.showing.Wanted.{Wanted}
 use Rattle.race_answers.specs.Showing.{only_of, Shows}
 

@@ -4,9 +4,9 @@ use Rattle.chart.specs.declared.instance.EventNo.{EventNo}
 use Rattle.chart.specs.Reports.{ReportView}
 use Rattle.files.specs.Files.{Named}
 use Rattle.files.specs.declared.error.ProgramError.TheVariants as errors
-use Rattle.formats.specs.Columns.{AreColumns, RefusesColumns}
-use Rattle.formats.specs.declared.error.FormatError.{FormatError}
-use Rattle.formats.specs.declared.error.FormatError.TheVariants.{Program}
+use Rattle.wanted_columns.specs.Columns.{AreColumns, RefusesColumns}
+use Rattle.wanted_columns.specs.declared.error.FormatError.{FormatError}
+use Rattle.wanted_columns.specs.declared.error.FormatError.TheVariants.{Program}
 use Rattle.msc_text.specs.Outs.{Sink}
 use Rattle.msc_text.specs.Writing.{Puts, Breaks}
 use Rattle.race_answers.specs.Showing.{only_of, manner_of, AreWanted, Shows}

@@ -5,9 +5,9 @@ use Rattle.chart.specs.Reports.{ReportView}
 use Rattle.files.specs.declared.error.ProgramError.TheVariants as errors
 use Rattle.files.specs.Texts.{OfFile, named_of}
 use Rattle.files.specs.Files.{Named, IsRefused}
-use Rattle.formats.specs.Columns.{AreColumns}
-use Rattle.formats.specs.declared.error.FormatError.{FormatError}
-use Rattle.formats.specs.declared.error.FormatError.TheVariants.{Program, NoSuchName}
+use Rattle.wanted_columns.specs.Columns.{AreColumns}
+use Rattle.wanted_columns.specs.declared.error.FormatError.{FormatError}
+use Rattle.wanted_columns.specs.declared.error.FormatError.TheVariants.{Program, NoSuchName}
 use Rattle.msc_text.specs.Outs.{Sink}
 use Rattle.msc_text.specs.Writing.{Puts, Breaks}
 use Rattle.race_answers.specs.declared.showing.Wanted.{Wanted}

@@ -1,8 +1,8 @@
 -- The exit status by whether some race is shown, and what is said of it.
 use Rattle.std.specs.Prelude.{ℕ, Bool, None, Result, if◌then◌else◌}
 use Rattle.files.specs.Answers.{Said, said_of}
-use Rattle.formats.specs.Answers.{error_said}
-use Rattle.formats.specs.declared.error.FormatError.{FormatError}
+use Rattle.wanted_columns.specs.Answers.{error_said}
+use Rattle.wanted_columns.specs.declared.error.FormatError.{FormatError}
 use Rattle.race_answers.specs.declared.status.Status.{Status}
 use Rattle.race_answers.specs.declared.status.Status.TheVariants.{NoRaces, Races}
 

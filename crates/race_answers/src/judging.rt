@@ -2,7 +2,7 @@
 ghost use Rattle.std.specs.Prelude.{◌≡◌, length, IfSome};
 ghost use Rattle.chart.specs.declared.instance.EventNo.{EventNo};
 ghost use Rattle.chart.specs.Charts.{chart_lines, IsPossible};
-ghost use Rattle.formats.specs.Columns.{AreColumns};
+ghost use Rattle.wanted_columns.specs.Columns.{AreColumns};
 ghost use Rattle.race_answers.specs.Showing.{only_of};
 ghost use Rattle.told_luck.specs.Telling.{IsRaceIn};
 ghost use Rattle.told_races.specs.Telling.{is_there};
@@ -14,11 +14,11 @@ use chart::{Chart, InstanceNo, Names};
 use closure::Closure;
 use completion::Completion;
 use files::ProgramError;
-use formats::{FormatError, columns_in};
 use msc_text::Out;
 use std::alloc::Global;
 use told_luck::{ToldLuck, Verdicts, write_luck};
 use told_races::Told;
+use wanted_columns::{FormatError, columns_in};
 
 /// Which races of a recording are shown, and in which form.
 #[derive(Clone, Copy, Debug)]

@@ -2,7 +2,7 @@
 ghost use Rattle.std.specs.Prelude.{◌≡◌, length, IfSome};
 ghost use Rattle.chart.specs.Charts.{chart_lines, IsPossible};
 ghost use Rattle.files.specs.Answers.{Answers};
-ghost use Rattle.formats.specs.Columns.{AreColumns};
+ghost use Rattle.wanted_columns.specs.Columns.{AreColumns};
 ghost use Rattle.race_answers.specs.Showing.{only_of, Shows, ShowsText};
 ghost use Rattle.race_answers.specs.Statuses.{shown_said};
 ghost use Rattle.told_races.specs.Telling.{is_there};
@@ -12,10 +12,10 @@ use chart::{Chart, InstanceNo, Names};
 use closure::Closure;
 use completion::Completion;
 use files::{ProgramError, Source, Text, answered, closure_of};
-use formats::{FormatError, columns_in};
 use msc_text::Out;
 use std::alloc::Global;
 use told_races::{Form, Told, write_races};
+use wanted_columns::{FormatError, columns_in};
 
 /// Which races of a file are shown, and in which form.
 #[derive(Clone, Copy, Debug)]

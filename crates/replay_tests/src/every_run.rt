@@ -9,10 +9,10 @@ use rand_core::SeedableRng;
 use rand_core::utils::NextWord;
 use rand_pcg::Lcg64Xsh32;
 use replayer::replay;
+use run_steps::Step;
 use schedule::Schedule;
 use std::alloc::Global;
 use std::process::Abort;
-use witness::Step;
 
 /// The most events of a run all of whose orders are tried.
 const MOST: usize = 6;

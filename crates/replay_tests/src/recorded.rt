@@ -3,10 +3,11 @@
 use crate::calls::put;
 use chart::{Event, EventNo, InstanceNo};
 use outcomes::Outcome;
+use run_steps::Step;
 use schedule::{Action, Command, Note, Schedule};
 use std::alloc::Global;
 use std::process::Abort;
-use witness::{Step, overtake};
+use witness::overtake;
 
 pub fn maker(step: &Step) -> InstanceNo {
     match step {

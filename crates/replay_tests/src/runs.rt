@@ -2,9 +2,9 @@
 
 use crate::calls::put;
 use chart::InstanceNo;
+use run_steps::Step;
 use std::alloc::Global;
 use std::process::Abort;
-use witness::Step;
 
 /// An event, told by its lane and its turn there, from 1.
 #[derive(Clone, Copy, PartialEq, Eq)]

@@ -5,10 +5,10 @@ use crate::every_run::{finds_all, has_witness};
 use crate::recorded::{numbers_of, steps_of};
 use chart::MAX_CAPACITY;
 use replayer::replay;
+use run_steps::Step;
 use schedule::Schedule;
 use std::alloc::Global;
 use std::process::Abort;
-use witness::Step;
 
 /// A schedule, how many races it has, and how many of them another run with as many slots turns round.
 pub type Worked = (&'static [u8], usize, usize);

@@ -23,10 +23,10 @@ use Rattle.schedule.specs.declared.command.Word.{Word}
 use Rattle.schedule.specs.declared.command.Word.TheVariants as words
 use Rattle.schedule.specs.Meaning.{Run, State, changed, has_waiting, is_line_full, happens, meaning, takes, first_waiting, are_closed, receives_any, acts, noted, step}
 use Rattle.schedule.proofs.Scanning.{find-found}
-use Rattle.witness.specs.declared.step.Step.{Step}
-use Rattle.witness.specs.declared.step.Step.TheVariants as steps
-use Rattle.witness.specs.Steps.{history_of, step_made}
-use Rattle.witness.proofs.StepLemmas.{after-append}
+use Rattle.run_steps.specs.declared.step.Step.{Step}
+use Rattle.run_steps.specs.declared.step.Step.TheVariants as steps
+use Rattle.run_steps.specs.Steps.{history_of, step_made}
+use Rattle.run_steps.proofs.StepLemmas.{after-append}
 use Rattle.outcomes.specs.Performed.{HasDone}
 use Rattle.replayer.specs.Agreement.{Agrees, HasActed}
 use Rattle.replayer.specs.Recorded.{without_closes, HaveRecorded, IsRecorded}

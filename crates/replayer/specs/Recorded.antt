@@ -7,8 +7,8 @@ use Rattle.chart.specs.Histories.{chart_of, IsLegal}
 use Rattle.schedule.specs.declared.command.Command.{Command}
 use Rattle.schedule.specs.Meaning.{after, meaning}
 use Rattle.schedule.specs.Plans.{Plan}
-use Rattle.witness.specs.declared.step.Step.{Step}
-use Rattle.witness.specs.Steps.{history_of}
+use Rattle.run_steps.specs.declared.step.Step.{Step}
+use Rattle.run_steps.specs.Steps.{history_of}
 use Rattle.replayer.specs.Agreement.{Agrees}
 
 -- the history without its closes

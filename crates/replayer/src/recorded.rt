@@ -3,7 +3,7 @@ ghost use Rattle.std.specs.Prelude.{ℕ, ◌≡◌, ◌≤◌, ◌<◌, suc, len
 ghost use Rattle.board.specs.Views.{BoardView, PostView, line_of};
 ghost use Rattle.schedule.specs.Plans.{IsAmong};
 ghost use Rattle.schedule.specs.Meaning.{start};
-ghost use Rattle.witness.specs.Steps.{step_made};
+ghost use Rattle.run_steps.specs.Steps.{step_made};
 ghost use Rattle.replayer.specs.Agreement.{Agrees};
 ghost use Rattle.replayer.specs.Recorded.{HaveRecorded, IsRecorded};
 
@@ -12,9 +12,9 @@ use crate::run::{board_for, posts_of};
 use board::Post;
 use chart::InstanceNo;
 use outcomes::ReplayError;
+use run_steps::Step;
 use schedule::{Command, Schedule};
 use std::alloc::Global;
-use witness::Step;
 
 /// How many events the line of an instance's post has.
 fn made_by(posts: &[Post<'_>], actor: InstanceNo) -> usize

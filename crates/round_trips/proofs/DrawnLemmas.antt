@@ -26,7 +26,7 @@ use Rattle.diagrams.specs.declared.left_out.LeftOut.{LeftOut}
 use Rattle.diagrams.specs.declared.left_out.Kind.TheVariants as kinds
 use Rattle.diagrams.specs.declared.message.Message.{Message}
 use Rattle.mscgen_diagrams.specs.Entities.{place_of}
-use Rattle.mscgen_text.specs.declared.place.Place.{Place}
+use Rattle.text_bytes.specs.declared.place.Place.{Place}
 use Rattle.round_trips.proofs.Lists.{Each, get_front, get_seam, its_place}
 use Rattle.round_trips.proofs.MscLemmas.{Placed, Entity}
 use Rattle.round_trips.proofs.DiagramLemmas.{IsSaid, names_in, participants_of, arrow_by, item_by, items_from}

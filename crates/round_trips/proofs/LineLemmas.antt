@@ -21,7 +21,7 @@ use Rattle.message_charts.specs.Regions.{goes_on, begins, region_of, event_of, w
 use Rattle.message_charts.specs.Turns.{send_end, receive_end, all_ends, own_ends}
 use Rattle.message_charts.specs.declared.end.End.{End}
 use Rattle.message_charts.specs.declared.message.Named.{Named}
-use Rattle.mscgen_text.specs.declared.place.Place.{Place}
+use Rattle.text_bytes.specs.declared.place.Place.{Place}
 use Rattle.round_trips.proofs.DiagramLemmas.{IsSaid, arrow_by, item_by, items_from}
 use Rattle.round_trips.proofs.DrawnLemmas.{Own, still_own, named_itself, messages_from}
 use Rattle.round_trips.proofs.Lists.{Each, get_seam}

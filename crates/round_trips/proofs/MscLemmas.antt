@@ -6,9 +6,10 @@ use Rattle.mscgen_text.specs.Attributes.{attributes_in, attributes_at, attribute
 use Rattle.mscgen_text.specs.Charts.{EntityView, entity_in, entities_from, entities_in, arcs_from, arcs_in, is_last, msc_in, head_in, body_in, options_in, end_of}
 use Rattle.mscgen_text.specs.Reading.{Tokens, behind_mark, skip_mark, name_in, next_word, skip_spacer, end_in}
 use Rattle.mscgen_text.specs.Tokens.{KindView, Word, Text, Sign, Spacer, Mark}
-use Rattle.mscgen_text.specs.Words.{box_of, attribute_name, is_one_of, is_spelled}
+use Rattle.mscgen_text.specs.Words.{box_of, attribute_name, is_one_of}
+use Rattle.text_bytes.specs.Words.{is_spelled}
 use Rattle.mscgen_text.specs.declared.arc.ArcKind.TheVariants as arcs
-use Rattle.mscgen_text.specs.declared.place.Place.{Place}
+use Rattle.text_bytes.specs.declared.place.Place.{Place}
 use Rattle.round_trips.proofs.Said.{Said, Sent, Told, told_words, relation, label_kinds, said_kinds, all_kinds, rows_kinds, others_kinds, whole_kinds}
 use Rattle.round_trips.proofs.TokenLemmas.{AreKinds}
 

@@ -26,7 +26,7 @@ use Rattle.message_charts.specs.Lines.{lines_from}
 use Rattle.message_charts.specs.Turns.{all_ends}
 use Rattle.mscgen_diagrams.specs.Reading.{diagram_by, diagram_of}
 use Rattle.mscgen_text.specs.Faults.{told, msc_of}
-use Rattle.mscgen_text.specs.Places.{start, behind}
+use Rattle.text_bytes.specs.Places.{start, behind}
 use Rattle.mscgen_text.specs.Tokens.{tokens_of, mark_length}
 use Rattle.round_trips.specs.LevelCharts.{IsLevelChart}
 use Rattle.round_trips.proofs.DiagramLemmas.{IsSaid, participants_of, items_from, diagram_drawn}

@@ -4,13 +4,14 @@ use Rattle.std.specs.List.{list_all, prefix_len}
 use Rattle.std.proofs.Math.Seq.{take-append_seam, drop-append_seam}
 use Rattle.std.proofs.lemmas.Bool.{and_parts}
 use Rattle.std.proofs.lemmas.List.{length-append}
-use Rattle.mscgen_text.specs.Lengths.{is_word_byte, word_length}
+use Rattle.mscgen_text.specs.Lengths.{word_length}
+use Rattle.text_bytes.specs.Classes.{is_word_byte}
 use Rattle.mscgen_text.specs.Pieces.{piece_at}
-use Rattle.mscgen_text.specs.Places.{behind}
+use Rattle.text_bytes.specs.Places.{behind}
 use Rattle.mscgen_text.specs.Reading.{Tokens}
 use Rattle.mscgen_text.specs.Signs.{sign_at}
 use Rattle.mscgen_text.specs.Tokens.{KindView, Word, Text, Sign, Spacer, Mark, kind_of, first_token, tokens_from, inner}
-use Rattle.mscgen_text.specs.declared.place.Place.{Place}
+use Rattle.text_bytes.specs.declared.place.Place.{Place}
 use Rattle.mscgen_text.specs.declared.relation.Relation.TheVariants.{To, LostTo}
 use Rattle.round_trips.proofs.PlainBytes.{ArePlain, closes}
 

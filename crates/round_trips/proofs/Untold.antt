@@ -10,7 +10,7 @@ use Rattle.chart.proofs.NameBytes.{name_bytes}
 use Rattle.label_names.specs.Labels.{Labelling, has_label, with_label, none, line_for_blank, is_told}
 use Rattle.label_names.proofs.Labellings.{label_kept, label_added}
 use Rattle.diagrams.specs.Diagrams.{ParticipantView, ItemView}
-use Rattle.diagrams.specs.Drawing.{renamed_from}
+use Rattle.label_names.specs.Renaming.{renamed_from}
 use Rattle.diagrams.specs.LeftOuts.{with_one, with_one_at, one, and_one}
 use Rattle.diagrams.specs.Naming.{label_of, labels_from}
 use Rattle.diagrams.specs.declared.left_out.Kind.TheVariants as kinds

@@ -6,7 +6,8 @@ use Rattle.std.proofs.lemmas.Fmt.{decimal_digit, decimal_step}
 use Rattle.msc_text.proofs.Lookups.{same_bytes}
 use Rattle.msc_text.specs.Lines.{words_of, Lacks}
 use Rattle.msc_text.specs.declared.fault.Cause.TheVariants.{Capacity, Syntax}
-use Rattle.schedule.specs.FirstLines.{is_digit, is_number, slots, slots_of, capacity_by, capacity_of}
+use Rattle.std.specs.Char.{is_ascii_digit}
+use Rattle.schedule.specs.FirstLines.{is_number, slots, slots_of, capacity_by, capacity_of}
 use Rattle.schedule.specs.Keywords.{written, is_written}
 use Rattle.schedule.specs.declared.keyword.ScheduleWord.TheVariants as keywords
 use Rattle.schedule.proofs.PlainWords.{plain_written}
@@ -36,7 +37,7 @@ record SaySlots (digits : List ℕ) (k : ℕ) : Type 0 where
   pub last : k ≤ MAX_CAPACITY
   pub are : digits ≡ decimal k
 
-digit_bounds : (a : ℕ) → is_digit a ≡ true → (48 ≤ a) × (a ≤ 57)
+digit_bounds : (a : ℕ) → is_ascii_digit a ≡ true → (48 ≤ a) × (a ≤ 57)
 digit_bounds a e =
     let both = and_parts (leb 48 a) (leb a 57) e in
     (leb-true 48 a both.0, leb-true a 57 both.1)
@@ -63,21 +64,21 @@ slots_said : (digits : List ℕ) (k : ℕ) → is_number digits ≡ true → slo
 unfolding is_number slots_of
 slots_said [] k number e = absurd cc
 slots_said (a ∷ []) k number e =
-    let front = and_parts (is_digit a && true) (true || not (eqb a 48)) number in
-    let bounds = digit_bounds a (and_parts (is_digit a) true front.0).0 in
+    let front = and_parts (is_ascii_digit a && true) (true || not (eqb a 48)) number in
+    let bounds = digit_bounds a (and_parts (is_ascii_digit a) true front.0).0 in
     say_one a k bounds.0 bounds.1 e
 slots_said (a ∷ b ∷ []) k number e =
-    let front = and_parts (is_digit a && (is_digit b && true)) (eqb 1 0 || not (eqb a 48)) number in
-    let digits = and_parts (is_digit a) (is_digit b && true) front.0 in
+    let front = and_parts (is_ascii_digit a && (is_ascii_digit b && true)) (eqb 1 0 || not (eqb a 48)) number in
+    let digits = and_parts (is_ascii_digit a) (is_ascii_digit b && true) front.0 in
     let first = digit_bounds a digits.0 in
-    let second = digit_bounds b (and_parts (is_digit b) true digits.1).0 in
-    let low : 49 ≤ a = above_zero a 1 (is_digit a) (is_digit b && true) number refl (omega arith) in
+    let second = digit_bounds b (and_parts (is_ascii_digit b) true digits.1).0 in
+    let low : 49 ≤ a = above_zero a 1 (is_ascii_digit a) (is_ascii_digit b && true) number refl (omega arith) in
     say_two a b k low first.1 second.0 second.1 e
 slots_said (a ∷ b ∷ c ∷ ds) k number e = absurd (let long = long_number (a ∷ b ∷ c ∷ ds) number (omega arith) in cc)
 
 -- ---- a number that is spelled in decimal is read
 
-is_digit_again : (a : ℕ) → 48 ≤ a → a ≤ 57 → is_digit a ≡ true
+is_digit_again : (a : ℕ) → 48 ≤ a → a ≤ 57 → is_ascii_digit a ≡ true
 is_digit_again a low high = and_from (leb 48 a) (leb a 57) (le-leb 48 a low) (le-leb a 57 high)
 
 slots_again : (n : ℕ) → 1 ≤ n → n ≤ MAX_CAPACITY → slots n ≡ Ok n
@@ -99,7 +100,7 @@ one_again k first last =
     let digit = is_digit_again (48 + k) (omega arith) (omega arith) in
     let value : 10 * 0 + (48 + k - 48) ≡ k = omega arith in
     record {
-      number = and_from (is_digit (48 + k) && true) (true || not (eqb (48 + k) 48)) (and_from (is_digit (48 + k)) true digit refl) refl;
+      number = and_from (is_ascii_digit (48 + k) && true) (true || not (eqb (48 + k) 48)) (and_from (is_ascii_digit (48 + k)) true digit refl) refl;
       says = ap slots value ∙ slots_again k first (omega arith);
       plain = ((other.0, tt), (other.1, tt));
     }
@@ -116,7 +117,7 @@ two_again k first last =
     let value : 10 * (10 * 0 + (48 + k / 10 - 48)) + (48 + k % 10 - 48) ≡ k = omega arith in
     let no_zero : eqb a 48 ≡ false = ne_eqb a 48 (λ same. omega arith) in
     record {
-      number = and_from (is_digit a && (is_digit b && true)) (eqb 1 0 || not (eqb a 48)) (and_from (is_digit a) (is_digit b && true) tens (and_from (is_digit b) true ones refl)) (ap not no_zero);
+      number = and_from (is_ascii_digit a && (is_ascii_digit b && true)) (eqb 1 0 || not (eqb a 48)) (and_from (is_ascii_digit a) (is_ascii_digit b && true) tens (and_from (is_ascii_digit b) true ones refl)) (ap not no_zero);
       says = ap slots value ∙ slots_again k (omega arith) last;
       plain = ((other.0, (other'.0, tt)), (other.1, (other'.1, tt)));
     }

@@ -3,7 +3,8 @@ use Rattle.std.proofs.Common.{◌≡◌, ℕ, ◌+◌, ◌-◌, ◌*◌, ◌≤�
 use Rattle.std.specs.List.{list_all}
 use Rattle.std.proofs.lemmas.Bool.{and_parts, or_cases, eqb-true, eqb-false, leb-true, lt-leb, and_right, not-true, cond-false}
 use Rattle.msc_text.specs.declared.fault.Cause.TheVariants.{Capacity}
-use Rattle.schedule.specs.FirstLines.{is_digit, is_number, number_from, slots_of}
+use Rattle.std.specs.Char.{is_ascii_digit}
+use Rattle.schedule.specs.FirstLines.{is_number, number_from, slots_of}
 use Rattle.chart.specs.declared.history.TheConstants.{MAX_CAPACITY}
 
 -- more digits give no smaller number
@@ -29,7 +30,7 @@ long_number [] e long = absurd (omega arith)
 long_number (a ∷ []) e long = absurd (omega arith)
 long_number (a ∷ b ∷ []) e long = absurd (omega arith)
 long_number (a ∷ b ∷ c ∷ ds) e long =
-    let first : 49 ≤ a = above_zero a (length (b ∷ c ∷ ds)) (is_digit a) (list_all is_digit (b ∷ c ∷ ds)) e refl (omega arith) in
+    let first : 49 ≤ a = above_zero a (length (b ∷ c ∷ ds)) (is_ascii_digit a) (list_all is_ascii_digit (b ∷ c ∷ ds)) e refl (omega arith) in
     let n : ℕ = number_from 0 (a ∷ b ∷ c ∷ ds) in
     let grows = number_grows (10 * (10 * (10 * 0 + (a - 48)) + (b - 48)) + (c - 48)) ds in
     let above : MAX_CAPACITY < number_from 0 (a ∷ b ∷ c ∷ ds) = omega (arith, grows) in

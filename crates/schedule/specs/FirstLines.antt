@@ -1,6 +1,7 @@
 -- The first two lines of a schedule's text: the instances' names, and the capacity (this project's profile).
 use Rattle.std.specs.Prelude.{ℕ, ◌+◌, ◌-◌, ◌*◌, Bool, false, not, ◌&&◌, ◌||◌, ◌==◌, List, [], ◌∷◌, length, Result, Ok}
 use Rattle.std.specs.Prelude.{Err, nat_lt, nat_le, if◌then◌else◌}
+use Rattle.std.specs.Char.{is_ascii_digit}
 use Rattle.std.specs.List.{list_all}
 use Rattle.msc_text.specs.Faults.{◌>>=◌}
 use Rattle.msc_text.specs.Instances.{with_name}
@@ -52,14 +53,10 @@ instances_by (keyword ∷ words) = if is_written keywords.Instances keyword
 unfoldable pub names_of : List ℕ → Result (List (List ℕ)) Cause
 names_of line = instances_by (words_of line)
 
--- 0 to 9
-abbrev pub is_digit : ℕ → Bool
-is_digit b = nat_le 48 b && nat_le b 57
-
 -- a number in decimal: digits, of which the first is 0 only where it is alone
 unfoldable pub is_number : List ℕ → Bool
 is_number [] = false
-is_number (b ∷ bs) = is_digit b && list_all is_digit bs && (length bs == 0 || not (b == 48))
+is_number (b ∷ bs) = is_ascii_digit b && list_all is_ascii_digit bs && (length bs == 0 || not (b == 48))
 
 -- the number that digits go on with
 abbrev pub number_from : ℕ → List ℕ → ℕ

@@ -1,10 +1,11 @@
 //! The first two lines: the instances' names, and the capacity.
 ghost use Rattle.std.specs.Prelude.{◌≡◌, IsTrue};
+ghost use Rattle.std.specs.Char.{is_ascii_digit};
 ghost use Rattle.std.specs.List.{list_all};
 ghost use Rattle.msc_text.specs.Faults.{Gives, in_line};
 ghost use Rattle.msc_text.specs.Lines.{words_of};
 ghost use Rattle.schedule.specs.FirstLines.{is_word, are_words, with_word, with_words, instances_of, names_of};
-ghost use Rattle.schedule.specs.FirstLines.{is_digit, is_number, slots, slots_of, capacity_of};
+ghost use Rattle.schedule.specs.FirstLines.{is_number, slots, slots_of, capacity_of};
 
 use crate::keyword::ScheduleWord;
 use crate::schedule::Capacity;
@@ -82,16 +83,10 @@ pub(crate) fn names_in(alloc: Global, line: &[u8]) -> Result<Names, TextError>
     instances_in(alloc, words)
 }
 
-fn is_digit(byte: u8) -> bool
-    ensures { result ≡ is_digit byte }
-{
-    b'0' <= byte && byte <= b'9'
-}
-
 fn are_digits(bytes: &[u8]) -> bool
-    ensures { result ≡ list_all is_digit bytes.now }
+    ensures { result ≡ list_all is_ascii_digit bytes.now }
 {
-    bytes.iter().all(|b| is_digit(*b))
+    bytes.iter().all(|b| b.is_ascii_digit())
 }
 
 /// Whether the word is a number in decimal, with no zero before it.
@@ -102,7 +97,7 @@ fn is_number(word: &[u8]) -> bool
     match word {
         [] => false,
         [first, rest @ ..] => {
-            is_digit(*first) && are_digits(rest) && (rest.is_empty() || *first != b'0')
+            first.is_ascii_digit() && are_digits(rest) && (rest.is_empty() || *first != b'0')
         }
     }
 }

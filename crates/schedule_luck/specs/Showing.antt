@@ -7,8 +7,8 @@ use Rattle.files.specs.Texts.{OfFile}
 use Rattle.files.specs.declared.error.ProgramError.TheVariants as errors
 use Rattle.files.specs.declared.source.Source.{Source}
 use Rattle.files.specs.declared.source.Source.TheVariants.{Run, Drawn}
-use Rattle.formats.specs.declared.error.FormatError.{FormatError}
-use Rattle.formats.specs.declared.error.FormatError.TheVariants.{Program}
+use Rattle.wanted_columns.specs.declared.error.FormatError.{FormatError}
+use Rattle.wanted_columns.specs.declared.error.FormatError.TheVariants.{Program}
 use Rattle.msc_text.specs.Outs.{Sink}
 use Rattle.outcomes.specs.Outcomes.{OutcomeView}
 use Rattle.race_answers.specs.Judging.{ShowsJudged}

@@ -2,7 +2,7 @@
 ghost use Rattle.std.specs.Prelude.{◌≡◌, length, IfOk, IfErr};
 ghost use Rattle.files.specs.Answers.{Answers};
 ghost use Rattle.files.specs.Texts.{ComesFrom, OfFile};
-ghost use Rattle.formats.specs.declared.error.FormatError.TheVariants.{Program};
+ghost use Rattle.wanted_columns.specs.declared.error.FormatError.TheVariants.{Program};
 ghost use Rattle.outcomes.specs.Outcomes.{IsOutcome};
 ghost use Rattle.race_answers.specs.Judging.{ShowsJudged};
 ghost use Rattle.race_answers.specs.Statuses.{shown_said};
@@ -10,12 +10,12 @@ ghost use Rattle.schedule_luck.specs.Showing.{run_of, verdict_in, luck_alone, Sh
 
 use crate::verdicts::Makers;
 use files::{ProgramError, Source, Text, answered, closure_of, is_schedule};
-use formats::{FormatError, columns_in};
 use msc_text::Out;
 use outcomes::Outcome;
 use race_answers::{LuckWanted, Status, Wanted, show_judged};
 use schedule::Schedule;
 use std::alloc::Global;
+use wanted_columns::{FormatError, columns_in};
 
 /// The commands that made the receives of a run.
 fn makers_of<'a>(

@@ -11,7 +11,8 @@ use Rattle.chart.specs.declared.keyword.Keyword.TheVariants.{Msc, EndMsc, Instan
 use Rattle.msc_text.specs.Lines.{Lacks}
 use Rattle.msc_text.proofs.Lookups.{same_bytes}
 use Rattle.msc_text.proofs.Results.{name_bytes, name_some}
-use Rattle.tidying.specs.Typing.{is_blank, is_word, send_word, receive_word, written_out}
+use Rattle.text_bytes.specs.Classes.{is_blank}
+use Rattle.tidying.specs.Typing.{is_word, send_word, receive_word, written_out}
 
 -- each byte is a digit, or comes behind the digits
 abbrev pub IsFirm : List ℕ → Type 0

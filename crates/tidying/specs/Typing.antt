@@ -1,11 +1,8 @@
 -- Texts as people type them, and the exact text that each stands for (this project's profile).
-use Rattle.std.specs.Prelude.{ℕ, Bool, not, ◌+◌, ◌==◌, ◌||◌, List, [], ◌∷◌, ◌++◌, length, Option, position, take, filter, unwrap_or, is_some, codes, bytes_eq, if◌then◌else◌}
+use Rattle.std.specs.Prelude.{ℕ, Bool, not, ◌+◌, ◌==◌, List, [], ◌∷◌, ◌++◌, length, Option, position, take, filter, unwrap_or, is_some, codes, bytes_eq, if◌then◌else◌}
 use Rattle.std.specs.List.{slice_split, flat_map}
 use Rattle.msc_text.specs.Lines.{lines_of, end_of, ended}
-
--- what stands between words as people type them: a space, a tab, or the carriage return before a line feed
-abbrev pub is_blank : ℕ → Bool
-is_blank b = b == 32 || (b == 9 || b == 13)
+use Rattle.text_bytes.specs.Classes.{is_blank}
 
 -- where the comment of a line begins: at its first `#`
 abbrev pub comment_place : List ℕ → Option ℕ

@@ -1,16 +1,10 @@
 //! Lines as people type them.
 ghost use Rattle.std.specs.Prelude.{◌≡◌, map, ◌++◌, IfOk, OnOk};
 ghost use Rattle.std.specs.List.{flat_map};
-ghost use Rattle.tidying.specs.Typing.{is_blank, comment_place, has_comment, uncommented, typed_words, has_word, written_out, behind_space, line_of};
+ghost use Rattle.tidying.specs.Typing.{comment_place, has_comment, uncommented, typed_words, has_word, written_out, behind_space, line_of};
 
 use std::alloc::{AllocError, Global};
-
-/// Whether it stands between words as people type them.
-fn is_blank(byte: u8) -> bool
-    ensures { result ≡ is_blank byte }
-{
-    byte == b' ' || byte == b'\t' || byte == b'\r'
-}
+use text_bytes::is_blank;
 
 /// Where its comment begins, if it has one.
 fn comment_place(line: &[u8]) -> Option<usize>

@@ -2,7 +2,8 @@
 use Rattle.std.specs.Prelude.{ℕ, zero, suc, ◌+◌, ◌==◌, ◌||◌, Bool, List, [], ◌∷◌, codes, length, drop, nat_eq}
 use Rattle.std.specs.Prelude.{if◌then◌else◌}
 use Rattle.std.specs.List.{starts_with}
-use Rattle.mscgen_text.specs.Lengths.{is_blank, line_length}
+use Rattle.text_bytes.specs.Classes.{is_white_space}
+use Rattle.text_bytes.specs.Lines.{line_length}
 
 abbrev pub begins : List ℕ → List ℕ → Bool
 begins bytes known = starts_with nat_eq bytes known
@@ -24,7 +25,7 @@ begins_line bytes = begins bytes (codes "#") || begins bytes (codes "'") || begi
 unfoldable pub gap_length : List ℕ → ℕ
 gap_length [] = 0
 gap_length (b ∷ bs) =
-    if is_blank b then 1 else (
+    if is_white_space b then 1 else (
     if begins (b ∷ bs) (codes "/*") then block_length (codes "/*") (codes "*/") (b ∷ bs) else (
     if begins (b ∷ bs) (codes "/'") then block_length (codes "/'") (codes "'/") (b ∷ bs) else (
     if begins (b ∷ bs) (codes "%%{") then block_length (codes "%%{") (codes "}%%") (b ∷ bs) else (

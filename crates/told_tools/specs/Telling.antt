@@ -4,9 +4,9 @@ use Rattle.std.specs.Prelude.{ℕ, ◌||◌, ◌&&◌, ◌==◌, Bool, true, not
 use Rattle.std.specs.Prelude.{Option, None, Some, Result, Ok, Err, if◌then◌else◌}
 use Rattle.tool_text.specs.declared.Tool.{Tool}
 use Rattle.tool_text.specs.declared.Tool.TheVariants.{Mscgen, PlantUml, Mermaid}
-use Rattle.mscgen_text.specs.Lengths.{is_blank, is_word_byte}
-use Rattle.mscgen_text.specs.Places.{start, behind}
-use Rattle.mscgen_text.specs.Words.{is_spelled}
+use Rattle.text_bytes.specs.Classes.{is_white_space, is_word_byte}
+use Rattle.text_bytes.specs.Places.{start, behind}
+use Rattle.text_bytes.specs.Words.{is_spelled}
 use Rattle.told_tools.specs.Gaps.{begins, gaps_length}
 use Rattle.told_tools.specs.declared.telling.Untold.{Untold}
 use Rattle.told_tools.specs.declared.telling.Untold.TheVariants.{NotRead, Unfinished}
@@ -29,7 +29,7 @@ begins_spelled word bytes =
 -- nothing but blanks stands on the line from here on
 abbrev pub is_bare : List ℕ → Bool
 is_bare [] = true
-is_bare (b ∷ bs) = b == 10 || is_blank b && is_bare bs
+is_bare (b ∷ bs) = b == 10 || is_white_space b && is_bare bs
 
 -- the bytes begin with the line that begins a title block
 unfoldable pub begins_block : List ℕ → Bool

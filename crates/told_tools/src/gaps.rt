@@ -1,42 +1,10 @@
 //! Blanks and the comments of all tools.
-ghost use Rattle.std.specs.Prelude.{◌≡◌, ◌≤◌, ◌<◌, ◌+◌, ◌==◌, length, position, IfSome, IsTrue, nat_eq};
-ghost use Rattle.std.specs.List.{starts_with};
-ghost use Rattle.mscgen_text.specs.Lengths.{is_blank, line_length};
+ghost use Rattle.std.specs.Prelude.{◌≡◌, ◌≤◌, ◌+◌, ◌==◌, length};
+ghost use Rattle.text_bytes.specs.Classes.{is_white_space};
+ghost use Rattle.text_bytes.specs.Lines.{line_length};
 ghost use Rattle.told_tools.specs.Gaps.{length_to, block_length, begins_line, gap_length, gaps_length};
 
-pub(crate) fn is_blank(byte: u8) -> bool
-    ensures { result ≡ is_blank byte }
-{
-    byte == b' ' || byte == b'\t' || byte == b'\n' || byte == b'\r'
-}
-
-/// Whether the bytes begin with these.
-pub(crate) fn begins(bytes: &[u8], known: &[u8]) -> bool
-    ensures value { result ≡ starts_with nat_eq bytes.now known.now }
-    ensures within { IsTrue result → length known.now ≤ length bytes.now }
-{
-    bytes.starts_with(known)
-}
-
-/// The place of the first line feed.
-fn line_feed(bytes: &[u8]) -> Option<usize>
-    ensures value { result ≡ position (λ b. b == 10) bytes.now }
-    ensures within { IfSome result (λ place. place < length bytes.now) }
-{
-    bytes.iter().position(|byte| *byte == b'\n')
-}
-
-/// How many bytes stand before the first line feed, or the end.
-#[tactic(auto, unfolding(mscgen_text::specs::Lengths::line_length))]
-fn line_length(bytes: &[u8]) -> usize
-    ensures value { result ≡ line_length bytes.now }
-    ensures within { result ≤ length bytes.now }
-{
-    match line_feed(bytes) {
-        None => bytes.len(),
-        Some(place) => place,
-    }
-}
+use text_bytes::{begins, is_white_space, line_length};
 
 /// How many bytes stand up to the first of these and with it; all of them, where these don't stand there.
 fn length_to(end: &[u8], bytes: &[u8]) -> usize
@@ -81,7 +49,7 @@ fn gap_length(bytes: &[u8]) -> usize
     let [first, ..] = bytes else {
         return 0;
     };
-    if is_blank(*first) {
+    if is_white_space(*first) {
         return 1;
     }
     if begins(bytes, b"/*") {

@@ -1,13 +1,13 @@
 //! The tool of a diagram.
 ghost use Rattle.std.specs.Prelude.{◌≡◌, map, bytes_eq, take, length};
-ghost use Rattle.mscgen_text.specs.Lengths.{is_word_byte};
-ghost use Rattle.mscgen_text.specs.Places.{start, behind};
-ghost use Rattle.mscgen_text.specs.Words.{is_spelled};
+ghost use Rattle.text_bytes.specs.Classes.{is_word_byte};
+ghost use Rattle.text_bytes.specs.Places.{start, behind};
+ghost use Rattle.text_bytes.specs.Words.{is_spelled};
 ghost use Rattle.told_tools.specs.Telling.{ends_word, begins_word, begins_spelled, is_bare, begins_block, tool_of};
 ghost use Rattle.told_tools.specs.Telling.{told_tool};
 
-use crate::gaps::{begins, gaps_length, is_blank};
-use mscgen_text::Place;
+use crate::gaps::gaps_length;
+use text_bytes::{Place, begins, is_spelled, is_white_space, is_word_byte};
 use tool_text::Tool;
 
 /// Why a text doesn't tell its tool.
@@ -17,15 +17,6 @@ pub enum Untold {
     NotRead(Place),
     /// F21: there is no word.
     Unfinished,
-}
-
-fn is_word_byte(byte: u8) -> bool
-    ensures { result ≡ is_word_byte byte }
-{
-    (b'0' <= byte && byte <= b'9')
-        || (b'A' <= byte && byte <= b'Z')
-        || (b'a' <= byte && byte <= b'z')
-        || byte == b'_'
 }
 
 /// Whether no word goes on here.
@@ -44,14 +35,6 @@ fn begins_word(word: &[u8], bytes: &[u8]) -> bool
     ensures { result ≡ begins_word word.now bytes.now }
 {
     begins(bytes, word) && ends_word(&bytes[word.len()..])
-}
-
-/// Whether the word is this one, in any letters.
-#[tactic(auto, unfolding(mscgen_text::specs::Words::is_spelled))]
-fn is_spelled(known: &[u8], word: &[u8]) -> bool
-    ensures { result ≡ is_spelled known.now word.now }
-{
-    word.eq_ignore_ascii_case(known)
 }
 
 /// Whether the bytes begin with this word, in any letters.
@@ -73,7 +56,7 @@ fn is_bare(bytes: &[u8]) -> bool
         if *byte == b'\n' {
             return true;
         }
-        if !is_blank(*byte) {
+        if !is_white_space(*byte) {
             return false;
         }
         rest = others;

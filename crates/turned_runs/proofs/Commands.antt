@@ -11,9 +11,9 @@ use Rattle.chart.proofs.Begun.{legal_begun}
 use Rattle.schedule.specs.declared.command.Word.{Word}
 use Rattle.schedule.specs.Plans.{IsAmong}
 use Rattle.schedule.specs.Meaning.{Run, State, changed, acts, noted, step}
-use Rattle.witness.specs.declared.step.Step.{Step}
-use Rattle.witness.specs.declared.step.Step.TheVariants.{Send, Receive}
-use Rattle.witness.specs.Steps.{occurrence_of, after, IsOutside}
+use Rattle.run_steps.specs.declared.step.Step.{Step}
+use Rattle.run_steps.specs.declared.step.Step.TheVariants.{Send, Receive}
+use Rattle.run_steps.specs.Steps.{occurrence_of, after, IsOutside}
 use Rattle.witness.proofs.FoundLemmas.{begins-after}
 use Rattle.turned_runs.specs.Schedules.{command_of, commands_of}
 

@@ -21,8 +21,8 @@ use Rattle.chart.proofs.Tally.{ith-append_next}
 use Rattle.closure.specs.Rows.{entry}
 use Rattle.closure.proofs.ReadLemmas.{empty_line, line_short, partner_within, partner_other}
 use Rattle.closure.proofs.RunLemmas.{entry-raised}
-use Rattle.witness.specs.declared.step.Step.{Step}
-use Rattle.witness.specs.Steps.{occurrence_of, history_of, maker_of, step_made}
+use Rattle.run_steps.specs.declared.step.Step.{Step}
+use Rattle.run_steps.specs.Steps.{occurrence_of, history_of, maker_of, step_made}
 use Rattle.turned_runs.specs.Runs.{IsDrawn, IsInTurn, IsNext, IsStopped, IsHeld, MayCome}
 use Rattle.turned_runs.proofs.Partners.{partner-begun, first_named}
 

@@ -4,9 +4,9 @@ use Rattle.std.specs.Prelude.{slice_get}
 use Rattle.chart.specs.declared.history.Occurrence.{Occurrence}
 use Rattle.chart.specs.Charts.{Chart}
 use Rattle.chart.specs.Histories.{by}
-use Rattle.witness.specs.declared.step.Step.{Step}
-use Rattle.witness.specs.declared.step.Step.TheVariants.{Send, Receive}
-use Rattle.witness.specs.Steps.{occurrence_of, maker_of}
+use Rattle.run_steps.specs.declared.step.Step.{Step}
+use Rattle.run_steps.specs.declared.step.Step.TheVariants.{Send, Receive}
+use Rattle.run_steps.specs.Steps.{occurrence_of, maker_of}
 use Rattle.turned_runs.specs.Runs.{IsNext, IsStopped, GoesOnFirst, ComesNext, CannotGoOn, GoesOn, last_line}
 use Rattle.turned_runs.proofs.GoingOn.{IsGoing}
 

@@ -13,10 +13,10 @@ use Rattle.chart.proofs.Belongs.{not_both}
 use Rattle.chart.proofs.Sends.{line_after_send, line_after_receive}
 use Rattle.chart.proofs.Steps.{line_of_other}
 use Rattle.real_races.proofs.Newest.{newest_send}
-use Rattle.witness.specs.declared.step.Step.{Step}
-use Rattle.witness.specs.declared.step.Step.TheVariants.{Send, Receive}
-use Rattle.witness.specs.Steps.{occurrence_of, history_of, maker_of, place_after, IsReceive}
-use Rattle.witness.proofs.StepLemmas.{history-next}
+use Rattle.run_steps.specs.declared.step.Step.{Step}
+use Rattle.run_steps.specs.declared.step.Step.TheVariants.{Send, Receive}
+use Rattle.run_steps.specs.Steps.{occurrence_of, history_of, maker_of, place_after, IsReceive}
+use Rattle.run_steps.proofs.StepLemmas.{history-next}
 use Rattle.witness.proofs.FoundLemmas.{begins-at}
 
 -- who makes a step does what it does

@@ -14,8 +14,9 @@ use Rattle.std.specs.List.{range_with_len}
 use Rattle.real_races.specs.OtherRuns.{IsRunWithin, IsOvertaken, CanBeOvertaken, CanBeOvertakenWithin}
 use Rattle.schedule.specs.Meaning.{meaning}
 use Rattle.schedule.specs.Plans.{Plan}
-use Rattle.witness.specs.declared.step.Step.{Step}
-use Rattle.witness.specs.Steps.{history_of, IsFound, IsOutside}
+use Rattle.run_steps.specs.declared.step.Step.{Step}
+use Rattle.witness.specs.Steps.{IsFound}
+use Rattle.run_steps.specs.Steps.{history_of, IsOutside}
 use Rattle.turned_runs.specs.declared.turning.Turned.{Turned}
 use Rattle.turned_runs.specs.declared.turning.Turned.TheVariants.{Run, Enforced}
 use Rattle.turned_runs.specs.Runs.{IsLeastRun}

@@ -8,8 +8,8 @@ use Rattle.chart.specs.declared.line.TheConstants.{MAX_EVENTS}
 use Rattle.chart.specs.Histories.{by, waiting, chart_of, IsLegal}
 use Rattle.chart.specs.Charts.{Chart}
 use Rattle.real_races.specs.OtherRuns.{IsPossibleWithin}
-use Rattle.witness.specs.declared.step.Step.{Step}
-use Rattle.witness.specs.Steps.{history_of, occurrence_of, step_made}
+use Rattle.run_steps.specs.declared.step.Step.{Step}
+use Rattle.run_steps.specs.Steps.{history_of, occurrence_of, step_made}
 
 -- after h the lane lets p make the event: it has a free slot, or a message that waits
 abbrev pub MayCome : ℕ → List Occurrence → ℕ → Event → Type 0

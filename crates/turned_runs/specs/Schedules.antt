@@ -2,8 +2,8 @@
 use Rattle.std.specs.Prelude.{ℕ, ◌+◌, List, [], ◌∷◌}
 use Rattle.schedule.specs.declared.command.Action.TheVariants as actions
 use Rattle.schedule.specs.declared.command.Command.{Command}
-use Rattle.witness.specs.declared.step.Step.{Step}
-use Rattle.witness.specs.declared.step.Step.TheVariants.{Send, Receive}
+use Rattle.run_steps.specs.declared.step.Step.{Step}
+use Rattle.run_steps.specs.declared.step.Step.TheVariants.{Send, Receive}
 
 -- the command of a step, on this line of the schedule's text
 abbrev pub command_of : ℕ → Step → Command

@@ -5,9 +5,9 @@ use Rattle.chart.specs.declared.event.Event.TheVariants.{Send, Receive}
 use Rattle.chart.specs.declared.instance.EventNo.{EventNo}
 use Rattle.chart.specs.Charts.{Chart, Place, at}
 use Rattle.real_races.specs.OtherRuns.{IsRunWithin, IsOvertaken, IsPossibleWithin, CanBeOvertaken, CanBeOvertakenWithin}
-use Rattle.witness.specs.declared.step.Step.{Step}
+use Rattle.run_steps.specs.declared.step.Step.{Step}
 use Rattle.witness.specs.Orders.{IsInOrder}
-use Rattle.witness.specs.Steps.{history_of, IsOutside}
+use Rattle.run_steps.specs.Steps.{history_of, IsOutside}
 use Rattle.turned_runs.specs.declared.turning.Turned.{Turned}
 use Rattle.turned_runs.specs.declared.turning.Turned.TheVariants.{Run, Enforced}
 

@@ -5,12 +5,14 @@ ghost use Rattle.chart.specs.declared.history.Occurrence.{Occurrence};
 ghost use Rattle.chart.specs.declared.instance.TheConstants.{MAX_INSTANCES};
 ghost use Rattle.chart.specs.declared.line.TheConstants.{MAX_EVENTS};
 ghost use Rattle.chart.specs.Charts.{chart_lines};
-ghost use Rattle.witness.specs.Steps.{occurrence_of, maker_of, step_made, HavePassed, HavePassedSome};
+ghost use Rattle.witness.specs.Steps.{HavePassed, HavePassedSome};
+ghost use Rattle.run_steps.specs.Steps.{occurrence_of, maker_of, step_made};
 ghost use Rattle.turned_runs.specs.Runs.{MayCome, IsHeld, IsNext, IsStopped, AreStopped, GoesOnFirst};
 
 use chart::{Event, InstanceNo, Line, MAX_INSTANCES};
+use run_steps::Step;
 use std::alloc::{AllocError, Global};
-use witness::{Passed, Step};
+use witness::Passed;
 
 /// The event of a line that comes after so many.
 fn next_event(lines: &[Line], line: usize, made: usize) -> Option<Event>

@@ -6,8 +6,8 @@ ghost use Rattle.turned_runs.specs.Runs.{IsRunFound, IsLeastRun};
 use crate::going::Going;
 use crate::tries::next_try;
 use chart::{Chart, MAX_EVENTS};
+use run_steps::Step;
 use std::alloc::{AllocError, Global};
-use witness::Step;
 
 /// A run of a possible chart, its lines as drawn, over lanes of so many slots. There is none exactly where the answer
 /// is `None`: no history with this chart is legal over such lanes.

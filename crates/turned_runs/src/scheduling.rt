@@ -2,14 +2,14 @@
 ghost use Rattle.std.specs.Prelude.{◌≡◌, ◌+◌, ◌≤◌, [], length, IfOk, All};
 ghost use Rattle.chart.specs.Histories.{IsLegal};
 ghost use Rattle.schedule.specs.Meaning.{meaning};
-ghost use Rattle.witness.specs.Steps.{history_of, IsOutside};
+ghost use Rattle.run_steps.specs.Steps.{history_of, IsOutside};
 ghost use Rattle.turned_runs.specs.declared.scheduling.TheConstants.{FIRST_LINE};
 ghost use Rattle.turned_runs.specs.Schedules.{command_of, commands_of};
 
 use chart::Names;
+use run_steps::Step;
 use schedule::{Action, Capacity, Command, Schedule};
 use std::alloc::{AllocError, Global};
-use witness::Step;
 
 /// The line of a schedule's text that has its first command.
 pub const FIRST_LINE: u64 = 3;

@@ -3,12 +3,12 @@ ghost use Rattle.std.specs.Prelude.{ℕ, ◌≡◌, length, slice_get, Some, Mat
 ghost use Rattle.chart.specs.Charts.{chart_event, chart_lines, IsReceiveFrom};
 ghost use Rattle.chart.specs.Histories.{chart_of, IsLegal};
 ghost use Rattle.chart.specs.Places.{IsEvent};
-ghost use Rattle.witness.specs.declared.step.Step.{Step};
-ghost use Rattle.witness.specs.Steps.{history_of, place_after};
+ghost use Rattle.run_steps.specs.declared.step.Step.{Step};
+ghost use Rattle.run_steps.specs.Steps.{history_of, place_after};
 ghost use Rattle.turned_runs.specs.Turns.{place_of, receives};
 
 use chart::{Chart, Event, EventNo};
-use witness::Step;
+use run_steps::Step;
 
 /// The event of this number, `None` where the chart has none.
 pub fn event_of(chart: &Chart, event: EventNo) -> Option<Event>

@@ -6,8 +6,8 @@ ghost use Rattle.chart.specs.HistoryLines.{history_lines};
 ghost use Rattle.chart.specs.Histories.{chart_of, IsLegal};
 ghost use Rattle.chart.specs.Places.{IsEvent};
 ghost use Rattle.schedule.specs.Meaning.{meaning};
-ghost use Rattle.witness.specs.declared.step.Step.{Step};
-ghost use Rattle.witness.specs.Steps.{history_of, place_after, IsReceive};
+ghost use Rattle.run_steps.specs.declared.step.Step.{Step};
+ghost use Rattle.run_steps.specs.Steps.{history_of, place_after, IsReceive};
 ghost use Rattle.replayer.specs.Recorded.{IsRecorded};
 ghost use Rattle.turned_runs.specs.Runs.{IsLeastRun};
 ghost use Rattle.turned_runs.specs.Turns.{place_of, IsTurned, IsKept};
@@ -18,9 +18,10 @@ use crate::tries::next_try;
 use chart::{Chart, EventNo, MAX_EVENTS};
 use outcomes::ReplayError;
 use replayer::recorded_run;
+use run_steps::Step;
 use schedule::Schedule;
 use std::alloc::{AllocError, Global};
-use witness::{Step, overtake};
+use witness::overtake;
 
 /// What is found for a receive and another event.
 #[derive(Debug, Drop)]

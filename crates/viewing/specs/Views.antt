@@ -53,7 +53,7 @@ use Rattle.view_line.specs.declared.request.Request.TheVariants as requests
 use Rattle.views.specs.Answers.{why_said, witness_said}
 use Rattle.views.specs.Views.{Whys}
 use Rattle.views.specs.Witnessing.{Witnesses}
-use Rattle.views.specs.declared.pair.Asked.{Asked}
+use Rattle.asked_pairs.specs.declared.pair.Asked.{Asked}
 use Rattle.witness_pictures.specs.Answers.{picture_said}
 use Rattle.witness_pictures.specs.Drawing.{DrawsWitnessText}
 use Rattle.viewing.specs.Given.{named_so, file_said, files_said, told_files, AreGiven, IsNotGiven}

@@ -34,7 +34,7 @@ use Rattle.view_line.specs.declared.request.Reading.{Reading}
 use Rattle.view_line.specs.declared.request.Rows as lines
 use Rattle.view_line.specs.declared.request.Rows.TheVariants as row_words
 use Rattle.view_line.specs.declared.request.Showing.{Showing}
-use Rattle.views.specs.declared.pair.Asked.{Asked}
+use Rattle.asked_pairs.specs.declared.pair.Asked.{Asked}
 use Rattle.witness_pictures.specs.declared.drawing.Wanted as witnesses
 
 -- the number that a word says, in decimal digits alone

@@ -5,12 +5,13 @@ ghost use Rattle.viewing.specs.Views.{DoesPair, ViewsPair, ViewsComparison};
 ghost use Rattle.viewing.specs.Wanted.{IsNumberIn, IsAsked, comparison_form};
 
 use crate::giving::{Giver, first_in};
+use asked_pairs::Asked;
 use comparisons::{Form, compare};
 use files::{ProgramError, number_in};
 use msc_text::Out;
 use std::alloc::Global;
 use view_line::{Compare, Pair, Question};
-use views::{Asked, why, witness};
+use views::{why, witness};
 
 /// The number that a word says. G1: it says none.
 pub(crate) fn number_by(word: &str) -> Result<u64, ProgramError>

@@ -7,11 +7,11 @@ ghost use Rattle.viewing.specs.Wanted.{IsBeside};
 use crate::asking::asked_by;
 use crate::drawing::title_of;
 use crate::giving::{Giver, first_in};
+use asked_pairs::Asked;
 use files::ProgramError;
 use msc_text::Out;
 use std::alloc::Global;
 use view_line::DrawWitness;
-use views::Asked;
 use witness_pictures::{Wanted, draw_witness};
 
 /// The two events, and what is to be drawn. G1: a number isn't one.

@@ -1,4 +1,2 @@
-pub mod Growing
-pub mod PairLemmas
 pub mod RaceLemmas
 pub mod TurningLemmas

@@ -10,10 +10,10 @@ use Rattle.chart.proofs.Belongs.{one_sender}
 use Rattle.causes.specs.Pasts.{IsPast}
 use Rattle.causes.proofs.PastLemmas.{one_past}
 use Rattle.closure.specs.Faults.{place_of}
-use Rattle.views.specs.declared.pair.Pair.{Pair}
-use Rattle.views.specs.declared.saying.Saying.{Saying}
+use Rattle.asked_pairs.specs.declared.pair.Pair.{Pair}
+use Rattle.asked_pairs.specs.declared.saying.Saying.{Saying}
 use Rattle.views.specs.Explaining.{AreRaceSayings, OneExplanationLaw}
-use Rattle.views.specs.Sayings.{race_sayings}
+use Rattle.asked_pairs.specs.Sayings.{race_sayings}
 
 -- the partner of a receive is its sender
 sender_of : (q : ℕ) (m : Event) → is_receive_from q m ≡ true → partner_of m ≡ q

@@ -1,23 +1,13 @@
 -- What is printed on standard error.
 use Rattle.std.specs.Prelude.{ℕ, Bool, true, false, List, ◌++◌, Option, None, Some, codes, Result}
-use Rattle.files.specs.Answers.{Said, refusal, said_of}
+use Rattle.files.specs.Answers.{Said, said_of}
 use Rattle.files.specs.Refusals as refusals
-use Rattle.named_refusals.specs.NamedRefusals.{missing_text}
-use Rattle.views.specs.declared.error.ViewError.{ViewError}
-use Rattle.views.specs.declared.error.ViewError.TheVariants.{Program, NoSuchEvent, NotEarlier, NotAReceive}
-use Rattle.views.specs.declared.error.ViewError.TheVariants.{ManySlots}
+use Rattle.asked_pairs.specs.declared.error.ViewError.{ViewError}
+use Rattle.asked_pairs.specs.Answers.{error_said}
 use Rattle.views.specs.declared.verdict.Verdict.{Verdict}
 use Rattle.views.specs.declared.verdict.Verdict.TheVariants.{Enforced, Race, Hidden}
 use Rattle.views.specs.declared.verdict.Witnessed.{Witnessed}
 use Rattle.views.specs.Verdicts.{code_of}
-
--- the line of a refusal
-abbrev pub refusal_text : ViewError → List ℕ
-refusal_text (Program cause) = refusals.refusal_text cause
-refusal_text (NoSuchEvent missing) = missing_text missing
-refusal_text NotEarlier = refusals.labelled_text (codes "F32 NotAPair") None
-refusal_text (NotAReceive receive) = refusals.labelled_text (codes "F32 NotAPair") (Some receive)
-refusal_text (ManySlots slots) = refusals.labelled_text (codes "F33 ManySlots") (Some slots)
 
 unfoldable pub hidden_text : List ℕ
 hidden_text = codes "a coregion hides this pair\n"
@@ -58,10 +48,6 @@ verdict_said verdict = record { status = code_of verdict; told = told_of verdict
 abbrev pub witnessed_said : Witnessed → Said
 witnessed_said witnessed =
     record { status = code_of witnessed.verdict; told = told_of_witness witnessed.has_closes witnessed.verdict }
-
--- of a refusal
-abbrev pub error_said : ViewError → Said
-error_said error = refusal (refusal_text error)
 
 abbrev pub why_said : Result Verdict ViewError → Said
 why_said = said_of verdict_said error_said

@@ -4,7 +4,7 @@ use Rattle.std.specs.List.{flat_map}
 use Rattle.chart.specs.declared.event.Event.{Event}
 use Rattle.chart.specs.Events.{is_in}
 use Rattle.chart.specs.Charts.{Chart, chart_event, chart_lines, IsReceiveFrom, IsPossible}
-use Rattle.chart.specs.Order.{IsEarlier, Before, region_of_event}
+use Rattle.chart.specs.Order.{Before, region_of_event}
 use Rattle.closure.specs.Faults.{place_of}
 use Rattle.causes.specs.declared.link.Link.{Link}
 use Rattle.causes.specs.Chains.{IsShortestChain}
@@ -13,21 +13,16 @@ use Rattle.msc_text.specs.Outs.{Sink}
 use Rattle.msc_text.specs.Writing.{Puts, Breaks}
 use Rattle.files.specs.declared.error.ProgramError.TheVariants as errors
 use Rattle.files.specs.Files.{Named, IsRefused}
-use Rattle.views.specs.declared.error.ViewError.{ViewError}
-use Rattle.views.specs.declared.error.ViewError.TheVariants.{Program, ManySlots}
-use Rattle.views.specs.declared.pair.Asked.{Asked}
-use Rattle.views.specs.declared.pair.Pair.{Pair}
-use Rattle.views.specs.declared.saying.Saying.{Saying}
+use Rattle.asked_pairs.specs.declared.error.ViewError.{ViewError}
+use Rattle.asked_pairs.specs.declared.error.ViewError.TheVariants.{Program, ManySlots}
+use Rattle.asked_pairs.specs.declared.pair.Asked.{Asked}
+use Rattle.asked_pairs.specs.declared.pair.Pair.{Pair}
+use Rattle.asked_pairs.specs.declared.saying.Saying.{Saying}
 use Rattle.views.specs.declared.verdict.Verdict.{Verdict}
 use Rattle.views.specs.declared.verdict.Verdict.TheVariants.{Enforced, Race, Hidden}
-use Rattle.views.specs.Pairs.{pair_of}
-use Rattle.views.specs.Sayings.{race_sayings, chain_sayings}
-use Rattle.views.specs.SayingText.{saying_text}
-
--- a receive of the chart, and an earlier event of its line
-pub record IsPair (c : Chart) (pair : Pair) : Type 0 where
-  pub earlier : IsEarlier (place_of pair.earlier) (place_of pair.receive)
-  pub receive : (q : ℕ) × IsReceiveFrom c q (place_of pair.receive)
+use Rattle.asked_pairs.specs.Pairs.{pair_of}
+use Rattle.asked_pairs.specs.Sayings.{race_sayings, chain_sayings}
+use Rattle.asked_pairs.specs.SayingText.{saying_text}
 
 -- whether both events are in one coregion
 abbrev pub AreInOneRegion : Chart → Pair → Bool → Type 0

@@ -15,15 +15,15 @@ use Rattle.schedule.specs.declared.command.Command.{Command}
 use Rattle.schedule.specs.Plans.{Plan}
 use Rattle.turned_runs.specs.declared.showing.Shown.{Shown}
 use Rattle.turned_runs.specs.declared.showing.Shown.TheVariants as founds
-use Rattle.views.specs.declared.error.ViewError.{ViewError}
-use Rattle.views.specs.declared.error.ViewError.TheVariants.{Program, ManySlots}
+use Rattle.asked_pairs.specs.declared.error.ViewError.{ViewError}
+use Rattle.asked_pairs.specs.declared.error.ViewError.TheVariants.{Program, ManySlots}
 use Rattle.views.specs.declared.finding.Found.{Found}
-use Rattle.views.specs.declared.pair.Asked.{Asked}
-use Rattle.views.specs.declared.pair.Pair.{Pair}
+use Rattle.asked_pairs.specs.declared.pair.Asked.{Asked}
+use Rattle.asked_pairs.specs.declared.pair.Pair.{Pair}
 use Rattle.views.specs.declared.verdict.Verdict.TheVariants.{Enforced}
 use Rattle.views.specs.declared.verdict.Witnessed.{Witnessed}
 use Rattle.views.specs.Explaining.{AreInOneRegion}
-use Rattle.views.specs.Pairs.{pair_of}
+use Rattle.asked_pairs.specs.Pairs.{pair_of}
 use Rattle.views.specs.Turning.{Origin, IsAskedFor, IsWitness, NeedsSlots}
 use Rattle.views.specs.Turning.Origin.{recorded, drawn}
 use Rattle.views.specs.Verdicts.{verdict_in}

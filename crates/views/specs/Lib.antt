@@ -1,9 +1,6 @@
 pub mod Answers
 pub mod Explaining
 pub mod Finding
-pub mod Pairs
-pub mod Sayings
-pub mod SayingText
 pub mod Turning
 pub mod Verdicts
 pub mod Views

@@ -18,15 +18,15 @@ use Rattle.turned_runs.specs.Turns.{IsLeastTurn, IsKept}
 use Rattle.turned_runs.specs.declared.scheduling.TheConstants.{FIRST_LINE}
 use Rattle.turned_runs.specs.declared.turning.Turned.{Turned}
 use Rattle.witness.specs.Orders.{IsInOrder}
-use Rattle.witness.specs.declared.step.Step.{Step}
-use Rattle.views.specs.declared.error.ViewError.{ViewError}
-use Rattle.views.specs.declared.error.ViewError.TheVariants.{Program, ManySlots}
-use Rattle.views.specs.declared.pair.Asked.{Asked}
-use Rattle.views.specs.declared.pair.Pair.{Pair}
+use Rattle.run_steps.specs.declared.step.Step.{Step}
+use Rattle.asked_pairs.specs.declared.error.ViewError.{ViewError}
+use Rattle.asked_pairs.specs.declared.error.ViewError.TheVariants.{Program, ManySlots}
+use Rattle.asked_pairs.specs.declared.pair.Asked.{Asked}
+use Rattle.asked_pairs.specs.declared.pair.Pair.{Pair}
 use Rattle.views.specs.declared.verdict.Verdict.{Verdict}
 use Rattle.views.specs.declared.verdict.Verdict.TheVariants.{Enforced, Race, Hidden}
 use Rattle.views.specs.Explaining.{AreInOneRegion}
-use Rattle.views.specs.Pairs.{pair_of}
+use Rattle.asked_pairs.specs.Pairs.{pair_of}
 
 -- the two events of a possible chart that are asked about
 abbrev pub IsAskedFor : Named → Asked → Result Pair ViewError → Type 0

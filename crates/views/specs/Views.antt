@@ -2,9 +2,9 @@
 use Rattle.std.specs.Prelude.{List, ℕ, Result}
 use Rattle.msc_text.specs.Outs.{Sink}
 use Rattle.files.specs.Texts.{OfFile, named_of}
-use Rattle.views.specs.declared.error.ViewError.{ViewError}
-use Rattle.views.specs.declared.error.ViewError.TheVariants.{Program}
-use Rattle.views.specs.declared.pair.Asked.{Asked}
+use Rattle.asked_pairs.specs.declared.error.ViewError.{ViewError}
+use Rattle.asked_pairs.specs.declared.error.ViewError.TheVariants.{Program}
+use Rattle.asked_pairs.specs.declared.pair.Asked.{Asked}
 use Rattle.views.specs.declared.verdict.Verdict.{Verdict}
 use Rattle.views.specs.Explaining.{Explains}
 

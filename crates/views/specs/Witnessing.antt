@@ -10,14 +10,14 @@ use Rattle.files.specs.Files.{Named, IsRefused}
 use Rattle.files.specs.Texts.{OfFile, named_of}
 use Rattle.turned_runs.specs.declared.showing.Shown.{Shown}
 use Rattle.turned_runs.specs.declared.showing.Shown.TheVariants as founds
-use Rattle.views.specs.declared.error.ViewError.{ViewError}
-use Rattle.views.specs.declared.error.ViewError.TheVariants.{Program, ManySlots}
-use Rattle.views.specs.declared.pair.Asked.{Asked}
-use Rattle.views.specs.declared.pair.Pair.{Pair}
+use Rattle.asked_pairs.specs.declared.error.ViewError.{ViewError}
+use Rattle.asked_pairs.specs.declared.error.ViewError.TheVariants.{Program, ManySlots}
+use Rattle.asked_pairs.specs.declared.pair.Asked.{Asked}
+use Rattle.asked_pairs.specs.declared.pair.Pair.{Pair}
 use Rattle.views.specs.declared.verdict.Verdict.{Verdict}
 use Rattle.views.specs.declared.verdict.Witnessed.{Witnessed}
 use Rattle.views.specs.Finding.{origin_of, closes_in}
-use Rattle.views.specs.Pairs.{pair_of}
+use Rattle.asked_pairs.specs.Pairs.{pair_of}
 use Rattle.views.specs.Turning.{Origin, Shows}
 
 module _ {S : Type 0} (sink : S → Sink) where

@@ -1,42 +1,13 @@
 //! What is told on standard error: refusals, and what is told beside an answer.
 ghost use Rattle.std.specs.Prelude.{◌≡◌, ◌++◌};
 ghost use Rattle.msc_text.specs.Writing.{Wrote, Adds};
-ghost use Rattle.files.specs.Refusals.{Tried};
 ghost use Rattle.views.specs.Answers.{hidden_text, enforced_text, closes_text, verdict_said, witnessed_said};
 ghost use Rattle.files.specs.Answers.{Tells};
-ghost use Rattle.views.specs.Answers.{error_said, refusal_text, told_of_hidden};
+ghost use Rattle.views.specs.Answers.{told_of_hidden};
 
-use crate::error::ViewError;
 use crate::verdict::{Verdict, Witnessed};
-use files::{Answer, refused_by, tell};
+use files::{Answer, tell};
 use msc_text::{Out, TextBuffer, WriteError};
-use named_refusals::refused_missing;
-
-/// Prints the line of a refusal, and answers the exit status, which is 2 whether or not the line could be written.
-pub fn refused<V: Out>(error: &ViewError, err: &mut V) -> u8
-    ensures status { result ≡ 2 }
-    ensures line { Tried V.sink err.old err.new (refusal_text error.now) }
-{
-    match error {
-        ViewError::Program(cause) => files::refused(cause, err),
-        ViewError::NoSuchEvent(missing) => refused_missing(missing, err),
-        ViewError::NotEarlier => refused_by(b"F32 NotAPair", None, err),
-        ViewError::NotAReceive(receive) => refused_by(b"F32 NotAPair", Some(*receive), err),
-        ViewError::ManySlots(slots) => refused_by(b"F33 ManySlots", Some(*slots), err),
-    }
-}
-
-impl Answer for ViewError {
-    ghost said = { error_said };
-
-    fn status(&self) -> u8 {
-        2
-    }
-
-    fn tell<V: Out>(&self, err: &mut V) {
-        let _ = refused(self, err);
-    }
-}
 
 #[tactic(auto, unfolding(crate::specs::Answers::hidden_text))]
 fn hidden_text() -> &'static [u8]

@@ -2,18 +2,18 @@
 ghost use Rattle.std.specs.Prelude.{◌≡◌, ◌≤◌, length, IfOk};
 ghost use Rattle.chart.specs.declared.instance.TheConstants.{MAX_INSTANCES};
 ghost use Rattle.chart.specs.Charts.{chart_lines};
-ghost use Rattle.views.specs.Explaining.{IsPair, AreInOneRegion, AreRaceSayings, OneExplanationLaw};
+ghost use Rattle.views.specs.Explaining.{AreInOneRegion, AreRaceSayings, OneExplanationLaw};
+ghost use Rattle.asked_pairs.specs.Pairs.{IsPair};
 ghost use Rattle.views.specs.Explaining.{IsExplained, Explains};
 
-use crate::error::ViewError;
 use crate::explaining::{OwnLine, chain_sayings, race_sayings};
-use crate::pair::{Asked, Pair, events_of, pair_in};
-use crate::saying::{Saying, write_sayings};
 use crate::verdict::Verdict;
+use asked_pairs::{Asked, Pair, Saying, ViewError, pair_in, write_sayings};
 use causes::{past, shortest_chain};
 use chart::{Chart, Line, Names};
 use closure::Closure;
 use files::{ProgramError, closure_of};
+use line_events::events_of;
 use msc_text::Out;
 use std::alloc::{AllocError, Global};
 

@@ -3,10 +3,10 @@
 ghost use Rattle.std.specs.Prelude.{◌≡◌, ◌≤◌, ◌++◌, ◌-◌, nat_lt, length, IfOk, OnOk};
 ghost use Rattle.chart.specs.declared.instance.TheConstants.{MAX_INSTANCES};
 ghost use Rattle.closure.specs.Rows.{entry};
-ghost use Rattle.views.specs.Sayings.{passing, comes_first, comes_too, so, order, befores, alsos, rows, race_sayings};
-ghost use Rattle.views.specs.Sayings.{chain_sayings};
+ghost use Rattle.asked_pairs.specs.Sayings.{passing, comes_first, comes_too, so, order, befores, alsos, rows, race_sayings};
+ghost use Rattle.asked_pairs.specs.Sayings.{chain_sayings};
 
-use crate::saying::Saying;
+use asked_pairs::Saying;
 use causes::Link;
 use chart::{Event, InstanceNo};
 use closure::Numbers;

@@ -5,15 +5,14 @@ ghost use Rattle.chart.specs.Charts.{chart_lines};
 ghost use Rattle.files.specs.Texts.{named_of, ComesFrom};
 ghost use Rattle.outcomes.specs.Outcomes.{IsOutcome};
 ghost use Rattle.turned_runs.specs.Turns.{IsTurned};
-ghost use Rattle.views.specs.Explaining.{IsPair};
+ghost use Rattle.asked_pairs.specs.Pairs.{IsPair};
 ghost use Rattle.views.specs.Finding.{IsFoundOf, IsFound, is_close, has_closes, closes_in, origin_of, Judges};
 ghost use Rattle.views.specs.Turning.{Origin, first_of, IsKeptFrom, IsAskedFor};
 ghost use Rattle.views.specs.Turning.Origin.{drawn, recorded};
 
-use crate::error::ViewError;
 use crate::explained::are_in_one_region;
-use crate::pair::{Asked, Pair, pair_in};
 use crate::verdict::{Verdict, Witnessed};
+use asked_pairs::{Asked, Pair, ViewError, pair_in};
 use chart::{Chart, Names};
 use files::{ProgramError, Source, closure_of};
 use outcomes::Outcome;

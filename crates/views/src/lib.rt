@@ -21,22 +21,15 @@
 #![tactic(auto)]
 
 mod answering;
-mod error;
 mod explained;
 mod explaining;
 mod finding;
-mod pair;
-mod saying;
 mod verdict;
 mod view;
 mod witnessing;
 
-pub use answering::refused;
-pub use error::ViewError;
 pub use explained::one_explanation_law;
 pub use finding::{Found, found_in, judged};
-pub use pair::{Asked, Pair, events_of, pair_in};
-pub use saying::write_chain;
 pub use verdict::{Verdict, Witnessed};
 pub use view::{why, why_of_source};
 pub use witnessing::{witness, witness_of_source};

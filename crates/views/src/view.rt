@@ -5,10 +5,9 @@ ghost use Rattle.views.specs.Answers.{why_said};
 ghost use Rattle.views.specs.Explaining.{Explains};
 ghost use Rattle.views.specs.Views.{Whys};
 
-use crate::error::ViewError;
 use crate::explained::why_in;
-use crate::pair::Asked;
 use crate::verdict::Verdict;
+use asked_pairs::{Asked, ViewError};
 use files::{Source, Text, answered};
 use msc_text::Out;
 use std::alloc::Global;

@@ -4,10 +4,9 @@ ghost use Rattle.files.specs.Texts.{ComesFrom};
 ghost use Rattle.views.specs.Answers.{witness_said};
 ghost use Rattle.views.specs.Witnessing.{WritesShown, FindsIn, Witnesses};
 
-use crate::error::ViewError;
 use crate::finding::{found_in, judged};
-use crate::pair::Asked;
 use crate::verdict::Witnessed;
+use asked_pairs::{Asked, ViewError};
 use files::{ProgramError, Source, Text, answered};
 use msc_text::Out;
 use std::alloc::Global;

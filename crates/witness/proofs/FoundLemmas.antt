@@ -17,13 +17,14 @@ use Rattle.real_races.proofs.Turns.IsWithin.{send, receive}
 use Rattle.real_races.proofs.Newest.{next_place, newest_send, newest_receive}
 use Rattle.real_races.proofs.Sound.{wanted_first, sound}
 use Rattle.real_races.proofs.Slots.{is_run, comes_first_there, wants_up}
-use Rattle.witness.specs.declared.step.Step.{Step}
-use Rattle.witness.specs.declared.step.Step.TheVariants.{Send, Receive}
+use Rattle.run_steps.specs.declared.step.Step.{Step}
+use Rattle.run_steps.specs.declared.step.Step.TheVariants.{Send, Receive}
 use Rattle.witness.specs.declared.turned.Turned.{Turned}
 use Rattle.witness.specs.Orders.{picked, IsInOrder}
-use Rattle.witness.specs.Steps.{AreTurned, occurrence_of, after, history_of, turn_of, place_after, is_within, with_step, nothing, comes}
+use Rattle.witness.specs.Steps.{AreTurned, is_within, with_step, nothing, comes}
+use Rattle.run_steps.specs.Steps.{occurrence_of, after, history_of, turn_of, place_after}
 use Rattle.witness.proofs.PickLemmas.{comes-is}
-use Rattle.witness.proofs.StepLemmas.{after-append, history-next}
+use Rattle.run_steps.proofs.StepLemmas.{after-append, history-next}
 
 -- a history goes on by steps
 pub begins-after : (h : List Occurrence) (ys : List Step) → Begins h (after h ys)

@@ -2,9 +2,10 @@
 use Rattle.std.proofs.Common.{◌≡◌, ℕ, ◌+◌, ◌++◌, true, false, Bool, cond, List, [], ◌∷◌, take, Some, sym, ap, ◌∙◌, add-one}
 use Rattle.std.specs.Prelude.{map, slice_get, option_to_list}
 use Rattle.real_races.specs.Walks.{Wanted}
-use Rattle.witness.specs.declared.step.Step.{Step}
+use Rattle.run_steps.specs.declared.step.Step.{Step}
 use Rattle.witness.specs.Orders.{picked}
-use Rattle.witness.specs.Steps.{history_of, turn_of, outside_regions, is_within, comes, comes_so}
+use Rattle.witness.specs.Steps.{is_within, comes, comes_so}
+use Rattle.run_steps.specs.Steps.{history_of, turn_of, outside_regions}
 
 -- the next step is picked
 pub picked-taken : (passes : ℕ → Bool) (steps run : List Step) (n : ℕ) (x y : Step) → slice_get steps n ≡ Some x → y ≡ outside_regions x → passes n ≡ true → run ≡ picked passes steps n → run ++ y ∷ [] ≡ picked passes steps (n + 1)

@@ -1,23 +1,20 @@
--- What one step more makes of the lanes' counts, and of the history.
+-- What one step more makes of the lanes' counts.
 use Rattle.std.proofs.Common.{◌≡◌, ℕ, ◌+◌, ◌==◌, max, Bool, true, false, cond, List, [], ◌∷◌, ◌++◌, length, take, Some, refl, sym, ap, ◌∙◌, subst, arith, eqb-true}
 use Rattle.std.proofs.lemmas.Bool.{and_parts}
-use Rattle.std.proofs.lemmas.List.{length_push, take_more}
-use Rattle.std.proofs.lemmas.Option.{slice_get_within, get_or_from_slice_get}
+use Rattle.std.proofs.lemmas.List.{length_push}
+use Rattle.std.proofs.lemmas.Option.{slice_get_within}
 use Rattle.std.specs.Prelude.{slice_get}
 use Rattle.chart.specs.declared.history.Occurrence.{Occurrence}
 use Rattle.chart.specs.declared.history.Occurrence.TheVariants as occurrences
 use Rattle.chart.specs.Messages.{Content}
 use Rattle.chart.specs.Histories.{is_lane, sent, received}
 use Rattle.real_races.specs.Walks.{sends_in, raise}
-use Rattle.witness.specs.declared.step.Step.{Step}
-use Rattle.witness.specs.declared.step.Step.TheVariants.{Send, Receive}
+use Rattle.run_steps.specs.declared.step.Step.{Step}
+use Rattle.run_steps.specs.declared.step.Step.TheVariants.{Send, Receive}
 use Rattle.witness.specs.declared.turned.Turned.{Turned}
-use Rattle.witness.specs.Steps.{occurrence_of, after, history_of, turn_of, AreTurned, outside_regions, IsOutside}
+use Rattle.witness.specs.Steps.{AreTurned}
+use Rattle.run_steps.specs.Steps.{history_of, turn_of}
 use Rattle.chart.proofs.Places.{each-push}
-
--- the first elements, and one more
-pub front_next : {X : Type 0} → (xs : List X) (k : ℕ) (x : X) → slice_get xs k ≡ Some x → take (k + 1) xs ≡ take k xs ++ x ∷ []
-front_next xs k x is = take_more xs k x (slice_get_within xs k x is) ∙ ap (λ y. take k xs ++ y ∷ []) (get_or_from_slice_get xs k x x is)
 
 -- a send raises the number of its lane
 pub sends-raised : (h : List Occurrence) (a b : ℕ) (m : Content) (q p : ℕ) → raise (sends_in h) a b (length (sent h a b) + 1) q p ≡ length (sent (occurrences.Send a b m ∷ h) q p)
@@ -41,25 +38,6 @@ receives-raised h a b c q p = go (is_lane b a q p) refl
         omega (arith, same)
     go false lane = refl
 
--- steps after steps
-pub after-append : (h : List Occurrence) (xs ys : List Step) → after h (xs ++ ys) ≡ after (after h xs) ys
-after-append h [] ys = refl
-after-append h (x ∷ xs) ys = after-append (occurrence_of x ∷ h) xs ys
-
--- one step more
-pub history-next : (steps : List Step) (i : ℕ) (x : Step) → slice_get steps i ≡ Some x → history_of (take (i + 1) steps) ≡ occurrence_of x ∷ history_of (take i steps)
-history-next steps i x is = ap history_of (front_next steps i x is) ∙ after-append [] (take i steps) (x ∷ [])
-
--- a step that was put outside of coregions is
-pub outside_regions-outside : (x : Step) → IsOutside (outside_regions x)
-outside_regions-outside (Send a b name) = refl
-outside_regions-outside (Receive a b region) = refl
-
--- as many events as steps
-pub after-length : (h : List Occurrence) (xs : List Step) → length (after h xs) ≡ length h + length xs
-after-length h [] = omega arith
-after-length h (x ∷ xs) = omega (arith, after-length (occurrence_of x ∷ h) xs)
-
 -- no step has a turn at first
 pub turned-none : (steps : List Step) → AreTurned steps 0 []
 turned-none steps = record { whole = refl; each = λ i t is. absurd (omega (arith, slice_get_within [] i t is)) }
@@ -70,11 +48,3 @@ turned-push steps many turned t are is turn = record {
   whole = length_push turned t ∙ ap (λ x. x + 1) are.whole;
   each = each-push (λ i (x : Turned). (slice_get steps i ≡ Some x.step) × (x.turn ≡ turn_of (history_of (take i steps)) x.step)) turned t are.each (subst (λ i. (slice_get steps i ≡ Some t.step) × (t.turn ≡ turn_of (history_of (take i steps)) t.step)) (sym are.whole) (is, turn));
 }
-
--- steps behind a history
-pub after-onto : (h : List Occurrence) (xs : List Step) → after h xs ≡ history_of xs ++ h
-after-onto h xs = go [] xs
-  where
-    go : (f : List Occurrence) (ys : List Step) → after (f ++ h) ys ≡ after f ys ++ h
-    go f [] = refl
-    go f (y ∷ ys) = go (occurrence_of y ∷ f) ys

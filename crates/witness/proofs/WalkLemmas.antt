@@ -5,10 +5,11 @@ use Rattle.std.proofs.lemmas.Bool.{cases_lt, le-leb, lt-leb, le-ltb}
 use Rattle.chart.specs.declared.history.Occurrence.{Occurrence}
 use Rattle.chart.specs.Histories.{sent, received}
 use Rattle.real_races.specs.Walks.{Wanted, with_send, with_receive, step, wanted, inner, outer}
-use Rattle.witness.specs.declared.step.Step.{Step}
-use Rattle.witness.specs.declared.step.Step.TheVariants.{Send, Receive}
-use Rattle.witness.specs.Steps.{occurrence_of, history_of, turn_of, outside_regions, is_within, is_wanted, with_step}
-use Rattle.witness.proofs.StepLemmas.{history-next}
+use Rattle.run_steps.specs.declared.step.Step.{Step}
+use Rattle.run_steps.specs.declared.step.Step.TheVariants.{Send, Receive}
+use Rattle.witness.specs.Steps.{is_within, is_wanted, with_step}
+use Rattle.run_steps.specs.Steps.{occurrence_of, history_of, turn_of, outside_regions}
+use Rattle.run_steps.proofs.StepLemmas.{history-next}
 
 -- fewer than n came before the turn n at most
 lt-is : (i n : ℕ) → nat_lt i n ≡ nat_le (i + 1) n

@@ -4,8 +4,8 @@ use Rattle.std.specs.Prelude.{◌↔◌, option_to_list, if◌then◌else◌}
 use Rattle.chart.specs.Charts.{Place}
 use Rattle.chart.specs.Histories.{chart_of}
 use Rattle.real_races.specs.OtherRuns.{BeforeWithin}
-use Rattle.witness.specs.declared.step.Step.{Step}
-use Rattle.witness.specs.Steps.{history_of, place_after, outside_regions}
+use Rattle.run_steps.specs.declared.step.Step.{Step}
+use Rattle.run_steps.specs.Steps.{history_of, place_after, outside_regions}
 
 -- of the first n steps those whose number passes, in their order, and outside of coregions
 abbrev pub picked : (ℕ → Bool) → List Step → ℕ → List Step

@@ -1,48 +1,16 @@
--- Runs as lists of steps, the first one first, and the histories that they make (this project's profile).
-use Rattle.std.specs.Prelude.{◌≡◌, ℕ, ◌+◌, ◌-◌, ◌<◌, ◌^◌, ◌⊎◌, ◌||◌, ◌==◌, nat_le, Bool, false, Option, None, List, []}
-use Rattle.std.specs.Prelude.{◌∷◌, length, take, slice_get, Some}
+-- What is found of runs: the turns of their steps, and what is wanted with a step (this project's profile).
+use Rattle.std.specs.Prelude.{◌≡◌, ℕ, ◌+◌, ◌-◌, ◌<◌, ◌^◌, ◌⊎◌, ◌||◌, ◌==◌, nat_le, Bool, false, Option, None, List}
+use Rattle.std.specs.Prelude.{length, take, slice_get, Some}
 use Rattle.chart.specs.Words.{Counts}
 use Rattle.chart.specs.declared.history.Occurrence.{Occurrence}
-use Rattle.chart.specs.declared.history.Occurrence.TheVariants as occurrences
-use Rattle.chart.specs.declared.event.Event.{Event}
-use Rattle.chart.specs.declared.event.Event.TheVariants as events
-use Rattle.chart.specs.Histories.{by, sent, received, chart_of}
-use Rattle.chart.specs.Charts.{Place, at}
-use Rattle.witness.specs.declared.step.Step.{Step}
-use Rattle.witness.specs.declared.step.Step.TheVariants.{Send, Receive}
+use Rattle.chart.specs.Histories.{sent, received, chart_of}
+use Rattle.chart.specs.Charts.{Place}
+use Rattle.run_steps.specs.declared.step.Step.{Step}
+use Rattle.run_steps.specs.declared.step.Step.TheVariants.{Send, Receive}
 use Rattle.witness.specs.declared.turned.Turned.{Turned}
 use Rattle.witness.specs.Tables.{AreCounts, AreFlags}
 use Rattle.real_races.specs.Walks.{Wanted, raise}
 use Rattle.real_races.specs.OtherRuns.{IsRunWithin, IsOvertaken, BeforeWithin}
-
--- what a step does; a message has no body here
-abbrev pub occurrence_of : Step → Occurrence
-occurrence_of (Send a b name) = occurrences.Send a b (record { name = name; body = [] })
-occurrence_of (Receive a b region) = occurrences.Receive a b region
-
--- the step by which p makes the event
-abbrev pub step_made : ℕ → Event → Step
-step_made p (events.Send q name) = Send p q name
-step_made p (events.Receive q name region) = Receive p q region
-
--- the history after these steps, behind h
-abbrev pub after : List Occurrence → List Step → List Occurrence
-after h [] = h
-after h (x ∷ steps) = after (occurrence_of x ∷ h) steps
-
--- the history that steps make
-abbrev pub history_of : List Step → List Occurrence
-history_of steps = after [] steps
-
--- the turn of a step on its lane, from 1, after h
-abbrev pub turn_of : List Occurrence → Step → ℕ
-turn_of h (Send a b name) = length (sent h a b) + 1
-turn_of h (Receive a b region) = received h b a + 1
-
--- the place in the chart of the event that the i-th step makes, counted from 0
-abbrev pub place_after : List Step → ℕ → Step → Place
-place_after steps i x =
-    at (by (occurrence_of x)) (length (chart_of (history_of (take i steps)) (by (occurrence_of x))) + 1)
 
 -- each of the first steps has its turn
 pub record AreTurned (steps : List Step) (many : ℕ) (turned : List Turned) : Type 0 where
@@ -62,20 +30,6 @@ HasTurns h = (q p : ℕ) → (length (sent h q p) + 1 < 2 ^ 64) × (received h q
 -- what was passed, so few that a number can tell the next turn
 abbrev pub HavePassedSome : Counts → Counts → Type 0
 HavePassedSome sends receives = (h : List Occurrence) × HavePassed sends receives h × HasTurns h
-
--- the step outside of coregions
-abbrev pub outside_regions : Step → Step
-outside_regions (Send a b name) = Send a b name
-outside_regions (Receive a b region) = Receive a b 0
-
--- it is outside of coregions
-abbrev pub IsOutside : Step → Type 0
-IsOutside x = outside_regions x ≡ x
-
--- the instance whose step it is
-abbrev pub maker_of : Step → ℕ
-maker_of (Send a b name) = a
-maker_of (Receive a b region) = a
 
 -- a step of this turn is among those that are wanted of its lane
 abbrev pub is_within : Wanted → Step → ℕ → Bool
@@ -108,10 +62,6 @@ pub record StandFor (sends receives : Counts) (lines : List Bool) (w : Wanted) :
   pub sent : AreCounts sends w.sends
   pub received : AreCounts receives w.receives
   pub all : AreFlags lines w.all
-
--- at this number a step receives
-abbrev pub IsReceive : List Step → ℕ → Type 0
-IsReceive steps i = (a b region : ℕ) × (slice_get steps i ≡ Some (Receive a b region))
 
 -- what is found for two steps: that the first is the second or before it, or a run in which the second overtakes it
 abbrev pub IsFound : ℕ → ℕ → List Occurrence → Place → Place → Option (List Step) → Type 0

@@ -14,10 +14,8 @@ mod counts;
 mod needs;
 mod overtaking;
 mod parting;
-mod step;
 mod turned;
 
 pub use counts::Counts;
 pub use overtaking::overtake;
-pub use step::Step;
 pub use turned::Passed;

@@ -1,12 +1,13 @@
 //! What has to come with a receive.
 ghost use Rattle.std.specs.Prelude.{◌≡◌, List, length, IfOk};
 ghost use Rattle.real_races.specs.Walks.{Wanted, wanted};
-ghost use Rattle.witness.specs.Steps.{history_of, AreTurned, is_within, is_wanted, with_step, nothing, StandFor};
+ghost use Rattle.witness.specs.Steps.{AreTurned, is_within, is_wanted, with_step, nothing, StandFor};
+ghost use Rattle.run_steps.specs.Steps.{history_of};
 
 use crate::counts::Counts;
-use crate::step::Step;
 use crate::turned::Turned;
 use chart::MAX_INSTANCES;
+use run_steps::Step;
 use std::alloc::{AllocError, Global};
 
 /// So many sends and receives of each lane, and all that is left of some lines.

@@ -1,14 +1,15 @@
 //! Another run in which a receive overtakes an event.
 ghost use Rattle.std.specs.Prelude.{◌≡◌, ◌<◌, ℕ, length, slice_get, Some, IfSome, IfOk, All, option_map};
 ghost use Rattle.chart.specs.Histories.{IsLegal};
-ghost use Rattle.witness.specs.declared.step.Step.{Step};
+ghost use Rattle.run_steps.specs.declared.step.Step.{Step};
 ghost use Rattle.witness.specs.Orders.{IsInOrder};
-ghost use Rattle.witness.specs.Steps.{history_of, place_after, IsReceive, IsFound, IsOutside};
+ghost use Rattle.witness.specs.Steps.{IsFound};
+ghost use Rattle.run_steps.specs.Steps.{history_of, place_after, IsReceive, IsOutside};
 
 use crate::needs::Needs;
 use crate::parting::part;
-use crate::step::Step;
 use crate::turned::with_turns;
+use run_steps::Step;
 use std::alloc::{AllocError, Global};
 
 /// Of a run whose lanes have so many slots, a receive in it and another step, both by their numbers from 0: a run with

@@ -2,11 +2,12 @@
 ghost use Rattle.std.specs.Prelude.{◌≡◌, ◌++◌, length, not, IfOk, All};
 ghost use Rattle.real_races.specs.Walks.{Wanted, parted};
 ghost use Rattle.witness.specs.Orders.{picked};
-ghost use Rattle.witness.specs.Steps.{history_of, AreTurned, StandFor, IsOutside, comes};
+ghost use Rattle.witness.specs.Steps.{AreTurned, StandFor, comes};
+ghost use Rattle.run_steps.specs.Steps.{history_of, IsOutside};
 
 use crate::needs::Needs;
-use crate::step::Step;
 use crate::turned::Turned;
+use run_steps::Step;
 use std::alloc::{AllocError, Global};
 
 /// The steps that have to come, and then the others, each in their order and outside of coregions.

@@ -2,11 +2,12 @@
 ghost use Rattle.std.specs.Prelude.{◌≡◌, [], ◌∷◌, List, length, IfOk};
 ghost use Rattle.chart.specs.declared.history.Occurrence.{Occurrence};
 ghost use Rattle.chart.specs.Histories.{waiting};
-ghost use Rattle.witness.specs.Steps.{occurrence_of, turn_of, AreTurned, HavePassed, HavePassedSome};
+ghost use Rattle.witness.specs.Steps.{AreTurned, HavePassed, HavePassedSome};
+ghost use Rattle.run_steps.specs.Steps.{occurrence_of, turn_of};
 
 use crate::counts::Counts;
-use crate::step::Step;
 use chart::InstanceNo;
+use run_steps::Step;
 use std::alloc::{AllocError, Global};
 
 /// A step with its turn: the how-many-th send or receive of its lane it is, from 1.

@@ -11,9 +11,9 @@ use Rattle.files.specs.declared.error.ProgramError.TheVariants.{Usage, File, Mem
 use Rattle.files.specs.declared.source.Source.{Source}
 use Rattle.files.specs.Files.{Named}
 use Rattle.files.specs.Texts.{named_of}
-use Rattle.formats.specs.Columns.{AreColumns, RefusesColumns}
-use Rattle.formats.specs.declared.error.FormatError.{FormatError}
-use Rattle.formats.specs.declared.error.FormatError.TheVariants as columns
+use Rattle.wanted_columns.specs.Columns.{AreColumns, RefusesColumns}
+use Rattle.wanted_columns.specs.declared.error.FormatError.{FormatError}
+use Rattle.wanted_columns.specs.declared.error.FormatError.TheVariants as columns
 use Rattle.formats.specs.Preparing.{reports_in}
 use Rattle.formats.specs.Windows.{IsWindow}
 use Rattle.formats.specs.declared.drawing.Wanted as whole
@@ -24,10 +24,10 @@ use Rattle.pictures.specs.Pictures.{PictureView}
 use Rattle.pictures.specs.Preparing.{IsPictureOf}
 use Rattle.schedule.specs.Meaning.{meaning}
 use Rattle.schedule.specs.Plans.{Plan}
-use Rattle.views.specs.declared.error.ViewError.{ViewError}
-use Rattle.views.specs.declared.error.ViewError.TheVariants as pairs
-use Rattle.views.specs.declared.pair.Asked.{Asked}
-use Rattle.views.specs.declared.pair.Pair.{Pair}
+use Rattle.asked_pairs.specs.declared.error.ViewError.{ViewError}
+use Rattle.asked_pairs.specs.declared.error.ViewError.TheVariants as pairs
+use Rattle.asked_pairs.specs.declared.pair.Asked.{Asked}
+use Rattle.asked_pairs.specs.declared.pair.Pair.{Pair}
 use Rattle.views.specs.declared.finding.Found.{Found}
 use Rattle.views.specs.declared.verdict.Witnessed.{Witnessed}
 use Rattle.views.specs.Finding.{origin_of, IsFound, IsJudged, Judges}

@@ -1,9 +1,9 @@
 -- What is told of a witness's picture.
 use Rattle.std.specs.Prelude.{Result}
 use Rattle.files.specs.Answers.{Said, said_of}
-use Rattle.formats.specs.Answers as columns
+use Rattle.wanted_columns.specs.Answers as columns
 use Rattle.views.specs.Answers.{witnessed_said}
-use Rattle.views.specs.Answers as pairs
+use Rattle.asked_pairs.specs.Answers as pairs
 use Rattle.views.specs.declared.verdict.Witnessed.{Witnessed}
 use Rattle.witness_pictures.specs.declared.error.Undrawn.{Undrawn}
 use Rattle.witness_pictures.specs.declared.error.Undrawn.TheVariants.{Columns, Pair}

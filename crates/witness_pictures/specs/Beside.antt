@@ -7,7 +7,7 @@ use Rattle.picture_elements.specs.declared.spot.Spot.{Spot}
 use Rattle.pictures.specs.Pictures.{PictureView, spot_of}
 use Rattle.pictures.specs.PictureText.{picture_text, tall_of}
 use Rattle.text_parts.specs.Pieces.{escaped}
-use Rattle.views.specs.declared.pair.Pair.{Pair}
+use Rattle.asked_pairs.specs.declared.pair.Pair.{Pair}
 use Rattle.witness_pictures.specs.declared.beside.Marked.{Marked}
 
 -- the colour of the marks, and the ground of both pictures

@@ -6,22 +6,22 @@ use Rattle.files.specs.declared.error.ProgramError.TheVariants as errors
 use Rattle.files.specs.declared.source.Source.{Source}
 use Rattle.files.specs.declared.text.Text.TheVariants.{Schedule}
 use Rattle.files.specs.Texts.{OfFile, named_of, ComesFrom, IsSourceOf}
-use Rattle.formats.specs.Columns.{AreColumns}
+use Rattle.wanted_columns.specs.Columns.{AreColumns}
 use Rattle.formats.specs.Drawing.{IsWanted}
 use Rattle.formats.specs.Preparing.{turns_in}
 use Rattle.formats.specs.declared.drawing.Wanted as whole
-use Rattle.formats.specs.declared.error.FormatError.TheVariants as names
+use Rattle.wanted_columns.specs.declared.error.FormatError.TheVariants as names
 use Rattle.msc_text.specs.Outs.{Sink}
 use Rattle.msc_text.specs.Writing.{Puts, Breaks}
 use Rattle.pictures.specs.Pictures.{PictureView}
 use Rattle.pictures.specs.Preparing.{IsPictureOf}
 use Rattle.turned_runs.specs.declared.showing.Shown.{Shown}
 use Rattle.turned_runs.specs.declared.showing.Shown.TheVariants as founds
-use Rattle.views.specs.declared.error.ViewError.{ViewError}
-use Rattle.views.specs.declared.error.ViewError.TheVariants.{Program, ManySlots}
+use Rattle.asked_pairs.specs.declared.error.ViewError.{ViewError}
+use Rattle.asked_pairs.specs.declared.error.ViewError.TheVariants.{Program, ManySlots}
 use Rattle.views.specs.declared.finding.Found.{Found}
-use Rattle.views.specs.declared.pair.Asked.{Asked}
-use Rattle.views.specs.declared.pair.Pair as pairs
+use Rattle.asked_pairs.specs.declared.pair.Asked.{Asked}
+use Rattle.asked_pairs.specs.declared.pair.Pair as pairs
 use Rattle.views.specs.declared.verdict.Witnessed.{Witnessed}
 use Rattle.views.specs.Finding.{origin_of, IsFound, Judges}
 use Rattle.witness_pictures.specs.declared.drawing.Subject.{Subject}

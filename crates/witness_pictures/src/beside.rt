@@ -4,12 +4,12 @@ ghost use Rattle.msc_text.specs.Writing.{Wrote, Adds};
 ghost use Rattle.witness_pictures.specs.Beside.{ground, corner, square, ring, group_start, square_at, ring_at, spot_from};
 ghost use Rattle.witness_pictures.specs.Beside.{marks, side_text, square_entry, ring_entry, key, beside_text};
 
+use asked_pairs::Pair;
 use chart::EventNo;
 use msc_text::{Out, TextBuffer, WriteError};
 use picture_elements::{Spot, add_group_end, add_svg_end, add_svg_start, add_title};
 use pictures::{Picture, add_picture};
 use text_parts::{Piece, add_pieces};
-use views::Pair;
 
 /// The events that are marked on a picture: the earlier one, and the receive.
 #[derive(Clone, Copy)]

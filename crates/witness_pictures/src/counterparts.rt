@@ -6,7 +6,7 @@ ghost use Rattle.witness_pictures.specs.Counterparts.{is_like, turn_of, nth, nth
 
 use chart::{Event, EventNo, Line};
 use layout::event_in;
-use views::events_of;
+use line_events::events_of;
 
 /// Whether both are sends to one instance, or receives from one.
 fn is_like(event: &Event, other: &Event) -> bool

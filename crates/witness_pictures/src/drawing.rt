@@ -14,16 +14,17 @@ use crate::beside::{Marked, write_beside};
 use crate::counterparts::counterpart;
 use crate::error::Undrawn;
 use crate::stage::{Stage, picture_of, stage_of, whole};
+use asked_pairs::{Asked, Pair};
 use chart::{Chart, InstanceNo};
 use closure::Closure;
 use files::{ProgramError, Source, Text, answered};
-use formats::columns_in;
 use msc_text::Out;
 use replayer::replay;
 use schedule::Schedule;
 use std::alloc::Global;
 use turned_runs::Shown;
-use views::{Asked, Pair, Witnessed, found_in, judged};
+use views::{Witnessed, found_in, judged};
+use wanted_columns::columns_in;
 
 /// What is wanted of both pictures.
 #[derive(Clone, Copy, Debug)]

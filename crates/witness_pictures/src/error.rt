@@ -1,10 +1,10 @@
 //! Why nothing was drawn.
 ghost use Rattle.witness_pictures.specs.Answers.{undrawn_said};
 
+use asked_pairs::ViewError;
 use files::{Answer, ProgramError};
-use formats::FormatError;
 use msc_text::Out;
-use views::ViewError;
+use wanted_columns::FormatError;
 
 /// Why nothing was drawn: the first of these that applies.
 #[derive(Debug, Drop)]
@@ -17,7 +17,7 @@ pub enum Undrawn {
 
 impl From<ProgramError> for Undrawn {
     ghost use Rattle.std.specs.Prelude.{◌≡◌};
-    ghost use Rattle.views.specs.declared.error.ViewError.TheVariants.{Program};
+    ghost use Rattle.asked_pairs.specs.declared.error.ViewError.TheVariants.{Program};
     ghost use Rattle.witness_pictures.specs.declared.error.Undrawn.TheVariants.{Pair};
 
     ghost from_gives = { λ cause e. e ≡ Pair (Program cause) };

@@ -12,7 +12,7 @@ unreachable-requires c =
     let w = partner_within c.args.lines.now c.args.line c.args.place _ c.requires.chart c.requires.line at_r in
     c.requires.sends (at (suc c.args.line) (suc c.args.place))
     (none_left (chart_lines c.args.lines.now) (length c.args.lines.now) c.args.line c.args.place c.args.passed.now c.requires.passed c.place-sender.result c.in-Receive.from c.in-Receive.name c.in-Receive.region (omega (arith, w, c.place-sender.ensures.value)) c.place-sender.ensures.value at_r
-    (no_more _ _ _ _ _ _ c.events_of-events.ensures c.at_place.ensures c.at.ensures c.in-None.ensures.next))
+    (no_more _ _ _ _ _ _ c.events_at-events.ensures c.at_place.ensures c.at.ensures c.in-None.ensures.next))
 
 pub returns-in-Send-clause-passed : goal.returns-in-Send-clause-passed
 returns-in-Send-clause-passed c =
@@ -26,7 +26,7 @@ pub returns-in-Some-clause-passed : goal.returns-in-Some-clause-passed
 returns-in-Some-clause-passed c =
     let at_r = c.event_at.ensures ∙ ap (λ x. Some x) c.in-Receive.is in
     let w = partner_within c.args.lines.now c.args.line c.args.place _ c.requires.chart c.requires.line at_r in
-    let next = IsNextSend-same _ (chart_lines c.args.lines.now (suc c.place-sender.result)) _ (suc c.args.line) _ _ c.in-Some.index c.events_of-events.ensures c.at_place.ensures c.at.ensures c.in-Some.ensures.next in
+    let next = IsNextSend-same _ (chart_lines c.args.lines.now (suc c.place-sender.result)) _ (suc c.args.line) _ _ c.in-Some.index c.events_at-events.ensures c.at_place.ensures c.at.ensures c.in-Some.ensures.next in
     rw c.set.ensures
     (HasPassed-receive (chart_lines c.args.lines.now) (length c.args.lines.now) c.args.line c.args.place c.args.passed.now c.requires.passed c.place-sender.result c.in-Receive.from c.in-Receive.name c.in-Receive.region (omega (arith, w, c.place-sender.ensures.value)) c.place-sender.ensures.value at_r c.in-Some.index next)
 
@@ -34,7 +34,7 @@ pub returns-in-Some-clause-heard : goal.returns-in-Some-clause-heard
 returns-in-Some-clause-heard c =
     let at_r = c.event_at.ensures ∙ ap (λ x. Some x) c.in-Receive.is in
     let w = partner_within c.args.lines.now c.args.line c.args.place _ c.requires.chart c.requires.line at_r in
-    let next = IsNextSend-same _ (chart_lines c.args.lines.now (suc c.place-sender.result)) _ (suc c.args.line) _ _ c.in-Some.index c.events_of-events.ensures c.at_place.ensures c.at.ensures c.in-Some.ensures.next in
+    let next = IsNextSend-same _ (chart_lines c.args.lines.now (suc c.place-sender.result)) _ (suc c.args.line) _ _ c.in-Some.index c.events_at-events.ensures c.at_place.ensures c.at.ensures c.in-Some.ensures.next in
     let belongs = belongs_to_next (chart_lines c.args.lines.now) (length c.args.lines.now) c.args.line c.args.place c.args.passed.now c.requires.passed c.place-sender.result c.in-Receive.from c.in-Receive.name c.in-Receive.region (omega (arith, w, c.place-sender.ensures.value)) c.place-sender.ensures.value at_r c.in-Some.index next in
     rw c.set.ensures
     (heard-receive c.args.lines.now (suc c.args.line) (suc c.args.place) c.place-sender.result c.in-Some.index c.args.passed.now (omega (arith, w, c.place-sender.ensures.value)) (omega arith) (omega (arith, c.in-Some.ensures.later, c.at.ensures)) belongs c.requires.heard)

@@ -1,14 +1,14 @@
 use Rattle.std.proofs.Common.{sym, ◌∙◌, ap, map}
 use Rattle.diagrams.specs.declared.diagram.Participant.{Participant}
-use Rattle.diagrams.specs.Drawing.{renamed_view, with_renamed}
-use Rattle.diagrams.proofs.DrawnLemmas.{renamed_more, renamed_stop, renamed_end}
+use Rattle.label_names.specs.Renaming.{renamed_view, with_renamed}
+use Rattle.label_names.proofs.RenamingLemmas.{renamed_more, renamed_stop, renamed_end}
 use Rattle.diagrams.proofs.renaming.tell_participants.Goals as goal
 
 pub loop-place-preserved : goal.loop-place-preserved
 loop-place-preserved c =
-    renamed_more (λ (p : Participant). p.label.items) (map renamed_view c.loop-place.told.items) (map renamed_view c.tell.new.told.items) c.loop-place.place c.args.participants.now c.index-participants-place.result c.args.names.now c.in-Some.name
+    renamed_more (λ (p : Participant). p.label.items) (map renamed_view c.loop-place.told.items) (map renamed_view c.tell_label.new.told.items) c.loop-place.place c.args.participants.now c.index-participants-place.result c.args.names.now c.in-Some.name
     c.loop-place-test.true c.index-participants-place.is (sym c.in-Some.ensures)
-    (c.in_ok-tell.ensures ∙ ap (λ label. with_renamed (map renamed_view c.loop-place.told.items) label c.in-Some.name) c.as_slice.ensures.value)
+    (c.in_ok-tell_label.ensures ∙ ap (λ label. with_renamed (map renamed_view c.loop-place.told.items) label c.in-Some.name) c.as_slice.ensures.value)
     ∙ c.loop-place.invariant
 
 pub returns-in_default : goal.returns-in_default

@@ -1,6 +1,6 @@
 use Rattle.std.proofs.Common.{◌≡◌, map, drop}
 use Rattle.diagrams.specs.declared.diagram.Participant.{Participant}
-use Rattle.diagrams.specs.Drawing.{renamed_view, renamed_from}
+use Rattle.label_names.specs.Renaming.{renamed_view, renamed_from}
 use Rattle.diagrams.proofs.renaming.tell_participants.Given as goal
 
 abbrev pub invariant-loop-place : goal.invariant-loop-place

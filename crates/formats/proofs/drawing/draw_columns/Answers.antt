@@ -11,7 +11,7 @@ use Rattle.pictures.specs.Pictures.{PictureView}
 use Rattle.pictures.specs.Preparing.{IsPictureOf}
 use Rattle.formats.specs.declared.drawing.Wanted.{Wanted}
 use Rattle.formats.specs.declared.windows.Window.{Window}
-use Rattle.formats.specs.Columns.{AreColumns}
+use Rattle.wanted_columns.specs.Columns.{AreColumns}
 use Rattle.formats.specs.Drawing.{only_of, IsWanted}
 use Rattle.formats.specs.Preparing.{IsPrepared}
 use Rattle.formats.specs.Windows.{IsWindow, HasNoWindow}

@@ -5,7 +5,7 @@ use Rattle.files.specs.declared.error.ProgramError.TheVariants.{Memory}
 use Rattle.files.specs.Files.{IsRefused}
 use Rattle.files.specs.Texts.{named_of}
 use Rattle.formats.specs.Preparing.{turns_in}
-use Rattle.formats.specs.Columns.{AreColumns, RefusesColumns}
+use Rattle.wanted_columns.specs.Columns.{AreColumns, RefusesColumns}
 use Rattle.formats.specs.Drawing.{only_of, Draws}
 use Rattle.formats.proofs.RefusedLemmas.{no_columns, not_drawn}
 use Rattle.formats.proofs.drawing.draw_source.Goals as goal

@@ -4,7 +4,7 @@ use Rattle.files.proofs.TextLemmas.{not_read, not_replayed, was_done}
 use Rattle.files.specs.Texts.{named_of}
 use Rattle.formats.specs.Preparing.{turns_in}
 use Rattle.formats.specs.declared.error.DrawError.TheVariants.{Format}
-use Rattle.formats.specs.declared.error.FormatError.TheVariants.{Program}
+use Rattle.wanted_columns.specs.declared.error.FormatError.TheVariants.{Program}
 use Rattle.formats.specs.Drawing.{Draws}
 use Rattle.formats.proofs.drawing.draw_text.Goals as goal
 

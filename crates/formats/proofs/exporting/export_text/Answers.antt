@@ -2,7 +2,7 @@ use Rattle.std.proofs.lemmas.Result.{err_from_is_err_and}
 use Rattle.files.proofs.TextLemmas.{not_read, not_replayed, was_done}
 use Rattle.files.specs.Texts.{named_of}
 use Rattle.formats.specs.Preparing.{turns_in}
-use Rattle.formats.specs.declared.error.FormatError.TheVariants.{Program}
+use Rattle.wanted_columns.specs.declared.error.FormatError.TheVariants.{Program}
 use Rattle.formats.specs.Exporting.{Exports}
 use Rattle.formats.proofs.exporting.export_text.Goals as goal
 

@@ -2,7 +2,7 @@ use Rattle.std.proofs.Common.{◌≡◌, List, length, map, sym, ap, ◌∙◌, 
 use Rattle.chart.specs.Charts.{LineView, IsPossible, chart_lines}
 use Rattle.message_charts.proofs.LinesLemmas.{length-lines}
 use Rattle.diagrams.specs.Diagrams.{item_view}
-use Rattle.diagrams.specs.Drawing.{renamed_view}
+use Rattle.label_names.specs.Renaming.{renamed_view}
 use Rattle.joined_diagrams.specs.Joined.{joined_view}
 use Rattle.joined_diagrams.proofs.DrawingLemmas.{drawn_parts}
 use Rattle.joined_diagrams.proofs.drawing.joined_drawn_of.Goals as goal

@@ -2,9 +2,9 @@ use Rattle.std.proofs.Common.{◌≡◌, List, length, Ok, sym, ap, ◌∙◌, s
 use Rattle.chart.specs.Charts.{LineView, chart_lines}
 use Rattle.closure.specs.Faults.{place_of}
 use Rattle.mending.specs.Mends.{Mends, Fails}
-use Rattle.views.specs.Pairs.{pair_of}
-use Rattle.views.specs.Explaining.{IsPair}
-use Rattle.views.proofs.PairLemmas.{IsPair-from_words}
+use Rattle.asked_pairs.specs.Pairs.{pair_of}
+use Rattle.asked_pairs.specs.Pairs.{IsPair}
+use Rattle.asked_pairs.proofs.PairLemmas.{IsPair-from_words}
 use Rattle.mend_answers.specs.Naming.{IsMessageName}
 use Rattle.mend_answers.specs.Showing.{Writes, name_asked}
 use Rattle.mend_answers.proofs.ShowLemmas.{came_so, refused_shown, named_for}

@@ -1,5 +1,6 @@
 use Rattle.std.proofs.Common.{◌∙◌}
-use Rattle.mscgen_text.specs.Words.{is_one_of, is_spelled}
+use Rattle.mscgen_text.specs.Words.{is_one_of}
+use Rattle.text_bytes.specs.Words.{is_spelled}
 use Rattle.mscgen_text.proofs.WordLists.{any_listed}
 use Rattle.mscgen_text.proofs.words.is_one_of.Goals as goal
 

@@ -1,6 +1,6 @@
 use Rattle.std.proofs.Common.{◌≡◌, suc, ◌+◌, ◌++◌, ◌∷◌, [], sym, ap, ◌∙◌, add-one}
-use Rattle.views.specs.Sayings.{passing, comes_too}
-use Rattle.views.proofs.Growing.{passing-taken, passing-left}
+use Rattle.asked_pairs.specs.Sayings.{passing, comes_too}
+use Rattle.asked_pairs.proofs.Growing.{passing-taken, passing-left}
 use Rattle.page_marks.proofs.marks.also_before.Goals as goal
 use Rattle.page_marks.proofs.marks.also_before.Goals.{then-comes_too+in_ok-push, else-comes_too}
 

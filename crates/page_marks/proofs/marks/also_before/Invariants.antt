@@ -1,5 +1,5 @@
 use Rattle.std.proofs.Common.{◌≡◌}
-use Rattle.views.specs.Sayings.{passing, comes_too}
+use Rattle.asked_pairs.specs.Sayings.{passing, comes_too}
 use Rattle.page_marks.proofs.marks.also_before.Given as goal
 
 abbrev pub invariant-loop-place : goal.invariant-loop-place

@@ -3,8 +3,8 @@ use Rattle.chart.specs.Charts.{LineView}
 use Rattle.chart.specs.declared.instance.EventNo.{EventNo}
 use Rattle.chart.specs.Reports.{ReportView}
 use Rattle.files.specs.declared.error.ProgramError.TheVariants as errors
-use Rattle.formats.specs.declared.error.FormatError.{FormatError}
-use Rattle.formats.specs.declared.error.FormatError.TheVariants.{Program}
+use Rattle.wanted_columns.specs.declared.error.FormatError.{FormatError}
+use Rattle.wanted_columns.specs.declared.error.FormatError.TheVariants.{Program}
 use Rattle.msc_text.specs.Writing.{Puts, Breaks}
 use Rattle.race_answers.specs.Statuses.{status_in}
 use Rattle.told_races.specs.Telling.{Manner, AreTold, is_there}

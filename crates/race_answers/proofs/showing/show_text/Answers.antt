@@ -3,7 +3,7 @@ use Rattle.std.proofs.lemmas.Result.{err_from_is_err_and}
 use Rattle.chart.specs.Charts.{LineView}
 use Rattle.files.proofs.TextLemmas.{not_read, not_replayed, was_done}
 use Rattle.files.specs.Texts.{named_of}
-use Rattle.formats.specs.declared.error.FormatError.TheVariants.{Program}
+use Rattle.wanted_columns.specs.declared.error.FormatError.TheVariants.{Program}
 use Rattle.race_answers.specs.Showing.{Shows}
 use Rattle.race_answers.proofs.showing.show_text.Goals as goal
 

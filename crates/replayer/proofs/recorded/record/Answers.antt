@@ -3,7 +3,7 @@ use Rattle.std.proofs.lemmas.List.{take_all}
 use Rattle.std.specs.Option.{option_to_list}
 use Rattle.schedule.specs.Meaning.{step, after}
 use Rattle.schedule.proofs.Along.{after_more}
-use Rattle.witness.specs.Steps.{history_of}
+use Rattle.run_steps.specs.Steps.{history_of}
 use Rattle.replayer.specs.Recorded.{without_closes, HaveRecorded}
 use Rattle.replayer.proofs.Recordings.{led, recorded-on}
 use Rattle.replayer.proofs.recorded.record.Goals as goal

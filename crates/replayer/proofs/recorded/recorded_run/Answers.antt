@@ -2,7 +2,7 @@ use Rattle.std.proofs.Common.{Vec, Global, drop, length, sym, ◌∙◌, subst}
 use Rattle.std.proofs.lemmas.List.{take_at}
 use Rattle.std.proofs.lemmas.Result.{IfOk-weaker}
 use Rattle.schedule.specs.Meaning.{start}
-use Rattle.witness.specs.declared.step.Step.{Step}
+use Rattle.run_steps.specs.declared.step.Step.{Step}
 use Rattle.replayer.specs.Agreement.{Agrees, AreFresh}
 use Rattle.replayer.specs.Recorded.{HaveRecorded}
 use Rattle.replayer.proofs.Recordings.{recorded-is}

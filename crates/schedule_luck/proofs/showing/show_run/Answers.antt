@@ -5,7 +5,7 @@ use Rattle.chart.specs.Places.{IsEvent}
 use Rattle.chart.specs.declared.instance.EventNo.{EventNo}
 use Rattle.chart.proofs.HistoryLines.{lines-numbered}
 use Rattle.closure.specs.Faults.{place_of}
-use Rattle.formats.specs.declared.error.FormatError.TheVariants.{Program}
+use Rattle.wanted_columns.specs.declared.error.FormatError.TheVariants.{Program}
 use Rattle.race_answers.specs.Judging.{ShowsJudged}
 use Rattle.race_answers.proofs.JudgedLemmas.{not_judged}
 use Rattle.told_luck.proofs.RaceLemmas.{race_is}

@@ -1,6 +1,6 @@
 use Rattle.std.proofs.lemmas.Result.{err_from_is_err_and}
 use Rattle.files.proofs.TextLemmas.{not_read, not_replayed, was_done}
-use Rattle.formats.specs.declared.error.FormatError.TheVariants.{Program}
+use Rattle.wanted_columns.specs.declared.error.FormatError.TheVariants.{Program}
 use Rattle.schedule_luck.specs.Showing.{ShowsRun}
 use Rattle.schedule_luck.proofs.showing.show_text.Goals as goal
 

@@ -5,8 +5,9 @@ use Rattle.chart.specs.declared.instance.TheConstants.{MAX_INSTANCES}
 use Rattle.chart.specs.Charts.{IsChart, IsPossible, chart_lines}
 use Rattle.closure.proofs.RunLemmas.{left, left-less}
 use Rattle.real_races.specs.OtherRuns.{IsPossibleWithin}
-use Rattle.witness.specs.Steps.{occurrence_of, history_of, HavePassed}
-use Rattle.witness.proofs.StepLemmas.{after-append}
+use Rattle.witness.specs.Steps.{HavePassed}
+use Rattle.run_steps.specs.Steps.{occurrence_of, history_of}
+use Rattle.run_steps.proofs.StepLemmas.{after-append}
 use Rattle.turned_runs.specs.Runs.{IsDrawn, IsInTurn, last_line}
 use Rattle.turned_runs.proofs.GoingOn.{IsGoing, IsGoing-start, IsGoing-next, IsDrawn-done, maker-next, left-next, room-next}
 use Rattle.turned_runs.proofs.InTurn.{some_goes_on, maker-by, goes-from}

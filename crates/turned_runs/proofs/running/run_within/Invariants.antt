@@ -2,7 +2,8 @@ use Rattle.std.proofs.Common.{◌≡◌, ◌<◌, length}
 use Rattle.chart.specs.declared.instance.TheConstants.{MAX_INSTANCES}
 use Rattle.chart.specs.Charts.{chart_lines}
 use Rattle.closure.proofs.RunLemmas.{left}
-use Rattle.witness.specs.Steps.{history_of, HavePassed}
+use Rattle.witness.specs.Steps.{HavePassed}
+use Rattle.run_steps.specs.Steps.{history_of}
 use Rattle.turned_runs.specs.Runs.{IsInTurn, last_line}
 use Rattle.turned_runs.proofs.GoingOn.{IsGoing}
 use Rattle.turned_runs.proofs.running.run_within.Given as goal

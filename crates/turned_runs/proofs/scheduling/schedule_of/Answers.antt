@@ -4,7 +4,7 @@ use Rattle.chart.specs.NameSets.{AreNames}
 use Rattle.schedule.specs.declared.command.Command.{Command}
 use Rattle.schedule.specs.Plans.{Plan, IsAmong}
 use Rattle.schedule.specs.Meaning.{meaning}
-use Rattle.witness.specs.Steps.{history_of}
+use Rattle.run_steps.specs.Steps.{history_of}
 use Rattle.turned_runs.specs.declared.scheduling.TheConstants.{FIRST_LINE}
 use Rattle.turned_runs.specs.Schedules.{commands_of}
 use Rattle.turned_runs.proofs.Commands.{are-among, played}

@@ -1,7 +1,7 @@
 use Rattle.std.proofs.Common.{◌≡◌, length, sym, ap, ◌∙◌, subst}
 use Rattle.std.specs.Prelude.{All}
 use Rattle.schedule.specs.Plans.{Plan}
-use Rattle.witness.specs.Steps.{history_of, IsOutside}
+use Rattle.run_steps.specs.Steps.{history_of, IsOutside}
 use Rattle.turned_runs.specs.declared.scheduling.TheConstants.{FIRST_LINE}
 use Rattle.turned_runs.specs.Schedules.{commands_of}
 use Rattle.turned_runs.specs.Turns.{IsLeastTurn}

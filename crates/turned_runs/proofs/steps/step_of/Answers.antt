@@ -4,7 +4,7 @@ use Rattle.std.specs.Prelude.{slice_get}
 use Rattle.std.proofs.lemmas.Option.{slice_get_read}
 use Rattle.chart.specs.Charts.{at}
 use Rattle.chart.specs.Histories.{chart_of}
-use Rattle.witness.specs.Steps.{history_of, maker_of}
+use Rattle.run_steps.specs.Steps.{history_of, maker_of}
 use Rattle.turned_runs.proofs.StepsMade.{by-step, made-own, made-other}
 use Rattle.turned_runs.proofs.steps.step_of.Goals as goal
 use Rattle.turned_runs.proofs.steps.step_of.Goals.{then-eq+else-made-event, else-eq}

@@ -1,6 +1,6 @@
 use Rattle.std.proofs.Common.{◌≡◌, ℕ, ◌<◌, ◌≤◌, length, take}
 use Rattle.chart.specs.Histories.{chart_of, IsLegal}
-use Rattle.witness.specs.Steps.{history_of}
+use Rattle.run_steps.specs.Steps.{history_of}
 use Rattle.turned_runs.proofs.steps.step_of.Given as goal
 
 abbrev pub invariant-loop-place : goal.invariant-loop-place

@@ -1,7 +1,7 @@
 use Rattle.std.proofs.Common.{◌≤◌, arith}
 use Rattle.chart.specs.declared.line.TheConstants.{MAX_EVENTS}
 use Rattle.chart.specs.Histories.{chart_of}
-use Rattle.witness.specs.Steps.{history_of, place_after}
+use Rattle.run_steps.specs.Steps.{history_of, place_after}
 use Rattle.turned_runs.proofs.Slots.{legal-more}
 use Rattle.turned_runs.proofs.TurnLemmas.{turns_round, none_with_fewer, none_at_all}
 use Rattle.turned_runs.proofs.turning.overtake_of_run.Goals as goal

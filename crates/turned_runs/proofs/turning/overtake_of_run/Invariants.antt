@@ -3,9 +3,9 @@ use Rattle.std.specs.Prelude.{slice_get}
 use Rattle.chart.specs.declared.line.TheConstants.{MAX_EVENTS}
 use Rattle.chart.specs.Histories.{chart_of, IsLegal}
 use Rattle.real_races.specs.OtherRuns.{CanBeOvertakenWithin}
-use Rattle.witness.specs.declared.step.Step.{Step}
+use Rattle.run_steps.specs.declared.step.Step.{Step}
 use Rattle.witness.specs.Orders.{IsInOrder}
-use Rattle.witness.specs.Steps.{history_of, place_after}
+use Rattle.run_steps.specs.Steps.{history_of, place_after}
 use Rattle.turned_runs.specs.Turns.{TurnsRound}
 use Rattle.turned_runs.proofs.turning.overtake_of_run.Given as goal
 

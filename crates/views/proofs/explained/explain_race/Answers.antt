@@ -7,7 +7,7 @@ use Rattle.chart.proofs.Belongs.{IsEvent-from_passes}
 use Rattle.closure.specs.Faults.{place_of}
 use Rattle.closure.proofs.ReadLemmas.{ith_read}
 use Rattle.views.specs.Explaining.{AreRaceSayings}
-use Rattle.views.specs.Sayings.{race_sayings}
+use Rattle.asked_pairs.specs.Sayings.{race_sayings}
 use Rattle.views.proofs.RaceLemmas.{explained_by}
 use Rattle.views.proofs.explained.explain_race.Goals as goal
 

@@ -3,11 +3,12 @@ use Rattle.std.specs.List.{flat_map}
 use Rattle.chart.specs.declared.event.Event.{Event}
 use Rattle.chart.specs.Charts.{LineView, chart_lines}
 use Rattle.msc_text.specs.Writing.{Puts, Breaks}
-use Rattle.views.specs.declared.saying.Saying.{Saying}
-use Rattle.views.specs.Pairs.{pair_of}
-use Rattle.views.specs.SayingText.{saying_text}
-use Rattle.views.specs.Explaining.{IsPair, IsExplained}
-use Rattle.views.proofs.PairLemmas.{IsPair-from_words}
+use Rattle.asked_pairs.specs.declared.saying.Saying.{Saying}
+use Rattle.asked_pairs.specs.Pairs.{pair_of}
+use Rattle.asked_pairs.specs.SayingText.{saying_text}
+use Rattle.views.specs.Explaining.{IsExplained}
+use Rattle.asked_pairs.specs.Pairs.{IsPair}
+use Rattle.asked_pairs.proofs.PairLemmas.{IsPair-from_words}
 use Rattle.views.proofs.explained.why_in.Goals as goal
 
 pub explain-requires-clause-pair : goal.explain-requires-clause-pair

@@ -1,6 +1,6 @@
 use Rattle.std.proofs.Common.{ℕ, ◌+◌, ◌++◌, sym, ap, ◌∙◌}
-use Rattle.views.specs.Sayings.{passing, comes_first, so}
-use Rattle.views.proofs.Growing.{grown, grown_none, passing-taken, passing-left}
+use Rattle.asked_pairs.specs.Sayings.{passing, comes_first, so}
+use Rattle.asked_pairs.proofs.Growing.{grown, grown_none, passing-taken, passing-left}
 use Rattle.views.proofs.explaining.add_above.Goals as goal
 use Rattle.views.proofs.explaining.add_above.Goals.{then-comes_so+in_ok-push, else-comes_so}
 

@@ -1,5 +1,5 @@
 use Rattle.std.proofs.Common.{◌≡◌, ◌++◌}
-use Rattle.views.specs.Sayings.{passing, comes_first, so}
+use Rattle.asked_pairs.specs.Sayings.{passing, comes_first, so}
 use Rattle.views.proofs.explaining.add_above.Given as goal
 
 abbrev pub invariant-loop-place : goal.invariant-loop-place

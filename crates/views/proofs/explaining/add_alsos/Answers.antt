@@ -1,7 +1,7 @@
 use Rattle.std.proofs.Common.{◌+◌, ◌++◌, sym, ap, ◌∙◌}
-use Rattle.views.specs.declared.saying.Saying.TheVariants.{Also}
-use Rattle.views.specs.Sayings.{passing, comes_too, alsos}
-use Rattle.views.proofs.Growing.{grown, grown_none, alsos-taken, alsos-left}
+use Rattle.asked_pairs.specs.declared.saying.Saying.TheVariants.{Also}
+use Rattle.asked_pairs.specs.Sayings.{passing, comes_too, alsos}
+use Rattle.asked_pairs.proofs.Growing.{grown, grown_none, alsos-taken, alsos-left}
 use Rattle.views.proofs.explaining.add_alsos.Goals as goal
 use Rattle.views.proofs.explaining.add_alsos.Goals.{then-comes_too+in_ok-push, else-comes_too}
 

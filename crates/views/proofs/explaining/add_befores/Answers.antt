@@ -1,8 +1,8 @@
 use Rattle.std.proofs.Common.{suc, ◌+◌, ◌++◌, ◌∷◌, [], ap, ap₂, ◌∙◌}
 use Rattle.std.specs.Prelude.{slice_index}
-use Rattle.views.specs.declared.saying.Saying.TheVariants.{Before}
-use Rattle.views.specs.Sayings.{befores}
-use Rattle.views.proofs.Growing.{grown, grown_none, befores-next}
+use Rattle.asked_pairs.specs.declared.saying.Saying.TheVariants.{Before}
+use Rattle.asked_pairs.specs.Sayings.{befores}
+use Rattle.asked_pairs.proofs.Growing.{grown, grown_none, befores-next}
 use Rattle.views.proofs.explaining.add_befores.Goals as goal
 
 pub loop-place-init : goal.loop-place-init

@@ -1,5 +1,5 @@
 use Rattle.std.proofs.Common.{◌≡◌, ◌++◌}
-use Rattle.views.specs.Sayings.{befores}
+use Rattle.asked_pairs.specs.Sayings.{befores}
 use Rattle.views.proofs.explaining.add_befores.Given as goal
 
 abbrev pub invariant-loop-place : goal.invariant-loop-place

@@ -1,8 +1,8 @@
 use Rattle.std.proofs.Common.{◌+◌, ◌++◌, sym, ap, ◌∙◌}
 use Rattle.std.specs.Prelude.{nat_lt}
 use Rattle.std.proofs.lemmas.Bool.{lt-ltb, le-ltb}
-use Rattle.views.specs.Sayings.{passing}
-use Rattle.views.proofs.Growing.{grown, grown_none, passing-taken, passing-left}
+use Rattle.asked_pairs.specs.Sayings.{passing}
+use Rattle.asked_pairs.proofs.Growing.{grown, grown_none, passing-taken, passing-left}
 use Rattle.views.proofs.explaining.add_below.Goals as goal
 use Rattle.views.proofs.explaining.add_below.Goals.{then-own-place+in_ok-push, else-own-place}
 

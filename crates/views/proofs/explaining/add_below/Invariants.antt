@@ -1,6 +1,6 @@
 use Rattle.std.proofs.Common.{◌≡◌, ◌++◌}
 use Rattle.std.specs.Prelude.{nat_lt}
-use Rattle.views.specs.Sayings.{passing}
+use Rattle.asked_pairs.specs.Sayings.{passing}
 use Rattle.views.proofs.explaining.add_below.Given as goal
 
 abbrev pub invariant-loop-place : goal.invariant-loop-place

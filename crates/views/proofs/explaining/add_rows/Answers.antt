@@ -1,8 +1,8 @@
 use Rattle.std.proofs.Common.{◌+◌}
 use Rattle.std.specs.Prelude.{slice_index}
-use Rattle.views.specs.declared.saying.Saying.TheVariants.{Row}
-use Rattle.views.specs.Sayings.{rows}
-use Rattle.views.proofs.Growing.{grown, grown_none, rows-next}
+use Rattle.asked_pairs.specs.declared.saying.Saying.TheVariants.{Row}
+use Rattle.asked_pairs.specs.Sayings.{rows}
+use Rattle.asked_pairs.proofs.Growing.{grown, grown_none, rows-next}
 use Rattle.views.proofs.explaining.add_rows.Goals as goal
 
 pub loop-place-init : goal.loop-place-init

@@ -1,5 +1,5 @@
 use Rattle.std.proofs.Common.{◌≡◌, ◌++◌}
-use Rattle.views.specs.Sayings.{rows}
+use Rattle.asked_pairs.specs.Sayings.{rows}
 use Rattle.views.proofs.explaining.add_rows.Given as goal
 
 abbrev pub invariant-loop-place : goal.invariant-loop-place

@@ -1,5 +1,5 @@
 use Rattle.std.proofs.Common.{◌≡◌, take}
-use Rattle.views.specs.Sayings.{chain_sayings}
+use Rattle.asked_pairs.specs.Sayings.{chain_sayings}
 use Rattle.views.proofs.explaining.chain_sayings.Given as goal
 
 abbrev pub invariant-loop-place : goal.invariant-loop-place

@@ -4,7 +4,7 @@ use Rattle.closure.specs.Faults.{place_of}
 use Rattle.turned_runs.specs.Turns.{IsTurned}
 use Rattle.views.specs.Turning.{IsKeptFrom}
 use Rattle.views.specs.Turning.Origin.{drawn}
-use Rattle.views.proofs.PairLemmas.{IsPair-from_words}
+use Rattle.asked_pairs.proofs.PairLemmas.{IsPair-from_words}
 use Rattle.views.proofs.TurningLemmas.{found_from}
 use Rattle.views.proofs.finding.found_in_chart.Goals as goal
 

@@ -3,11 +3,11 @@ use Rattle.std.proofs.lemmas.Result.{err_from_is_err_and}
 use Rattle.chart.specs.Charts.{LineView, chart_lines}
 use Rattle.closure.specs.Faults.{place_of}
 use Rattle.turned_runs.specs.Turns.{IsTurned}
-use Rattle.views.specs.Explaining.{IsPair}
+use Rattle.asked_pairs.specs.Pairs.{IsPair}
 use Rattle.views.specs.Finding.{IsFoundOf}
 use Rattle.views.specs.Turning.{IsAskedFor}
 use Rattle.views.specs.Turning.Origin.{recorded}
-use Rattle.views.proofs.PairLemmas.{IsPair-from_words}
+use Rattle.asked_pairs.proofs.PairLemmas.{IsPair-from_words}
 use Rattle.views.proofs.TurningLemmas.{found_from}
 use Rattle.views.proofs.finding.found_in_run.Goals as goal
 

@@ -3,7 +3,7 @@ use Rattle.std.proofs.lemmas.Result.{err_from_is_err_and}
 use Rattle.chart.specs.Charts.{LineView}
 use Rattle.files.proofs.TextLemmas.{not_read, not_replayed, was_done}
 use Rattle.files.specs.Texts.{named_of}
-use Rattle.views.specs.declared.error.ViewError.TheVariants.{Program}
+use Rattle.asked_pairs.specs.declared.error.ViewError.TheVariants.{Program}
 use Rattle.views.specs.Explaining.{Explains}
 use Rattle.views.proofs.view.why_text.Goals as goal
 

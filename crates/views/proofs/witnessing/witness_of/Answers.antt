@@ -1,7 +1,7 @@
 use Rattle.std.proofs.lemmas.Result.{err_from_is_err_and}
 use Rattle.files.specs.Texts.{named_of}
 use Rattle.views.specs.Finding.{origin_of}
-use Rattle.views.proofs.PairLemmas.{IsPair-from_words}
+use Rattle.asked_pairs.proofs.PairLemmas.{IsPair-from_words}
 use Rattle.views.proofs.TurningLemmas.{finds_so, finds_broken, finds_none, not_found}
 use Rattle.views.proofs.witnessing.witness_of.Goals as goal
 

@@ -1,6 +1,6 @@
 use Rattle.std.proofs.lemmas.Result.{err_from_is_err_and}
 use Rattle.files.proofs.TextLemmas.{not_read, not_replayed, was_done}
-use Rattle.views.specs.declared.error.ViewError.TheVariants.{Program}
+use Rattle.asked_pairs.specs.declared.error.ViewError.TheVariants.{Program}
 use Rattle.views.specs.Witnessing.{FindsIn}
 use Rattle.views.proofs.witnessing.witness_text.Goals as goal
 

@@ -3,10 +3,11 @@ use Rattle.std.proofs.lemmas.Option.{same_Some}
 use Rattle.chart.specs.Histories.{chart_of}
 use Rattle.real_races.specs.OtherRuns.{IsRunWithin, IsOvertaken, BeforeWithin}
 use Rattle.real_races.specs.Walks.{Wanted, wanted, parted}
-use Rattle.witness.specs.declared.step.Step.{Step}
-use Rattle.witness.specs.declared.step.Step.TheVariants.{Receive}
+use Rattle.run_steps.specs.declared.step.Step.{Step}
+use Rattle.run_steps.specs.declared.step.Step.TheVariants.{Receive}
 use Rattle.witness.specs.Orders.{IsInOrder}
-use Rattle.witness.specs.Steps.{history_of, place_after, with_step, nothing}
+use Rattle.witness.specs.Steps.{with_step, nothing}
+use Rattle.run_steps.specs.Steps.{history_of, place_after}
 use Rattle.witness.proofs.FoundLemmas.{turned-at, with_step-at, is_within-at, found_none, found_run, in_order}
 use Rattle.witness.proofs.overtaking.overtake.Goals as goal
 

@@ -3,9 +3,10 @@ use Rattle.std.proofs.lemmas.Option.{slice_get_read, same_Some}
 use Rattle.std.proofs.lemmas.List.Elements.{All-append, All-push}
 use Rattle.real_races.specs.Walks.{inner, outer}
 use Rattle.witness.specs.Orders.{picked}
-use Rattle.witness.specs.Steps.{occurrence_of, history_of, outside_regions, IsOutside, comes}
+use Rattle.witness.specs.Steps.{comes}
+use Rattle.run_steps.specs.Steps.{occurrence_of, history_of, outside_regions, IsOutside}
 use Rattle.witness.proofs.PickLemmas.{picked-taken, picked-left, comes-is}
-use Rattle.witness.proofs.StepLemmas.{after-append, after-onto, outside_regions-outside}
+use Rattle.run_steps.proofs.StepLemmas.{after-append, after-onto, outside_regions-outside}
 use Rattle.witness.proofs.WalkLemmas.{inner-next, outer-next}
 use Rattle.witness.proofs.parting.part.Goals as goal
 use Rattle.witness.proofs.parting.part.Goals.{then-has+in_ok-push, else-has+in_ok-push-2}

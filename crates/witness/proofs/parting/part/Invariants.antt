@@ -2,7 +2,8 @@ use Rattle.std.proofs.Common.{◌≡◌, take}
 use Rattle.std.specs.Prelude.{not, All}
 use Rattle.real_races.specs.Walks.{Wanted, inner, outer}
 use Rattle.witness.specs.Orders.{picked}
-use Rattle.witness.specs.Steps.{history_of, StandFor, IsOutside, comes}
+use Rattle.witness.specs.Steps.{StandFor, comes}
+use Rattle.run_steps.specs.Steps.{history_of, IsOutside}
 use Rattle.witness.proofs.parting.part.Given as goal
 
 abbrev pub invariant-loop-place : goal.invariant-loop-place

@@ -1,8 +1,10 @@
 use Rattle.std.proofs.Common.{◌+◌, ◌<◌, ◌^◌, [], length, take, refl, sym, subst, arith, length-take}
 use Rattle.std.proofs.lemmas.Option.{slice_get_read}
 use Rattle.real_races.proofs.Counted.{sends_short, receives_short}
-use Rattle.witness.specs.Steps.{history_of, AreTurned, HavePassed}
-use Rattle.witness.proofs.StepLemmas.{history-next, after-length, turned-none, turned-push}
+use Rattle.witness.specs.Steps.{AreTurned, HavePassed}
+use Rattle.run_steps.specs.Steps.{history_of}
+use Rattle.witness.proofs.StepLemmas.{turned-none, turned-push}
+use Rattle.run_steps.proofs.StepLemmas.{history-next, after-length}
 use Rattle.witness.proofs.turned.with_turns.Goals as goal
 
 pub loop-place-init : goal.loop-place-init

@@ -1,5 +1,6 @@
 use Rattle.std.proofs.Common.{take}
-use Rattle.witness.specs.Steps.{history_of, AreTurned, HavePassed}
+use Rattle.witness.specs.Steps.{AreTurned, HavePassed}
+use Rattle.run_steps.specs.Steps.{history_of}
 use Rattle.witness.proofs.turned.with_turns.Given as goal
 
 abbrev pub invariant-loop-place : goal.invariant-loop-place

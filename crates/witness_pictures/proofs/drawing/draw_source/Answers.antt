@@ -1,8 +1,8 @@
 use Rattle.std.proofs.Common.{ℕ, List, sym, subst, subst₂}
 use Rattle.std.proofs.lemmas.Result.{err_from_is_err_and}
 use Rattle.files.specs.Texts.{named_of}
-use Rattle.formats.specs.Columns.{AreColumns, RefusesColumns}
-use Rattle.views.proofs.PairLemmas.{IsPair-from_words}
+use Rattle.wanted_columns.specs.Columns.{AreColumns, RefusesColumns}
+use Rattle.asked_pairs.proofs.PairLemmas.{IsPair-from_words}
 use Rattle.witness_pictures.specs.Drawing.{only_of}
 use Rattle.witness_pictures.proofs.DrawnLemmas.{no_columns, not_found, too_many, not_drawn}
 use Rattle.witness_pictures.proofs.drawing.draw_source.Goals as goal

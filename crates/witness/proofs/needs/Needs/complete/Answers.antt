@@ -1,7 +1,8 @@
 use Rattle.std.proofs.Common.{◌≡◌, ◌+◌, ◌-◌, ◌<◌, cond, length, take, refl, sym, ap, ◌∙◌, subst, arith}
 use Rattle.std.proofs.lemmas.Option.{slice_get_read}
 use Rattle.real_races.specs.Walks.{wanted}
-use Rattle.witness.specs.Steps.{history_of, with_step, StandFor}
+use Rattle.witness.specs.Steps.{with_step, StandFor}
+use Rattle.run_steps.specs.Steps.{history_of}
 use Rattle.witness.proofs.WalkLemmas.{walk-next}
 use Rattle.witness.proofs.needs.Needs.complete.Goals as goal
 use Rattle.witness.proofs.needs.Needs.complete.Goals.{then-wants, else-wants}

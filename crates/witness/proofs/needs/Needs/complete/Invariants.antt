@@ -1,6 +1,7 @@
 use Rattle.std.proofs.Common.{◌≡◌, ◌-◌, length, take}
 use Rattle.real_races.specs.Walks.{Wanted, wanted}
-use Rattle.witness.specs.Steps.{history_of, StandFor}
+use Rattle.witness.specs.Steps.{StandFor}
+use Rattle.run_steps.specs.Steps.{history_of}
 use Rattle.witness.proofs.needs.Needs.complete.Given as goal
 
 abbrev pub invariant-loop-place : goal.invariant-loop-place

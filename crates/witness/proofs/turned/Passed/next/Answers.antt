@@ -1,9 +1,10 @@
 use Rattle.std.proofs.Common.{◌≡◌, ◌+◌, [], ◌∷◌, sym, subst, arith}
 use Rattle.chart.specs.Histories.{received}
 use Rattle.real_races.specs.Walks.{sends_in, raise}
-use Rattle.witness.specs.declared.step.Step.{Step}
-use Rattle.witness.specs.declared.step.Step.TheVariants as steps
-use Rattle.witness.specs.Steps.{occurrence_of, turn_of, HavePassed}
+use Rattle.run_steps.specs.declared.step.Step.{Step}
+use Rattle.run_steps.specs.declared.step.Step.TheVariants as steps
+use Rattle.witness.specs.Steps.{HavePassed}
+use Rattle.run_steps.specs.Steps.{occurrence_of, turn_of}
 use Rattle.witness.proofs.TableLemmas.{counts-same}
 use Rattle.witness.proofs.StepLemmas.{sends-raised, receives-raised}
 use Rattle.witness.proofs.turned.Passed.next.Goals as goal

@@ -1,0 +1,4 @@
+pub mod Answers
+pub mod Pairs
+pub mod Sayings
+pub mod SayingText

@@ -1,0 +1,4 @@
+pub mod Classes
+pub mod Lines
+pub mod Places
+pub mod Words
