@@ -38,6 +38,9 @@ end_stripped bytes = take (kept bytes) bytes
 unfoldable pub stripped : List ℕ → List ℕ
 stripped bytes = end_stripped (behind_blanks bytes)
 
+abbrev pub is_comma : ℕ → Bool
+is_comma b = b == 44
+
 -- the word is this one, in any letters
 unfoldable pub is_spelled : List ℕ → List ℕ → Bool
 is_spelled known word = bytes_eq (map to_ascii_lowercase word) (map to_ascii_lowercase known)
@@ -55,6 +58,11 @@ behind_word known bytes =
 abbrev pub ends_word : List ℕ → Bool
 ends_word [] = true
 ends_word (b ∷ bs) = is_blank b
+
+-- a blank comes next
+abbrev pub begins_blank : List ℕ → Bool
+begins_blank [] = false
+begins_blank (b ∷ bs) = is_blank b
 
 -- what stands behind this word, where nothing or a blank comes next
 unfoldable pub behind_keyword : List ℕ → List ℕ → Option (List ℕ)

@@ -3,7 +3,8 @@
 use Rattle.std.specs.Prelude.{ℕ, List, [], ◌∷◌, codes, Option, None, Some, if◌then◌else◌}
 use Rattle.line_statements.specs.Statements.{EndView}
 use Rattle.line_statements.specs.Words.{behind_blanks, behind_word, is_blank, or_else}
-use Rattle.plantuml_arrows.specs.Runs.{◌>>=◌, run_at, behind_byte}
+use Rattle.line_statements.specs.Options.{◌>>=◌}
+use Rattle.plantuml_arrows.specs.Runs.{run_at, behind_byte}
 use Rattle.plantuml_arrows.specs.declared.runs.Class.TheVariants.{Name, Quoted}
 
 -- what stands between two quotation marks, and what stands behind them

@@ -5,12 +5,6 @@ use Rattle.line_statements.specs.Words.{is_blank}
 use Rattle.plantuml_arrows.specs.declared.runs.Class.{Class}
 use Rattle.plantuml_arrows.specs.declared.runs.Class.TheVariants as classes
 
-infixl 10 ◌>>=◌
--- what is found next, if everything before it is
-abbrev pub ◌>>=◌ : {A B : Type 0} → Option A → (A → Option B) → Option B
-None >>= f = None
-(Some x) >>= f = f x
-
 abbrev pub is_digit : ℕ → Bool
 is_digit b = nat_le 48 b && nat_le b 57
 

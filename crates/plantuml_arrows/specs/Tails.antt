@@ -4,7 +4,8 @@ use Rattle.std.specs.Prelude.{ℕ, Bool, ◌==◌, nat_lt, List, [], ◌∷◌, 
 use Rattle.std.specs.Prelude.{option_map, unwrap_or, nat_eq, if◌then◌else◌}
 use Rattle.std.specs.List.{starts_with}
 use Rattle.line_statements.specs.Words.{behind_blanks, stripped, or_else}
-use Rattle.plantuml_arrows.specs.Runs.{◌>>=◌, run_length, behind_run, behind_byte}
+use Rattle.line_statements.specs.Options.{◌>>=◌}
+use Rattle.plantuml_arrows.specs.Runs.{run_length, behind_run, behind_byte}
 use Rattle.plantuml_arrows.specs.declared.runs.Class.{Class}
 use Rattle.plantuml_arrows.specs.declared.runs.Class.TheVariants.{Colour, Sign, Word}
 use Rattle.plantuml_arrows.specs.declared.tails.Behind.{Behind}

@@ -5,8 +5,9 @@ use Rattle.std.specs.Prelude.{Option, None, Some, option_map, bytes_eq, nat_eq, 
 use Rattle.std.specs.List.{starts_with}
 use Rattle.line_statements.specs.Statements.{EndView, end_view}
 use Rattle.line_statements.specs.Words.{begins, behind_keyword_of, behind_word, blank_length, is_blank, or_else}
+use Rattle.line_statements.specs.Options.{◌>>=◌}
 use Rattle.plantuml_arrows.specs.Names.{behind_gap, name_at, quoted_at}
-use Rattle.plantuml_arrows.specs.Runs.{◌>>=◌, run_at, run_length}
+use Rattle.plantuml_arrows.specs.Runs.{run_at, run_length}
 use Rattle.plantuml_arrows.specs.declared.runs.Class.TheVariants.{Name, Digit, Solid}
 use Rattle.plantuml_statements.specs.declared.participant.Declared.{Declared}
 

@@ -8,10 +8,10 @@ ghost use Rattle.plantuml_statements.specs.Looks.{header_block, block_of, is_pag
 ghost use Rattle.plantuml_statements.specs.Looks.{is_late_look};
 
 use line_statements::{
-    begins_with, behind_blanks, behind_keyword, behind_keyword_of, behind_word, blank_length,
-    is_blank, is_spelled, place_of, skip_word,
+    begins_blank, begins_with, behind_blanks, behind_keyword, behind_keyword_of, behind_word,
+    blank_length, is_blank, is_spelled, place_of, skip_word,
 };
-use plantuml_arrows::{Class, begins_blank, behind_brace, behind_gap, behind_run, colon_tail};
+use plantuml_arrows::{Class, behind_brace, behind_gap, behind_run, colon_tail};
 
 /// The words that are about how the diagram looks.
 const LOOK_WORDS: [&[u8]; 6] = [
