@@ -13,7 +13,8 @@ use Rattle.msc_text.proofs.Lookups.{instance_is}
 use Rattle.files.specs.declared.error.ProgramError.TheVariants.{Usage, File, Memory, Text, ReceiveWithoutSend, NameMismatch, Cyclic, Write}
 use Rattle.formats.specs.declared.error.FormatError.{FormatError}
 use Rattle.formats.specs.declared.error.FormatError.TheVariants.{Program, NoSuchName}
-use Rattle.formats.specs.Columns.{named_so, instance_said, AreNamed, IsNext, IsNone, RefusesNext, RefusesNamed}
+use Rattle.formats.specs.Columns.{AreNamed, IsNext, IsNone, RefusesNext, RefusesNamed}
+use Rattle.named_refusals.specs.Asked.{named_so, instance_said}
 
 -- the first of the words name these columns, and the rest are still to be read
 pub record AreSoFar (names all rest : List (List ℕ)) (columns : List ℕ) : Type 0 where

@@ -10,13 +10,13 @@ use Rattle.chart.specs.Charts.{at, chart_lines}
 use Rattle.closure.specs.Faults.{place_of}
 use Rattle.files.specs.Files.{Named}
 use Rattle.formats.specs.declared.windows.Around.{Around}
-use Rattle.formats.specs.Columns.{instance_said}
-use Rattle.formats.specs.Windows.{has_event, event_at, event_said}
+use Rattle.formats.specs.Windows.{event_at, event_said}
 use Rattle.layout.specs.declared.row.Row.{Row}
 use Rattle.layout.specs.Layouts.{drawn, row_of, AreInOrder, IsDrawing}
 use Rattle.layout.proofs.BegunLemmas.{row_of_drawn}
 use Rattle.named_refusals.specs.declared.missing.Missing.{Missing}
 use Rattle.named_refusals.specs.NamedRefusals.{missing_on}
+use Rattle.named_refusals.specs.Asked.{instance_said, has_event}
 
 -- a test that was passed
 passed : (b : Bool) (e event : EventNo) (missing : Missing) → cond b (Ok e) (Err missing) ≡ Ok event → (b ≡ true) × (e ≡ event)

@@ -4,13 +4,14 @@ ghost use Rattle.std.specs.Prelude.{MatchOption, IfSome, IfOk, IfErr, OnOk, opti
 ghost use Rattle.std.specs.List.{list_any, range_with_len};
 ghost use Rattle.chart.specs.declared.instance.TheConstants.{MAX_INSTANCES};
 ghost use Rattle.msc_text.specs.Lines.{parts};
-ghost use Rattle.formats.specs.Columns.{instance_said, IsNext, RefusesNext, AreNamed, RefusesNamed, AreColumns};
+ghost use Rattle.formats.specs.Columns.{IsNext, RefusesNext, AreNamed, RefusesNamed, AreColumns};
 ghost use Rattle.formats.specs.Columns.{RefusesColumns};
+ghost use Rattle.named_refusals.specs.Asked.{instance_said};
 
 use crate::error::FormatError;
 use chart::{InstanceNo, MAX_INSTANCES, Names};
 use files::ProgramError;
-use msc_text::name_in;
+use named_refusals::instance_said;
 use std::alloc::{AllocError, Global};
 
 /// The place of the first comma.
@@ -30,16 +31,6 @@ fn next_name(bytes: &[u8]) -> (&[u8], Option<&[u8]>)
     match comma_in(bytes) {
         None => (bytes, None),
         Some(place) => (&bytes[..place], Some(&bytes[place + 1..])),
-    }
-}
-
-/// The instance that has these bytes as its name.
-pub(crate) fn instance_said(names: &Names, name: &[u8]) -> Option<InstanceNo>
-    ensures { result ≡ instance_said names.now name.now }
-{
-    match name_in(name) {
-        Ok(name) => names.instance(name),
-        Err(_) => None,
     }
 }
 

@@ -5,8 +5,10 @@
 //! takes memory.
 #![tactic(auto)]
 
+mod asked;
 mod line;
 mod missing;
 
+pub use asked::{has_event, instance_said};
 pub use line::refused_at;
 pub use missing::{Missing, missing_on, refused_missing};

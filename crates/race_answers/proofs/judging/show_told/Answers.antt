@@ -3,10 +3,10 @@ use Rattle.chart.specs.Charts.{LineView}
 use Rattle.chart.specs.declared.instance.EventNo.{EventNo}
 use Rattle.chart.specs.Reports.{ReportView}
 use Rattle.files.specs.declared.error.ProgramError.TheVariants as errors
+use Rattle.files.specs.Statuses.{status_in}
 use Rattle.formats.specs.declared.error.FormatError.{FormatError}
 use Rattle.formats.specs.declared.error.FormatError.TheVariants.{Program}
 use Rattle.msc_text.specs.Writing.{Puts, Breaks}
-use Rattle.race_answers.specs.Statuses.{status_in}
 use Rattle.told_races.specs.Telling.{Manner, AreTold, is_there}
 use Rattle.told_luck.specs.Telling.{IsRaceIn, PartedReport, AreParted, HaveParted, luck_text, shows_luck}
 use Rattle.race_answers.specs.Judging.{luck_manner_of}
