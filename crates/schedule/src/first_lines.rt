@@ -2,8 +2,8 @@
 ghost use Rattle.std.specs.Prelude.{◌≡◌, IsTrue};
 ghost use Rattle.std.specs.List.{list_all};
 ghost use Rattle.msc_text.specs.Faults.{Gives, in_line};
-ghost use Rattle.msc_text.specs.Lines.{words_of};
-ghost use Rattle.schedule.specs.FirstLines.{is_word, are_words, with_word, with_words, instances_of, names_of};
+ghost use Rattle.msc_text.specs.Lines.{words_of, is_word};
+ghost use Rattle.schedule.specs.FirstLines.{are_words, with_word, with_words, instances_of, names_of};
 ghost use Rattle.schedule.specs.FirstLines.{is_digit, is_number, slots, slots_of, capacity_of};
 
 use crate::keyword::ScheduleWord;

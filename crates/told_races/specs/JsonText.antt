@@ -8,10 +8,10 @@ use Rattle.chart.specs.declared.instance.EventNo.{EventNo}
 use Rattle.chart.specs.declared.ranges.EventRange.{EventRange}
 use Rattle.chart.specs.Events.{ith, partner_of}
 use Rattle.chart.specs.Ranges.{events_of}
-use Rattle.msc_text.specs.ChartText.{name_at}
+use Rattle.msc_text.specs.ChartText.{name_at, message_at}
 use Rattle.told_races.specs.declared.words.Word.TheVariants.{Instance, Receive, Message, Sender, Ranges, Quote, Next, EndRange, EndObject}
 use Rattle.told_races.specs.PlainText.{last_of}
-use Rattle.told_races.specs.Words.{word_text, message_at}
+use Rattle.told_races.specs.Words.{word_text}
 
 -- the name of the instance at the other end of its message, where there is an event
 abbrev pub partner_at : List (List ℕ) → Option Event → List ℕ

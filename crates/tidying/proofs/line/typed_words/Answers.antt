@@ -2,7 +2,8 @@ use Rattle.std.proofs.Common.{ap, ◌∙◌, rules, filter}
 use Rattle.std.specs.List.{slice_split}
 use Rattle.std.proofs.lemmas.Iterator.Splits.{YieldsList-from_slice_split}
 use Rattle.std.proofs.lemmas.Iterator.Consumers.{YieldsList-end}
-use Rattle.tidying.specs.Typing.{is_blank, is_word, typed_words}
+use Rattle.msc_text.specs.Lines.{is_word}
+use Rattle.tidying.specs.Typing.{is_blank, typed_words}
 use Rattle.tidying.proofs.line.typed_words.Goals as goal
 
 pub returns : goal.returns
