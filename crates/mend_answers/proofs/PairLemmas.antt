@@ -8,11 +8,13 @@ use Rattle.files.specs.Files.{Named}
 use Rattle.msc_text.specs.Outs.{Sink}
 use Rattle.named_refusals.specs.declared.missing.Missing.TheVariants.{Instance}
 use Rattle.named_refusals.specs.NamedRefusals.{missing_on}
+use Rattle.named_refusals.specs.Asked.{instance_said, has_event}
+use Rattle.turned_runs.specs.Turns.{receives}
 use Rattle.views.specs.declared.error.ViewError.{ViewError}
 use Rattle.views.specs.declared.error.ViewError.TheVariants.{Program, NoSuchEvent, NotEarlier, NotAReceive, ManySlots}
 use Rattle.views.specs.declared.pair.Asked.{Asked}
 use Rattle.views.specs.declared.pair.Pair.{Pair}
-use Rattle.views.specs.Pairs.{instance_said, has_event, receives, pair_on, pair_at, pair_of}
+use Rattle.views.specs.Pairs.{pair_on, pair_at, pair_of}
 use Rattle.mend_answers.specs.declared.error.MendRefusal.TheVariants.{View}
 use Rattle.mend_answers.specs.declared.showing.Wanted.{Wanted}
 use Rattle.mend_answers.specs.Showing.{Shows}

@@ -2,10 +2,10 @@
 ghost use Rattle.std.specs.Prelude.{◌≡◌, ◌<◌, ◌≤◌, ◌↔◌, ℕ, true, Some, IfOk, IsTrue, AllPairs};
 ghost use Rattle.chart.specs.Charts.{at, chart_lines, IsReceiveFrom, IsNumbered};
 ghost use Rattle.chart.specs.declared.event.Event.{Event};
-ghost use Rattle.chart.specs.Events.{ith, is_receive_from};
+ghost use Rattle.chart.specs.Events.{ith, is_receive_from, is_receive};
 ghost use Rattle.chart.specs.Places.{IsEvent};
 ghost use Rattle.closure.specs.Faults.{place_of};
-ghost use Rattle.schedule_luck.specs.Makers.{is_receive, IsReceive, NamesSender};
+ghost use Rattle.schedule_luck.specs.Makers.{IsReceive, NamesSender};
 ghost use Rattle.schedule_luck.specs.Verdicts.{IsBehind, TakesAny, IsVerdict};
 
 use crate::makers::lines_named;

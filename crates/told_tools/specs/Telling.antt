@@ -7,7 +7,8 @@ use Rattle.tool_text.specs.declared.Tool.TheVariants.{Mscgen, PlantUml, Mermaid}
 use Rattle.mscgen_text.specs.Lengths.{is_blank, is_word_byte}
 use Rattle.mscgen_text.specs.Places.{start, behind}
 use Rattle.mscgen_text.specs.Words.{is_spelled}
-use Rattle.told_tools.specs.Gaps.{begins, gaps_length}
+use Rattle.mscgen_text.specs.Pieces.{begins}
+use Rattle.told_tools.specs.Gaps.{gaps_length}
 use Rattle.told_tools.specs.declared.telling.Untold.{Untold}
 use Rattle.told_tools.specs.declared.telling.Untold.TheVariants.{NotRead, Unfinished}
 

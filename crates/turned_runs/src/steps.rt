@@ -3,9 +3,10 @@ ghost use Rattle.std.specs.Prelude.{ℕ, ◌≡◌, length, slice_get, Some, Mat
 ghost use Rattle.chart.specs.Charts.{chart_event, chart_lines, IsReceiveFrom};
 ghost use Rattle.chart.specs.Histories.{chart_of, IsLegal};
 ghost use Rattle.chart.specs.Places.{IsEvent};
+ghost use Rattle.closure.specs.Faults.{place_of};
 ghost use Rattle.witness.specs.declared.step.Step.{Step};
 ghost use Rattle.witness.specs.Steps.{history_of, place_after};
-ghost use Rattle.turned_runs.specs.Turns.{place_of, receives};
+ghost use Rattle.turned_runs.specs.Turns.{receives};
 
 use chart::{Chart, Event, EventNo};
 use witness::Step;

@@ -7,11 +7,13 @@ use Rattle.chart.specs.declared.event.Event.TheVariants.{Send, Receive}
 use Rattle.chart.specs.Events.{ith}
 use Rattle.chart.specs.Charts.{Chart, Place, at, chart_event, LineView, IsReceiveFrom, chart_lines}
 use Rattle.named_refusals.specs.NamedRefusals.{missing_on}
+use Rattle.named_refusals.specs.Asked.{instance_said, has_event}
+use Rattle.turned_runs.specs.Turns.{receives}
 use Rattle.views.specs.declared.error.ViewError.{ViewError}
 use Rattle.views.specs.declared.error.ViewError.TheVariants.{NoSuchEvent, NotEarlier, NotAReceive}
 use Rattle.views.specs.declared.pair.Asked.{Asked}
 use Rattle.views.specs.declared.pair.Pair.{Pair}
-use Rattle.views.specs.Pairs.{instance_said, has_event, receives, pair_on, pair_at, pair_of}
+use Rattle.views.specs.Pairs.{pair_on, pair_at, pair_of}
 use Rattle.views.specs.Explaining.{IsPair}
 
 -- a test that was passed

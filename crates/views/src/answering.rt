@@ -38,8 +38,9 @@ impl Answer for ViewError {
     }
 }
 
+/// What is told of a pair that a coregion hides.
 #[tactic(auto, unfolding(crate::specs::Answers::hidden_text))]
-fn hidden_text() -> &'static [u8]
+pub fn hidden_text() -> &'static [u8]
     ensures { result.now ≡ hidden_text }
 {
     b"a coregion hides this pair\n"

@@ -31,7 +31,7 @@ mod verdict;
 mod view;
 mod witnessing;
 
-pub use answering::refused;
+pub use answering::{hidden_text, refused};
 pub use error::ViewError;
 pub use explained::one_explanation_law;
 pub use finding::{Found, found_in, judged};

@@ -2,12 +2,13 @@
 ghost use Rattle.std.specs.Prelude.{◌≡◌, ◌≤◌, ◌<◌, length};
 ghost use Rattle.chart.specs.declared.line.TheConstants.{MAX_EVENTS};
 ghost use Rattle.chart.specs.Charts.{chart_lines};
-ghost use Rattle.views.specs.Pairs.{instance_said, has_event, is_receive, pair_on, pair_of};
+ghost use Rattle.chart.specs.Events.{is_receive};
+ghost use Rattle.named_refusals.specs.Asked.{instance_said, has_event};
+ghost use Rattle.views.specs.Pairs.{pair_on, pair_of};
 
 use crate::error::ViewError;
 use chart::{Event, EventNo, InstanceNo, Line, Names};
-use msc_text::name_in;
-use named_refusals::{Missing, missing_on};
+use named_refusals::{Missing, has_event, instance_said, missing_on};
 
 /// The words of a `race` line: an instance's name, and the numbers of two events of its line.
 #[derive(Clone, Copy, Debug)]
@@ -24,16 +25,6 @@ pub struct Pair {
     pub receive: EventNo,
 }
 
-/// The instance that has these bytes as its name.
-fn instance_said(names: &Names, name: &[u8]) -> Option<InstanceNo>
-    ensures { result ≡ instance_said names.now name.now }
-{
-    match name_in(name) {
-        Ok(name) => names.instance(name),
-        Err(_) => None,
-    }
-}
-
 /// The events of an instance's line, none where the chart has no such instance.
 pub fn events_of(lines: &[Line], instance: InstanceNo) -> &[Event]
     ensures events { result.now ≡ chart_lines lines.now instance }
@@ -43,12 +34,6 @@ pub fn events_of(lines: &[Line], instance: InstanceNo) -> &[Event]
         Some(line) => line.events(),
         None => &[],
     }
-}
-
-fn has_event(events: &[Event], index: u64) -> bool
-    ensures { result ≡ has_event events.now index }
-{
-    1 <= index && index <= events.len() as u64
 }
 
 fn is_receive(event: &Event) -> bool
