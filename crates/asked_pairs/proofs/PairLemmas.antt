@@ -11,9 +11,9 @@ use Rattle.asked_pairs.specs.declared.error.ViewError.{ViewError}
 use Rattle.asked_pairs.specs.declared.error.ViewError.TheVariants.{NoSuchEvent, NotEarlier, NotAReceive}
 use Rattle.asked_pairs.specs.declared.pair.Asked.{Asked}
 use Rattle.asked_pairs.specs.declared.pair.Pair.{Pair}
-use Rattle.asked_pairs.specs.Pairs.{has_event, receives, pair_on, pair_at, pair_of}
-use Rattle.named_refusals.specs.Naming.{instance_said}
-use Rattle.asked_pairs.specs.Pairs.{IsPair}
+use Rattle.asked_pairs.specs.Pairs.{pair_on, pair_at, pair_of, IsPair}
+use Rattle.named_refusals.specs.Asked.{instance_said, has_event}
+use Rattle.turned_runs.specs.Turns.{receives}
 
 -- a test that was passed
 passed : (b : Bool) (x : Result Pair ViewError) (error : ViewError) (pair : Pair) → cond b x (Err error) ≡ Ok pair → (b ≡ true) × (x ≡ Ok pair)

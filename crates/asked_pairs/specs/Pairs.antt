@@ -1,30 +1,16 @@
 -- The two events that the words of a `race` line name (this project's profile).
-use Rattle.std.specs.Prelude.{ℕ, Bool, false, true, ◌&&◌, nat_lt, nat_le, List, length, Option, None, Some, Result, Ok}
-use Rattle.std.specs.Prelude.{Err, if◌then◌else◌}
+use Rattle.std.specs.Prelude.{ℕ, nat_lt, List, Option, None, Some, Result, Ok, Err, if◌then◌else◌}
 use Rattle.chart.specs.declared.event.Event.{Event}
-use Rattle.chart.specs.declared.event.Event.TheVariants.{Send, Receive}
 use Rattle.chart.specs.Events.{ith}
 use Rattle.chart.specs.Charts.{LineView, chart_lines}
 use Rattle.named_refusals.specs.declared.missing.Missing.TheVariants.{Instance}
 use Rattle.named_refusals.specs.NamedRefusals.{missing_on}
-use Rattle.named_refusals.specs.Naming.{instance_said}
+use Rattle.named_refusals.specs.Asked.{instance_said, has_event}
+use Rattle.turned_runs.specs.Turns.{receives}
 use Rattle.asked_pairs.specs.declared.error.ViewError.{ViewError}
 use Rattle.asked_pairs.specs.declared.error.ViewError.TheVariants.{NoSuchEvent, NotEarlier, NotAReceive}
 use Rattle.asked_pairs.specs.declared.pair.Asked.{Asked}
 use Rattle.asked_pairs.specs.declared.pair.Pair.{Pair}
-
--- the line has an event of this number
-abbrev pub has_event : List Event → ℕ → Bool
-has_event events i = nat_le 1 i && nat_le i (length events)
-
-abbrev pub is_receive : Event → Bool
-is_receive (Send to name) = false
-is_receive (Receive from name region) = true
-
--- at this number the line has a receive
-abbrev pub receives : Option Event → Bool
-receives None = false
-receives (Some m) = is_receive m
 
 -- the events of p's line with these numbers
 abbrev pub pair_on : List (List ℕ) → ℕ → List Event → ℕ → ℕ → Result Pair ViewError

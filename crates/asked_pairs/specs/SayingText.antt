@@ -6,14 +6,18 @@ use Rattle.chart.specs.Events.{ith}
 use Rattle.chart.specs.Keywords.{spelled}
 use Rattle.chart.specs.declared.keyword.Keyword.{Keyword}
 use Rattle.chart.specs.declared.keyword.Keyword.TheVariants as keywords
-use Rattle.causes.specs.declared.link.Rule.{Rule}
-use Rattle.causes.specs.declared.link.Rule.TheVariants.{Message, BeforeSend, SameSender}
 use Rattle.causes.specs.declared.link.Link.{Link}
+use Rattle.causes.specs.Rules.{rule_text}
+use Rattle.files.specs.Refusals.{behind_space}
 use Rattle.msc_text.specs.ChartText.{name_at}
 use Rattle.asked_pairs.specs.declared.saying.Piece.{Piece}
 use Rattle.asked_pairs.specs.declared.saying.Piece.TheVariants as pieces
 use Rattle.asked_pairs.specs.declared.saying.Saying.{Saying}
 use Rattle.asked_pairs.specs.declared.saying.Saying.TheVariants.{Before, Also, Row, Step}
+
+-- what is told of a pair that a coregion hides
+unfoldable pub hidden_text : List ℕ
+hidden_text = codes "a coregion hides this pair\n"
 
 -- what stands between names and numbers
 unfoldable pub piece_text : Piece → List ℕ
@@ -24,10 +28,6 @@ piece_text pieces.Beside = codes " | "
 piece_text pieces.Earlier = codes " before "
 piece_text pieces.By = codes ": "
 piece_text pieces.End = codes "\n"
-
--- a number behind a space
-unfoldable pub behind_space : ℕ → List ℕ
-behind_space n = codes " " ++ decimal n
 
 -- NAME NUMBER
 unfoldable pub place_text : List (List ℕ) → ℕ → ℕ → List ℕ
@@ -59,12 +59,6 @@ unfoldable pub row_text : List (List ℕ) → List Event → ℕ → ℕ → Lis
 row_text names events was may =
     piece_text pieces.Line ++ (half_at names was (ith events was)
     ++ (piece_text pieces.Beside ++ (half_at names may (ith events may) ++ piece_text pieces.End)))
-
--- a rule's name
-unfoldable pub rule_text : Rule → List ℕ
-rule_text Message = codes "message"
-rule_text BeforeSend = codes "earlier event of a line, before a send"
-rule_text SameSender = codes "same sender"
 
 -- NAME INDEX before NAME INDEX: RULE
 unfoldable pub step_text : List (List ℕ) → Link → List ℕ

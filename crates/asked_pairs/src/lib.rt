@@ -17,4 +17,4 @@ mod saying;
 pub use answering::refused;
 pub use error::ViewError;
 pub use pair::{Asked, Pair, pair_in};
-pub use saying::{Saying, write_chain, write_sayings};
+pub use saying::{Saying, hidden_text, write_chain, write_sayings};

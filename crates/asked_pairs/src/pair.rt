@@ -1,13 +1,14 @@
 //! The two events that are asked about.
 ghost use Rattle.std.specs.Prelude.{◌≡◌, ◌≤◌, ◌<◌, length};
 ghost use Rattle.chart.specs.declared.line.TheConstants.{MAX_EVENTS};
-ghost use Rattle.asked_pairs.specs.Pairs.{has_event, is_receive, pair_on, pair_of};
-ghost use Rattle.named_refusals.specs.Naming.{instance_said};
+ghost use Rattle.asked_pairs.specs.Pairs.{pair_on, pair_of};
+ghost use Rattle.named_refusals.specs.Asked.{instance_said, has_event};
+ghost use Rattle.chart.specs.Events.{is_receive};
 
 use crate::error::ViewError;
 use chart::{Event, EventNo, InstanceNo, Line, Names};
 use line_events::events_of;
-use named_refusals::{Missing, instance_said, missing_on};
+use named_refusals::{Missing, has_event, instance_said, missing_on};
 
 /// The words of a `race` line: an instance's name, and the numbers of two events of its line.
 #[derive(Clone, Copy, Debug)]
@@ -22,12 +23,6 @@ pub struct Asked<'a> {
 pub struct Pair {
     pub earlier: EventNo,
     pub receive: EventNo,
-}
-
-fn has_event(events: &[Event], index: u64) -> bool
-    ensures { result ≡ has_event events.now index }
-{
-    1 <= index && index <= events.len() as u64
 }
 
 fn is_receive(event: &Event) -> bool

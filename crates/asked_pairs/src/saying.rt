@@ -2,15 +2,23 @@
 ghost use Rattle.std.specs.Prelude.{◌≡◌};
 ghost use Rattle.std.specs.List.{flat_map};
 ghost use Rattle.chart.specs.Events.{ith};
+ghost use Rattle.files.specs.Refusals.{behind_space};
 ghost use Rattle.msc_text.specs.ChartText.{name_at};
 ghost use Rattle.msc_text.specs.Writing.{Wrote, Adds};
-ghost use Rattle.asked_pairs.specs.SayingText.{piece_text, behind_space, place_text, told_text, message_text, half_text};
-ghost use Rattle.asked_pairs.specs.SayingText.{half_at, row_text, rule_text, step_text, saying_text};
+ghost use Rattle.asked_pairs.specs.SayingText.{hidden_text, piece_text, place_text, told_text, message_text, half_text, half_at, row_text, step_text, saying_text};
 
-use causes::{Link, Rule};
+use causes::{Link, rule_of};
 use chart::{Event, InstanceNo, Keyword, Name, Names};
 use itoa::Buffer;
 use msc_text::{Out, TextBuffer, WriteError};
+
+/// What is told of a pair that a coregion hides.
+#[tactic(auto, unfolding(crate::specs::SayingText::hidden_text))]
+pub fn hidden_text() -> &'static [u8]
+    ensures { result.now ≡ hidden_text }
+{
+    b"a coregion hides this pair\n"
+}
 
 /// A line that explains a pair of events.
 #[derive(Clone, Copy)]
@@ -72,7 +80,7 @@ fn add_name<W: Out>(
     }
 }
 
-#[tactic(auto, unfolding(crate::specs::SayingText::behind_space))]
+#[tactic(auto, unfolding(files::specs::Refusals::behind_space))]
 fn add_number<W: Out>(text: &mut TextBuffer<'_, W>, number: usize) -> Result<(), WriteError>
     ensures { Adds W.sink text.old text.new result (behind_space number) }
 {
@@ -192,17 +200,6 @@ fn add_row<W: Out>(
     add_piece(text, Piece::Beside)?;
     add_half_at(text, names, events, may)?;
     add_piece(text, Piece::End)
-}
-
-#[tactic(auto, unfolding(crate::specs::SayingText::rule_text))]
-fn rule_of(rule: &Rule) -> &[u8]
-    ensures { result.now ≡ rule_text rule.now }
-{
-    match rule {
-        Rule::Message => b"message",
-        Rule::BeforeSend => b"earlier event of a line, before a send",
-        Rule::SameSender => b"same sender",
-    }
 }
 
 /// `NAME INDEX before NAME INDEX: RULE`.

@@ -1,3 +1,4 @@
 pub mod Chains
 pub mod Pasts
 pub mod Reaching
+pub mod Rules

@@ -15,5 +15,5 @@ mod reaching;
 mod receive_past;
 
 pub use chaining::shortest_chain;
-pub use link::{Link, Rule};
+pub use link::{Link, Rule, rule_of};
 pub use receive_past::{one_past_law, past};

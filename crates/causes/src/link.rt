@@ -1,4 +1,6 @@
 //! Direct steps of the enforced order.
+ghost use Rattle.std.specs.Prelude.{◌≡◌};
+ghost use Rattle.causes.specs.Rules.{rule_text};
 
 use chart::EventNo;
 
@@ -11,6 +13,18 @@ pub enum Rule {
     BeforeSend,
     /// Both are receives of a line from the same sender.
     SameSender,
+}
+
+/// A rule's name.
+#[tactic(auto, unfolding(crate::specs::Rules::rule_text))]
+pub fn rule_of(rule: &Rule) -> &[u8]
+    ensures { result.now ≡ rule_text rule.now }
+{
+    match rule {
+        Rule::Message => b"message",
+        Rule::BeforeSend => b"earlier event of a line, before a send",
+        Rule::SameSender => b"same sender",
+    }
 }
 
 /// Two events of which the one comes directly before the other.

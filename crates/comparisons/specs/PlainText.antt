@@ -3,11 +3,11 @@ use Rattle.std.specs.Prelude.{ℕ, List, [], ◌++◌, Option, None, Some, decim
 use Rattle.chart.specs.declared.event.Event.{Event}
 use Rattle.chart.specs.declared.event.Event.TheVariants.{Send, Receive}
 use Rattle.chart.specs.Events.{ith}
-use Rattle.msc_text.specs.ChartText.{name_at}
+use Rattle.msc_text.specs.ChartText.{name_at, message_at}
 use Rattle.comparisons.specs.declared.pairs.Difference.{Difference}
 use Rattle.comparisons.specs.declared.word.Word.{Word}
 use Rattle.comparisons.specs.declared.word.Word.TheVariants as words
-use Rattle.comparisons.specs.Words.{word_text, verdict_word, message_at}
+use Rattle.comparisons.specs.Words.{word_text, verdict_word}
 
 -- to or from whom an event's message goes or comes
 abbrev pub side_text : List (List ℕ) → Option Event → List ℕ

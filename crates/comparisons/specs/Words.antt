@@ -1,7 +1,5 @@
 -- The words of what is told of two recordings (this project's own; JSON is that of RFC 8259).
-use Rattle.std.specs.Prelude.{ℕ, List, [], Option, None, Some, codes, decimal}
-use Rattle.chart.specs.declared.event.Event.{Event}
-use Rattle.chart.specs.Events.{name_of}
+use Rattle.std.specs.Prelude.{ℕ, List, [], None, Some, codes, decimal}
 use Rattle.comparisons.specs.declared.verdict.Verdict.{Verdict}
 use Rattle.comparisons.specs.declared.verdict.Verdict.TheVariants as verdicts
 use Rattle.comparisons.specs.declared.word.Word.{Word}
@@ -47,11 +45,6 @@ abbrev pub verdict_word : Verdict → Word
 verdict_word verdicts.Enforced = words.Enforced
 verdict_word verdicts.Race = words.Race
 verdict_word verdicts.Unclaimed = words.Unclaimed
-
--- the name of an event's message, where there is an event
-abbrev pub message_at : Option Event → List ℕ
-message_at None = []
-message_at (Some m) = name_of m
 
 -- a part of a line as it is written
 abbrev pub part_text : Part → List ℕ

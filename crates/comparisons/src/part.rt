@@ -1,9 +1,9 @@
 //! The parts of a line that is told.
 ghost use Rattle.std.specs.Prelude.{◌≡◌, ◌++◌};
 ghost use Rattle.std.specs.List.{flat_map};
-ghost use Rattle.msc_text.specs.ChartText.{name_at};
+ghost use Rattle.msc_text.specs.ChartText.{name_at, message_at};
 ghost use Rattle.msc_text.specs.Writing.{Adds};
-ghost use Rattle.comparisons.specs.Words.{message_at, part_text, word_text};
+ghost use Rattle.comparisons.specs.Words.{part_text, word_text};
 
 use crate::word::{Word, word_of};
 use chart::{Event, InstanceNo, Name, Names};

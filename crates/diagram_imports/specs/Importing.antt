@@ -1,17 +1,17 @@
 -- A text, read whole, and the chart that it comes to.
-use Rattle.std.specs.Prelude.{ℕ, Bool, true, false, List, [], ◌∷◌, Option, None, Some, Result, Ok, Err, map, drop, if◌then◌else◌}
+use Rattle.std.specs.Prelude.{ℕ, Bool, true, false, List, [], ◌∷◌, Option, None, Some, Result, Ok, Err, map, drop, if◌then◌else◌, nat_eq}
 use Rattle.std.specs.List.{starts_with}
-use Rattle.std.specs.Prelude.{nat_eq}
 use Rattle.diagrams.specs.Diagrams.{DiagramView}
 use Rattle.diagrams.specs.Places.{earlier}
 use Rattle.diagrams.specs.declared.left_out.LeftOut.{LeftOut}
 use Rattle.diagrams.specs.declared.place.Place.{Place}
+use Rattle.diagrams.specs.Drawing.{◌>>=◌}
 use Rattle.joined_diagrams.specs.Drawing.{JoinedDrawnView, drawn_joined}
 use Rattle.joined_diagrams.specs.Joins.{JoinView, join_view}
 use Rattle.joined_diagrams.specs.declared.moves.Overtaking.{Overtaking}
 use Rattle.tool_text.specs.declared.Tool.{Tool}
 use Rattle.diagram_imports.specs.Readers.{tool_in, diagram_in, refused_as}
-use Rattle.diagram_imports.specs.Refusals.{Refusal, Usage, NotRead, NoChart, ◌>>=◌}
+use Rattle.diagram_imports.specs.Refusals.{Refusal, Usage, NotRead, NoChart}
 use Rattle.diagram_imports.specs.Shown.{words_at}
 use Rattle.diagram_imports.specs.Skipping.{blanked_from, lines_from, is_beyond}
 use Rattle.diagram_imports.specs.declared.importing.Options.{Options}

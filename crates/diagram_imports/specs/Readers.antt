@@ -1,6 +1,7 @@
 -- The diagram that a text says, in the language of its tool.
 use Rattle.std.specs.Prelude.{ℕ, List, Option, None, Some, Result, Ok, Err}
 use Rattle.diagrams.specs.Diagrams.{DiagramView}
+use Rattle.diagrams.specs.Drawing.{◌>>=◌}
 use Rattle.joined_diagrams.specs.declared.error.JoinError.TheVariants.{Instances}
 use Rattle.line_diagrams.specs.Folds as folds
 use Rattle.line_diagrams.specs.declared.labels.Breaks.{Breaks}
@@ -18,7 +19,7 @@ use Rattle.told_tools.specs.declared.telling.Untold.{Untold}
 use Rattle.told_tools.specs.declared.telling.Untold.TheVariants as untold
 use Rattle.tool_text.specs.declared.Tool.{Tool}
 use Rattle.tool_text.specs.declared.Tool.TheVariants.{Mscgen, PlantUml, Mermaid}
-use Rattle.diagram_imports.specs.Refusals.{Refusal, NotRead, Unfinished, UnknownInstance, NoChart, ◌>>=◌}
+use Rattle.diagram_imports.specs.Refusals.{Refusal, NotRead, Unfinished, UnknownInstance, NoChart}
 use Rattle.diagram_imports.specs.Shown.{words_at}
 
 -- the words at a place can't be read

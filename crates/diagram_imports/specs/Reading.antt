@@ -1,10 +1,11 @@
 -- The diagram that a text says, whatever chart it comes to.
 use Rattle.std.specs.Prelude.{ℕ, false, List, Option, Result, Ok, Err, if◌then◌else◌}
 use Rattle.diagrams.specs.Diagrams.{DiagramView}
+use Rattle.diagrams.specs.Drawing.{◌>>=◌}
 use Rattle.tool_text.specs.declared.Tool.{Tool}
 use Rattle.diagram_imports.specs.Importing.{OptionsView, behind_mark}
 use Rattle.diagram_imports.specs.Readers.{tool_in, diagram_in}
-use Rattle.diagram_imports.specs.Refusals.{Refusal, Usage, ◌>>=◌}
+use Rattle.diagram_imports.specs.Refusals.{Refusal, Usage}
 use Rattle.diagram_imports.specs.Skipping.{blanked_from, lines_from, is_beyond}
 
 -- of a text without skipped lines and without a byte order mark

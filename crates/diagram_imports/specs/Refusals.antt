@@ -14,12 +14,6 @@ pub data Refusal : Type 0 where
   UnknownInstance : ℕ → Refusal
   NoChart : JoinError → Refusal
 
-infixl 10 ◌>>=◌
--- what comes next, unless the text was refused
-abbrev pub ◌>>=◌ : {A B E : Type 0} → Result A E → (A → Result B E) → Result B E
-(Ok x) >>= f = f x
-(Err e) >>= f = Err e
-
 -- an error is this refusal, unless memory ran out
 abbrev pub IsOf : ImportError → Refusal → Type 0
 IsOf errors.Memory refusal = Unit {0}

@@ -1,14 +1,11 @@
 -- Loops over lists, one element after the other.
-use Rattle.std.proofs.Common.{◌≡◌, ℕ, zero, suc, ◌+◌, ◌-◌, ◌<◌, ◌≤◌, ◌==◌, Bool, List, [], ◌∷◌, ◌++◌, length, take, drop, get_or, refl, sym, ap, ◌∙◌, arith, append_assoc, drop-cons, add-one}
+use Rattle.std.proofs.Common.{◌≡◌, ℕ, ◌+◌, ◌-◌, ◌<◌, ◌≤◌, Bool, List, [], ◌∷◌, ◌++◌, length, take, drop, get_or, refl, sym, ap, ◌∙◌, append_assoc}
 use Rattle.std.specs.Prelude.{map, fold}
 use Rattle.std.specs.List.{flat_map}
 use Rattle.std.proofs.lemmas.Grind.{flat_map-append}
 use Rattle.std.proofs.lemmas.List.{append-nil, drop_all, map-append, take_more}
-use Rattle.std.proofs.lemmas.List.Folds.{flat_map-map}
 use Rattle.std.proofs.lemmas.List.Sums.{fold-append}
-use Rattle.diagram_imports.specs.Skipping.{read_byte, line_behind, blanked_from}
-use Rattle.diagram_imports.specs.declared.skipping.Skip.{Skip}
-use Rattle.line_statements.specs.Lines.{line_length}
+use Rattle.diagram_imports.proofs.TextLemmas.{from_byte}
 use Rattle.diagram_notes.specs.Plain.{plain_step, waits, ended, plain_from}
 
 -- the view of one element more
@@ -46,10 +43,6 @@ pub fold_more : {A B C : Type 0} (f : C → B → C) (v : A → B) (start done n
 fold_more f v start done next xs n x one e so_far =
     e ∙ ap (λ d. f d (v x)) so_far
     ∙ sym (ap (fold f start) one ∙ fold-append f start (map v (take n xs)) (v x ∷ []))
-
--- what is left from a byte on
-pub from_byte : (bytes : List ℕ) (n : ℕ) → n < length bytes → drop n bytes ≡ get_or bytes n 0 ∷ drop (n + 1) bytes
-from_byte bytes n within = rw add-one (drop-cons bytes n 0 within)
 
 -- one byte more of words in one line
 pub plain_more : (escaped next : Bool) (n : ℕ) (raw done more : List ℕ) → n < length raw → more ≡ done ++ plain_step escaped (get_or raw n 0) → next ≡ waits escaped (get_or raw n 0)

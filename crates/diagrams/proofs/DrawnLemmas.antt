@@ -30,7 +30,7 @@ fails_first (LineFull line) r f h = ap (λ s. s >>= f) h
 fails_first (NotPossible line) r f h = ap (λ s. s >>= f) h
 
 -- the participants' labels
-labels_seen : (participants : List Participant) → map (λ (p : ParticipantView). p.label) (map participant_view participants) ≡ map (λ (p : Participant). p.label.items) participants
+pub labels_seen : (participants : List Participant) → map (λ (p : ParticipantView). p.label) (map participant_view participants) ≡ map (λ (p : Participant). p.label.items) participants
 labels_seen [] = refl
 labels_seen (p ∷ participants) = ap (λ labels. p.label.items ∷ labels) (labels_seen participants)
 

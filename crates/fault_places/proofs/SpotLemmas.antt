@@ -4,7 +4,7 @@ use Rattle.std.specs.Prelude.{Option, None, Some, MatchOption, bytes_eq, min}
 use Rattle.fault_places.specs.Spots.{is_among, is_wrong, inner, spot_from}
 use Rattle.fault_places.specs.Wants.{next}
 use Rattle.fault_places.specs.declared.want.Want.{Want}
-use Rattle.msc_text.proofs.Parts.{Cons, parts_cons}
+use Rattle.msc_text.proofs.Parts.{Cons, words_cons}
 use Rattle.msc_text.specs.Lines.{words_of}
 use Rattle.msc_text.specs.declared.fault.Cause.{Cause}
 
@@ -12,10 +12,6 @@ use Rattle.msc_text.specs.declared.fault.Cause.{Cause}
 pub cut_first : {R : Type 0} (text : R → List (List ℕ)) (more : Option R) (word : List ℕ) (words : List (List ℕ)) → MatchOption more (words ≡ word ∷ []) (λ r. words ≡ word ∷ text r) → (others : List (List ℕ)) × (words ≡ word ∷ others)
 cut_first text None word words h = ([], h)
 cut_first text (Some r) word words h = (text r, h)
-
-pub words_cons : (line : List ℕ) → Cons (words_of line)
-unfolding words_of
-words_cons line = parts_cons 32 line
 
 pub among_here : (word other : List ℕ) (n : ℕ) (words others : List (List ℕ)) → 0 < n → words ≡ other ∷ others → bytes_eq word other ≡ true → is_among word n words ≡ true
 among_here word other zero words others h e b = absurd (omega arith)

@@ -1,8 +1,7 @@
 -- What is told of a circle: its steps, by the names of the instances and the lines of the chart's text.
 use Rattle.std.specs.Prelude.{◌≡◌, ℕ, ◌≤◌, List, ◌++◌, length, map, codes, decimal, Some, slice_get}
 use Rattle.causes.specs.declared.link.Link.{Link}
-use Rattle.causes.specs.declared.link.Rule.{Rule}
-use Rattle.causes.specs.declared.link.Rule.TheVariants.{Message, BeforeSend, SameSender}
+use Rattle.causes.specs.Rules.{rule_text}
 use Rattle.chart.specs.Charts.{LineView, chart_lines}
 use Rattle.chart.specs.declared.instance.EventNo.{EventNo}
 use Rattle.circles.specs.Circles.{IsShortestCircle}
@@ -36,12 +35,6 @@ HaveNames names links = (i : ℕ) (link : Link) → slice_get links i ≡ Some l
 abbrev pub AreStepsOf : List ℕ → List (List ℕ) → List LineView → List Step → Type 0
 AreStepsOf text names lines steps = (links : List Link) × IsShortestCircle (chart_lines lines) links
     × (steps ≡ map (step_of text names) links)
-
--- a rule's name
-unfoldable pub rule_text : Rule → List ℕ
-rule_text Message = codes "message"
-rule_text BeforeSend = codes "earlier event of a line, before a send"
-rule_text SameSender = codes "same sender"
 
 -- LINE: NAME NUMBER before NAME NUMBER: RULE
 unfoldable pub step_text : Step → List ℕ

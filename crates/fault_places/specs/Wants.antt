@@ -1,18 +1,16 @@
 -- What may stand at each place of a line, word by word: of a schedule's text, and of a chart's (this project's profile of
 -- the instance-oriented text of ITU-T Z.120).
-use Rattle.std.specs.Prelude.{ℕ, Bool, true, false, not, ◌||◌, ◌==◌, List, length, codes, bytes_eq, Option, None, Some, is_some, if◌then◌else◌}
+use Rattle.std.specs.Prelude.{ℕ, Bool, true, false, ◌||◌, List, codes, bytes_eq, Option, None, Some, is_some, if◌then◌else◌}
 use Rattle.fault_places.specs.declared.want.Want.{Want}
 use Rattle.fault_places.specs.declared.want.Want.TheVariants as wants
 use Rattle.msc_reader.specs.Steps.{name_part, is_plain}
+use Rattle.msc_text.specs.Lines.{is_word}
 use Rattle.schedule.specs.FirstLines.{is_number}
 
 -- what comes next, if the word may stand where it does
 abbrev pub on : Bool → Want → Option Want
 on true next = Some next
 on false next = None
-
-abbrev pub is_word : List ℕ → Bool
-is_word word = not (length word == 0)
 
 -- behind the name of the instance that acts
 unfoldable pub begins_command : List ℕ → Option Want

@@ -1,23 +1,12 @@
 //! The text of a step.
 ghost use Rattle.std.specs.Prelude.{◌≡◌};
 ghost use Rattle.msc_text.specs.Writing.{Adds};
-ghost use Rattle.fault_places.specs.ToldCircles.{rule_text, step_text};
+ghost use Rattle.fault_places.specs.ToldCircles.{step_text};
 
 use crate::step::Step;
-use causes::Rule;
+use causes::rule_of;
 use msc_text::{Out, TextBuffer, WriteError};
 use text_parts::{Piece, add_pieces};
-
-#[tactic(auto, unfolding(crate::specs::ToldCircles::rule_text))]
-fn rule_of(rule: &Rule) -> &[u8]
-    ensures { result.now ≡ rule_text rule.now }
-{
-    match rule {
-        Rule::Message => b"message",
-        Rule::BeforeSend => b"earlier event of a line, before a send",
-        Rule::SameSender => b"same sender",
-    }
-}
 
 /// Adds a step: the line of its earlier event, the two events, and why the one comes before the other. F24: a put
 /// failed.

@@ -18,6 +18,7 @@ mod number;
 mod refusal;
 mod schedules;
 mod source;
+mod status;
 mod text;
 
 pub use answer::{Answer, answered, tell};
@@ -28,4 +29,5 @@ pub use number::number_in;
 pub use refusal::{refused, refused_by};
 pub use schedules::schedule_in;
 pub use source::Source;
+pub use status::Status;
 pub use text::{NamedChart, Text};

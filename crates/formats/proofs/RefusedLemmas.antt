@@ -10,13 +10,13 @@ use Rattle.formats.specs.declared.error.DrawError.TheVariants.{Format}
 use Rattle.wanted_columns.specs.declared.error.FormatError.{FormatError}
 use Rattle.wanted_columns.specs.declared.error.FormatError.TheVariants.{Program, NoSuchName}
 use Rattle.formats.specs.declared.target.Target.{Target}
-use Rattle.wanted_columns.specs.Columns.{AreColumns, RefusesColumns}
-use Rattle.formats.specs.Drawing.{only_of, Draws}
+use Rattle.wanted_columns.specs.Columns.{AreColumns, RefusesColumns, only_of}
+use Rattle.formats.specs.Drawing.{Draws}
 use Rattle.formats.specs.Exporting.{Exports}
 
 module _ {S : Type 0} (sink : S → Sink) (old : S) (turns : List ℕ) (notes : List MarginNote) (named : Named) where
   -- there are no such columns
-  pub no_columns : (wanted : Wanted) (error : FormatError) → RefusesColumns named.0 (only_of wanted) error → Draws sink old old (Err (Format error)) wanted turns notes named
+  pub no_columns : (wanted : Wanted) (error : FormatError) → RefusesColumns named.0 (only_of wanted.only) error → Draws sink old old (Err (Format error)) wanted turns notes named
   no_columns wanted NoSuchName none = (none, refl)
   no_columns wanted (Program Memory) why = refl
   no_columns wanted (Program Usage) why = absurd why
@@ -27,7 +27,7 @@ module _ {S : Type 0} (sink : S → Sink) (old : S) (turns : List ℕ) (notes : 
   no_columns wanted (Program Cyclic) why = absurd why
   no_columns wanted (Program Write) why = absurd why
 
-  module _ (wanted : Wanted) (columns : List ℕ) (are : AreColumns named.0 (only_of wanted) columns) where
+  module _ (wanted : Wanted) (columns : List ℕ) (are : AreColumns named.0 (only_of wanted.only) columns) where
     pub not_drawn : (error : ProgramError) → (error ≡ Memory) ⊎ IsRefused error named → Draws sink old old (Err (Format (Program error))) wanted turns notes named
     not_drawn Memory why = refl
     not_drawn Usage (inl is) = cc

@@ -10,8 +10,8 @@ use Rattle.chart.specs.Charts.{at, chart_lines}
 use Rattle.closure.specs.Faults.{place_of}
 use Rattle.files.specs.Files.{Named}
 use Rattle.formats.specs.declared.windows.Around.{Around}
-use Rattle.named_refusals.specs.Naming.{instance_said}
-use Rattle.formats.specs.Windows.{has_event, event_at, event_said}
+use Rattle.named_refusals.specs.Asked.{instance_said, has_event}
+use Rattle.formats.specs.Windows.{event_at, event_said}
 use Rattle.layout.specs.declared.row.Row.{Row}
 use Rattle.layout.specs.Layouts.{drawn, row_of, AreInOrder, IsDrawing}
 use Rattle.layout.proofs.BegunLemmas.{row_of_drawn}

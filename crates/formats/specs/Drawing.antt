@@ -1,5 +1,5 @@
 -- What is drawn of a file.
-use Rattle.std.specs.Prelude.{◌≡◌, ℕ, ◌⊎◌, List, [], length, Option, option_map, Result, Ok, Err}
+use Rattle.std.specs.Prelude.{◌≡◌, ℕ, List, [], length, Option, Result, Ok, Err}
 use Rattle.chart.specs.declared.instance.EventNo.{EventNo}
 use Rattle.chart.specs.Charts.{chart_lines, IsPossible}
 use Rattle.chart.specs.Reports.{ReportView, AreReports}
@@ -18,13 +18,9 @@ use Rattle.formats.specs.declared.error.DrawError.{DrawError}
 use Rattle.formats.specs.declared.error.DrawError.TheVariants.{Format, NoSuchEvent}
 use Rattle.wanted_columns.specs.declared.error.FormatError.TheVariants.{Program, NoSuchName}
 use Rattle.formats.specs.declared.windows.Window.{Window}
-use Rattle.wanted_columns.specs.Columns.{AreColumns}
+use Rattle.wanted_columns.specs.Columns.{AreColumns, only_of}
 use Rattle.formats.specs.Windows.{IsWindow, HasNoWindow}
 use Rattle.formats.specs.Preparing.{turns_in, IsPrepared}
-
--- the bytes that name the columns, if there are some
-abbrev pub only_of : Wanted → Option (List ℕ)
-only_of wanted = option_map (λ bytes. bytes.now) wanted.only
 
 -- the picture is that of what is wanted of the chart, which is possible, with these notes in its margin
 pub record IsWanted (wanted : Wanted) (turns : List ℕ) (notes : List MarginNote) (named : Named) (picture : PictureView) : Type 0 where
@@ -33,7 +29,7 @@ pub record IsWanted (wanted : Wanted) (turns : List ℕ) (notes : List MarginNot
   pub ends : List (List (Option EventNo))
   pub reports : List ReportView
   pub window : Window
-  pub named_so : AreColumns named.0 (only_of wanted) columns
+  pub named_so : AreColumns named.0 (only_of wanted.only) columns
   pub possible : IsPossible (length named.1) (chart_lines named.1)
   pub prepared : IsPrepared named.1 turns rows ends
   pub races : AreReports named.1 reports
@@ -62,14 +58,14 @@ module _ {S : Type 0} (sink : S → Sink) where
   Draws old new (Ok done) wanted turns notes named = (picture : PictureView) × IsWanted wanted turns notes named picture
       × Puts sink old new (picture_text picture)
   Draws old new (Err (Format NoSuchName)) wanted turns notes named =
-      ((columns : List ℕ) → AreColumns named.0 (only_of wanted) columns → ⊥) × (new ≡ old)
+      ((columns : List ℕ) → AreColumns named.0 (only_of wanted.only) columns → ⊥) × (new ≡ old)
   Draws old new (Err (Format (Program errors.Memory))) wanted turns notes named = new ≡ old
   Draws old new (Err (Format (Program errors.Write))) wanted turns notes named = (picture : PictureView)
       × IsWanted wanted turns notes named picture × Breaks sink old new (picture_text picture)
   Draws old new (Err (Format (Program error))) wanted turns notes named = (columns : List ℕ)
-      × AreColumns named.0 (only_of wanted) columns × IsRefused error named × (new ≡ old)
+      × AreColumns named.0 (only_of wanted.only) columns × IsRefused error named × (new ≡ old)
   Draws old new (Err (NoSuchEvent missing)) wanted turns notes named = (columns : List ℕ)
-      × AreColumns named.0 (only_of wanted) columns × IsPossible (length named.1) (chart_lines named.1)
+      × AreColumns named.0 (only_of wanted.only) columns × IsPossible (length named.1) (chart_lines named.1)
       × HasNoWindow named wanted.rows missing × (new ≡ old)
 
   -- the same for the chart that the bytes say; or nothing was written, where the bytes have a fault

@@ -1,7 +1,5 @@
 -- Which rows of a picture are chosen (this project's profile).
-use Rattle.std.specs.Prelude.{◌≡◌, ℕ, ◌+◌, ◌-◌, ◌^◌, min, Bool, ◌&&◌, nat_le, List, length, Option, None, Some, Result}
-use Rattle.std.specs.Prelude.{Ok, Err}
-use Rattle.std.specs.Prelude.{if◌then◌else◌}
+use Rattle.std.specs.Prelude.{◌≡◌, ℕ, ◌+◌, ◌-◌, ◌^◌, min, List, Option, None, Some, Result, Ok, Err, if◌then◌else◌}
 use Rattle.chart.specs.declared.event.Event.{Event}
 use Rattle.chart.specs.declared.instance.EventNo.{EventNo}
 use Rattle.chart.specs.Charts.{LineView, chart_lines}
@@ -11,16 +9,12 @@ use Rattle.formats.specs.declared.windows.Around as arounds
 use Rattle.formats.specs.declared.windows.Rows.{Rows}
 use Rattle.formats.specs.declared.windows.Rows.TheVariants.{Between, Around}
 use Rattle.formats.specs.declared.windows.Window.{Window}
-use Rattle.named_refusals.specs.Naming.{instance_said}
+use Rattle.named_refusals.specs.Asked.{instance_said, has_event}
 use Rattle.layout.specs.declared.row.Row.{Row}
 use Rattle.layout.specs.Layouts.{row_of}
 use Rattle.named_refusals.specs.declared.missing.Missing.{Missing}
 use Rattle.named_refusals.specs.declared.missing.Missing.TheVariants.{Instance}
 use Rattle.named_refusals.specs.NamedRefusals.{missing_on}
-
--- the line has an event of this number
-abbrev pub has_event : List Event → ℕ → Bool
-has_event events n = nat_le 1 n && nat_le n (length events)
 
 abbrev pub event_on : List (List ℕ) → ℕ → List Event → ℕ → Result EventNo Missing
 event_on names p events n =

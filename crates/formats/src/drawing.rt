@@ -6,8 +6,8 @@ ghost use Rattle.chart.specs.Reports.{AreReports};
 ghost use Rattle.files.specs.Answers.{Answers};
 ghost use Rattle.files.specs.Texts.{named_of, ComesFrom};
 ghost use Rattle.formats.specs.Answers.{drawn_said};
-ghost use Rattle.wanted_columns.specs.Columns.{AreColumns};
-ghost use Rattle.formats.specs.Drawing.{only_of, Draws, DrawsText};
+ghost use Rattle.wanted_columns.specs.Columns.{AreColumns, only_of};
+ghost use Rattle.formats.specs.Drawing.{Draws, DrawsText};
 ghost use Rattle.formats.specs.Preparing.{turns_in};
 
 use crate::error::DrawError;
@@ -62,7 +62,7 @@ fn draw_columns<W: Out>(
     out: &mut W,
 ) -> Result<(), DrawError>
     requires limit { length columns.now ≤ MAX_INSTANCES }
-    requires columns { AreColumns subject.now.names.now (only_of wanted.now) columns.now }
+    requires columns { AreColumns subject.now.names.now (only_of wanted.now.only) columns.now }
     requires reports { AreReports subject.now.closure.now subject.now.reports.now }
     requires possible { IsPossible (length subject.now.closure.now) (chart_lines subject.now.closure.now) }
     ensures { Draws W.sink out.old out.new result wanted.now subject.now.turns.now subject.now.notes.now

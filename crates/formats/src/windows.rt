@@ -2,14 +2,15 @@
 ghost use Rattle.std.specs.Prelude.{◌≡◌, ◌≤◌, ◌-◌, length, MatchResult};
 ghost use Rattle.chart.specs.declared.line.TheConstants.{MAX_EVENTS};
 ghost use Rattle.chart.specs.Charts.{chart_lines};
-ghost use Rattle.formats.specs.Windows.{has_event, event_on, event_said, round, IsWindow, HasNoWindow};
+ghost use Rattle.formats.specs.Windows.{event_on, event_said, round, IsWindow, HasNoWindow};
 ghost use Rattle.formats.specs.declared.windows.Rows.TheVariants as rows;
 ghost use Rattle.layout.specs.Layouts.{IsDrawing};
+ghost use Rattle.named_refusals.specs.Asked.{has_event};
 
 use crate::events::Events;
 use chart::{Event, EventNo, InstanceNo, Line, Names};
 use layout::Layout;
-use named_refusals::{Missing, instance_said, missing_on};
+use named_refusals::{Missing, has_event, instance_said, missing_on};
 
 /// An event: the name of its instance, and its number on the line, from 1.
 #[derive(Clone, Copy, Debug)]
@@ -50,12 +51,6 @@ fn events_of(lines: &[Line], instance: InstanceNo) -> &[Event]
         Some(line) => line.events(),
         None => &[],
     }
-}
-
-fn has_event(events: &[Event], number: u64) -> bool
-    ensures { result ≡ has_event events.now number }
-{
-    1 <= number && number <= events.len() as u64
 }
 
 /// The event of this number, if the instance's line has it.

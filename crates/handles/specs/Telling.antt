@@ -1,8 +1,7 @@
 -- What is told of a post's line (this project's profile).
-use Rattle.std.specs.Prelude.{◌≡◌, ℕ, Bool, true, false, List, length, Option, None, Some, Result, Ok, Err}
+use Rattle.std.specs.Prelude.{◌≡◌, ℕ, List, length, Option, None, Some, Result, Ok, Err}
 use Rattle.chart.specs.declared.event.Event.{Event}
-use Rattle.chart.specs.declared.event.Event.TheVariants.{Send, Receive}
-use Rattle.chart.specs.Events.{ith, partner_of, name_of, region_of}
+use Rattle.chart.specs.Events.{ith, partner_of, name_of, region_of, is_receive}
 use Rattle.board.specs.Views.{line_of}
 use Rattle.handles.specs.declared.found.Told.{Told}
 use Rattle.handles.specs.declared.kept.Kept.{Kept}
@@ -10,10 +9,6 @@ use Rattle.handles.specs.declared.kept.Kept.TheVariants.{Post, Board, Away}
 use Rattle.handles.specs.declared.refusal.Refusal.{Refusal}
 use Rattle.handles.specs.declared.refusal.Refusal.TheVariants as why
 use Rattle.handles.specs.Copying.{put_over}
-
-abbrev pub is_receive : Event → Bool
-is_receive (Send to name) = false
-is_receive (Receive from name region) = true
 
 -- what is told of an event
 abbrev pub told_of : Event → Told

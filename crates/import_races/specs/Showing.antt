@@ -4,6 +4,7 @@ use Rattle.diagram_imports.specs.Importing.{OptionsView, imported}
 use Rattle.diagram_imports.specs.Refusals.{Fails}
 use Rattle.files.specs.Answers.{Said, refusal, said_of}
 use Rattle.wanted_columns.specs.Answers as columns
+use Rattle.files.specs.Statuses.{code_of}
 use Rattle.import_answers.specs.Importing.{IsChartOf, IsToldOf}
 use Rattle.import_answers.specs.Refusals.{drawing_refusal_text}
 use Rattle.import_answers.specs.Telling.{told_text}
@@ -13,7 +14,6 @@ use Rattle.import_races.specs.declared.showing.Unshown.TheVariants.{Drawing, Rac
 use Rattle.joined_diagrams.specs.declared.drawing.JoinedDrawn.{JoinedDrawn}
 use Rattle.msc_text.specs.Outs.{Sink}
 use Rattle.race_answers.specs.Showing.{Shows}
-use Rattle.race_answers.specs.Statuses.{code_of}
 use Rattle.race_answers.specs.declared.showing.Wanted.{Wanted}
 use Rattle.tool_text.specs.declared.Tool.{Tool}
 

@@ -4,10 +4,10 @@ ghost use Rattle.diagram_imports.specs.Importing.{options_view};
 ghost use Rattle.import_races.specs.Showing.{ShowsDrawing, shown_said, unshown_said, races_said};
 
 use diagram_imports::{ImportError, Options};
-use files::{Answer, answered};
+use files::{Answer, Status, answered};
 use import_answers::{Told, drawing_in, refused_drawing};
 use msc_text::Out;
-use race_answers::{Status, Wanted, show_chart};
+use race_answers::{Wanted, show_chart};
 use std::alloc::Global;
 use tool_text::Tool;
 use wanted_columns::FormatError;

@@ -1,5 +1,5 @@
 -- The chart of a diagram whose lines are joined, of its parts and step by step.
-use Rattle.std.proofs.Common.{◌≡◌, ℕ, ◌<◌, ◌≤◌, List, [], ◌∷◌, Option, Result, Ok, Err, false, length, map, refl, sym, ap, arith}
+use Rattle.std.proofs.Common.{◌≡◌, ℕ, ◌<◌, ◌≤◌, List, [], ◌∷◌, Result, Ok, false, length, map, refl, sym, ap, arith}
 use Rattle.chart.specs.Charts.{LineView}
 use Rattle.label_names.specs.Labels.{none}
 use Rattle.message_charts.specs.Lines.{lines_from}
@@ -11,18 +11,13 @@ use Rattle.diagrams.specs.Drawing.{◌>>=◌, has_no_chart, drawn}
 use Rattle.label_names.specs.Renaming.{renamed_from}
 use Rattle.diagrams.specs.Naming.{names_from, labels_from, named_from}
 use Rattle.diagrams.specs.declared.diagram.Participant.{Participant}
-use Rattle.diagrams.specs.declared.message.Message.{Message}
+use Rattle.diagrams.proofs.DrawnLemmas.{labels_seen}
 use Rattle.joined_diagrams.specs.Coregions.{cut_from}
 use Rattle.joined_diagrams.specs.Drawing.{JoinedDrawnView, alone, checked, joined_drawn_of, joined_by, lines_joined, drawn_joined}
 use Rattle.joined_diagrams.specs.Joined.{JoinedView, joined, Fails}
 use Rattle.joined_diagrams.specs.Joins.{JoinView}
 use Rattle.joined_diagrams.specs.declared.error.JoinError.{JoinError}
 use Rattle.joined_diagrams.specs.declared.error.JoinError.TheVariants.{Memory, NoSuchLine, Taken, Instances, NotPossible, LineFull}
-
--- the participants' labels
-labels_seen : (participants : List Participant) → map (λ (p : ParticipantView). p.label) (map participant_view participants) ≡ map (λ (p : Participant). p.label.items) participants
-labels_seen [] = refl
-labels_seen (p ∷ participants) = ap (λ labels. p.label.items ∷ labels) (labels_seen participants)
 
 -- a chart and what is told, of their parts
 pub drawn_parts : (participants : List Participant) (items : List ItemView) (lines : List (List ℕ)) (j : JoinedView) (chart : List LineView) (told : List (List ℕ × List ℕ))

@@ -21,7 +21,7 @@ fn is_same(word: &[u8], other: &[u8]) -> bool
 }
 
 /// The place of the participant with this word.
-#[tactic(auto, using(crate::proofs::PlaceLoops::moved_on))]
+#[tactic(auto, using(line_statements::proofs::ByteLoops::moved_on))]
 fn place_in(word: &[u8], participants: &[Named<'_>]) -> Option<usize>
     ensures value { result ≡ place_in word.now (map named_view participants.now) }
     ensures within { IfSome result (λ place. place < length participants.now) }

@@ -23,6 +23,10 @@ front_of count l = stripped_line (record { number = l.number; column = l.column;
 unfoldable pub line_length : List ℕ → ℕ
 line_length text = unwrap_or (first_place 10 text) (length text)
 
+-- the first line of a text, of this number, without the blanks at its ends
+abbrev pub first_line : ℕ → List ℕ → LineView
+first_line number text = stripped_line (record { number = number; column = 1; words = take (line_length text) text })
+
 -- at most so many lines of a text, the first of which has this number
 abbrev pub lines_from : ℕ → ℕ → List ℕ → List LineView
 lines_from zero number text = []

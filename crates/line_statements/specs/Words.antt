@@ -1,6 +1,5 @@
 -- Words at the beginning and the end of bytes. A diagram's blanks are a space, a tab and a carriage return.
-use Rattle.std.specs.Prelude.{◌≡◌, ℕ, zero, suc, Bool, true, false, not, ◌&&◌, ◌==◌, nat_le, List, [], ◌∷◌, length, take, drop, position}
-use Rattle.std.specs.Prelude.{Option, None, Some, unwrap_or, nat_eq, option_map, if◌then◌else◌}
+use Rattle.std.specs.Prelude.{◌≡◌, ℕ, zero, suc, Bool, true, false, not, ◌&&◌, ◌==◌, nat_le, List, [], ◌∷◌, length, take, drop, position, Option, None, Some, unwrap_or, nat_eq, option_map, if◌then◌else◌}
 use Rattle.std.specs.List.{starts_with}
 use Rattle.text_bytes.specs.Classes.{is_blank}
 use Rattle.text_bytes.specs.Words.{is_spelled}
@@ -36,6 +35,9 @@ end_stripped bytes = take (kept bytes) bytes
 unfoldable pub stripped : List ℕ → List ℕ
 stripped bytes = end_stripped (behind_blanks bytes)
 
+abbrev pub is_comma : ℕ → Bool
+is_comma b = b == 44
+
 -- the bytes begin with this word, in any letters
 unfoldable pub begins : List ℕ → List ℕ → Bool
 begins known bytes = nat_le (length known) (length bytes) && is_spelled known (take (length known) bytes)
@@ -49,6 +51,11 @@ behind_word known bytes =
 abbrev pub ends_word : List ℕ → Bool
 ends_word [] = true
 ends_word (b ∷ bs) = is_blank b
+
+-- a blank comes next
+abbrev pub begins_blank : List ℕ → Bool
+begins_blank [] = false
+begins_blank (b ∷ bs) = is_blank b
 
 -- what stands behind this word, where nothing or a blank comes next
 unfoldable pub behind_keyword : List ℕ → List ℕ → Option (List ℕ)

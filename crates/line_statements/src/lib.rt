@@ -9,13 +9,13 @@ mod reading;
 mod statement;
 mod words;
 
-pub use line::{Line, behind_line, line_length};
+pub use line::{Line, behind_line, first_line, line_length};
 pub use reading::ReadText;
 pub use statement::{
     Arrow, ArrowForm, End, Fault, Group, NoteAt, Place, ReadError, Said, Statement,
 };
 pub use words::{
-    begins, begins_with, behind_blanks, behind_keyword, behind_keyword_of, behind_word,
-    blank_length, end_stripped, ends_word, first_place, place_of, skip_word,
+    begins, begins_blank, begins_with, behind_blanks, behind_keyword, behind_keyword_of,
+    behind_word, blank_length, end_stripped, ends_word, first_place, is_comma, place_of, skip_word,
     stripped,
 };

@@ -1,7 +1,7 @@
 //! Lines, with their places.
 ghost use Rattle.std.specs.Prelude.{◌≡◌, ◌≤◌, ◌<◌, ◌+◌, ◌^◌, length, suc, drop};
 ghost use Rattle.line_statements.specs.Statements.{line_view};
-ghost use Rattle.line_statements.specs.Lines.{after, front_of, stripped_line, line_place, line_length};
+ghost use Rattle.line_statements.specs.Lines.{after, front_of, stripped_line, line_place, line_length, first_line};
 
 use crate::statement::Place;
 use crate::words::{blank_length, end_stripped, first_place};
@@ -84,6 +84,21 @@ pub fn line_length(text: &[u8]) -> usize
         None => text.len(),
         Some(place) => place,
     }
+}
+
+/// The first line of a text, of this number, without the blanks at its ends.
+#[tactic(auto, unfolding(crate::specs::Lines::stripped_line))]
+pub fn first_line(number: u64, text: &[u8]) -> Line<'_>
+    ensures line { line_view result ≡ first_line number text.now }
+    ensures number { result.number ≡ number }
+    ensures room { result.column + length result.words.now ≤ 1 + length text.now }
+{
+    let line = Line {
+        number,
+        column: 1,
+        words: &text[..line_length(text)],
+    };
+    line.stripped()
 }
 
 /// What stands behind the first line of a text.

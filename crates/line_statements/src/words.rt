@@ -1,10 +1,9 @@
 //! Words at the beginning and the end of bytes.
-ghost use Rattle.std.specs.Prelude.{◌≡◌, ◌≤◌, ◌<◌, ◌+◌, ◌^◌, if◌then◌else◌, length, take, drop, not, position, IfSome, IsTrue, map, nat_eq};
+ghost use Rattle.std.specs.Prelude.{◌≡◌, ◌≤◌, ◌<◌, ◌+◌, ◌^◌, if◌then◌else◌, length, not, position, IfSome, IsTrue, map, nat_eq};
 ghost use Rattle.std.specs.List.{starts_with};
-ghost use Rattle.line_statements.specs.Words.{Finds, blank_length, behind_blanks, kept, end_stripped, stripped, begins};
+ghost use Rattle.line_statements.specs.Words.{Finds, blank_length, behind_blanks, kept, end_stripped, stripped, begins, behind_word, ends_word, behind_keyword, behind_keyword_of, skip_word, first_place, place_of, begins_blank, is_comma};
 ghost use Rattle.text_bytes.specs.Classes.{is_blank};
 ghost use Rattle.text_bytes.specs.Words.{is_spelled};
-ghost use Rattle.line_statements.specs.Words.{behind_word, ends_word, behind_keyword, behind_keyword_of, skip_word, first_place, place_of};
 
 use text_bytes::{is_blank, is_spelled};
 
@@ -104,6 +103,23 @@ pub fn ends_word(bytes: &[u8]) -> bool
 {
     match bytes {
         [] => true,
+        [byte, ..] => is_blank(*byte),
+    }
+}
+
+/// A comma.
+pub fn is_comma(byte: u8) -> bool
+    ensures { result ≡ is_comma byte }
+{
+    byte == b','
+}
+
+/// Whether a blank comes next.
+pub fn begins_blank(bytes: &[u8]) -> bool
+    ensures { result ≡ begins_blank bytes.now }
+{
+    match bytes {
+        [] => false,
         [byte, ..] => is_blank(*byte),
     }
 }

@@ -14,9 +14,10 @@ use Rattle.logs.specs.Laws.{AreOfLanes, line_of}
 use Rattle.logs.specs.declared.entry.Entry.{Entry}
 use Rattle.logs.specs.declared.item.Item.{Item}
 use Rattle.logs.specs.declared.matching.LogLine.{LogLine}
+use Rattle.logs.specs.Items.{naming_line}
 use Rattle.log_circles.specs.Freeing.{AreAmong}
 use Rattle.log_circles.proofs.SettleLemmas.{kept_all}
-use Rattle.log_charts.specs.ChartLines.{naming_line, name_at, message_name, event_of}
+use Rattle.log_charts.specs.ChartLines.{name_at, message_name, event_of}
 use Rattle.log_charts.proofs.CircleLemmas.{message_is}
 use Rattle.log_charts.proofs.LineLemmas.{chart_of_log, line_is, host_of_event, item_of_event}
 use Rattle.log_charts.proofs.OriginLemmas.{head_is}

@@ -9,14 +9,14 @@ use Rattle.logs.specs.Entries.{is_send}
 use Rattle.logs.specs.Fates.{is_sent_at}
 use Rattle.logs.specs.FateTables.{IsWithin}
 use Rattle.logs.specs.HostLines.{lines_from, kept, host_lines}
-use Rattle.logs.specs.Items.{received_message, message_of, item_of, invented, invented_behind, items_by, heads_from, items_of}
+use Rattle.logs.specs.Items.{received_message, message_of, item_of, invented, invented_behind, items_by, heads_from, items_of, naming_line}
 use Rattle.logs.specs.declared.begun.Begun.{Begun}
 use Rattle.logs.specs.declared.entry.Entry.{Entry}
 use Rattle.logs.specs.declared.item.Item.{Item}
 use Rattle.logs.specs.declared.item.MessageNo.TheVariants.{Sent}
 use Rattle.logs.specs.declared.matching.LogLine.{LogLine}
 use Rattle.logs.proofs.OrderLemmas.{Within, kept_within, are_given}
-use Rattle.log_charts.specs.ChartLines.{naming_line, AreNamed}
+use Rattle.log_charts.specs.ChartLines.{AreNamed}
 
 abbrev pub AllBelow : ℕ → List ℕ → Type 0
 AllBelow n [] = Unit {0}

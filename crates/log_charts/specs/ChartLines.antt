@@ -7,13 +7,7 @@ use Rattle.chart.specs.declared.event.Event.{Event}
 use Rattle.chart.specs.declared.line.TheConstants.{MAX_EVENTS}
 use Rattle.logs.specs.declared.entry.Entry.{Entry}
 use Rattle.logs.specs.declared.item.Item.{Item}
-use Rattle.logs.specs.declared.item.MessageNo.{MessageNo}
-use Rattle.logs.specs.declared.item.MessageNo.TheVariants.{Sent, Begun}
-
--- the line of the log that names the message
-abbrev pub naming_line : MessageNo → ℕ
-naming_line (Sent n) = n
-naming_line (Begun n) = n
+use Rattle.logs.specs.Items.{naming_line}
 
 -- the name in the line of this number
 abbrev pub name_at : List Entry → ℕ → List ℕ

@@ -4,7 +4,8 @@ ghost use Rattle.chart.specs.Charts.{IsLine};
 ghost use Rattle.chart.specs.Events.{partner_of, region_of};
 ghost use Rattle.chart.specs.declared.instance.TheConstants.{MAX_INSTANCES};
 ghost use Rattle.chart.specs.declared.line.TheConstants.{MAX_EVENTS};
-ghost use Rattle.log_charts.specs.ChartLines.{naming_line, name_at, event_of, chart_from, first_full, AreNamed};
+ghost use Rattle.log_charts.specs.ChartLines.{name_at, event_of, chart_from, first_full, AreNamed};
+ghost use Rattle.logs.specs.Items.{naming_line};
 
 use chart::{Event, InstanceNo, Line, LineError, MAX_EVENTS, Name};
 use logs::{Entry, HostLine, Item, MessageNo};

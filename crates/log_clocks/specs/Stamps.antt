@@ -1,8 +1,8 @@
 -- Vector time (Mattern 1989), as a log for ShiViz writes it: `{"HOST":COUNT, ..}`.
-use Rattle.std.specs.Prelude.{ℕ, ◌+◌, ◌==◌, Bool, List, [], ◌∷◌, ◌++◌, take, drop, Option, None, Some, bytes_eq, if◌then◌else◌}
+use Rattle.std.specs.Prelude.{ℕ, ◌+◌, ◌==◌, List, [], ◌∷◌, ◌++◌, take, drop, Option, None, Some, bytes_eq, if◌then◌else◌}
 use Rattle.std.specs.List.{slice_split}
-use Rattle.line_statements.specs.Words.{behind_blanks, first_place, stripped}
-use Rattle.log_lines.specs.Options.{◌>>=◌}
+use Rattle.line_statements.specs.Words.{behind_blanks, first_place, stripped, is_comma}
+use Rattle.line_statements.specs.Options.{◌>>=◌}
 use Rattle.digits.specs.Numbers.{number_in}
 use Rattle.log_clocks.specs.declared.stamp.Stamp.{Stamp}
 
@@ -43,9 +43,6 @@ with_stamp stamps (Some s) = stamps ++ s ∷ []
 abbrev pub with_parts : List StampView → List (List ℕ) → List StampView
 with_parts stamps [] = stamps
 with_parts stamps (part ∷ parts) = with_parts (with_stamp stamps (stamp_in part)) parts
-
-abbrev pub is_comma : ℕ → Bool
-is_comma b = b == 44
 
 unfoldable pub listed : List ℕ → List StampView
 listed list = with_parts [] (slice_split is_comma list)

@@ -1,9 +1,10 @@
 //! Vector time, as a log for ShiViz writes it: `{"HOST":COUNT, ..}`.
 ghost use Rattle.std.specs.Prelude.{◌≡◌, map, option_map, IfOk, OnOk};
-ghost use Rattle.log_clocks.specs.Stamps.{stamp_view, behind_mark, stamp_in, inside, with_stamp, is_comma, listed, stamps_in, count_of};
+ghost use Rattle.line_statements.specs.Words.{is_comma};
+ghost use Rattle.log_clocks.specs.Stamps.{stamp_view, behind_mark, stamp_in, inside, with_stamp, listed, stamps_in, count_of};
 
 use digits::number_in;
-use line_statements::{behind_blanks, first_place, stripped};
+use line_statements::{behind_blanks, first_place, is_comma, stripped};
 use std::alloc::{AllocError, Global};
 
 /// An entry of a clock: a host, and how many of its events are known.
@@ -55,12 +56,6 @@ fn add_part<'a>(stamps: &mut Vec<Stamp<'a>>, part: &'a [u8]) -> Result<(), Alloc
         stamps.push(stamp)?;
     }
     Ok(())
-}
-
-fn is_comma(byte: u8) -> bool
-    ensures { result ≡ is_comma byte }
-{
-    byte == b','
 }
 
 /// The entries of a list of them, without those that can't be read.

@@ -13,7 +13,7 @@ use Rattle.logs.specs.Entries.{is_send}
 use Rattle.logs.specs.Fates.{fate_of, stays}
 use Rattle.logs.specs.FateTables.{IsWithin}
 use Rattle.logs.specs.HostLines.{lines_from, kept, host_lines}
-use Rattle.logs.specs.Items.{received_message, item_of, invented, invented_behind, items_by, heads_from, items_of}
+use Rattle.logs.specs.Items.{received_message, item_of, invented, invented_behind, items_by, heads_from, items_of, naming_line}
 use Rattle.logs.specs.Matching.{matched}
 use Rattle.logs.specs.declared.begun.Begun.{Begun}
 use Rattle.logs.specs.declared.entry.Entry.{Entry}
@@ -22,7 +22,7 @@ use Rattle.logs.specs.declared.item.MessageNo.{MessageNo}
 use Rattle.logs.specs.declared.item.MessageNo.TheVariants as messages
 use Rattle.logs.specs.declared.matching.LogLine.{LogLine}
 use Rattle.logs.proofs.OrderLemmas.{matched_length}
-use Rattle.log_charts.specs.ChartLines.{naming_line, event_of, chart_from}
+use Rattle.log_charts.specs.ChartLines.{event_of, chart_from}
 use Rattle.log_charts.proofs.ItemLemmas.{hosts_named, hosts_count}
 use Rattle.log_charts.proofs.LineLemmas.{host_is, line_is, chart_count}
 use Rattle.log_charts.proofs.TurnLemmas.{event_sends}

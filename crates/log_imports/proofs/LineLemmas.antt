@@ -1,5 +1,5 @@
 -- What the lines of a log keep, with the sends that they take, for whoever judges its races.
-use Rattle.std.proofs.Common.{◌≡◌, ℕ, zero, suc, ◌+◌, ◌<◌, inl, inr, ◌==◌, ◌&&◌, Bool, true, false, cond, List, [], ◌∷◌, None, Some, length, get_or, drop, refl, sym, ap, ◌∙◌, subst, arith}
+use Rattle.std.proofs.Common.{◌≡◌, ℕ, zero, suc, ◌+◌, ◌<◌, inl, inr, ◌==◌, ◌&&◌, Bool, true, false, cond, List, [], ◌∷◌, None, Some, length, get_or, refl, sym, ap, ◌∙◌, subst, arith}
 use Rattle.std.specs.Prelude.{All, Contains, slice_get}
 use Rattle.std.proofs.lemmas.Bool.{false≢true}
 use Rattle.std.proofs.lemmas.List.Elements.{All-nil, All-cons, All-head, All-tail}
@@ -11,6 +11,7 @@ use Rattle.logs.specs.declared.entry.Entry.{Entry}
 use Rattle.logs.specs.declared.matching.LogLine.{LogLine}
 use Rattle.logs.proofs.LaneLists.{Has}
 use Rattle.logs.proofs.OrderLemmas.{matched_length}
+use Rattle.logs.proofs.TakenLanes.{after_has}
 
 -- each line has its number
 numbered_from : (left : ℕ → List ℕ) (k : ℕ) (log : List Entry) (n : ℕ) (x : LogLine) → slice_get (matched_from left k log) n ≡ Some x → x.number ≡ k + n
@@ -74,18 +75,6 @@ all_sent log c s has =
     let same = its.1 in
     let here : its.0 ≡ s = omega (arith, same) in
     subst (λ m. is_send_at log m ≡ true) here its.2
-
--- what a line takes was left of its stream
-rest_has : (xs : List ℕ) (s : ℕ) → Has (drop 1 xs) s → Has xs s
-rest_has [] s has = has
-rest_has (x ∷ xs) s has = inr has
-
-after_has : (left : ℕ → List ℕ) (e : Entry) (c s : ℕ) → Has (left_after left e c) s → Has (left c) s
-after_has left e c s has = go (takes e.kind && e.stream == c) has
-  where
-    go : (its : Bool) → Has (cond its (drop 1 (left c)) (left c)) s → Has (left c) s
-    go true there = rest_has (left c) s there
-    go false there = there
 
 first_has : (xs : List ℕ) (s : ℕ) → first_of xs ≡ Some s → Has xs s
 first_has [] s is = absurd (none-some s is)

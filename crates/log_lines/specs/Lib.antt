@@ -1,7 +1,6 @@
 pub mod ByWords
 pub mod ClockLines
 pub mod Events
-pub mod Options
 pub mod Places
 pub mod Plain
 pub mod PlainReading

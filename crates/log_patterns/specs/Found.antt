@@ -1,7 +1,7 @@
 -- What a match of an expression says, by its groups.
 use Rattle.std.specs.Prelude.{ℕ, ◌&&◌, nat_le, List, [], ◌∷◌, Option, None, Some, length, unwrap_or, slice_range, if◌then◌else◌}
+use Rattle.line_statements.specs.Options.{◌>>=◌}
 use Rattle.log_lines.specs.Events.{EventView, LineView, AnEvent, AClocked, AMessage, Nothing, Other}
-use Rattle.log_lines.specs.Options.{◌>>=◌}
 use Rattle.log_lines.specs.Plain.{direction_of}
 use Rattle.log_lines.specs.declared.event.Act.TheVariants.{Send, Receive}
 use Rattle.log_patterns.specs.declared.groups.EventGroups.{EventGroups}

@@ -1,6 +1,7 @@
 -- The groups of an expression (after ShiViz's convention: what a group says is told by its name).
 use Rattle.std.specs.Prelude.{ℕ, ◌+◌, ◌≤◌, ◌<◌, Bool, false, List, [], ◌∷◌, Option, None, Some, option_map, position, string_bytes, String, bytes_eq, codes}
-use Rattle.log_lines.specs.Options.{◌>>=◌}
+use Rattle.line_statements.specs.Words.{or_else}
+use Rattle.line_statements.specs.Options.{◌>>=◌}
 use Rattle.log_patterns.specs.declared.groups.Groups.{Groups}
 use Rattle.log_patterns.specs.declared.groups.Groups.TheVariants.{Event, Capture, Clock}
 
@@ -39,11 +40,6 @@ clock_groups names = do
   clock ← group_in names (codes "clock")
   event ← group_in names (codes "event")
   Some (Clock (record { host = host; clock = clock; event = event }))
-
--- the first of two that is there
-abbrev pub or_else : Option Groups → Option Groups → Option Groups
-or_else None later = later
-or_else (Some g) later = Some g
 
 -- what the groups say: the first of the three sets that the expression has whole
 abbrev pub groups_in : List (Option (List ℕ)) → Option Groups

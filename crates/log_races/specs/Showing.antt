@@ -6,6 +6,7 @@ use Rattle.files.specs.Answers.{Said, refusal, said_of}
 use Rattle.files.specs.Files.{Named}
 use Rattle.wanted_columns.specs.Answers.{refusal_text}
 use Rattle.wanted_columns.specs.declared.error.FormatError.{FormatError}
+use Rattle.files.specs.Statuses.{code_of}
 use Rattle.log_answers.specs.Told.{told_text}
 use Rattle.log_imports.specs.Drawing.{IsRefusalOf}
 use Rattle.log_imports.specs.Options.{OptionsView}
@@ -15,9 +16,8 @@ use Rattle.log_imports.specs.declared.recording.LogRecording.{LogRecording}
 use Rattle.luck.specs.Verdicts.{IsVerdict}
 use Rattle.msc_text.specs.Outs.{Sink}
 use Rattle.race_answers.specs.Judging.{ShowsJudged, ShowsUnknown}
-use Rattle.race_answers.specs.Statuses.{code_of}
 use Rattle.race_answers.specs.declared.judging.LuckWanted.{LuckWanted}
-use Rattle.race_answers.specs.declared.status.Status.{Status}
+use Rattle.files.specs.declared.status.Status.{Status}
 use Rattle.recordings.specs.Recordings.{RecordingView}
 use Rattle.recordings.specs.declared.verdict.Verdict.{Verdict}
 use Rattle.log_races.specs.declared.showing.Shown.{Shown}

@@ -8,11 +8,11 @@ ghost use Rattle.log_races.specs.Showing.{verdict_in, ShowsRecording};
 
 use chart::EventNo;
 use closure::Closure;
-use files::{ProgramError, closure_of};
+use files::{ProgramError, Status, closure_of};
 use log_imports::LogRecording;
 use luck::Judge;
 use msc_text::Out;
-use race_answers::{LuckWanted, Status, show_judged, show_unknown};
+use race_answers::{LuckWanted, show_judged, show_unknown};
 use recordings::Verdict;
 use std::alloc::Global;
 use told_luck::Verdicts;

@@ -2,17 +2,17 @@
 ghost use Rattle.std.specs.Prelude.{◌≡◌, ◌≤◌, length, map, All, IfOk};
 ghost use Rattle.files.specs.Answers.{Answers};
 ghost use Rattle.files.specs.Refusals.{Tried};
+ghost use Rattle.files.specs.Statuses.{code_of};
 ghost use Rattle.log_answers.specs.Told.{told_text};
 ghost use Rattle.log_imports.specs.Options.{options_view};
-ghost use Rattle.race_answers.specs.Statuses.{code_of};
 ghost use Rattle.log_races.specs.Showing.{ShowsRecording, ShowsLog, unshown_text, races_said};
 
 use crate::known::show_recording;
-use files::Answer;
+use files::{Answer, Status};
 use log_answers::{Told, write_told};
 use log_imports::{LogImportError, LogRecording, Options, recording_in, refused_log};
 use msc_text::Out;
-use race_answers::{LuckWanted, Status};
+use race_answers::LuckWanted;
 use std::alloc::Global;
 use wanted_columns::FormatError;
 

@@ -1,7 +1,7 @@
 -- What a receive would have taken, by the words `takes=PEER:NAMES` of its line (this project's profile of logs).
 use Rattle.std.specs.Prelude.{ℕ, ◌+◌, ◌==◌, ◌||◌, List, Option, None, Some, length, take, drop, filter_map, codes, bytes_eq, if◌then◌else◌}
 use Rattle.line_statements.specs.Words.{first_place}
-use Rattle.log_lines.specs.Options.{◌>>=◌}
+use Rattle.line_statements.specs.Options.{◌>>=◌}
 use Rattle.log_lines.specs.Plain.{begins_rest}
 use Rattle.log_names.specs.Hosts.{PeerView, host_of}
 use Rattle.recordings.specs.Recordings.{PatternView}

@@ -67,11 +67,11 @@ sends_rise k (e ∷ log) c = go (is_send e.kind && e.stream == c) (sends_rise (k
 pub all_left : (log : List Entry) → AreLeft (stream_at log) (sends_from 0 log)
 all_left log = record { own = sends_own (stream_at log) 0 log (tells_all log); rising = sends_rise 0 log }
 
-rest_has : (xs : List ℕ) (s : ℕ) → Has (drop 1 xs) s → Has xs s
+pub rest_has : (xs : List ℕ) (s : ℕ) → Has (drop 1 xs) s → Has xs s
 rest_has [] s has = has
 rest_has (x ∷ xs) s has = inr has
 
-after_has : (left : ℕ → List ℕ) (e : Entry) (c s : ℕ) → Has (left_after left e c) s → Has (left c) s
+pub after_has : (left : ℕ → List ℕ) (e : Entry) (c s : ℕ) → Has (left_after left e c) s → Has (left c) s
 after_has left e c s has = go (takes e.kind && e.stream == c) has
   where
     go : (its : Bool) → Has (cond its (drop 1 (left c)) (left c)) s → Has (left c) s

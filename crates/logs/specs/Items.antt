@@ -17,6 +17,11 @@ received_message n None = messages.Begun n
 abbrev pub message_of : LogLine → MessageNo
 message_of x = if is_send x.entry.kind then messages.Sent x.number else received_message x.number x.send
 
+-- the line by which a message is known, which tells its name
+abbrev pub naming_line : MessageNo → ℕ
+naming_line (messages.Sent n) = n
+naming_line (messages.Begun n) = n
+
 -- the event of a line
 abbrev pub item_of : LogLine → Item
 item_of x = record { sends = is_send x.entry.kind; partner = x.entry.peer; message = message_of x; line = Some x.number }

@@ -6,11 +6,11 @@ use Rattle.std.proofs.lemmas.List.{get_or_past}
 use Rattle.std.proofs.lemmas.List.Elements.{All-contains}
 use Rattle.std.proofs.lemmas.Option.{slice_get_within}
 use Rattle.logs.specs.Entries.{is_send}
-use Rattle.logs.specs.Items.{message_of, received_message}
+use Rattle.logs.specs.Items.{message_of, received_message, naming_line}
 use Rattle.logs.specs.declared.item.MessageNo.{MessageNo}
 use Rattle.logs.specs.declared.item.MessageNo.TheVariants as messages
 use Rattle.logs.specs.declared.matching.LogLine.{LogLine}
-use Rattle.luck.specs.ArrivalTables.{naming_line, arrival_in, IsArrivedAt, AreArrived, IsPut}
+use Rattle.luck.specs.ArrivalTables.{arrival_in, IsArrivedAt, AreArrived, IsPut}
 use Rattle.luck.specs.Arrivals.{IsReceivedLater, IsReceivedNext, IsLeft, IsLeftFirst, IsArrivalOf, IsFirstArrival, CameFirst}
 use Rattle.luck.specs.Arrivals.IsArrivalOf.{received, unreceived}
 use Rattle.luck.specs.LineTables.{IsReceiveAt, AreNext, IsLeftAt, AreLeft}

@@ -7,7 +7,6 @@ use Rattle.chart.specs.Order.{Before}
 use Rattle.logs.specs.declared.item.Item.{Item}
 use Rattle.logs.specs.declared.item.MessageNo.{MessageNo}
 use Rattle.logs.specs.declared.item.MessageNo.TheVariants as messages
-use Rattle.luck.specs.ArrivalTables.{naming_line}
 use Rattle.luck.specs.Arrivals.{CameFirst}
 use Rattle.luck.specs.Behind.{IsBehind}
 use Rattle.luck.specs.Judging.{IsLoggedReason, IsLoggedVerdict}
@@ -20,6 +19,7 @@ use Rattle.luck.specs.WholeOrder.{IsAhead}
 use Rattle.luck.proofs.TableLemmas.{some_same}
 use Rattle.std.proofs.lemmas.Option.{slice_get_within}
 use Rattle.logs.specs.declared.matching.LogLine.{LogLine}
+use Rattle.logs.specs.Items.{naming_line}
 use Rattle.recordings.specs.Recordings.{RecordingView}
 use Rattle.recordings.specs.declared.verdict.Verdict.{Verdict}
 use Rattle.recordings.specs.declared.verdict.Verdict.TheVariants.{Luck, EarlierIsSend, BegunInTheMiddle, OrderedByLeftOut, WouldNotTake, PassedOver, BehindAnother}

@@ -5,12 +5,8 @@ use Rattle.logs.specs.declared.item.MessageNo.TheVariants.{Sent, Begun}
 use Rattle.luck.specs.Arrivals.{IsArrivalOf}
 use Rattle.luck.specs.Tables.{IsNext}
 use Rattle.logs.specs.declared.matching.LogLine.{LogLine}
+use Rattle.logs.specs.Items.{naming_line}
 use Rattle.recordings.specs.declared.recording.Arrival.{Arrival}
-
--- the number of the line that names the message
-abbrev pub naming_line : MessageNo → ℕ
-naming_line (Sent n) = n
-naming_line (Begun n) = n
 
 -- what the tables have for a message
 abbrev pub arrival_in : List (Option ℕ) → List (Option ℕ) → MessageNo → Option ℕ

@@ -1,8 +1,9 @@
 //! Which message arrived when.
 ghost use Rattle.std.specs.Prelude.{◌≡◌, ◌<◌, ◌≤◌, ◌↔◌, min, length, None, replicate, IfOk, OnOk, MatchOption, IsTrue};
 ghost use Rattle.logs.specs.declared.item.MessageNo.{MessageNo};
+ghost use Rattle.logs.specs.Items.{naming_line};
 ghost use Rattle.luck.specs.Arrivals.{IsArrivalOf, CameFirst};
-ghost use Rattle.luck.specs.ArrivalTables.{naming_line, arrival_in, AreArrived, IsPut};
+ghost use Rattle.luck.specs.ArrivalTables.{arrival_in, AreArrived, IsPut};
 ghost use Rattle.luck.specs.LineTables.{AreTakers, AreNext, AreLeft};
 ghost use Rattle.luck.specs.Recorded.{IsLog};
 ghost use Rattle.recordings.specs.Recordings.{recording_view};

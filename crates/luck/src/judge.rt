@@ -4,7 +4,7 @@ ghost use Rattle.chart.specs.Charts.{chart_lines, IsReceiveFrom};
 ghost use Rattle.chart.specs.Events.{ith};
 ghost use Rattle.chart.specs.Places.{IsEvent};
 ghost use Rattle.closure.specs.Faults.{place_of};
-ghost use Rattle.luck.specs.ArrivalTables.{naming_line};
+ghost use Rattle.logs.specs.Items.{naming_line};
 ghost use Rattle.luck.specs.Judging.{IsLoggedVerdict};
 ghost use Rattle.luck.specs.Places.{host_items};
 ghost use Rattle.luck.specs.Recorded.{IsRecording, IsSendLine};

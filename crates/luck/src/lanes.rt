@@ -1,6 +1,6 @@
 //! Messages of a lane behind others.
 ghost use Rattle.std.specs.Prelude.{ℕ, ◌≡◌, ◌<◌, ◌≤◌, ◌↔◌, length, IfOk, IsTrue};
-ghost use Rattle.luck.specs.ArrivalTables.{naming_line};
+ghost use Rattle.logs.specs.Items.{naming_line};
 ghost use Rattle.luck.specs.Behind.{IsThere, WouldHaveTaken, IsBehind};
 ghost use Rattle.luck.specs.LaneTables.{IsOnLane, AreAbove, AreOver, later_of, until_of};
 ghost use Rattle.luck.specs.LineTables.{AreTakers};

@@ -12,8 +12,9 @@ use Rattle.asked_pairs.specs.declared.error.ViewError.{ViewError}
 use Rattle.asked_pairs.specs.declared.error.ViewError.TheVariants.{Program, NoSuchEvent, NotEarlier, NotAReceive, ManySlots}
 use Rattle.asked_pairs.specs.declared.pair.Asked.{Asked}
 use Rattle.asked_pairs.specs.declared.pair.Pair.{Pair}
-use Rattle.asked_pairs.specs.Pairs.{has_event, receives, pair_on, pair_at, pair_of}
-use Rattle.named_refusals.specs.Naming.{instance_said}
+use Rattle.asked_pairs.specs.Pairs.{pair_on, pair_at, pair_of}
+use Rattle.named_refusals.specs.Asked.{instance_said, has_event}
+use Rattle.turned_runs.specs.Turns.{receives}
 use Rattle.mend_answers.specs.declared.error.MendRefusal.TheVariants.{View}
 use Rattle.mend_answers.specs.declared.showing.Wanted.{Wanted}
 use Rattle.mend_answers.specs.Showing.{Shows}

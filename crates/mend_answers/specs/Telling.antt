@@ -1,5 +1,5 @@
 -- What is told of a pair that was to be mended, and of messages that were added (this project's profile).
-use Rattle.std.specs.Prelude.{◌≡◌, ℕ, ◌==◌, List, ◌++◌, Option, codes, if◌then◌else◌}
+use Rattle.std.specs.Prelude.{◌≡◌, ℕ, ◌==◌, List, ◌++◌, Option, if◌then◌else◌}
 use Rattle.std.specs.List.{flat_map}
 use Rattle.chart.specs.declared.event.Event.{Event}
 use Rattle.chart.specs.declared.instance.EventNo.{EventNo}
@@ -15,7 +15,7 @@ use Rattle.mending.specs.declared.mending.Mending.TheVariants.{Enforced, Hidden,
 use Rattle.msc_text.specs.ChartText.{name_at}
 use Rattle.told_races.specs.Words.{text_at}
 use Rattle.asked_pairs.specs.declared.pair.Pair.{Pair}
-use Rattle.asked_pairs.specs.SayingText.{step_text}
+use Rattle.asked_pairs.specs.SayingText.{step_text, hidden_text}
 use Rattle.mend_answers.specs.declared.answering.Outcome.{Outcome}
 use Rattle.mend_answers.specs.declared.answering.Status.{Status}
 use Rattle.mend_answers.specs.declared.answering.Status.TheVariants.{Done, Undone}
@@ -24,9 +24,6 @@ use Rattle.mend_answers.specs.declared.word.Word.TheVariants as words
 use Rattle.mend_answers.specs.Changes.{changed_by}
 use Rattle.mend_answers.specs.ChangeText.{change_text, additions_text}
 use Rattle.mend_answers.specs.Words.{word_text}
-
-unfoldable pub hidden_text : List ℕ
-hidden_text = codes "a coregion hides this pair\n"
 
 -- that no message from p to q does, because of this event of p: it stands in the message's way as the last word says
 unfoldable pub none_text : List (List ℕ) → ℕ → ℕ → ℕ → Option Event → Word → List ℕ

@@ -3,19 +3,18 @@ ghost use Rattle.std.specs.Prelude.{◌≡◌, IfOk};
 ghost use Rattle.std.specs.List.{flat_map};
 ghost use Rattle.chart.specs.Charts.{chart_lines};
 ghost use Rattle.chart.specs.Reports.{AreReports};
-ghost use Rattle.chart.specs.Events.{ith};
 ghost use Rattle.mending.specs.Mends.{IsMadeOf};
 ghost use Rattle.msc_text.specs.Writing.{Wrote, Adds};
 ghost use Rattle.asked_pairs.specs.SayingText.{step_text};
 ghost use Rattle.mend_answers.specs.ChangeText.{additions_text};
-ghost use Rattle.mend_answers.specs.Telling.{hidden_text, none_text, IsNone, IsTold, IsToldAll, IsChangeText, status_left};
+ghost use Rattle.mend_answers.specs.Telling.{none_text, IsNone, IsTold, IsToldAll, IsChangeText, status_left};
 ghost use Rattle.asked_pairs.specs.Pairs.{IsPair};
 
 use crate::answering::{Outcome, Status};
 use crate::change::changed_by;
 use crate::change_text::{write_additions, write_change};
 use crate::word::{Word, add_word};
-use asked_pairs::{Pair, write_chain};
+use asked_pairs::{Pair, hidden_text, write_chain};
 use causes::Link;
 use chart::{Chart, Event, EventNo, InstanceNo, Line, Names, Report};
 use closure::Closure;
@@ -23,24 +22,7 @@ use line_events::events_of;
 use mending::{MendedChart, Mending, Message};
 use msc_text::{MemoryOut, Out, TextBuffer, WriteError};
 use std::alloc::{AllocError, Global};
-use told_races::{add_event_at, add_name};
-
-#[tactic(auto, unfolding(crate::specs::Telling::hidden_text))]
-fn hidden_text() -> &'static [u8]
-    ensures { result.now ≡ hidden_text }
-{
-    b"a coregion hides this pair\n"
-}
-
-/// The event of this number of a line, from 1, if it has one.
-fn event_at(events: &[Event], index: usize) -> Option<Event>
-    ensures { result ≡ ith events.now index }
-{
-    if index == 0 {
-        return None;
-    }
-    events.get(index - 1).copied()
-}
+use told_races::{add_event_at, add_name, event_at};
 
 /// An event that is in the way of a message from its instance to another one.
 #[derive(Clone, Copy)]

@@ -1,9 +1,9 @@
 -- A text's lines, and its statements, one after the other.
 use Rattle.std.proofs.Common.{◌≡◌, ℕ, zero, suc, ◌+◌, ◌<◌, ◌≤◌, List, [], ◌∷◌, ◌++◌, length, drop, refl, ap, sym, ◌∙◌, append_assoc, arith, add-one}
 use Rattle.std.proofs.lemmas.List.{append-nil}
-use Rattle.line_statements.specs.Lines.{line_length, lines_from, lines_of}
+use Rattle.line_statements.specs.Lines.{line_length, lines_from, lines_of, first_line}
 use Rattle.line_statements.specs.Statements.{LineView}
-use Rattle.mermaid_text.specs.Diagrams.{first_line, pieces_in}
+use Rattle.mermaid_text.specs.Diagrams.{pieces_in}
 use Rattle.mermaid_text.specs.Pieces.{stepped}
 use Rattle.mermaid_text.specs.declared.piece.Standing.{Standing}
 use Rattle.mermaid_text.specs.declared.piece.Standing.TheVariants.{Above}

@@ -1,8 +1,7 @@
 -- What a text says: its statements from the top, or its first fault.
-use Rattle.std.specs.Prelude.{ℕ, Bool, true, false, List, [], ◌∷◌, ◌++◌, map, take, Option, None, Some}
-use Rattle.std.specs.Prelude.{if◌then◌else◌}
-use Rattle.line_statements.specs.Lines.{line_length, line_place, lines_of, stripped_line}
-use Rattle.line_statements.specs.Readings.{ReadView}
+use Rattle.std.specs.Prelude.{ℕ, Bool, true, false, List, [], ◌∷◌, ◌++◌, map, Option, None, Some, if◌then◌else◌}
+use Rattle.line_statements.specs.Lines.{line_place, lines_of, stripped_line}
+use Rattle.line_statements.specs.Readings.{ReadView, behind}
 use Rattle.line_statements.specs.Statements.{LineView, line_view, StatementView}
 use Rattle.line_statements.specs.declared.statement.Fault.{Fault}
 use Rattle.line_statements.specs.declared.statement.Fault.TheVariants.{NotRead, Unfinished}
@@ -11,10 +10,6 @@ use Rattle.mermaid_text.specs.Sayings.{says}
 use Rattle.mermaid_text.specs.declared.diagram.Pieces.{Pieces}
 use Rattle.mermaid_text.specs.declared.piece.Standing.{Standing}
 use Rattle.mermaid_text.specs.declared.piece.Standing.TheVariants.{Above, Title, Body, Inside}
-
--- the first line of a text, of this number
-abbrev pub first_line : ℕ → List ℕ → LineView
-first_line number text = stripped_line (record { number = number; column = 1; words = take (line_length text) text })
 
 abbrev pub pieces_view : Pieces → List LineView × Standing
 pieces_view p = (map line_view p.pieces.items, p.standing)
@@ -26,10 +21,6 @@ pieces_in standing (l ∷ ls) = (
   (stepped standing (stripped_line l)).0 ++ (pieces_in (stepped standing (stripped_line l)).1 ls).0,
   (pieces_in (stepped standing (stripped_line l)).1 ls).1,
 )
-
--- what statements say behind those so far
-abbrev pub behind : List StatementView → ReadView → ReadView
-behind so_far read = (so_far ++ read.0, read.1)
 
 abbrev pub statements_by : LineView → Option (List StatementView) → ReadView → ReadView
 statements_by l None others = ([], Some (NotRead (line_place l)))

@@ -1,12 +1,9 @@
 -- What a statement says (Mermaid's documentation of sequence diagrams).
-use Rattle.std.specs.Prelude.{◌≡◌, ℕ, Bool, true, false, not, ◌||◌, ◌==◌, List, [], ◌∷◌, ◌++◌, codes, length, map, is_some}
-use Rattle.std.specs.Prelude.{Option, None, Some, option_map, nat_eq, if◌then◌else◌}
+use Rattle.std.specs.Prelude.{◌≡◌, ℕ, Bool, true, false, ◌||◌, ◌==◌, List, [], ◌∷◌, ◌++◌, codes, length, is_some, Option, None, Some, option_map, nat_eq, if◌then◌else◌}
 use Rattle.std.specs.List.{starts_with}
-use Rattle.line_statements.specs.Statements.{SaidView, said_view, StatementView, Named, ArrowSaid, NoteSaid, Begin, Branch, EndSaid, BeginBox}
-use Rattle.line_statements.specs.Statements.{AtParticipant, AtSeveral}
-use Rattle.line_statements.specs.Words.{behind_blanks, behind_keyword, behind_keyword_of, behind_word, first_place}
+use Rattle.line_statements.specs.Statements.{SaidView, said_view, StatementView, Named, ArrowSaid, NoteSaid, Begin, Branch, EndSaid, BeginBox, AtParticipant, AtSeveral}
+use Rattle.line_statements.specs.Words.{behind_blanks, behind_keyword, behind_keyword_of, behind_word, first_place, begins_blank, skip_word, stripped, or_else}
 use Rattle.text_bytes.specs.Classes.{is_blank}
-use Rattle.line_statements.specs.Words.{skip_word, stripped, or_else}
 use Rattle.line_statements.specs.declared.statement.Group.TheVariants.{Choice, Parallel, Break}
 use Rattle.line_statements.specs.declared.statement.Place.{Place}
 use Rattle.mermaid_text.specs.Arrows.{arrow_of}
@@ -53,10 +50,6 @@ alone_by (Some rest) = length rest == 0 || starts_with nat_eq (behind_blanks res
 -- a statement is this word, behind which a comment may stand
 unfoldable pub is_alone : List ℕ → List ℕ → Bool
 is_alone known words = alone_by (behind_word known words)
-
-abbrev pub begins_blank : List ℕ → Bool
-begins_blank [] = false
-begins_blank (b ∷ bs) = is_blank b
 
 abbrev pub title_by : Option (List ℕ) → Bool
 title_by None = false

@@ -1,14 +1,14 @@
 //! Texts, read whole.
-ghost use Rattle.std.specs.Prelude.{◌≡◌, ◌≤◌, ◌<◌, ◌+◌, ◌^◌, length, map, IfOk};
+ghost use Rattle.std.specs.Prelude.{◌≡◌, ◌<◌, ◌+◌, map, IfOk};
 ghost use Rattle.line_statements.specs.Readings.{read_view};
 ghost use Rattle.line_statements.specs.Statements.{line_view};
-ghost use Rattle.mermaid_text.specs.Diagrams.{first_line, pieces_in, pieces_view, statements_of, is_open, last_fault, diagram_of};
+ghost use Rattle.mermaid_text.specs.Diagrams.{pieces_in, pieces_view, statements_of, is_open, last_fault, diagram_of};
 ghost use Rattle.mermaid_text.specs.declared.piece.Standing.TheVariants.{Above};
-ghost use Rattle.line_statements.specs.Lines.{lines_of};
+ghost use Rattle.line_statements.specs.Lines.{lines_of, first_line};
 
 use crate::piece::{Standing, add_line};
 use crate::said::add_said;
-use line_statements::{Fault, Line, ReadText, behind_line, line_length};
+use line_statements::{Fault, Line, ReadText, behind_line, first_line};
 use std::alloc::{AllocError, Global};
 
 /// The statements of a text, in pieces, and where its reader stands in the end.
@@ -16,20 +16,6 @@ use std::alloc::{AllocError, Global};
 struct Pieces<'a> {
     pieces: Vec<Line<'a>>,
     standing: Standing,
-}
-
-/// The first line of a text, of this number.
-#[tactic(auto, unfolding(line_statements::specs::Lines::stripped_line))]
-fn first_line(number: u64, text: &[u8]) -> Line<'_>
-    ensures line { line_view result ≡ first_line number text.now }
-    ensures room { result.column + length result.words.now ≤ 1 + length text.now }
-{
-    let line = Line {
-        number,
-        column: 1,
-        words: &text[..line_length(text)],
-    };
-    line.stripped()
 }
 
 /// The statements of a text, in pieces.

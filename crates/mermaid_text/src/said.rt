@@ -1,17 +1,17 @@
 //! What a statement says.
-ghost use Rattle.std.specs.Prelude.{◌≡◌, ◌++◌, ◌∷◌, [], map, OnOk, IfOk};
-ghost use Rattle.line_statements.specs.Words.{Finds};
+ghost use Rattle.std.specs.Prelude.{◌≡◌, ◌++◌, [], map, OnOk, IfOk};
+ghost use Rattle.line_statements.specs.Words.{Finds, begins_blank};
 ghost use Rattle.line_statements.specs.Statements.{said_view, statement_view};
-ghost use Rattle.mermaid_text.specs.Sayings.{meaning_view, keyword_at, keyword_of, is_alone, begins_blank, is_title, is_link};
+ghost use Rattle.mermaid_text.specs.Sayings.{meaning_view, keyword_at, keyword_of, is_alone, is_title, is_link};
 ghost use Rattle.mermaid_text.specs.Sayings.{is_look, listed_of, activation_of, note_said, by_form, meaning_of, told, says, Adds};
 
 use crate::arrow::arrow_of;
 use crate::names::is_listed;
 use crate::note::{Note, add_names, note_of};
 use crate::participant::{behind_participant, participant_of};
-use line_statements::{End, Group, NoteAt, Place, Said, Statement, begins_with, behind_blanks, behind_keyword, behind_keyword_of, behind_word, first_place, skip_word, stripped};
-use text_bytes::is_blank;
+use line_statements::{End, Group, NoteAt, Place, Said, Statement, begins_blank, begins_with, behind_blanks, behind_keyword, behind_keyword_of, behind_word, first_place, skip_word, stripped};
 use std::alloc::AllocError;
+use text_bytes::is_blank;
 
 /// What a statement means.
 #[derive(Clone, Copy, Debug)]
@@ -67,15 +67,6 @@ fn is_alone(known: &[u8], words: &[u8]) -> bool
     match behind_word(known, words) {
         Some(rest) => rest.is_empty() || begins_with(behind_blanks(rest), b"%%"),
         None => false,
-    }
-}
-
-fn begins_blank(bytes: &[u8]) -> bool
-    ensures { result ≡ begins_blank bytes.now }
-{
-    match bytes {
-        [] => false,
-        [byte, ..] => is_blank(*byte),
     }
 }
 

@@ -1,10 +1,10 @@
 -- The text of a chart (a profile of the instance-oriented text of ITU-T Z.120).
-use Rattle.std.specs.Prelude.{ℕ, zero, suc, ◌==◌, ◌||◌, List, [], ◌∷◌, ◌++◌, codes, slice_get, unwrap_or, if◌then◌else◌}
+use Rattle.std.specs.Prelude.{ℕ, zero, suc, ◌==◌, ◌||◌, List, [], ◌∷◌, ◌++◌, codes, slice_get, Option, None, Some, unwrap_or, if◌then◌else◌}
 use Rattle.std.specs.List.{flat_map}
 use Rattle.chart.specs.Words.{Name, Text}
 use Rattle.chart.specs.declared.event.Event.{Event}
 use Rattle.chart.specs.declared.event.Event.TheVariants.{Send, Receive}
-use Rattle.chart.specs.Events.{region_of}
+use Rattle.chart.specs.Events.{name_of, region_of}
 use Rattle.chart.specs.Charts.{LineView}
 use Rattle.chart.specs.Keywords.{spelled}
 use Rattle.chart.specs.declared.keyword.Keyword.{Keyword}
@@ -14,6 +14,11 @@ use Rattle.chart.specs.declared.keyword.Keyword.TheVariants as keywords
 abbrev pub name_at : List Name → ℕ → Name
 name_at names zero = []
 name_at names (suc place) = unwrap_or (slice_get names place) []
+
+-- the name of an event's message, where there is an event
+abbrev pub message_at : Option Event → List ℕ
+message_at None = []
+message_at (Some m) = name_of m
 
 -- a line of four words: in which direction goes the message, its name, and its partner behind a word of its own
 unfoldable pub event_line : Keyword → Text → Keyword → Text → Text

@@ -1,5 +1,5 @@
 -- The lines of a text, and the words of a line.
-use Rattle.std.specs.Prelude.{◌≡◌, ℕ, false, ◌==◌, List, [], ◌∷◌, ◌++◌, Result, Ok, Err}
+use Rattle.std.specs.Prelude.{◌≡◌, ℕ, Bool, false, not, ◌==◌, List, [], ◌∷◌, ◌++◌, length, Result, Ok, Err}
 use Rattle.std.specs.List.{slice_split, AllByRecursion}
 use Rattle.chart.specs.Words.{Name, Text}
 use Rattle.chart.specs.Names.{name_of}
@@ -34,6 +34,10 @@ end_of bytes = last_of (parts 10 bytes)
 -- the words of a line: the parts round its spaces
 unfoldable pub words_of : Text → List Text
 words_of line = parts 32 line
+
+-- a word has a byte at least
+abbrev pub is_word : List ℕ → Bool
+is_word word = not (length word == 0)
 
 -- the byte isn't there
 abbrev pub Lacks : ℕ → Text → Type 0

@@ -4,7 +4,6 @@ pub mod Charts
 pub mod Faults
 pub mod Lengths
 pub mod Pieces
-pub mod Places
 pub mod Reading
 pub mod Signs
 pub mod Stops

@@ -1,10 +1,9 @@
 -- The pieces of a text: blanks, comments, words, texts in quotation marks and signs.
-use Rattle.std.specs.Prelude.{ℕ, ◌+◌, ◌==◌, Bool, ◌||◌, List, [], ◌∷◌, codes, length, drop, Option, None, Some}
-use Rattle.std.specs.Prelude.{nat_eq, if◌then◌else◌}
-use Rattle.std.specs.List.{starts_with}
+use Rattle.std.specs.Prelude.{ℕ, ◌+◌, ◌==◌, Bool, ◌||◌, List, [], ◌∷◌, codes, length, drop, Option, None, Some, if◌then◌else◌}
 use Rattle.mscgen_text.specs.Lengths.{word_length, comment_length, closing}
 use Rattle.text_bytes.specs.Classes.{is_white_space, is_word_byte}
 use Rattle.text_bytes.specs.Lines.{line_length}
+use Rattle.text_bytes.specs.Words.{begins}
 use Rattle.mscgen_text.specs.Signs.{sign_at}
 use Rattle.mscgen_text.specs.declared.piece.Shape.{Shape}
 use Rattle.mscgen_text.specs.declared.piece.Shape.TheVariants.{Gap, Word, Text, Unknown}
@@ -26,9 +25,6 @@ word_or_unknown b bs = if is_word_byte b then piece Word (word_length bs + 1) el
 abbrev pub sign_or_word : Option Piece → ℕ → List ℕ → Piece
 sign_or_word None b bs = word_or_unknown b bs
 sign_or_word (Some sign) b bs = sign
-
-abbrev pub begins : List ℕ → List ℕ → Bool
-begins bytes known = starts_with nat_eq bytes known
 
 -- the piece with which the bytes begin
 unfoldable pub piece_at : List ℕ → Piece

@@ -1,7 +1,7 @@
 -- The words, texts and signs of an mscgen text, each with its place (mscgen 0.20's documentation of its language).
-use Rattle.std.specs.Prelude.{ℕ, zero, suc, ◌-◌, List, [], ◌∷◌, ◌++◌, length, take, drop}
-use Rattle.std.specs.Prelude.{Option, None, Some, if◌then◌else◌}
-use Rattle.mscgen_text.specs.Pieces.{piece_at, begins}
+use Rattle.std.specs.Prelude.{ℕ, zero, suc, ◌-◌, List, [], ◌∷◌, ◌++◌, length, take, drop, Option, None, Some, if◌then◌else◌}
+use Rattle.mscgen_text.specs.Pieces.{piece_at}
+use Rattle.text_bytes.specs.Words.{begins}
 use Rattle.text_bytes.specs.Places.{start, behind}
 use Rattle.mscgen_text.specs.declared.piece.Shape.{Shape}
 use Rattle.mscgen_text.specs.declared.piece.Shape.TheVariants as shapes

@@ -5,10 +5,10 @@
 //! takes memory.
 #![tactic(auto)]
 
+mod asked;
 mod line;
 mod missing;
-mod naming;
 
+pub use asked::{has_event, instance_said};
 pub use line::refused_at;
 pub use missing::{Missing, missing_on, refused_missing};
-pub use naming::instance_said;

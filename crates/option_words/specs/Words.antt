@@ -3,9 +3,6 @@ use Rattle.std.specs.Prelude.{◌≡◌, ◌⊎◌, ℕ, ◌+◌, Bool, ◌==◌
 use Rattle.files.specs.declared.error.ProgramError.{ProgramError}
 use Rattle.files.specs.declared.error.ProgramError.TheVariants.{Usage, Memory}
 
-abbrev pub is_comma : ℕ → Bool
-is_comma byte = byte == 44
-
 abbrev pub is_equals : ℕ → Bool
 is_equals byte = byte == 61
 

@@ -1,15 +1,11 @@
 //! Words that are joined to one.
 ghost use Rattle.std.specs.Prelude.{◌≡◌, map, position, None, Some, IfOk, MatchOption};
+ghost use Rattle.line_statements.specs.Words.{is_comma};
 ghost use Rattle.msc_text.specs.Lines.{parts};
-ghost use Rattle.option_words.specs.Words.{is_comma, is_equals, round};
+ghost use Rattle.option_words.specs.Words.{is_equals, round};
 
+use line_statements::is_comma;
 use std::alloc::{AllocError, Global};
-
-fn is_comma(byte: u8) -> bool
-    ensures { result ≡ is_comma byte }
-{
-    byte == b','
-}
 
 fn is_equals(byte: u8) -> bool
     ensures { result ≡ is_equals byte }

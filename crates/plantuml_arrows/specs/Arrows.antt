@@ -1,16 +1,16 @@
 -- Arrows (PlantUML's documentation of sequence diagrams: "Change arrow style", "Incoming and outgoing messages",
 -- "Anchors and Duration", "Slanted or odd arrows").
-use Rattle.std.specs.Prelude.{ℕ, Bool, true, false, not, ◌&&◌, ◌||◌, ◌==◌, List, [], ◌∷◌, length, Option, None, Some}
-use Rattle.std.specs.Prelude.{option_map, is_none, unwrap_or, if◌then◌else◌}
+use Rattle.std.specs.Prelude.{ℕ, Bool, true, false, not, ◌&&◌, ◌||◌, ◌==◌, List, [], ◌∷◌, length, Option, None, Some, option_map, is_none, unwrap_or, if◌then◌else◌}
 use Rattle.line_statements.specs.Statements.{ArrowView, arrow_view, EndView, end_view}
-use Rattle.line_statements.specs.Words.{behind_blanks, or_else}
+use Rattle.line_statements.specs.Words.{behind_blanks, or_else, begins_blank}
 use Rattle.line_statements.specs.declared.statement.ArrowForm.{ArrowForm}
 use Rattle.line_statements.specs.declared.statement.ArrowForm.TheVariants as forms
+use Rattle.line_statements.specs.Options.{◌>>=◌}
 use Rattle.plantuml_arrows.specs.Bodies.{styled_body, other_body, body_at}
 use Rattle.plantuml_arrows.specs.Names.{name_at, participant_at}
-use Rattle.plantuml_arrows.specs.Runs.{◌>>=◌, run_at, behind_run, behind_byte}
+use Rattle.plantuml_arrows.specs.Runs.{run_at, behind_run, behind_byte}
 use Rattle.plantuml_arrows.specs.Tails.{BehindView, behind_view, behind_at}
-use Rattle.plantuml_arrows.specs.Tips.{begins_blank, head_at, mark_at, mark_before_blank, tip_at}
+use Rattle.plantuml_arrows.specs.Tips.{head_at, mark_at, mark_before_blank, tip_at}
 use Rattle.plantuml_arrows.specs.declared.arrow.Found.{Found}
 use Rattle.plantuml_arrows.specs.declared.arrow.Shaft.{Shaft}
 use Rattle.plantuml_arrows.specs.declared.arrow.Target.{Target}

@@ -1,8 +1,8 @@
 -- The bodies of arrows (PlantUML's documentation of sequence diagrams, "Change arrow style", "Change arrow color").
-use Rattle.std.specs.Prelude.{ℕ, Bool, true, false, ◌&&◌, ◌||◌, ◌==◌, nat_lt, List, [], ◌∷◌, codes, length, take, drop}
-use Rattle.std.specs.Prelude.{Option, None, Some}
+use Rattle.std.specs.Prelude.{ℕ, Bool, true, false, ◌&&◌, ◌||◌, ◌==◌, nat_lt, List, [], ◌∷◌, codes, length, take, drop, Option, None, Some}
 use Rattle.line_statements.specs.Words.{behind_blanks, behind_word, or_else}
-use Rattle.plantuml_arrows.specs.Runs.{◌>>=◌, run_at, run_length, behind_byte}
+use Rattle.line_statements.specs.Options.{◌>>=◌}
+use Rattle.plantuml_arrows.specs.Runs.{run_at, run_length, behind_byte}
 use Rattle.plantuml_arrows.specs.declared.body.Body.{Body}
 use Rattle.plantuml_arrows.specs.declared.runs.Class.TheVariants.{Dash, Bracketed}
 

@@ -4,7 +4,8 @@ use Rattle.std.specs.Prelude.{ℕ, List, [], ◌∷◌, codes, Option, None, Som
 use Rattle.line_statements.specs.Statements.{EndView}
 use Rattle.line_statements.specs.Words.{behind_blanks, behind_word, or_else}
 use Rattle.text_bytes.specs.Classes.{is_blank}
-use Rattle.plantuml_arrows.specs.Runs.{◌>>=◌, run_at, behind_byte}
+use Rattle.plantuml_arrows.specs.Runs.{run_at, behind_byte}
+use Rattle.line_statements.specs.Options.{◌>>=◌}
 use Rattle.plantuml_arrows.specs.declared.runs.Class.TheVariants.{Name, Quoted}
 
 -- what stands between two quotation marks, and what stands behind them

@@ -1,16 +1,9 @@
 -- Runs of bytes of one kind.
-use Rattle.std.specs.Prelude.{ℕ, Bool, not, ◌&&◌, ◌||◌, ◌==◌, nat_le, List, [], ◌∷◌, length, take, drop, position}
-use Rattle.std.specs.Prelude.{Option, None, Some, unwrap_or, if◌then◌else◌}
+use Rattle.std.specs.Prelude.{ℕ, Bool, not, ◌&&◌, ◌||◌, ◌==◌, nat_le, List, [], ◌∷◌, length, take, drop, position, Option, None, Some, unwrap_or, if◌then◌else◌}
 use Rattle.text_bytes.specs.Classes.{is_blank, is_word_byte}
 use Rattle.std.specs.Char.{is_ascii_digit}
 use Rattle.plantuml_arrows.specs.declared.runs.Class.{Class}
 use Rattle.plantuml_arrows.specs.declared.runs.Class.TheVariants as classes
-
-infixl 10 ◌>>=◌
--- what is found next, if everything before it is
-abbrev pub ◌>>=◌ : {A B : Type 0} → Option A → (A → Option B) → Option B
-None >>= f = None
-(Some x) >>= f = f x
 
 -- the byte is of this kind
 abbrev pub is_in : Class → ℕ → Bool

@@ -1,10 +1,10 @@
 -- What stands behind participants: activations, colours, links and texts (PlantUML's documentation of sequence diagrams,
 -- "Lifeline Activation and Destruction", "Change arrow color", "Notes on messages").
-use Rattle.std.specs.Prelude.{ℕ, Bool, ◌==◌, nat_lt, List, [], ◌∷◌, codes, length, take, drop, Option, None, Some}
-use Rattle.std.specs.Prelude.{option_map, unwrap_or, nat_eq, if◌then◌else◌}
+use Rattle.std.specs.Prelude.{ℕ, Bool, ◌==◌, nat_lt, List, [], ◌∷◌, codes, length, take, drop, Option, None, Some, option_map, unwrap_or, nat_eq, if◌then◌else◌}
 use Rattle.std.specs.List.{starts_with}
 use Rattle.line_statements.specs.Words.{behind_blanks, stripped, or_else}
-use Rattle.plantuml_arrows.specs.Runs.{◌>>=◌, run_length, behind_run, behind_byte}
+use Rattle.line_statements.specs.Options.{◌>>=◌}
+use Rattle.plantuml_arrows.specs.Runs.{run_length, behind_run, behind_byte}
 use Rattle.plantuml_arrows.specs.declared.runs.Class.{Class}
 use Rattle.plantuml_arrows.specs.declared.runs.Class.TheVariants.{Colour, Sign, Word}
 use Rattle.plantuml_arrows.specs.declared.tails.Behind.{Behind}

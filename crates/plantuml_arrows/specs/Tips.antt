@@ -1,8 +1,9 @@
 -- The ends of arrows (PlantUML's documentation of sequence diagrams, "Change arrow style").
-use Rattle.std.specs.Prelude.{ℕ, Bool, true, false, not, ◌&&◌, ◌||◌, ◌==◌, List, [], ◌∷◌, Option, None, Some, unwrap_or, if◌then◌else◌}
-use Rattle.line_statements.specs.Words.{or_else}
+use Rattle.std.specs.Prelude.{ℕ, Bool, true, false, not, ◌&&◌, ◌||◌, ◌==◌, List, [], ◌∷◌, Option, None, Some, if◌then◌else◌}
+use Rattle.line_statements.specs.Words.{or_else, begins_blank}
 use Rattle.text_bytes.specs.Classes.{is_blank}
-use Rattle.plantuml_arrows.specs.Runs.{◌>>=◌, behind_byte}
+use Rattle.plantuml_arrows.specs.Runs.{behind_byte}
+use Rattle.line_statements.specs.Options.{◌>>=◌}
 use Rattle.plantuml_arrows.specs.declared.tips.Tip.{Tip}
 
 -- what stands behind this byte, once or twice
@@ -35,10 +36,6 @@ mark_by rest (Some is_cross) = Some (is_cross, rest)
 abbrev pub mark_at : List ℕ → Option (Bool × List ℕ)
 mark_at [] = None
 mark_at (b ∷ bs) = mark_by bs (cross_of b)
-
-abbrev pub begins_blank : List ℕ → Bool
-begins_blank [] = false
-begins_blank (b ∷ bs) = is_blank b
 
 abbrev pub blank_by : Option (Bool × List ℕ) → Option (Bool × List ℕ)
 blank_by None = None

@@ -12,8 +12,8 @@ use crate::body::{Body, body_at, other_body, styled_body};
 use crate::names::{name_at, participant_at};
 use crate::runs::{Class, behind_byte, behind_run, run_at};
 use crate::tails::{Behind, behind_at};
-use crate::tips::{Tip, begins_blank, head_at, mark_at, mark_before_blank, tip_at};
-use line_statements::{Arrow, ArrowForm, End, behind_blanks};
+use crate::tips::{Tip, head_at, mark_at, mark_before_blank, tip_at};
+use line_statements::{Arrow, ArrowForm, End, begins_blank, behind_blanks};
 
 /// An arrow, and the signs of activation behind it.
 #[derive(Clone, Copy, Debug)]

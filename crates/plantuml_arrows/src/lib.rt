@@ -15,4 +15,3 @@ pub use arrow::{Found, arrow_of, behind_brace, row_at};
 pub use names::{behind_gap, name_at, quoted_at};
 pub use runs::{Class, behind_byte, behind_run, run_at, run_length};
 pub use tails::{Tail, behind_colour, colon_tail, coloured_tail};
-pub use tips::begins_blank;

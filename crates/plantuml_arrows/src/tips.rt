@@ -1,10 +1,10 @@
 //! The ends of arrows: heads, circles and crosses.
 ghost use Rattle.std.specs.Prelude.{◌≡◌};
-ghost use Rattle.line_statements.specs.Words.{Finds};
+ghost use Rattle.line_statements.specs.Words.{Finds, begins_blank};
 ghost use Rattle.plantuml_arrows.specs.Tips.{behind_double, behind_head, cross_of, tip_at, mark_at, mark_before_blank, head_at};
-ghost use Rattle.plantuml_arrows.specs.Tips.{begins_blank};
 
 use crate::runs::behind_byte;
+use line_statements::begins_blank;
 use text_bytes::is_blank;
 
 /// What stands at an end of an arrow.
@@ -75,15 +75,6 @@ pub(crate) fn mark_at(bytes: &[u8]) -> Option<(bool, &[u8])>
     match cross_of(*byte) {
         Some(is_cross) => Some((is_cross, rest)),
         None => None,
-    }
-}
-
-pub fn begins_blank(bytes: &[u8]) -> bool
-    ensures { result ≡ begins_blank bytes.now }
-{
-    match bytes {
-        [] => false,
-        [byte, ..] => is_blank(*byte),
     }
 }
 

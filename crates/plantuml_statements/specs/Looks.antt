@@ -1,18 +1,16 @@
 -- Statements that are about how a diagram looks, and blocks of lines (PlantUML's documentation of sequence diagrams: "Page
 -- Title, Header and Footer", "Splitting diagrams", "Adding a title", "Skinparam", "Foot Box", "Space", "Anchors and
 -- Duration"; and of sprites and styles).
-use Rattle.std.specs.Prelude.{ℕ, suc, ◌+◌, ◌-◌, Bool, true, false, not, ◌&&◌, ◌||◌, ◌==◌, nat_lt, List, [], ◌∷◌, codes, length, drop}
-use Rattle.std.specs.Prelude.{Option, None, Some, is_some, bytes_eq, nat_eq, slice_get, if◌then◌else◌}
+use Rattle.std.specs.Prelude.{ℕ, suc, ◌+◌, ◌-◌, Bool, true, false, not, ◌&&◌, ◌||◌, ◌==◌, nat_lt, List, [], ◌∷◌, codes, length, drop, Option, None, Some, is_some, bytes_eq, nat_eq, slice_get, if◌then◌else◌}
 use Rattle.std.specs.List.{list_all, starts_with}
-use Rattle.line_statements.specs.Words.{behind_blanks, behind_keyword, behind_keyword_of, behind_word, blank_length}
+use Rattle.line_statements.specs.Words.{behind_blanks, behind_keyword, behind_keyword_of, behind_word, blank_length, place_of, skip_word, or_else, begins_blank}
 use Rattle.text_bytes.specs.Classes.{is_blank}
-use Rattle.line_statements.specs.Words.{place_of, skip_word, or_else}
 use Rattle.text_bytes.specs.Words.{is_spelled}
+use Rattle.line_statements.specs.Options.{◌>>=◌}
 use Rattle.plantuml_arrows.specs.Arrows.{behind_brace}
 use Rattle.plantuml_arrows.specs.Names.{behind_gap}
-use Rattle.plantuml_arrows.specs.Runs.{◌>>=◌, behind_run}
+use Rattle.plantuml_arrows.specs.Runs.{behind_run}
 use Rattle.plantuml_arrows.specs.Tails.{colon_tail}
-use Rattle.plantuml_arrows.specs.Tips.{begins_blank}
 use Rattle.plantuml_arrows.specs.declared.runs.Class.TheVariants.{Style, Digit}
 use Rattle.plantuml_statements.specs.declared.look.Block.{Block}
 use Rattle.plantuml_statements.specs.declared.look.Block.TheVariants as blocks

@@ -1,14 +1,14 @@
 -- Notes and references (PlantUML's documentation of sequence diagrams, "Notes on messages", "Some other notes",
 -- "Changing notes shape", "Note over all participants", "Reference").
-use Rattle.std.specs.Prelude.{ℕ, zero, suc, ◌+◌, Bool, true, false, List, [], ◌∷◌, codes, length, drop, Option, None, Some}
-use Rattle.std.specs.Prelude.{option_map, nat_eq, if◌then◌else◌}
+use Rattle.std.specs.Prelude.{ℕ, zero, suc, ◌+◌, Bool, true, false, List, [], ◌∷◌, codes, length, drop, Option, None, Some, option_map, nat_eq, if◌then◌else◌}
 use Rattle.std.specs.List.{starts_with}
 use Rattle.line_statements.specs.Statements.{StatementView, Named}
 use Rattle.line_statements.specs.Words.{behind_blanks, behind_word, place_of, or_else}
 use Rattle.line_statements.specs.declared.statement.Place.{Place}
+use Rattle.line_statements.specs.Options.{◌>>=◌}
 use Rattle.plantuml_arrows.specs.Arrows.{row_at}
 use Rattle.plantuml_arrows.specs.Names.{behind_gap, name_at}
-use Rattle.plantuml_arrows.specs.Runs.{◌>>=◌, behind_byte}
+use Rattle.plantuml_arrows.specs.Runs.{behind_byte}
 use Rattle.plantuml_arrows.specs.Tails.{behind_colour, colon_tail, coloured_tail}
 use Rattle.plantuml_arrows.specs.declared.runs.Class.TheVariants.{Word, Colour}
 use Rattle.plantuml_statements.specs.declared.note.Note.{Note}

@@ -1,13 +1,13 @@
 -- Statements that name a participant (PlantUML's documentation of sequence diagrams, "Declaring participant", "Participant
 -- Creation", "Stereotypes and Spots").
-use Rattle.std.specs.Prelude.{◌≡◌, ℕ, zero, suc, ◌+◌, ◌-◌, Bool, true, false, ◌||◌, ◌==◌, nat_lt, List, [], ◌∷◌, codes, length, drop}
-use Rattle.std.specs.Prelude.{Option, None, Some, option_map, bytes_eq, nat_eq, if◌then◌else◌}
+use Rattle.std.specs.Prelude.{◌≡◌, ℕ, zero, suc, ◌+◌, ◌-◌, Bool, true, false, ◌||◌, ◌==◌, nat_lt, List, [], ◌∷◌, codes, length, drop, Option, None, Some, option_map, bytes_eq, nat_eq, if◌then◌else◌}
 use Rattle.std.specs.List.{starts_with}
 use Rattle.line_statements.specs.Statements.{EndView, end_view}
 use Rattle.line_statements.specs.Words.{begins, behind_keyword_of, behind_word, blank_length, or_else}
 use Rattle.text_bytes.specs.Classes.{is_blank}
+use Rattle.line_statements.specs.Options.{◌>>=◌}
 use Rattle.plantuml_arrows.specs.Names.{behind_gap, name_at, quoted_at}
-use Rattle.plantuml_arrows.specs.Runs.{◌>>=◌, run_at, run_length}
+use Rattle.plantuml_arrows.specs.Runs.{run_at, run_length}
 use Rattle.plantuml_arrows.specs.declared.runs.Class.TheVariants.{Name, Digit, Solid}
 use Rattle.plantuml_statements.specs.declared.participant.Declared.{Declared}
 

@@ -1,19 +1,17 @@
 -- What a statement says (PlantUML's documentation of sequence diagrams). Of several forms the first one counts, in the order
 -- in which PlantUML tries them.
-use Rattle.std.specs.Prelude.{◌≡◌, ℕ, ◌-◌, Bool, true, false, ◌&&◌, ◌||◌, ◌==◌, nat_lt, List, [], ◌∷◌, codes, length, drop, map, is_some}
-use Rattle.std.specs.Prelude.{Option, None, Some, option_map, bytes_eq, nat_eq, if◌then◌else◌}
+use Rattle.std.specs.Prelude.{◌≡◌, ℕ, ◌-◌, Bool, true, false, ◌&&◌, ◌||◌, ◌==◌, nat_lt, List, [], ◌∷◌, codes, length, drop, map, is_some, Option, None, Some, option_map, bytes_eq, nat_eq, if◌then◌else◌}
 use Rattle.std.specs.List.{starts_with}
-use Rattle.line_statements.specs.Statements.{SaidView, said_view, Named, NoteSaid, Deactivate, Return, ArrowsActivate, Begin, Branch, EndSaid}
-use Rattle.line_statements.specs.Statements.{Box, Divider, Delay, Reference, AtArrow, AtParticipant, AtSeveral}
-use Rattle.line_statements.specs.Words.{behind_blanks, behind_keyword, behind_word, ends_word, stripped, or_else}
+use Rattle.line_statements.specs.Statements.{SaidView, said_view, Named, NoteSaid, Deactivate, Return, ArrowsActivate, Begin, Branch, EndSaid, Box, Divider, Delay, Reference, AtArrow, AtParticipant, AtSeveral}
+use Rattle.line_statements.specs.Words.{behind_blanks, behind_keyword, behind_word, ends_word, stripped, or_else, begins_blank}
 use Rattle.text_bytes.specs.Words.{is_spelled}
 use Rattle.line_statements.specs.declared.statement.Group.{Group}
 use Rattle.line_statements.specs.declared.statement.Group.TheVariants.{Choice, Parallel, Break}
+use Rattle.line_statements.specs.Options.{◌>>=◌}
 use Rattle.plantuml_arrows.specs.Arrows.{FoundView, found_view, arrow_of, row_at}
 use Rattle.plantuml_arrows.specs.Names.{behind_gap, name_at}
-use Rattle.plantuml_arrows.specs.Runs.{◌>>=◌, run_at}
+use Rattle.plantuml_arrows.specs.Runs.{run_at}
 use Rattle.plantuml_arrows.specs.Tails.{behind_colour}
-use Rattle.plantuml_arrows.specs.Tips.{begins_blank}
 use Rattle.plantuml_arrows.specs.declared.runs.Class.TheVariants.{Name, Word}
 use Rattle.plantuml_statements.specs.Looks.{block_of, is_early_look, is_late_look}
 use Rattle.plantuml_statements.specs.Notes.{NoteView, behind_comma, note_of, reference_of}

@@ -12,9 +12,9 @@ use crate::life::{life_of, short_life_of, switch_of};
 use crate::look::{Block, block_of, is_early_look, is_late_look};
 use crate::note::{Note, behind_comma, note_of, reference_of};
 use crate::participant::participant_of;
-use line_statements::{Group, NoteAt, Said, begins_with, behind_blanks, behind_keyword, behind_word, ends_word, stripped};
+use line_statements::{Group, NoteAt, Said, begins_blank, begins_with, behind_blanks, behind_keyword, behind_word, ends_word, stripped};
+use plantuml_arrows::{Class, Found, arrow_of, behind_colour, name_at, row_at};
 use text_bytes::is_spelled;
-use plantuml_arrows::{Class, Found, arrow_of, begins_blank, behind_colour, name_at, row_at};
 
 /// What a statement means.
 #[derive(Clone, Copy, Debug)]

@@ -1,13 +1,13 @@
 -- A text's lines, one after the other.
 use Rattle.std.proofs.Common.{◌≡◌, ℕ, zero, suc, ◌+◌, ◌-◌, ◌<◌, ◌≤◌, List, [], ◌∷◌, ◌++◌, length, drop, Option, Some, Ok, Err, refl, ap, sym, ◌∙◌, append_assoc, arith, add-one}
 use Rattle.std.proofs.lemmas.List.{append-nil, length-drop}
-use Rattle.line_statements.specs.Lines.{line_length, lines_from, lines_of}
-use Rattle.line_statements.specs.Readings.{ReadView}
+use Rattle.line_statements.specs.Lines.{line_length, lines_from, lines_of, first_line}
+use Rattle.line_statements.specs.Readings.{ReadView, behind}
 use Rattle.line_statements.specs.Statements.{LineView, StatementView}
 use Rattle.line_statements.specs.declared.statement.Fault.{Fault}
-use Rattle.plantuml_text.specs.Diagrams.{behind, finished, step_by, read_from}
+use Rattle.plantuml_text.specs.Diagrams.{finished, step_by, read_from}
 use Rattle.plantuml_text.specs.Joints.{below}
-use Rattle.plantuml_text.specs.Regions.{first_line, region_behind, region_in}
+use Rattle.plantuml_text.specs.Regions.{region_behind, region_in}
 use Rattle.plantuml_text.specs.Standings.{nothing_open, region_stepped}
 use Rattle.plantuml_text.specs.declared.region.Region.{Region}
 use Rattle.plantuml_text.specs.declared.region.Region.TheVariants.{Above}

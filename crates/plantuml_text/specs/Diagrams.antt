@@ -1,8 +1,8 @@
 -- What a text says: its statements from the top, or its first fault.
-use Rattle.std.specs.Prelude.{ℕ, List, [], ◌∷◌, ◌++◌, None, Some, Ok, Err, if◌then◌else◌}
+use Rattle.std.specs.Prelude.{ℕ, List, [], ◌∷◌, None, Some, Ok, Err, if◌then◌else◌}
 use Rattle.line_statements.specs.Lines.{lines_of, stripped_line}
-use Rattle.line_statements.specs.Statements.{LineView, StatementView}
-use Rattle.line_statements.specs.Readings.{ReadView}
+use Rattle.line_statements.specs.Statements.{LineView}
+use Rattle.line_statements.specs.Readings.{ReadView, behind}
 use Rattle.line_statements.specs.declared.statement.Fault.TheVariants.{Unfinished}
 use Rattle.plantuml_text.specs.Joints.{below, joined_text}
 use Rattle.plantuml_text.specs.Regions.{region_behind, region_in}
@@ -10,10 +10,6 @@ use Rattle.plantuml_text.specs.Standings.{Step, nothing_open, region_stepped, is
 use Rattle.plantuml_text.specs.declared.region.Region.{Region}
 use Rattle.plantuml_text.specs.declared.region.Region.TheVariants.{Above, Inside, Below}
 use Rattle.plantuml_text.specs.declared.standing.Standing.{Standing}
-
--- what lines say behind the statements so far
-abbrev pub behind : List StatementView → ReadView → ReadView
-behind so_far read = (so_far ++ read.0, read.1)
 
 -- what is still open at the end is a fault
 abbrev pub finished : Standing → ReadView

@@ -1,10 +1,10 @@
 -- Lines of the pre-processor (PlantUML's documentation, "Preprocessing"): of a condition the first branch is read, and of a
 -- definition nothing.
-use Rattle.std.specs.Prelude.{ℕ, ◌+◌, ◌%◌, ◌^◌, Bool, false, ◌&&◌, ◌||◌, ◌==◌, List, [], ◌∷◌, codes, Option, None, Some}
-use Rattle.std.specs.Prelude.{is_some, if◌then◌else◌}
+use Rattle.std.specs.Prelude.{ℕ, ◌+◌, ◌%◌, ◌^◌, Bool, false, ◌&&◌, ◌||◌, ◌==◌, List, [], ◌∷◌, codes, Option, None, Some, is_some, if◌then◌else◌}
 use Rattle.line_statements.specs.Words.{behind_blanks, behind_word, or_else}
+use Rattle.line_statements.specs.Options.{◌>>=◌}
 use Rattle.plantuml_arrows.specs.Names.{behind_gap}
-use Rattle.plantuml_arrows.specs.Runs.{◌>>=◌, behind_byte, run_length}
+use Rattle.plantuml_arrows.specs.Runs.{behind_byte, run_length}
 use Rattle.plantuml_arrows.specs.declared.runs.Class.TheVariants.{Word}
 use Rattle.plantuml_text.specs.declared.directives.Skip.{Skip}
 use Rattle.plantuml_text.specs.declared.directives.SkipEnd.{SkipEnd}

@@ -1,7 +1,7 @@
 -- Where a diagram stands in a text: from `@startuml` to `@enduml` (PlantUML's documentation). A text without them is one.
-use Rattle.std.specs.Prelude.{ℕ, Bool, ◌&&◌, ◌==◌, List, [], ◌∷◌, codes, length, take, drop, nat_eq, if◌then◌else◌}
+use Rattle.std.specs.Prelude.{ℕ, Bool, ◌&&◌, ◌==◌, List, [], ◌∷◌, codes, length, drop, nat_eq, if◌then◌else◌}
 use Rattle.std.specs.List.{starts_with}
-use Rattle.line_statements.specs.Lines.{line_length, stripped_line}
+use Rattle.line_statements.specs.Lines.{stripped_line}
 use Rattle.line_statements.specs.Statements.{LineView}
 use Rattle.plantuml_arrows.specs.Runs.{run_length}
 use Rattle.plantuml_arrows.specs.declared.runs.Class.TheVariants.{Word}
@@ -23,10 +23,6 @@ unfoldable pub region_behind : Region → List ℕ → Region
 region_behind Above words = if is_start words then Inside else Above
 region_behind Inside words = if is_end words then Below else Inside
 region_behind Below words = Below
-
--- the first line of a text, of this number
-abbrev pub first_line : ℕ → List ℕ → LineView
-first_line number text = stripped_line (record { number = number; column = 1; words = take (line_length text) text })
 
 -- where what comes behind these lines stands
 abbrev pub region_in : Region → List LineView → Region

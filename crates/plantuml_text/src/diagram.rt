@@ -7,9 +7,9 @@ ghost use Rattle.plantuml_text.specs.Joints.{joined_text};
 ghost use Rattle.plantuml_text.specs.Standings.{nothing_open, is_open};
 ghost use Rattle.line_statements.specs.declared.statement.Fault.TheVariants.{Unfinished};
 
-use crate::region::{Region, first_line, region_behind, region_in};
+use crate::region::{Region, region_behind, region_in};
 use crate::standing::{Standing, add_line_in, is_open};
-use line_statements::{Fault, ReadError, ReadText, behind_line};
+use line_statements::{Fault, ReadError, ReadText, behind_line, first_line};
 use std::alloc::{AllocError, Global};
 
 /// Nothing is open.

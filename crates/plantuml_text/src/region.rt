@@ -1,11 +1,10 @@
 //! Where a diagram stands in a text.
-ghost use Rattle.std.specs.Prelude.{◌≡◌, ◌+◌, ◌≤◌, length};
-ghost use Rattle.line_statements.specs.Statements.{line_view};
-ghost use Rattle.line_statements.specs.Lines.{lines_of};
-ghost use Rattle.plantuml_text.specs.Regions.{is_mark, is_start, is_end, region_behind, region_in, first_line};
+ghost use Rattle.std.specs.Prelude.{◌≡◌, ◌+◌};
+ghost use Rattle.line_statements.specs.Lines.{lines_of, first_line};
+ghost use Rattle.plantuml_text.specs.Regions.{is_mark, is_start, is_end, region_behind, region_in};
 ghost use Rattle.plantuml_text.specs.declared.region.Region.TheVariants.{Above};
 
-use line_statements::{Line, begins_with, behind_line, line_length};
+use line_statements::{Line, begins_with, behind_line, first_line};
 use plantuml_arrows::{Class, run_length};
 
 /// Where a line stands.
@@ -51,21 +50,6 @@ pub(crate) fn region_behind(region: Region, words: &[u8]) -> Region
         Region::Inside if is_end(words) => Region::Below,
         _ => region,
     }
-}
-
-/// The first line of a text, of this number.
-#[tactic(auto, unfolding(line_statements::specs::Lines::stripped_line))]
-pub(crate) fn first_line(number: u64, text: &[u8]) -> Line<'_>
-    ensures line { line_view result ≡ first_line number text.now }
-    ensures number { result.number ≡ number }
-    ensures room { result.column + length result.words.now ≤ 1 + length text.now }
-{
-    let line = Line {
-        number,
-        column: 1,
-        words: &text[..line_length(text)],
-    };
-    line.stripped()
 }
 
 /// Where what comes behind a text's last line stands.

@@ -7,16 +7,15 @@ use Rattle.files.specs.Files.{Named, IsRefused}
 use Rattle.msc_text.specs.Outs.{Sink}
 use Rattle.wanted_columns.specs.declared.error.FormatError.{FormatError}
 use Rattle.wanted_columns.specs.declared.error.FormatError.TheVariants.{Program, NoSuchName}
-use Rattle.wanted_columns.specs.Columns.{AreColumns, RefusesColumns}
+use Rattle.wanted_columns.specs.Columns.{AreColumns, RefusesColumns, only_of}
 use Rattle.race_answers.specs.declared.judging.LuckWanted.{LuckWanted}
 use Rattle.race_answers.specs.Judging.{ShowsJudged}
-use Rattle.race_answers.specs.Showing.{only_of}
 use Rattle.race_answers.proofs.RefusedLemmas.{not_shown}
 use Rattle.recordings.specs.declared.verdict.Verdict.{Verdict}
 
 module _ {S : Type 0} (sink : S → Sink) (is : EventNo → EventNo → Verdict → Type 0) (old : S) (named : Named) (wanted : LuckWanted) where
   -- no such instances
-  pub unnamed : (error : FormatError) → RefusesColumns named.0 (only_of wanted.races) error → ShowsJudged sink is old old (Err error) wanted named
+  pub unnamed : (error : FormatError) → RefusesColumns named.0 (only_of wanted.races.only) error → ShowsJudged sink is old old (Err error) wanted named
   unnamed NoSuchName none = (none, refl)
   unnamed (Program Memory) why = refl
   unnamed (Program Usage) why = absurd why
@@ -28,7 +27,7 @@ module _ {S : Type 0} (sink : S → Sink) (is : EventNo → EventNo → Verdict 
   unnamed (Program Write) why = absurd why
 
   -- a chart that no run has
-  pub not_judged : (instances : List ℕ) → AreColumns named.0 (only_of wanted.races) instances → (error : ProgramError) → (error ≡ Memory) ⊎ IsRefused error named
+  pub not_judged : (instances : List ℕ) → AreColumns named.0 (only_of wanted.races.only) instances → (error : ProgramError) → (error ≡ Memory) ⊎ IsRefused error named
       → ShowsJudged sink is old old (Err (Program error)) wanted named
   not_judged instances are Memory why = not_shown sink old named wanted.races instances are Memory why
   not_judged instances are Usage why = not_shown sink old named wanted.races instances are Usage why

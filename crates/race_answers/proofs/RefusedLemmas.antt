@@ -5,11 +5,11 @@ use Rattle.files.specs.declared.error.ProgramError.TheVariants.{Usage, File, Mem
 use Rattle.files.specs.Files.{Named, IsRefused}
 use Rattle.msc_text.specs.Outs.{Sink}
 use Rattle.wanted_columns.specs.declared.error.FormatError.TheVariants.{Program}
-use Rattle.wanted_columns.specs.Columns.{AreColumns}
+use Rattle.wanted_columns.specs.Columns.{AreColumns, only_of}
 use Rattle.race_answers.specs.declared.showing.Wanted.{Wanted}
-use Rattle.race_answers.specs.Showing.{only_of, Shows}
+use Rattle.race_answers.specs.Showing.{Shows}
 
-module _ {S : Type 0} (sink : S → Sink) (old : S) (named : Named) (wanted : Wanted) (instances : List ℕ) (are : AreColumns named.0 (only_of wanted) instances) where
+module _ {S : Type 0} (sink : S → Sink) (old : S) (named : Named) (wanted : Wanted) (instances : List ℕ) (are : AreColumns named.0 (only_of wanted.only) instances) where
   pub not_shown : (error : ProgramError) → (error ≡ Memory) ⊎ IsRefused error named → Shows sink old old (Err (Program error)) wanted named
   not_shown Memory why = refl
   not_shown Usage (inl is) = cc

@@ -4,15 +4,15 @@ use Rattle.chart.specs.declared.instance.EventNo.{EventNo}
 use Rattle.chart.specs.Reports.{ReportView}
 use Rattle.files.specs.Files.{Named}
 use Rattle.files.specs.declared.error.ProgramError.TheVariants as errors
-use Rattle.wanted_columns.specs.Columns.{AreColumns, RefusesColumns}
+use Rattle.wanted_columns.specs.Columns.{AreColumns, RefusesColumns, only_of}
 use Rattle.wanted_columns.specs.declared.error.FormatError.{FormatError}
 use Rattle.wanted_columns.specs.declared.error.FormatError.TheVariants.{Program}
+use Rattle.files.specs.Statuses.{status_in}
 use Rattle.msc_text.specs.Outs.{Sink}
 use Rattle.msc_text.specs.Writing.{Puts, Breaks}
-use Rattle.race_answers.specs.Showing.{only_of, manner_of, AreWanted, Shows}
-use Rattle.race_answers.specs.Statuses.{status_in}
+use Rattle.race_answers.specs.Showing.{manner_of, AreWanted, Shows}
 use Rattle.race_answers.specs.declared.judging.LuckWanted.{LuckWanted}
-use Rattle.race_answers.specs.declared.status.Status.{Status}
+use Rattle.files.specs.declared.status.Status.{Status}
 use Rattle.recordings.specs.declared.verdict.Verdict.{Verdict}
 use Rattle.told_luck.specs.Telling.{LuckManner, PartedReport, ArePartedTo, luck_text, shows_luck}
 
@@ -53,5 +53,5 @@ module _ {S : Type 0} (sink : S → Sink) where
 
   -- where luck isn't known, the races of the chart were shown; or it was refused, where luck alone is asked for
   abbrev pub ShowsUnknown : Bool → S → S → Result Status FormatError → LuckWanted → Named → Type 0
-  ShowsUnknown true old new result wanted named = IsLuckRefused named.0 (only_of wanted.races) result × (new ≡ old)
+  ShowsUnknown true old new result wanted named = IsLuckRefused named.0 (only_of wanted.races.only) result × (new ≡ old)
   ShowsUnknown false old new result wanted named = Shows sink old new result wanted.races named

@@ -1,23 +1,19 @@
 -- Which races of a file are shown.
-use Rattle.std.specs.Prelude.{◌≡◌, ℕ, List, length, Option, option_map, Result, Ok, Err}
+use Rattle.std.specs.Prelude.{◌≡◌, ℕ, List, length, Result, Ok, Err}
 use Rattle.chart.specs.Charts.{chart_lines, IsPossible}
 use Rattle.chart.specs.Reports.{ReportView}
 use Rattle.files.specs.declared.error.ProgramError.TheVariants as errors
 use Rattle.files.specs.Texts.{OfFile, named_of}
 use Rattle.files.specs.Files.{Named, IsRefused}
-use Rattle.wanted_columns.specs.Columns.{AreColumns}
+use Rattle.wanted_columns.specs.Columns.{AreColumns, only_of}
 use Rattle.wanted_columns.specs.declared.error.FormatError.{FormatError}
 use Rattle.wanted_columns.specs.declared.error.FormatError.TheVariants.{Program, NoSuchName}
+use Rattle.files.specs.Statuses.{status_in}
 use Rattle.msc_text.specs.Outs.{Sink}
 use Rattle.msc_text.specs.Writing.{Puts, Breaks}
 use Rattle.race_answers.specs.declared.showing.Wanted.{Wanted}
-use Rattle.race_answers.specs.declared.status.Status.{Status}
-use Rattle.race_answers.specs.Statuses.{status_in}
+use Rattle.files.specs.declared.status.Status.{Status}
 use Rattle.told_races.specs.Telling.{Manner, AreTold, races_text, shows_races}
-
--- the bytes that name the instances, if there are some
-abbrev pub only_of : Wanted → Option (List ℕ)
-only_of wanted = option_map (λ bytes. bytes.now) wanted.only
 
 -- how they are told: of these instances
 abbrev pub manner_of : Wanted → List ℕ → Manner
@@ -30,7 +26,7 @@ manner_of wanted instances = record {
 
 -- The reports of a possible chart that are told, and the instances that are asked for: those that the bytes name, or all.
 pub record AreWanted (wanted : Wanted) (named : Named) (instances : List ℕ) (reports : List ReportView) : Type 0 where
-  pub named_so : AreColumns named.0 (only_of wanted) instances
+  pub named_so : AreColumns named.0 (only_of wanted.only) instances
   pub possible : IsPossible (length named.1) (chart_lines named.1)
   pub races : AreTold wanted.run_to_completion named.1 reports
 
@@ -46,12 +42,12 @@ module _ {S : Type 0} (sink : S → Sink) where
       × AreWanted wanted named instances reports × Puts sink old new (text_of wanted named instances reports)
       × (status ≡ status_in (shows_races (manner_of wanted instances) named.1 reports))
   Shows old new (Err NoSuchName) wanted named =
-      ((instances : List ℕ) → AreColumns named.0 (only_of wanted) instances → ⊥) × (new ≡ old)
+      ((instances : List ℕ) → AreColumns named.0 (only_of wanted.only) instances → ⊥) × (new ≡ old)
   Shows old new (Err (Program errors.Memory)) wanted named = new ≡ old
   Shows old new (Err (Program errors.Write)) wanted named = (instances : List ℕ) × (reports : List ReportView)
       × AreWanted wanted named instances reports × Breaks sink old new (text_of wanted named instances reports)
   Shows old new (Err (Program error)) wanted named = (instances : List ℕ)
-      × AreColumns named.0 (only_of wanted) instances × IsRefused error named × (new ≡ old)
+      × AreColumns named.0 (only_of wanted.only) instances × IsRefused error named × (new ≡ old)
 
   -- the same for the chart that the bytes say; or nothing was written, where the bytes have a fault
   abbrev pub ShowsText : S → S → Wanted → List ℕ → Result Status FormatError → Type 0

@@ -2,18 +2,16 @@
 ghost use Rattle.std.specs.Prelude.{◌≡◌, length, IfSome};
 ghost use Rattle.chart.specs.declared.instance.EventNo.{EventNo};
 ghost use Rattle.chart.specs.Charts.{chart_lines, IsPossible};
-ghost use Rattle.wanted_columns.specs.Columns.{AreColumns};
-ghost use Rattle.race_answers.specs.Showing.{only_of};
+ghost use Rattle.wanted_columns.specs.Columns.{AreColumns, only_of};
 ghost use Rattle.told_luck.specs.Telling.{IsRaceIn};
 ghost use Rattle.told_races.specs.Telling.{is_there};
 ghost use Rattle.race_answers.specs.Judging.{ShowsJudged, IsLuckRefused, ShowsUnknown};
 
 use crate::showing::{Wanted, show_chart};
-use crate::status::Status;
 use chart::{Chart, InstanceNo, Names};
 use closure::Closure;
 use completion::Completion;
-use files::ProgramError;
+use files::{ProgramError, Status};
 use msc_text::Out;
 use std::alloc::Global;
 use told_luck::{ToldLuck, Verdicts, write_luck};
@@ -39,7 +37,7 @@ fn show_told<W: Out, V: Verdicts>(
     verdicts: &V,
     out: &mut W,
 ) -> Result<Status, FormatError>
-    requires instances { AreColumns names.now (only_of wanted.now.races) instances.now }
+    requires instances { AreColumns names.now (only_of wanted.now.races.only) instances.now }
     requires possible { IsPossible (length closure.now) (chart_lines closure.now) }
     requires lines { IfSome completion (λ completion. completion.now ≡ closure.now) }
     requires asked { is_there completion ≡ wanted.now.races.run_to_completion }
@@ -77,7 +75,7 @@ pub fn show_judged<W: Out, V: Verdicts>(
     verdicts: &V,
     out: &mut W,
 ) -> Result<Status, FormatError>
-    requires instances { AreColumns names.now (only_of wanted.now.races) instances.now }
+    requires instances { AreColumns names.now (only_of wanted.now.races.only) instances.now }
     requires possible { IsPossible (length closure.now) (chart_lines closure.now) }
     requires races { (r e : EventNo) → IsRaceIn closure.now r e → V.is_race verdicts.now r e }
     ensures { ShowsJudged W.sink (V.is_verdict verdicts.now) out.old out.new result wanted.now (names.now, closure.now) }
@@ -102,7 +100,7 @@ pub fn show_judged<W: Out, V: Verdicts>(
 /// Refuses luck where it isn't known. F34: a name of `only` is none of the chart's, or is there twice. Else G1. F6 may come
 /// before.
 fn refuse_luck(alloc: Global, names: &Names, wanted: &Wanted<'_>) -> Result<Status, FormatError>
-    ensures { IsLuckRefused names.now (only_of wanted.now) result }
+    ensures { IsLuckRefused names.now (only_of wanted.now.only) result }
 {
     let _columns = columns_in(alloc, names, wanted.only)?;
     Err(FormatError::Program(ProgramError::Usage))

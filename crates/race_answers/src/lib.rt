@@ -15,8 +15,6 @@
 
 mod judging;
 mod showing;
-mod status;
 
 pub use judging::{LuckWanted, show_judged, show_unknown};
 pub use showing::{Wanted, races, show_chart};
-pub use status::Status;

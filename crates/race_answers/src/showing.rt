@@ -2,16 +2,15 @@
 ghost use Rattle.std.specs.Prelude.{◌≡◌, length, IfSome};
 ghost use Rattle.chart.specs.Charts.{chart_lines, IsPossible};
 ghost use Rattle.files.specs.Answers.{Answers};
-ghost use Rattle.wanted_columns.specs.Columns.{AreColumns};
-ghost use Rattle.race_answers.specs.Showing.{only_of, Shows, ShowsText};
+ghost use Rattle.wanted_columns.specs.Columns.{AreColumns, only_of};
+ghost use Rattle.race_answers.specs.Showing.{Shows, ShowsText};
 ghost use Rattle.race_answers.specs.Statuses.{shown_said};
 ghost use Rattle.told_races.specs.Telling.{is_there};
 
-use crate::status::Status;
 use chart::{Chart, InstanceNo, Names};
 use closure::Closure;
 use completion::Completion;
-use files::{ProgramError, Source, Text, answered, closure_of};
+use files::{ProgramError, Source, Status, Text, answered, closure_of};
 use msc_text::Out;
 use std::alloc::Global;
 use told_races::{Form, Told, write_races};
@@ -40,7 +39,7 @@ fn show_told<W: Out>(
     completion: Option<&Completion<'_>>,
     out: &mut W,
 ) -> Result<Status, FormatError>
-    requires instances { AreColumns names.now (only_of wanted.now) instances.now }
+    requires instances { AreColumns names.now (only_of wanted.now.only) instances.now }
     requires possible { IsPossible (length closure.now) (chart_lines closure.now) }
     requires lines { IfSome completion (λ completion. completion.now ≡ closure.now) }
     requires asked { is_there completion ≡ wanted.now.run_to_completion }
@@ -72,7 +71,7 @@ fn show_races<W: Out>(
     wanted: &Wanted<'_>,
     out: &mut W,
 ) -> Result<Status, FormatError>
-    requires instances { AreColumns names.now (only_of wanted.now) instances.now }
+    requires instances { AreColumns names.now (only_of wanted.now.only) instances.now }
     requires possible { IsPossible (length closure.now) (chart_lines closure.now) }
     ensures { Shows W.sink out.old out.new result wanted.now (names.now, closure.now) }
 {

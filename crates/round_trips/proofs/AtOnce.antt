@@ -20,9 +20,10 @@ use Rattle.layout.specs.Picking.{Comes, actors, IsLayout}
 use Rattle.layout.specs.declared.row.Row.{Row}
 use Rattle.layout.specs.declared.row.Row.TheVariants as rows
 use Rattle.layout.proofs.DrawnLemmas.{number_on-own, number_on-other}
+use Rattle.message_charts.specs.Each.{Each}
 use Rattle.round_trips.specs.Laws.{LevelAtOnce}
 use Rattle.round_trips.specs.LevelCharts.{Passed, ends_at, at_once}
-use Rattle.round_trips.proofs.Lists.{Each, each_of, all_at, each_append, each_get, Counts, counts_range, counts_has, counts_front, counts_on, Has, has_left, has_right, get_seam}
+use Rattle.round_trips.proofs.Lists.{each_of, all_at, each_append, each_get, Counts, counts_range, counts_has, counts_front, counts_on, Has, has_left, has_right, get_seam}
 
 -- Places of what counts up.
 

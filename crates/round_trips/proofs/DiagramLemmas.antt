@@ -9,12 +9,13 @@ use Rattle.chart.specs.NameSets.{AreNames}
 use Rattle.chart.specs.Names.{IsName}
 use Rattle.chart.specs.declared.instance.TheConstants.{MAX_INSTANCES}
 use Rattle.diagrams.specs.Diagrams.{ParticipantView, ArrowView, ItemView, AnArrow, ANote}
+use Rattle.message_charts.specs.Each.{Each}
 use Rattle.msc_text.specs.ChartText.{name_at}
 use Rattle.mscgen_diagrams.specs.Arcs.{RowsView, with_arc, with_arcs, last_row, rows_of}
 use Rattle.mscgen_diagrams.specs.Entities.{known_at, participant_of, with_entity, with_entities, known_of, place_of}
 use Rattle.mscgen_diagrams.specs.Reading.{diagram_by}
 use Rattle.text_bytes.specs.declared.place.Place.{Place}
-use Rattle.round_trips.proofs.Lists.{Each, get_front, get_seam, no_place, its_place}
+use Rattle.round_trips.proofs.Lists.{get_front, get_seam, no_place, its_place}
 use Rattle.round_trips.proofs.MscLemmas.{Placed, arc_by, arc_of, arcs_of, Entity, entity_of}
 use Rattle.round_trips.proofs.PlainBytes.{ArePlain, says_itself, plain_both}
 use Rattle.round_trips.proofs.Said.{Said, Sent, Told, told_words}

@@ -25,9 +25,10 @@ use Rattle.diagrams.specs.Placing.{row_of, is_placed, may_stand, first_misplaced
 use Rattle.diagrams.specs.declared.left_out.LeftOut.{LeftOut}
 use Rattle.diagrams.specs.declared.left_out.Kind.TheVariants as kinds
 use Rattle.diagrams.specs.declared.message.Message.{Message}
+use Rattle.message_charts.specs.Each.{Each}
 use Rattle.mscgen_diagrams.specs.Entities.{place_of}
 use Rattle.text_bytes.specs.declared.place.Place.{Place}
-use Rattle.round_trips.proofs.Lists.{Each, get_front, get_seam, its_place}
+use Rattle.round_trips.proofs.Lists.{get_front, get_seam, its_place}
 use Rattle.round_trips.proofs.MscLemmas.{Placed, Entity}
 use Rattle.round_trips.proofs.DiagramLemmas.{IsSaid, names_in, participants_of, arrow_by, item_by, items_from}
 use Rattle.round_trips.proofs.PlainBytes.{ArePlain, says_itself}

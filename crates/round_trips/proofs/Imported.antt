@@ -7,10 +7,10 @@ use Rattle.chart.specs.declared.instance.EventNo.{EventNo}
 use Rattle.chart.specs.Charts.{LineView, chart_lines}
 use Rattle.chart.specs.Reports.{ReportView, AreReports, has_races}
 use Rattle.closure.specs.Faults.{place_of}
-use Rattle.diagrams.specs.Drawing.{DrawnView}
+use Rattle.diagrams.specs.Drawing.{DrawnView, ◌>>=◌}
 use Rattle.diagram_imports.specs.Importing.{behind_mark, first_place, first_overtaking, strictly_at, strictly, imported_from, imported}
 use Rattle.diagram_imports.specs.Readers.{tool_in, diagram_in, refused_as, of_mscgen}
-use Rattle.diagram_imports.specs.Refusals.{NoChart, ◌>>=◌}
+use Rattle.diagram_imports.specs.Refusals.{NoChart}
 use Rattle.diagram_imports.specs.Skipping.{blanked_from, line_behind}
 use Rattle.exports.specs.Exports.{ExportView, note_of, report_at, in_row}
 use Rattle.exports.specs.ExportText.{export_text}
@@ -19,6 +19,7 @@ use Rattle.joined_diagrams.specs.Drawing.{JoinedDrawnView, alone, drawn_joined}
 use Rattle.layout.specs.Ends.{AreEnds}
 use Rattle.layout.specs.Layouts.{row_of}
 use Rattle.layout.specs.declared.row.Row.{Row}
+use Rattle.message_charts.specs.Each.{Each}
 use Rattle.told_tools.specs.Gaps.{gap_length, gaps_length}
 use Rattle.told_tools.specs.Telling.{begins_word, tool_of, told_tool}
 use Rattle.tool_text.specs.declared.Tool.{Tool}
@@ -27,7 +28,7 @@ use Rattle.round_trips.specs.Laws.{all_lines, IsToldOr, IsChartOf, MscgenRoundTr
 use Rattle.round_trips.specs.LevelCharts.{IsLevelChart}
 use Rattle.round_trips.proofs.Exported.{whole_is}
 use Rattle.round_trips.proofs.RoundTrip.{says, reads, diagram, out, diagram_read, chart_drawn, names_out, lines_out, renamed_out, notes_out, left_out, none_noted}
-use Rattle.round_trips.proofs.Lists.{Each, all_of}
+use Rattle.round_trips.proofs.Lists.{all_of}
 use Rattle.round_trips.proofs.RowSayings.{view, IsSent}
 use Rattle.round_trips.proofs.Untold.{IsNote}
 use Rattle.round_trips.proofs.Said.{whole_text}

@@ -22,9 +22,10 @@ use Rattle.message_charts.specs.Turns.{send_end, receive_end, all_ends, own_ends
 use Rattle.message_charts.specs.declared.end.End.{End}
 use Rattle.message_charts.specs.declared.message.Named.{Named}
 use Rattle.text_bytes.specs.declared.place.Place.{Place}
+use Rattle.message_charts.specs.Each.{Each}
 use Rattle.round_trips.proofs.DiagramLemmas.{IsSaid, arrow_by, item_by, items_from}
 use Rattle.round_trips.proofs.DrawnLemmas.{Own, still_own, named_itself, messages_from}
-use Rattle.round_trips.proofs.Lists.{Each, get_seam}
+use Rattle.round_trips.proofs.Lists.{get_seam}
 use Rattle.round_trips.proofs.MscLemmas.{Placed}
 use Rattle.round_trips.proofs.Said.{Said, Sent, Told}
 use Rattle.stable_order.specs.Order.{put_by, in_order_by}

@@ -24,6 +24,7 @@ use Rattle.layout.specs.Ends.{AreEnds}
 use Rattle.layout.specs.declared.row.Row.{Row}
 use Rattle.message_charts.specs.Lines.{lines_from}
 use Rattle.message_charts.specs.Turns.{all_ends}
+use Rattle.message_charts.specs.Each.{Each}
 use Rattle.mscgen_diagrams.specs.Reading.{diagram_by, diagram_of}
 use Rattle.mscgen_text.specs.Faults.{told, msc_of}
 use Rattle.text_bytes.specs.Places.{start, behind}
@@ -33,7 +34,7 @@ use Rattle.round_trips.proofs.DiagramLemmas.{IsSaid, participants_of, items_from
 use Rattle.round_trips.proofs.DrawnLemmas.{names_kept, messages_from, notes_in, all_collected}
 use Rattle.round_trips.proofs.Exported.{all_say, events_all, whole_is, line_said}
 use Rattle.round_trips.proofs.LineLemmas.{StayLost, said_of, events_on, no_faults, all_kept, none_lost, none_full, named_in, names_itself, line_is}
-use Rattle.round_trips.proofs.Lists.{Each, each_weaker, each_of, all_at}
+use Rattle.round_trips.proofs.Lists.{each_weaker, each_of, all_at}
 use Rattle.round_trips.proofs.MscLemmas.{Placed, Entity, ReadsWhole, reads_whole}
 use Rattle.round_trips.proofs.PlainBytes.{ArePlain}
 use Rattle.round_trips.proofs.RowSayings.{IsSent, view, plain_name}

@@ -24,6 +24,7 @@ use Rattle.layout.specs.Ends.{IsEnd, AreEnds, end_of as other_end}
 use Rattle.layout.specs.Layouts.{row_on, number_on}
 use Rattle.layout.specs.declared.row.Row.{Row}
 use Rattle.layout.specs.declared.row.Row.TheVariants as rows
+use Rattle.message_charts.specs.Each.{Each}
 use Rattle.msc_text.specs.ChartText.{name_at}
 use Rattle.text_parts.specs.RaceWords.{amount, kind}
 use Rattle.exports.specs.Earlier.{sent_to, received_from, event_words, event_named, last_of, up_to, range_named, next_named, ranges_named}
@@ -32,7 +33,7 @@ use Rattle.round_trips.specs.LevelCharts.{IsLevelChart}
 use Rattle.round_trips.proofs.ChartFacts.{IsMessage, IsLost, on_line}
 use Rattle.round_trips.proofs.DiagramLemmas.{IsSaid}
 use Rattle.round_trips.proofs.LineLemmas.{is_taken, StaysLost, event_on}
-use Rattle.round_trips.proofs.Lists.{Each, each_of, all_at}
+use Rattle.round_trips.proofs.Lists.{each_of, all_at}
 use Rattle.round_trips.proofs.PlainBytes.{ArePlain, is_plain, plain_byte, plain_all, plain_both}
 use Rattle.round_trips.proofs.Said.{Said, Sent, Told, said_text, all_text, name_is_plain}
 

@@ -1,6 +1,6 @@
 -- The text of an export for mscgen whose messages are level, piece by piece, and its tokens.
 use Rattle.std.proofs.Common.{ℕ, zero, suc, Bool, true, false, List, [], ◌∷◌, ◌++◌, codes, refl}
-use Rattle.round_trips.proofs.Lists.{Each}
+use Rattle.message_charts.specs.Each.{Each}
 use Rattle.mscgen_text.specs.Tokens.{KindView, Word, Text, Sign, Spacer, Mark}
 use Rattle.mscgen_text.specs.declared.relation.Relation.{Relation}
 use Rattle.mscgen_text.specs.declared.relation.Relation.TheVariants.{To, LostTo}

@@ -16,11 +16,12 @@ use Rattle.diagrams.specs.Naming.{label_of, labels_from}
 use Rattle.diagrams.specs.declared.left_out.Kind.TheVariants as kinds
 use Rattle.diagrams.specs.declared.left_out.LeftOut.{LeftOut}
 use Rattle.diagrams.specs.declared.place.Place.{Place}
+use Rattle.message_charts.specs.Each.{Each}
 use Rattle.mscgen_diagrams.specs.Entities.{place_of}
 use Rattle.round_trips.proofs.DiagramLemmas.{IsSaid, participants_of, item_by, items_from}
 use Rattle.round_trips.proofs.DrawnLemmas.{Own, still_own, messages_from, notes_in}
 use Rattle.round_trips.proofs.LineLemmas.{labelled_here}
-use Rattle.round_trips.proofs.Lists.{Each, each_append}
+use Rattle.round_trips.proofs.Lists.{each_append}
 use Rattle.round_trips.proofs.MscLemmas.{Placed, Entity}
 use Rattle.round_trips.proofs.PlainBytes.{ArePlain, says_itself}
 use Rattle.round_trips.proofs.Said.{Sent, Told}

@@ -14,11 +14,12 @@ use Rattle.layout.specs.Layouts.{drawn, row_on, number_on}
 use Rattle.layout.specs.declared.row.Row.{Row}
 use Rattle.layout.specs.declared.row.Row.TheVariants as rows
 use Rattle.layout.proofs.DrawnLemmas.{number_on-own}
+use Rattle.message_charts.specs.Each.{Each}
 use Rattle.round_trips.specs.LevelCharts.{IsLevelChart}
 use Rattle.round_trips.proofs.ChartFacts.{stays_lost, has_drawn}
 use Rattle.round_trips.proofs.DiagramLemmas.{IsSaid}
 use Rattle.round_trips.proofs.LineLemmas.{is_taken, StayLost, event_on, events_on}
-use Rattle.round_trips.proofs.Lists.{Each, each_append, Counts, counts_on, counts_front, counts_has, Has, has_left}
+use Rattle.round_trips.proofs.Lists.{each_append, Counts, counts_on, counts_front, counts_has, Has, has_left}
 use Rattle.round_trips.proofs.RowSayings.{IsTold, IsSent, event_at, IsRowOf, view, RowSays, map_both}
 use Rattle.round_trips.proofs.Said.{Said, Sent, Told, said_text, all_text}
 

@@ -5,12 +5,12 @@ use Rattle.std.specs.List.{list_all}
 use Rattle.std.proofs.lemmas.Bool.{ne_eqb, and_right, cond-false}
 use Rattle.msc_text.proofs.Parts.{Cons, words_cons}
 use Rattle.msc_text.specs.Faults.{in_line, Fails}
-use Rattle.msc_text.specs.Lines.{words_of, name_or_cause}
+use Rattle.msc_text.specs.Lines.{words_of, name_or_cause, is_word}
 use Rattle.msc_text.specs.declared.fault.Cause.{Cause}
 use Rattle.msc_text.specs.declared.fault.Cause.TheVariants.{Syntax}
 use Rattle.msc_text.specs.declared.fault.TextError.{TextError}
 use Rattle.msc_text.specs.Instances.{with_name}
-use Rattle.schedule.specs.FirstLines.{is_word, are_words, with_word, with_words, instances_of, instances_by, names_of}
+use Rattle.schedule.specs.FirstLines.{are_words, with_word, with_words, instances_of, instances_by, names_of}
 use Rattle.schedule.specs.Keywords.{is_written}
 use Rattle.schedule.specs.declared.keyword.ScheduleWord.TheVariants as keywords
 use Rattle.msc_text.proofs.Results.{in_line_ok, bind_at, fails_in_line}

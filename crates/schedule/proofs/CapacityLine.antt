@@ -20,7 +20,7 @@ use Rattle.msc_text.proofs.Results.{when_ok, ok_is}
 -- ---- decimal digits
 
 -- a number of two digits
-two_digits : (n : ℕ) → 10 ≤ n → n < 100 → decimal n ≡ (48 + n / 10) ∷ (48 + n % 10) ∷ []
+pub two_digits : (n : ℕ) → 10 ≤ n → n < 100 → decimal n ≡ (48 + n / 10) ∷ (48 + n % 10) ∷ []
 two_digits n low high =
     let tens : n / 10 < 10 = omega arith in
     decimal_step n low (omega arith) ∙ ap (λ l. l ++ (48 + n % 10) ∷ []) (decimal_digit (n / 10) tens)

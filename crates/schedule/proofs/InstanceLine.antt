@@ -13,10 +13,10 @@ use Rattle.chart.specs.NameSets.{AreNames}
 use Rattle.chart.specs.declared.instance.TheConstants.{MAX_INSTANCES}
 use Rattle.msc_text.proofs.Lookups.{same_bytes}
 use Rattle.msc_text.proofs.Results.{bind_ok, bind_at, guard_ok, name_is, name_again, name_some, when_ok, ok_is}
-use Rattle.msc_text.specs.Lines.{words_of, name_or_cause, Lacks}
+use Rattle.msc_text.specs.Lines.{words_of, name_or_cause, Lacks, is_word}
 use Rattle.msc_text.specs.declared.fault.Cause.TheVariants.{Instances, Syntax}
 use Rattle.msc_text.specs.Instances.{with_name}
-use Rattle.schedule.specs.FirstLines.{is_word, are_words, with_word, with_words, several, instances_of, instances_by, names_of}
+use Rattle.schedule.specs.FirstLines.{are_words, with_word, with_words, several, instances_of, instances_by, names_of}
 use Rattle.schedule.specs.Keywords.{written, is_written}
 use Rattle.schedule.specs.declared.keyword.ScheduleWord.TheVariants as keywords
 use Rattle.schedule.proofs.PlainWords.{plain_written}

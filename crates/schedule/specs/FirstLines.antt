@@ -1,20 +1,15 @@
 -- The first two lines of a schedule's text: the instances' names, and the capacity (this project's profile).
-use Rattle.std.specs.Prelude.{ℕ, ◌+◌, ◌-◌, ◌*◌, Bool, false, not, ◌&&◌, ◌||◌, ◌==◌, List, [], ◌∷◌, length, Result, Ok}
-use Rattle.std.specs.Prelude.{Err, nat_lt, nat_le, if◌then◌else◌}
+use Rattle.std.specs.Prelude.{ℕ, ◌+◌, ◌-◌, ◌*◌, Bool, false, not, ◌&&◌, ◌||◌, ◌==◌, List, [], ◌∷◌, length, Result, Ok, Err, nat_lt, nat_le, if◌then◌else◌}
 use Rattle.std.specs.Char.{is_ascii_digit}
 use Rattle.std.specs.List.{list_all}
-use Rattle.msc_text.specs.Faults.{◌>>=◌}
 use Rattle.msc_text.specs.Instances.{with_name}
-use Rattle.msc_text.specs.Lines.{words_of, name_or_cause}
+use Rattle.msc_text.specs.Faults.{◌>>=◌}
+use Rattle.msc_text.specs.Lines.{words_of, name_or_cause, is_word}
 use Rattle.msc_text.specs.declared.fault.Cause.{Cause}
 use Rattle.msc_text.specs.declared.fault.Cause.TheVariants.{Instances, Capacity, Syntax}
 use Rattle.schedule.specs.Keywords.{is_written}
 use Rattle.schedule.specs.declared.keyword.ScheduleWord.TheVariants as keywords
 use Rattle.chart.specs.declared.history.TheConstants.{MAX_CAPACITY}
-
--- a word has a byte at least
-abbrev pub is_word : List ℕ → Bool
-is_word word = not (length word == 0)
 
 -- there is a word, and each has a byte at least
 unfoldable pub are_words : List (List ℕ) → Bool

@@ -5,10 +5,9 @@ use Rattle.std.proofs.lemmas.Bool.{false≢true, eqb-true, eq-eqb}
 use Rattle.std.proofs.lemmas.Option.{none-some}
 use Rattle.chart.specs.Charts.{Chart, Place, IsSendTo}
 use Rattle.chart.specs.Places.{IsEvent}
-use Rattle.chart.specs.Events.{ith, is_receive_from, partner_of}
+use Rattle.chart.specs.Events.{ith, is_receive_from, partner_of, is_receive}
 use Rattle.chart.specs.declared.event.Event.{Event}
 use Rattle.chart.specs.declared.event.Event.TheVariants.{Send, Receive}
-use Rattle.schedule_luck.specs.Makers.{is_receive}
 use Rattle.schedule_luck.specs.Verdicts.{IsBehind}
 use Rattle.schedule_luck.proofs.TableLemmas.{some_is}
 

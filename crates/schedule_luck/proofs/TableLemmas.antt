@@ -5,11 +5,11 @@ use Rattle.std.proofs.lemmas.Bool.{false≢true}
 use Rattle.std.proofs.lemmas.List.Sums.{sum_by-cons}
 use Rattle.std.proofs.lemmas.Option.{none-some, slice_get-map, get_or_from_slice_get}
 use Rattle.chart.specs.Charts.{at, LineView, IsNumbered, chart_lines}
-use Rattle.chart.specs.Events.{ith, tally}
+use Rattle.chart.specs.Events.{ith, tally, is_receive}
 use Rattle.chart.specs.declared.event.Event.{Event}
 use Rattle.chart.specs.declared.event.Event.TheVariants.{Send, Receive}
 use Rattle.schedule.specs.declared.command.Command.{Command}
-use Rattle.schedule_luck.specs.Makers.{RunView, is_receive, IsReceive, names_sender, received, NamesSender}
+use Rattle.schedule_luck.specs.Makers.{RunView, IsReceive, names_sender, received, NamesSender}
 use Rattle.schedule_luck.specs.Tables.{kinds, first_kind, later_kinds, named, named_lines}
 
 pub some_is : {A : Type 0} (a b : A) → Some a ≡ Some b → a ≡ b

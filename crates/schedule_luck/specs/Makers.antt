@@ -2,9 +2,8 @@
 -- receive of a line is made by the n-th of its instance's commands that receive and left no note.
 use Rattle.std.specs.Prelude.{◌≡◌, ℕ, Bool, true, false, not, ◌&&◌, ◌==◌, List, filter, Option, Some}
 use Rattle.chart.specs.declared.event.Event.{Event}
-use Rattle.chart.specs.declared.event.Event.TheVariants as events
 use Rattle.chart.specs.Charts.{Place, LineView, chart_lines}
-use Rattle.chart.specs.Events.{ith, tally}
+use Rattle.chart.specs.Events.{ith, tally, is_receive}
 use Rattle.schedule.specs.declared.command.Action.{Action}
 use Rattle.schedule.specs.declared.command.Action.TheVariants.{Send, Receive, Any, Close, Open, Shut}
 use Rattle.schedule.specs.declared.command.Command.{Command}
@@ -42,11 +41,6 @@ has_received notes p command = (command.actor == p) && (receives command.action 
 -- p's commands that received messages, in their order
 abbrev pub received : List Command → List Note → ℕ → List Command
 received commands notes p = filter (has_received notes p) commands
-
--- the event is a receive
-abbrev pub is_receive : Event → Bool
-is_receive (events.Send to name) = false
-is_receive (events.Receive from name region) = true
 
 -- at e is a receive
 abbrev pub IsReceive : List Event → ℕ → Type 0

@@ -14,7 +14,7 @@ use Rattle.outcomes.specs.Outcomes.{OutcomeView}
 use Rattle.race_answers.specs.Judging.{ShowsJudged}
 use Rattle.race_answers.specs.declared.judging.LuckWanted.{LuckWanted}
 use Rattle.race_answers.specs.declared.showing.Wanted.{Wanted}
-use Rattle.race_answers.specs.declared.status.Status.{Status}
+use Rattle.files.specs.declared.status.Status.{Status}
 use Rattle.recordings.specs.declared.verdict.Verdict.{Verdict}
 use Rattle.schedule.specs.Plans.{Plan}
 use Rattle.schedule_luck.specs.Makers.{RunView}

@@ -9,10 +9,10 @@ ghost use Rattle.race_answers.specs.Statuses.{shown_said};
 ghost use Rattle.schedule_luck.specs.Showing.{run_of, verdict_in, luck_alone, ShowsRun, ShowsLuck};
 
 use crate::verdicts::Makers;
-use files::{ProgramError, Source, Text, answered, closure_of, is_schedule};
+use files::{ProgramError, Source, Status, Text, answered, closure_of, is_schedule};
 use msc_text::Out;
 use outcomes::Outcome;
-use race_answers::{LuckWanted, Status, Wanted, show_judged};
+use race_answers::{LuckWanted, Wanted, show_judged};
 use schedule::Schedule;
 use std::alloc::Global;
 use wanted_columns::{FormatError, columns_in};

@@ -2,10 +2,10 @@
 ghost use Rattle.std.specs.Prelude.{◌≡◌, ◌<◌, ◌≤◌, ◌↔◌, ℕ, true, Some, IfOk, IsTrue, AllPairs};
 ghost use Rattle.chart.specs.Charts.{at, chart_lines, IsReceiveFrom, IsNumbered};
 ghost use Rattle.chart.specs.declared.event.Event.{Event};
-ghost use Rattle.chart.specs.Events.{ith, is_receive_from};
+ghost use Rattle.chart.specs.Events.{ith, is_receive_from, is_receive};
 ghost use Rattle.chart.specs.Places.{IsEvent};
 ghost use Rattle.closure.specs.Faults.{place_of};
-ghost use Rattle.schedule_luck.specs.Makers.{is_receive, IsReceive, NamesSender};
+ghost use Rattle.schedule_luck.specs.Makers.{IsReceive, NamesSender};
 ghost use Rattle.schedule_luck.specs.Verdicts.{IsBehind, TakesAny, IsVerdict};
 
 use crate::makers::lines_named;
@@ -29,7 +29,7 @@ pub struct Makers<'a> {
 
 impl<'a> Model for Makers<'a> {
     ghost use Rattle.std.specs.Prelude.{◌≡◌, map};
-    ghost use Rattle.chart.specs.Charts.{IsNumbered};
+    ghost use Rattle.chart.specs.Charts.{IsNumbered, chart_lines};
     ghost use Rattle.schedule_luck.specs.Makers.{RunView};
     ghost use Rattle.schedule_luck.specs.Tables.{named_lines};
 
@@ -155,7 +155,6 @@ impl<'a> Makers<'a> {
 }
 
 impl Verdicts for Makers<'_> {
-    ghost use Rattle.chart.specs.Charts.{chart_lines};
     ghost use Rattle.chart.specs.Places.{IsEvent};
     ghost use Rattle.closure.specs.Faults.{place_of};
     ghost use Rattle.schedule_luck.specs.Verdicts.{IsVerdict};

@@ -7,7 +7,7 @@ use Rattle.run_outcomes.specs.OwnScripts.{AreScriptRuns}
 use Rattle.schedule.specs.Plans.{Plan}
 use Rattle.files.specs.declared.error.ProgramError.{ProgramError}
 use Rattle.files.specs.declared.error.ProgramError.TheVariants as errors
-use Rattle.tasks.specs.declared.status.Status.{Status}
+use Rattle.files.specs.declared.status.Status.{Status}
 use Rattle.tasks.specs.Showing.{Shows, RunsScripts}
 
 pub runs-shown : {S : Type 0} (sink : S → Sink) (plan : Plan) (run : Run) (turns : ℕ)

@@ -1,6 +1,5 @@
 pub use Rattle.msc_text.specs.Writing
 pub mod Tasks
 pub mod Turns
-pub mod Statuses
 pub mod Checking
 pub mod Showing

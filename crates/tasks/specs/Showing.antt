@@ -13,11 +13,12 @@ use Rattle.schedule.specs.Plans.{Plan}
 use Rattle.schedule.specs.Reading.{schedule_of}
 use Rattle.files.specs.declared.error.ProgramError.{ProgramError}
 use Rattle.files.specs.declared.error.ProgramError.TheVariants as errors
-use Rattle.tasks.specs.declared.status.Status.{Status}
+use Rattle.files.specs.declared.status.Status.{Status}
 use Rattle.files.specs.Answers.{Said, program_said, said_of}
+use Rattle.files.specs.Statuses.{status_said}
 use Rattle.tasks.specs.declared.showing.Unshown.{Unshown}
 use Rattle.tasks.specs.declared.showing.Unshown.TheVariants.{Program, Unfit}
-use Rattle.tasks.specs.Tasks.{status_of, status_said}
+use Rattle.tasks.specs.Tasks.{status_of}
 
 module _ {S : Type 0} (sink : S → Sink) where
   -- the text of what the run comes to was written; or a beginning of it, where a put failed; or nothing, where memory

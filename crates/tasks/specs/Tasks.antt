@@ -1,5 +1,5 @@
 -- What the program does with the bytes of a file.
-use Rattle.std.specs.Prelude.{◌≡◌, ℕ, List, length, None, Result, Ok, Err}
+use Rattle.std.specs.Prelude.{◌≡◌, ℕ, List, length, Result, Ok, Err}
 use Rattle.chart.specs.Charts.{chart_lines, IsPossible}
 use Rattle.chart.specs.Reports.{ReportView, AreReports, has_races}
 use Rattle.files.specs.Files.{Named, IsRefused}
@@ -13,13 +13,13 @@ use Rattle.schedule.specs.Reading.{schedule_of}
 use Rattle.interleaver.specs.Interleavings.{drawn_of}
 use Rattle.outcomes.specs.Outcomes.{OutcomeView, IsOutcome}
 use Rattle.outcomes.specs.OutcomeText.{outcome_text}
-use Rattle.tasks.specs.declared.status.Status.{Status}
-use Rattle.tasks.specs.Statuses.{status_in, code_of}
+use Rattle.files.specs.declared.status.Status.{Status}
 use Rattle.files.specs.declared.error.ProgramError.{ProgramError}
 use Rattle.files.specs.declared.error.ProgramError.TheVariants as errors
 use Rattle.tasks.specs.declared.task.Task.{Task}
 use Rattle.tasks.specs.declared.task.Task.TheVariants.{Replay, Random, Check}
 use Rattle.files.specs.Answers.{Said, program_said, said_of}
+use Rattle.files.specs.Statuses.{status_in, status_said}
 
 -- what a task comes to by these reports
 abbrev pub status_of : List ReportView → Status
@@ -60,10 +60,6 @@ module _ {S : Type 0} (sink : S → Sink) where
   Does old new Replay bytes done = Replays old new done (schedule_of bytes)
   Does old new (Random seed) bytes done = Replays old new done (drawn_by seed (schedule_of bytes))
   Does old new Check bytes done = Checks old new done (chart_of bytes)
-
--- what is said of a task that was done: nothing but its status
-abbrev pub status_said : Status → Said
-status_said status = record { status = code_of status; told = None }
 
 abbrev pub task_said : Result Status ProgramError → Said
 task_said = said_of status_said program_said

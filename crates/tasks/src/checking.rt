@@ -6,10 +6,9 @@ ghost use Rattle.msc_reader.specs.Reading.{chart_of};
 ghost use Rattle.tasks.specs.Checking.{HasAdded, HasWritten};
 ghost use Rattle.tasks.specs.Tasks.{Checks};
 
-use crate::status::Status;
 use chart::{EventRange, Names};
 use closure::Reporter;
-use files::{ProgramError, chart_in, closure_of};
+use files::{ProgramError, Status, chart_in, closure_of};
 use msc_text::{Out, RaceLines, TextBuffer, WriteError};
 use std::alloc::Global;
 

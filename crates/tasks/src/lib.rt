@@ -15,7 +15,6 @@
 mod checking;
 mod replaying;
 mod showing;
-mod status;
 mod task;
 mod turns;
 

@@ -6,8 +6,7 @@ ghost use Rattle.msc_text.specs.declared.fault.Fault.{Fault};
 ghost use Rattle.files.specs.Files.{Reads};
 ghost use Rattle.tasks.specs.Tasks.{drawn_by, Replays};
 
-use crate::status::Status;
-use files::{ProgramError, schedule_in};
+use files::{ProgramError, Status, schedule_in};
 use interleaver::{Memory, drawn};
 use msc_text::Out;
 use outcomes::ReplayError;

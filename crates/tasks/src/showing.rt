@@ -5,8 +5,7 @@ ghost use Rattle.files.specs.Answers.{Answers};
 ghost use Rattle.tasks.specs.Showing.{Shows, ShowsRun, DoesOnThreads, unshown_said, shown_said};
 ghost use Rattle.tasks.specs.Tasks.{task_said};
 
-use crate::status::Status;
-use files::{Answer, ProgramError, answered, schedule_in};
+use files::{Answer, ProgramError, Status, answered, schedule_in};
 use instances::{Run, RunError};
 use msc_text::Out;
 use run_outcomes::{RunOutcome, run_scripts};

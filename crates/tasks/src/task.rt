@@ -4,8 +4,7 @@ ghost use Rattle.tasks.specs.Tasks.{Does, task_said};
 
 use crate::checking::check;
 use crate::replaying::{replay_drawn, replay_text};
-use crate::status::Status;
-use files::{ProgramError, answered};
+use files::{ProgramError, Status, answered};
 use msc_text::Out;
 use std::alloc::Global;
 

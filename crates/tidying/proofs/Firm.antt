@@ -8,11 +8,11 @@ use Rattle.chart.specs.Keywords.{spelled}
 use Rattle.chart.specs.Names.{IsName, is_name_byte}
 use Rattle.chart.specs.declared.keyword.Keyword.{Keyword}
 use Rattle.chart.specs.declared.keyword.Keyword.TheVariants.{Msc, EndMsc, Instance, EndInstance, Out, To, In, From, Concurrent, EndConcurrent}
-use Rattle.msc_text.specs.Lines.{Lacks}
+use Rattle.msc_text.specs.Lines.{Lacks, is_word}
 use Rattle.msc_text.proofs.Lookups.{same_bytes}
 use Rattle.msc_text.proofs.Results.{name_bytes, name_some}
 use Rattle.text_bytes.specs.Classes.{is_blank}
-use Rattle.tidying.specs.Typing.{is_word, send_word, receive_word, written_out}
+use Rattle.tidying.specs.Typing.{send_word, receive_word, written_out}
 
 -- each byte is a digit, or comes behind the digits
 abbrev pub IsFirm : List ℕ → Type 0

@@ -1,9 +1,9 @@
 -- The text of a schedule is exact.
-use Rattle.std.proofs.Common.{◌≡◌, ℕ, ◌+◌, ◌/◌, ◌%◌, ◌≤◌, ◌<◌, List, [], ◌∷◌, ◌++◌, length, map, codes, All, refl, sym, ap, ◌∙◌, subst, arith, inl, inr}
+use Rattle.std.proofs.Common.{◌≡◌, ℕ, ◌+◌, ◌/◌, ◌%◌, ◌≤◌, List, [], ◌∷◌, length, map, codes, All, refl, sym, subst, arith, inl, inr}
 use Rattle.std.specs.Prelude.{decimal}
 use Rattle.std.specs.List.{AllByRecursion}
 use Rattle.std.proofs.lemmas.Bool.{cases_lt}
-use Rattle.std.proofs.lemmas.Fmt.{decimal_digit, decimal_step}
+use Rattle.std.proofs.lemmas.Fmt.{decimal_digit}
 use Rattle.std.proofs.lemmas.List.Elements.{recursion_from_All}
 use Rattle.chart.specs.Names.{IsName}
 use Rattle.chart.specs.declared.history.TheConstants.{MAX_CAPACITY}
@@ -17,6 +17,7 @@ use Rattle.schedule.specs.ScheduleText.{HasText, CanBeNamed, CanBeSpelled, actio
 use Rattle.schedule.specs.declared.command.Action.{Action}
 use Rattle.schedule.specs.declared.command.Action.TheVariants.{Send, Receive, Any, Close, Open, Shut}
 use Rattle.schedule.specs.declared.command.Command.{Command}
+use Rattle.schedule.proofs.CapacityLine.{two_digits}
 use Rattle.tidying.specs.Typing.{exact_text}
 use Rattle.tidying.proofs.Firm.{IsFirmWord, AreFirm, firm_literal, firm_name}
 use Rattle.tidying.proofs.ExactTexts.{IsExact, line_exact, each_exact}
@@ -31,11 +32,6 @@ firm_one k = (omega arith, (omega arith, tt))
 
 firm_two : (a b : ℕ) → IsFirmWord ((48 + a) ∷ (48 + b) ∷ [])
 firm_two a b = (omega arith, (omega arith, (omega arith, tt)))
-
-two_digits : (n : ℕ) → 10 ≤ n → n < 100 → decimal n ≡ (48 + n / 10) ∷ (48 + n % 10) ∷ []
-two_digits n low high =
-    let tens : n / 10 < 10 = omega arith in
-    decimal_step n low (omega arith) ∙ ap (λ l. l ++ (48 + n % 10) ∷ []) (decimal_digit (n / 10) tens)
 
 firm_slots : (k : ℕ) → 1 ≤ k → k ≤ MAX_CAPACITY → IsFirmWord (decimal k)
 firm_slots k first last = elim (cases_lt k 10) [

@@ -1,7 +1,7 @@
 -- Texts as people type them, and the exact text that each stands for (this project's profile).
 use Rattle.std.specs.Prelude.{ℕ, Bool, not, ◌+◌, ◌==◌, List, [], ◌∷◌, ◌++◌, length, Option, position, take, filter, unwrap_or, is_some, codes, bytes_eq, if◌then◌else◌}
 use Rattle.std.specs.List.{slice_split, flat_map}
-use Rattle.msc_text.specs.Lines.{lines_of, end_of, ended}
+use Rattle.msc_text.specs.Lines.{lines_of, end_of, ended, is_word}
 use Rattle.text_bytes.specs.Classes.{is_blank}
 
 -- where the comment of a line begins: at its first `#`
@@ -15,10 +15,6 @@ has_comment line = is_some (comment_place line)
 -- what stands before it, or all of the line
 abbrev pub uncommented : List ℕ → List ℕ
 uncommented line = take (unwrap_or (comment_place line) (length line)) line
-
--- a word has a byte at least
-abbrev pub is_word : List ℕ → Bool
-is_word word = not (length word == 0)
 
 -- the words that are typed in a line
 unfoldable pub typed_words : List ℕ → List (List ℕ)

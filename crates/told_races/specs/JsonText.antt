@@ -1,17 +1,16 @@
 -- The races of a receive as JSON (RFC 8259; which members an object has is this project's profile). A name has letters,
 -- digits and _ alone, so it stands between quotation marks as it is.
-use Rattle.std.specs.Prelude.{ℕ, Bool, ◌==◌, List, [], ◌∷◌, ◌++◌, Option, None, Some, codes, decimal}
-use Rattle.std.specs.Prelude.{if◌then◌else◌}
+use Rattle.std.specs.Prelude.{ℕ, Bool, ◌==◌, List, [], ◌∷◌, ◌++◌, Option, None, Some, codes, decimal, if◌then◌else◌}
 use Rattle.std.specs.List.{flat_map}
 use Rattle.chart.specs.declared.event.Event.{Event}
 use Rattle.chart.specs.declared.instance.EventNo.{EventNo}
 use Rattle.chart.specs.declared.ranges.EventRange.{EventRange}
 use Rattle.chart.specs.Events.{ith, partner_of}
 use Rattle.chart.specs.Ranges.{events_of}
-use Rattle.msc_text.specs.ChartText.{name_at}
+use Rattle.msc_text.specs.ChartText.{name_at, message_at}
 use Rattle.told_races.specs.declared.words.Word.TheVariants.{Instance, Receive, Message, Sender, Ranges, Quote, Next, EndRange, EndObject}
 use Rattle.told_races.specs.PlainText.{last_of}
-use Rattle.told_races.specs.Words.{word_text, message_at}
+use Rattle.told_races.specs.Words.{word_text}
 
 -- the name of the instance at the other end of its message, where there is an event
 abbrev pub partner_at : List (List ℕ) → Option Event → List ℕ

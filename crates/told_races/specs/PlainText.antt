@@ -5,10 +5,10 @@ use Rattle.chart.specs.declared.event.Event.{Event}
 use Rattle.chart.specs.declared.instance.EventNo.{EventNo}
 use Rattle.chart.specs.declared.ranges.EventRange.{EventRange}
 use Rattle.chart.specs.Events.{ith}
-use Rattle.msc_text.specs.ChartText.{name_at}
+use Rattle.msc_text.specs.ChartText.{name_at, message_at}
 use Rattle.told_races.specs.declared.words.Word.{Word}
 use Rattle.told_races.specs.declared.words.Word.TheVariants.{Colon, MayCome, Comma, Dots, Close, End}
-use Rattle.told_races.specs.Words.{word_text, text_at, message_at}
+use Rattle.told_races.specs.Words.{word_text, text_at}
 
 -- the number of a range's last event
 abbrev pub last_of : EventRange → ℕ

@@ -4,7 +4,6 @@ use Rattle.chart.specs.declared.event.Event.{Event}
 use Rattle.chart.specs.declared.event.Event.TheVariants.{Send, Receive}
 use Rattle.chart.specs.declared.keyword.Keyword.{Keyword}
 use Rattle.chart.specs.declared.keyword.Keyword.TheVariants as keywords
-use Rattle.chart.specs.Events.{name_of}
 use Rattle.chart.specs.Keywords.{spelled}
 use Rattle.msc_text.specs.ChartText.{name_at}
 use Rattle.told_races.specs.declared.words.Word.{Word}
@@ -43,8 +42,3 @@ event_text names index (Receive from name region) =
 abbrev pub text_at : List (List ℕ) → ℕ → Option Event → List ℕ
 text_at names index None = []
 text_at names index (Some m) = event_text names index m
-
--- the name of its message, where there is an event
-abbrev pub message_at : Option Event → List ℕ
-message_at None = []
-message_at (Some m) = name_of m

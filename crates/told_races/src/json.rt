@@ -4,10 +4,11 @@ ghost use Rattle.std.specs.List.{flat_map};
 ghost use Rattle.chart.specs.Events.{ith};
 ghost use Rattle.chart.specs.Ranges.{IsRange, events_of};
 ghost use Rattle.msc_text.specs.Writing.{Adds};
+ghost use Rattle.msc_text.specs.ChartText.{message_at};
 ghost use Rattle.told_races.specs.JsonText.{partner_at, number_text, message_and_sender, range_front, comma_before};
 ghost use Rattle.told_races.specs.JsonText.{message_text, range_text, next_text, object_text};
 ghost use Rattle.told_races.specs.Telling.{has_ranges};
-ghost use Rattle.told_races.specs.Words.{word_text, message_at};
+ghost use Rattle.told_races.specs.Words.{word_text};
 
 use crate::kept::{KeptRanges, event_at};
 use crate::plain::last_of;

@@ -1,8 +1,8 @@
 //! What the lines of races are put together from.
 ghost use Rattle.std.specs.Prelude.{◌≡◌};
-ghost use Rattle.msc_text.specs.ChartText.{name_at};
+ghost use Rattle.msc_text.specs.ChartText.{name_at, message_at};
 ghost use Rattle.msc_text.specs.Writing.{Adds};
-ghost use Rattle.told_races.specs.Words.{word_text, half_text, event_text, text_at, message_at};
+ghost use Rattle.told_races.specs.Words.{word_text, half_text, event_text, text_at};
 
 use chart::{Event, InstanceNo, Keyword, Name, Names};
 use itoa::Buffer;

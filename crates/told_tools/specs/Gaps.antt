@@ -1,12 +1,8 @@
 -- Blanks and the comments of all tools (the documentation of mscgen 0.20, PlantUML and Mermaid on comments).
-use Rattle.std.specs.Prelude.{ℕ, zero, suc, ◌+◌, ◌==◌, ◌||◌, Bool, List, [], ◌∷◌, codes, length, drop, nat_eq}
-use Rattle.std.specs.Prelude.{if◌then◌else◌}
-use Rattle.std.specs.List.{starts_with}
+use Rattle.std.specs.Prelude.{ℕ, zero, suc, ◌+◌, ◌==◌, ◌||◌, Bool, List, [], ◌∷◌, codes, length, drop, if◌then◌else◌}
 use Rattle.text_bytes.specs.Classes.{is_white_space}
 use Rattle.text_bytes.specs.Lines.{line_length}
-
-abbrev pub begins : List ℕ → List ℕ → Bool
-begins bytes known = starts_with nat_eq bytes known
+use Rattle.text_bytes.specs.Words.{begins}
 
 -- how many bytes stand up to the first of these and with it; all of them, where these don't stand there
 abbrev pub length_to : List ℕ → List ℕ → ℕ

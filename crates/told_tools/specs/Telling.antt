@@ -1,13 +1,12 @@
 -- The tool of a diagram, as its text tells it (the documentation of mscgen 0.20, PlantUML and Mermaid on a text's first
 -- word).
-use Rattle.std.specs.Prelude.{ℕ, ◌||◌, ◌&&◌, ◌==◌, Bool, true, not, List, [], ◌∷◌, codes, length, take, drop, nat_le}
-use Rattle.std.specs.Prelude.{Option, None, Some, Result, Ok, Err, if◌then◌else◌}
+use Rattle.std.specs.Prelude.{ℕ, ◌||◌, ◌&&◌, ◌==◌, Bool, true, not, List, [], ◌∷◌, codes, length, take, drop, nat_le, Option, None, Some, Result, Ok, Err, if◌then◌else◌}
 use Rattle.tool_text.specs.declared.Tool.{Tool}
 use Rattle.tool_text.specs.declared.Tool.TheVariants.{Mscgen, PlantUml, Mermaid}
 use Rattle.text_bytes.specs.Classes.{is_white_space, is_word_byte}
 use Rattle.text_bytes.specs.Places.{start, behind}
-use Rattle.text_bytes.specs.Words.{is_spelled}
-use Rattle.told_tools.specs.Gaps.{begins, gaps_length}
+use Rattle.text_bytes.specs.Words.{is_spelled, begins}
+use Rattle.told_tools.specs.Gaps.{gaps_length}
 use Rattle.told_tools.specs.declared.telling.Untold.{Untold}
 use Rattle.told_tools.specs.declared.telling.Untold.TheVariants.{NotRead, Unfinished}
 

@@ -2,18 +2,13 @@
 use Rattle.std.specs.Prelude.{Bool, true, false, Option, None, Some, ℕ, ◌<◌, ◌≤◌, List, All}
 use Rattle.chart.specs.declared.event.Event.{Event}
 use Rattle.chart.specs.declared.event.Event.TheVariants.{Send, Receive}
-use Rattle.chart.specs.declared.instance.EventNo.{EventNo}
-use Rattle.chart.specs.Charts.{Chart, Place, at}
+use Rattle.chart.specs.Charts.{Chart, Place}
 use Rattle.real_races.specs.OtherRuns.{IsRunWithin, IsOvertaken, IsPossibleWithin, CanBeOvertaken, CanBeOvertakenWithin}
 use Rattle.run_steps.specs.declared.step.Step.{Step}
 use Rattle.witness.specs.Orders.{IsInOrder}
 use Rattle.run_steps.specs.Steps.{history_of, IsOutside}
 use Rattle.turned_runs.specs.declared.turning.Turned.{Turned}
 use Rattle.turned_runs.specs.declared.turning.Turned.TheVariants.{Run, Enforced}
-
--- the place that an event's number names
-abbrev pub place_of : EventNo → Place
-place_of e = at e.instance e.index
 
 -- there is an event, and it is a receive
 abbrev pub receives : Option Event → Bool

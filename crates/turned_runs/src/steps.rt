@@ -5,7 +5,8 @@ ghost use Rattle.chart.specs.Histories.{chart_of, IsLegal};
 ghost use Rattle.chart.specs.Places.{IsEvent};
 ghost use Rattle.run_steps.specs.declared.step.Step.{Step};
 ghost use Rattle.run_steps.specs.Steps.{history_of, place_after};
-ghost use Rattle.turned_runs.specs.Turns.{place_of, receives};
+ghost use Rattle.turned_runs.specs.Turns.{receives};
+ghost use Rattle.closure.specs.Faults.{place_of};
 
 use chart::{Chart, Event, EventNo};
 use run_steps::Step;

@@ -5,12 +5,13 @@ ghost use Rattle.chart.specs.Charts.{chart_lines, IsReceiveFrom, IsPossible};
 ghost use Rattle.chart.specs.HistoryLines.{history_lines};
 ghost use Rattle.chart.specs.Histories.{chart_of, IsLegal};
 ghost use Rattle.chart.specs.Places.{IsEvent};
+ghost use Rattle.closure.specs.Faults.{place_of};
 ghost use Rattle.schedule.specs.Meaning.{meaning};
 ghost use Rattle.run_steps.specs.declared.step.Step.{Step};
 ghost use Rattle.run_steps.specs.Steps.{history_of, place_after, IsReceive};
 ghost use Rattle.replayer.specs.Recorded.{IsRecorded};
 ghost use Rattle.turned_runs.specs.Runs.{IsLeastRun};
-ghost use Rattle.turned_runs.specs.Turns.{place_of, IsTurned, IsKept};
+ghost use Rattle.turned_runs.specs.Turns.{IsTurned, IsKept};
 
 use crate::running::least_run;
 use crate::steps::step_of;

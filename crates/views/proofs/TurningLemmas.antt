@@ -19,17 +19,17 @@ use Rattle.turned_runs.specs.declared.turning.Turned.TheVariants as turns
 use Rattle.witness.specs.Orders.{IsInOrder}
 use Rattle.turned_runs.specs.declared.showing.Shown.{Shown}
 use Rattle.turned_runs.specs.declared.showing.Shown.TheVariants as founds
+use Rattle.turned_runs.specs.Turns.{receives}
 use Rattle.named_refusals.specs.NamedRefusals.{missing_on}
 use Rattle.asked_pairs.specs.declared.error.ViewError.{ViewError}
 use Rattle.asked_pairs.specs.declared.error.ViewError.TheVariants.{Program, NoSuchEvent, NotEarlier, NotAReceive, ManySlots}
+use Rattle.named_refusals.specs.Asked.{instance_said, has_event}
 use Rattle.views.specs.declared.finding.Found.{Found}
 use Rattle.asked_pairs.specs.declared.pair.Asked.{Asked}
 use Rattle.asked_pairs.specs.declared.pair.Pair.{Pair}
 use Rattle.views.specs.declared.verdict.Witnessed.{Witnessed}
-use Rattle.asked_pairs.specs.Pairs.{IsPair}
+use Rattle.asked_pairs.specs.Pairs.{IsPair, pair_on, pair_at, pair_of}
 use Rattle.views.specs.Finding.{origin_of, HasShown, IsFoundOf, IsFound, IsJudged}
-use Rattle.asked_pairs.specs.Pairs.{has_event, receives, pair_on, pair_at, pair_of}
-use Rattle.named_refusals.specs.Naming.{instance_said}
 use Rattle.views.specs.Turning.{Origin, first_of, IsKeptFrom, IsOrdered, IsAskedFor}
 use Rattle.views.specs.Witnessing.{WritesShown, Finds, FindsIn}
 

@@ -4,13 +4,11 @@ use Rattle.files.specs.Answers.{Said, said_of}
 use Rattle.files.specs.Refusals as refusals
 use Rattle.asked_pairs.specs.declared.error.ViewError.{ViewError}
 use Rattle.asked_pairs.specs.Answers.{error_said}
+use Rattle.asked_pairs.specs.SayingText.{hidden_text}
 use Rattle.views.specs.declared.verdict.Verdict.{Verdict}
 use Rattle.views.specs.declared.verdict.Verdict.TheVariants.{Enforced, Race, Hidden}
 use Rattle.views.specs.declared.verdict.Witnessed.{Witnessed}
 use Rattle.views.specs.Verdicts.{code_of}
-
-unfoldable pub hidden_text : List ℕ
-hidden_text = codes "a coregion hides this pair\n"
 
 -- what is told beside what explains a pair
 abbrev pub told_of : Verdict → Option (List ℕ)

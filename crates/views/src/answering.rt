@@ -1,20 +1,13 @@
 //! What is told on standard error: refusals, and what is told beside an answer.
 ghost use Rattle.std.specs.Prelude.{◌≡◌, ◌++◌};
 ghost use Rattle.msc_text.specs.Writing.{Wrote, Adds};
-ghost use Rattle.views.specs.Answers.{hidden_text, enforced_text, closes_text, verdict_said, witnessed_said};
+ghost use Rattle.views.specs.Answers.{enforced_text, closes_text, verdict_said, witnessed_said, told_of_hidden};
 ghost use Rattle.files.specs.Answers.{Tells};
-ghost use Rattle.views.specs.Answers.{told_of_hidden};
 
 use crate::verdict::{Verdict, Witnessed};
+use asked_pairs::hidden_text;
 use files::{Answer, tell};
 use msc_text::{Out, TextBuffer, WriteError};
-
-#[tactic(auto, unfolding(crate::specs::Answers::hidden_text))]
-fn hidden_text() -> &'static [u8]
-    ensures { result.now ≡ hidden_text }
-{
-    b"a coregion hides this pair\n"
-}
 
 #[tactic(auto, unfolding(crate::specs::Answers::closes_text))]
 fn closes_text() -> &'static [u8]

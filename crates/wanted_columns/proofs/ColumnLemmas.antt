@@ -14,7 +14,7 @@ use Rattle.files.specs.declared.error.ProgramError.TheVariants.{Usage, File, Mem
 use Rattle.wanted_columns.specs.declared.error.FormatError.{FormatError}
 use Rattle.wanted_columns.specs.declared.error.FormatError.TheVariants.{Program, NoSuchName}
 use Rattle.wanted_columns.specs.Columns.{AreNamed, IsNext, IsNone, RefusesNext, RefusesNamed}
-use Rattle.named_refusals.specs.Naming.{named_so, instance_said}
+use Rattle.named_refusals.specs.Asked.{named_so, instance_said}
 
 -- the first of the words name these columns, and the rest are still to be read
 pub record AreSoFar (names all rest : List (List ℕ)) (columns : List ℕ) : Type 0 where

@@ -1,16 +1,21 @@
 -- Which instances have a column, by their names (this project's profile).
-use Rattle.std.specs.Prelude.{◌≡◌, ℕ, true, false, List, [], ◌∷◌, ◌++◌, length, map, nat_eq, Option, None}
-use Rattle.std.specs.Prelude.{Some}
+use Rattle.std.specs.Prelude.{◌≡◌, ℕ, true, false, List, [], ◌∷◌, ◌++◌, length, map, nat_eq, Option, None, Some, option_map}
+use Rattle.std.specs.Borrow.{Bor}
 use Rattle.std.specs.List.{list_any, IsDistinct, range_with_len}
 use Rattle.msc_text.specs.Lines.{parts}
 use Rattle.files.specs.declared.error.ProgramError.TheVariants as errors
 use Rattle.wanted_columns.specs.declared.error.FormatError.{FormatError}
 use Rattle.wanted_columns.specs.declared.error.FormatError.TheVariants.{Program, NoSuchName}
+use Rattle.named_refusals.specs.Asked.{instance_said}
 
 -- these are the instances that the words name, in this order, and none is named twice
 pub record AreNamed (names words : List (List ℕ)) (columns : List ℕ) : Type 0 where
   pub each : map (instance_said names) words ≡ map Some columns
   pub once : IsDistinct nat_eq columns
+
+-- the bytes that name the columns, if there are some
+abbrev pub only_of : Option (Bor (List ℕ)) → Option (List ℕ)
+only_of only = option_map (λ bytes. bytes.now) only
 
 -- the columns that the bytes name, joined by commas (byte 44); without bytes all instances have one, by number
 abbrev pub AreColumns : List (List ℕ) → Option (List ℕ) → List ℕ → Type 0

@@ -4,9 +4,8 @@ ghost use Rattle.std.specs.Prelude.{MatchOption, IfSome, IfOk, IfErr, OnOk, opti
 ghost use Rattle.std.specs.List.{list_any, range_with_len};
 ghost use Rattle.chart.specs.declared.instance.TheConstants.{MAX_INSTANCES};
 ghost use Rattle.msc_text.specs.Lines.{parts};
-ghost use Rattle.wanted_columns.specs.Columns.{IsNext, RefusesNext, AreNamed, RefusesNamed, AreColumns};
-ghost use Rattle.named_refusals.specs.Naming.{instance_said};
-ghost use Rattle.wanted_columns.specs.Columns.{RefusesColumns};
+ghost use Rattle.wanted_columns.specs.Columns.{IsNext, RefusesNext, AreNamed, RefusesNamed, AreColumns, RefusesColumns};
+ghost use Rattle.named_refusals.specs.Asked.{instance_said};
 
 use crate::error::FormatError;
 use chart::{InstanceNo, MAX_INSTANCES, Names};

@@ -11,7 +11,7 @@ use Rattle.files.specs.declared.error.ProgramError.TheVariants.{Usage, File, Mem
 use Rattle.files.specs.declared.source.Source.{Source}
 use Rattle.files.specs.Files.{Named}
 use Rattle.files.specs.Texts.{named_of}
-use Rattle.wanted_columns.specs.Columns.{AreColumns, RefusesColumns}
+use Rattle.wanted_columns.specs.Columns.{AreColumns, RefusesColumns, only_of}
 use Rattle.wanted_columns.specs.declared.error.FormatError.{FormatError}
 use Rattle.wanted_columns.specs.declared.error.FormatError.TheVariants as columns
 use Rattle.formats.specs.Preparing.{reports_in}
@@ -40,12 +40,12 @@ use Rattle.witness_pictures.specs.declared.drawing.Wanted.{Wanted}
 use Rattle.witness_pictures.specs.declared.error.Undrawn.TheVariants as undrawn
 use Rattle.witness_pictures.specs.declared.stage.Stage.{Stage}
 use Rattle.witness_pictures.specs.Beside.{beside_text}
-use Rattle.witness_pictures.specs.Drawing.{only_of, other_title, IsPictured, AreDrawn, IsSubject, AreStaged, WritesOne, DrawsSo, DrawsShown, DrawsWitness}
+use Rattle.witness_pictures.specs.Drawing.{other_title, IsPictured, AreDrawn, IsSubject, AreStaged, WritesOne, DrawsSo, DrawsShown, DrawsWitness}
 use Rattle.witness_pictures.specs.Stages.{IsWhole, IsStageOf, drawn_of, part_of}
 
 -- the picture of a whole chart is the one that is wanted of it
-pictured : (title : List ℕ) (wanted : Wanted) (source : Source) (columns : List ℕ) (w : whole.Wanted) (stage : Stage) (picture : PictureView) → IsWhole title (only_of wanted) wanted.numbers w
-    → AreColumns (named_of source).0 (only_of wanted) columns → IsPossible (length (named_of source).1) (chart_lines (named_of source).1) → IsStageOf source stage
+pictured : (title : List ℕ) (wanted : Wanted) (source : Source) (columns : List ℕ) (w : whole.Wanted) (stage : Stage) (picture : PictureView) → IsWhole title (only_of wanted.only) wanted.numbers w
+    → AreColumns (named_of source).0 (only_of wanted.only) columns → IsPossible (length (named_of source).1) (chart_lines (named_of source).1) → IsStageOf source stage
     → IsPictureOf (drawn_of w.title.now stage) (part_of columns w.numbers) picture
     → IsPictured title wanted source picture
 pictured title wanted source columns w stage picture is are possible staged drawn = record {
@@ -75,7 +75,7 @@ drawn_from subject other here there text is possible names left right staged = r
   there = staged.there;
   left = pictured subject.wanted.now.title.now subject.wanted.now subject.source.now subject.columns.now staged.wanted_here here staged.here staged.whole_here is.columns is.possible left staged.left;
   right = pictured other_title subject.wanted.now other subject.columns.now staged.wanted_there there staged.there staged.whole_there
-      (subst (λ ns. AreColumns ns (only_of subject.wanted.now) subject.columns.now) (sym names) is.columns) possible right staged.right;
+      (subst (λ ns. AreColumns ns (only_of subject.wanted.now.only) subject.columns.now) (sym names) is.columns) possible right staged.right;
   is = rw (left.lines, right.lines) at staged.is;
 }
 
@@ -116,7 +116,7 @@ pub witness_names : (named : Named) (origin : Origin) (pair : Pair) (plan : Plan
 witness_names (names, lines) origin pair plan o is it = it.names ∙ is.0
 
 -- what is refused of the two events writes nothing
-pub not_found : {S : Type 0} (sink : S → Sink) (old : S) (asked : Asked) (wanted : Wanted) (source : Source) (columns : List ℕ) (error : ViewError) → AreColumns (named_of source).0 (only_of wanted) columns
+pub not_found : {S : Type 0} (sink : S → Sink) (old : S) (asked : Asked) (wanted : Wanted) (source : Source) (columns : List ℕ) (error : ViewError) → AreColumns (named_of source).0 (only_of wanted.only) columns
     → IsFound (named_of source) (origin_of source) asked (Err error) → DrawsWitness sink old old asked wanted source (Err (undrawn.Pair error))
 not_found sink old asked wanted source columns (pairs.Program Memory) are is = refl
 not_found sink old asked wanted source columns (pairs.Program Write) are is = absurd is
@@ -132,7 +132,7 @@ not_found sink old asked wanted source columns (pairs.NotAReceive receive) are i
 not_found sink old asked wanted source columns (pairs.ManySlots k) are is = absurd (no_slots (named_of source).0 (named_of source).1 asked k is.0)
 
 -- there are no such columns
-pub no_columns : {S : Type 0} (sink : S → Sink) (old : S) (asked : Asked) (wanted : Wanted) (source : Source) (error : FormatError) → RefusesColumns (named_of source).0 (only_of wanted) error → DrawsWitness sink old old asked wanted source (Err (undrawn.Columns error))
+pub no_columns : {S : Type 0} (sink : S → Sink) (old : S) (asked : Asked) (wanted : Wanted) (source : Source) (error : FormatError) → RefusesColumns (named_of source).0 (only_of wanted.only) error → DrawsWitness sink old old asked wanted source (Err (undrawn.Columns error))
 no_columns sink old asked wanted source columns.NoSuchName none = (none, refl)
 no_columns sink old asked wanted source (columns.Program Memory) why = refl
 no_columns sink old asked wanted source (columns.Program Usage) why = absurd why
@@ -144,7 +144,7 @@ no_columns sink old asked wanted source (columns.Program Cyclic) why = absurd wh
 no_columns sink old asked wanted source (columns.Program Write) why = absurd why
 
 -- where a witness isn't drawn whole, memory ran out or a put failed
-pub not_drawn : {S : Type 0} (sink : S → Sink) (old new : S) (asked : Asked) (wanted : Wanted) (source : Source) (columns : List ℕ) (found : Found) (witnessed : Witnessed) (error : ProgramError) → AreColumns (named_of source).0 (only_of wanted) columns
+pub not_drawn : {S : Type 0} (sink : S → Sink) (old new : S) (asked : Asked) (wanted : Wanted) (source : Source) (columns : List ℕ) (found : Found) (witnessed : Witnessed) (error : ProgramError) → AreColumns (named_of source).0 (only_of wanted.only) columns
     → IsFound (named_of source) (origin_of source) asked (Ok found) → Judges source found (Ok witnessed) → DrawsShown sink old new asked wanted source found (Err error) → DrawsWitness sink old new asked wanted source (Err (undrawn.Pair (pairs.Program error)))
 not_drawn sink old new asked wanted source columns found witnessed error are is judges draws = by_shown error found.shown refl draws
   where
@@ -168,7 +168,7 @@ not_drawn sink old new asked wanted source columns found witnessed error are is 
     by_shown error (founds.TooManySlots k) same drawn = let none = subst (λ (s : Shown). DrawsSo sink old new asked wanted source found.pair s (Err error)) (sym same) drawn in let differs = none.0 in cc
 
 -- of each witness that needs too many slots nothing is drawn
-pub too_many : {S : Type 0} (sink : S → Sink) (old : S) (asked : Asked) (wanted : Wanted) (source : Source) (columns : List ℕ) (found : Found) (error : ViewError) → AreColumns (named_of source).0 (only_of wanted) columns
+pub too_many : {S : Type 0} (sink : S → Sink) (old : S) (asked : Asked) (wanted : Wanted) (source : Source) (columns : List ℕ) (found : Found) (error : ViewError) → AreColumns (named_of source).0 (only_of wanted.only) columns
     → IsFound (named_of source) (origin_of source) asked (Ok found) → Judges source found (Err error) → DrawsWitness sink old old asked wanted source (Err (undrawn.Pair error))
 too_many sink old asked wanted source columns found error are is judges = by_shown found.shown refl
   where

@@ -1,12 +1,12 @@
 -- What is drawn of a chart and of its witness.
-use Rattle.std.specs.Prelude.{◌≡◌, ℕ, List, [], length, Option, option_map, codes, Result, Ok, Err}
+use Rattle.std.specs.Prelude.{◌≡◌, ℕ, List, [], length, codes, Result, Ok, Err}
 use Rattle.chart.specs.Charts.{chart_lines, IsPossible}
 use Rattle.files.specs.declared.error.ProgramError.{ProgramError}
 use Rattle.files.specs.declared.error.ProgramError.TheVariants as errors
 use Rattle.files.specs.declared.source.Source.{Source}
 use Rattle.files.specs.declared.text.Text.TheVariants.{Schedule}
 use Rattle.files.specs.Texts.{OfFile, named_of, ComesFrom, IsSourceOf}
-use Rattle.wanted_columns.specs.Columns.{AreColumns}
+use Rattle.wanted_columns.specs.Columns.{AreColumns, only_of}
 use Rattle.formats.specs.Drawing.{IsWanted}
 use Rattle.formats.specs.Preparing.{turns_in}
 use Rattle.formats.specs.declared.drawing.Wanted as whole
@@ -37,14 +37,10 @@ use Rattle.witness_pictures.specs.Stages.{IsWhole, drawn_of, part_of}
 unfoldable pub other_title : List ℕ
 other_title = codes "another run, with the two events the other way round"
 
--- the bytes that name the columns, if there are some
-abbrev pub only_of : Wanted → Option (List ℕ)
-only_of wanted = option_map (λ bytes. bytes.now) wanted.only
-
 -- the picture of the source's whole chart with this title, as `mscview draw` draws it
 pub record IsPictured (title : List ℕ) (wanted : Wanted) (source : Source) (picture : PictureView) : Type 0 where
   pub all : whole.Wanted
-  pub is_whole : IsWhole title (only_of wanted) wanted.numbers all
+  pub is_whole : IsWhole title (only_of wanted.only) wanted.numbers all
   pub drawn : IsWanted all (turns_in source) [] (named_of source) picture
 
 -- the text of two pictures side by side: of the source's chart with the pair marked, and of the other one's with the
@@ -64,7 +60,7 @@ pub record AreDrawn (asked : Asked) (wanted : Wanted) (source : Source) (pair : 
 pub record IsSubject (subject : Subject) : Type 0 where
   pub comes : ComesFrom subject.source.now
   pub possible : IsPossible (length (named_of subject.source.now).1) (chart_lines (named_of subject.source.now).1)
-  pub columns : AreColumns (named_of subject.source.now).0 (only_of subject.wanted.now) subject.columns.now
+  pub columns : AreColumns (named_of subject.source.now).0 (only_of subject.wanted.now.only) subject.columns.now
 
 -- the same text, by what the pictures are drawn from
 pub record AreStaged (subject : Subject) (one other : Stage) (text : List ℕ) : Type 0 where
@@ -72,8 +68,8 @@ pub record AreStaged (subject : Subject) (one other : Stage) (text : List ℕ) :
   pub wanted_there : whole.Wanted
   pub here : PictureView
   pub there : PictureView
-  pub whole_here : IsWhole subject.wanted.now.title.now (only_of subject.wanted.now) subject.wanted.now.numbers wanted_here
-  pub whole_there : IsWhole other_title (only_of subject.wanted.now) subject.wanted.now.numbers wanted_there
+  pub whole_here : IsWhole subject.wanted.now.title.now (only_of subject.wanted.now.only) subject.wanted.now.numbers wanted_here
+  pub whole_there : IsWhole other_title (only_of subject.wanted.now.only) subject.wanted.now.numbers wanted_there
   pub left : IsPictureOf (drawn_of wanted_here.title.now one) (part_of subject.columns.now wanted_here.numbers) here
   pub right : IsPictureOf (drawn_of wanted_there.title.now other) (part_of subject.columns.now wanted_there.numbers) there
   pub is : text ≡ beside_text subject.wanted.now.title.now subject.asked.now.instance.now subject.pair here there (record {
@@ -104,7 +100,7 @@ module _ {S : Type 0} (sink : S → Sink) where
       (judged : Result Witnessed ViewError) (done : Result (Unit {0}) ProgramError) : Type 0 where
     pub columns : List ℕ
     pub found : Found
-    pub are : AreColumns (named_of source).0 (only_of wanted) columns
+    pub are : AreColumns (named_of source).0 (only_of wanted.only) columns
     pub is_found : IsFound (named_of source) (origin_of source) asked (Ok found)
     pub judges : Judges source found judged
     pub draws : DrawsShown old new asked wanted source found done
@@ -116,7 +112,7 @@ module _ {S : Type 0} (sink : S → Sink) where
   DrawsWitness old new asked wanted source (Ok witnessed) =
       DrawsFound old new asked wanted source (Ok witnessed) (Ok tt)
   DrawsWitness old new asked wanted source (Err (Columns names.NoSuchName)) =
-      ((columns : List ℕ) → AreColumns (named_of source).0 (only_of wanted) columns → ⊥) × (new ≡ old)
+      ((columns : List ℕ) → AreColumns (named_of source).0 (only_of wanted.only) columns → ⊥) × (new ≡ old)
   DrawsWitness old new asked wanted source (Err (Columns (names.Program errors.Memory))) = new ≡ old
   DrawsWitness old new asked wanted source (Err (Columns error)) = ⊥
   DrawsWitness old new asked wanted source (Err (Pair (Program errors.Memory))) = new ≡ old
@@ -125,7 +121,7 @@ module _ {S : Type 0} (sink : S → Sink) where
   DrawsWitness old new asked wanted source (Err (Pair (ManySlots k))) =
       DrawsFound old new asked wanted source (Err (ManySlots k)) (Ok tt)
   DrawsWitness old new asked wanted source (Err (Pair error)) = (columns : List ℕ)
-      × AreColumns (named_of source).0 (only_of wanted) columns
+      × AreColumns (named_of source).0 (only_of wanted.only) columns
       × IsFound (named_of source) (origin_of source) asked (Err error) × (new ≡ old)
 
   -- the same for the chart that the bytes say; or nothing was written, where the bytes have a fault

@@ -3,11 +3,11 @@ use Rattle.std.specs.Prelude.{◌≡◌, ℕ, Bool, List, [], Option}
 use Rattle.chart.specs.Reports.{AreReports}
 use Rattle.files.specs.declared.source.Source.{Source}
 use Rattle.files.specs.Texts.{named_of}
-use Rattle.formats.specs.Drawing.{only_of}
 use Rattle.formats.specs.Preparing.{reports_in, turns_in, IsPrepared}
 use Rattle.formats.specs.declared.drawing.Wanted.{Wanted}
 use Rattle.formats.specs.declared.events.Events.{Events}
 use Rattle.formats.specs.declared.windows.Rows.TheVariants.{Between}
+use Rattle.wanted_columns.specs.Columns.{only_of}
 use Rattle.pictures.specs.Preparing.{SourceView, PartView}
 use Rattle.witness_pictures.specs.declared.stage.Stage.{Stage}
 
@@ -18,7 +18,7 @@ all = record { first = 1; last = 4294967295 }
 -- all of a chart is wanted, with this title, these columns, and numbers or none
 pub record IsWhole (title : List ℕ) (only : Option (List ℕ)) (numbers : Bool) (wanted : Wanted) : Type 0 where
   pub title_is : wanted.title.now ≡ title
-  pub only_is : only_of wanted ≡ only
+  pub only_is : only_of wanted.only ≡ only
   pub events_are : wanted.events ≡ all
   pub rows_are : wanted.rows ≡ Between all
   pub numbers_are : wanted.numbers ≡ numbers

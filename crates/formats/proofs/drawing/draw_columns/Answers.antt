@@ -11,15 +11,15 @@ use Rattle.pictures.specs.Pictures.{PictureView}
 use Rattle.pictures.specs.Preparing.{IsPictureOf}
 use Rattle.formats.specs.declared.drawing.Wanted.{Wanted}
 use Rattle.formats.specs.declared.windows.Window.{Window}
-use Rattle.wanted_columns.specs.Columns.{AreColumns}
-use Rattle.formats.specs.Drawing.{only_of, IsWanted}
+use Rattle.wanted_columns.specs.Columns.{AreColumns, only_of}
+use Rattle.formats.specs.Drawing.{IsWanted}
 use Rattle.formats.specs.Preparing.{IsPrepared}
 use Rattle.formats.specs.Windows.{IsWindow, HasNoWindow}
 use Rattle.formats.proofs.drawing.draw_columns.Goals as goal
 
 -- the picture of a window of a possible chart
 is_wanted : (wanted : Wanted) (turns : List ℕ) (notes : List MarginNote) (names : List (List ℕ)) (lines lines' : List LineView) (columns : List ℕ) (rows : List Row) (ends : List (List (Option EventNo))) (reports : List ReportView) (window : Window) (picture : PictureView)
-    → AreColumns names (only_of wanted) columns → IsPossible (length lines) (chart_lines lines) → IsPrepared lines turns rows ends → AreReports lines reports
+    → AreColumns names (only_of wanted.only) columns → IsPossible (length lines) (chart_lines lines) → IsPrepared lines turns rows ends → AreReports lines reports
     → lines' ≡ lines → IsWindow (names, lines') rows wanted.rows window
     → IsPictureOf (record {
       title = wanted.title.now;

@@ -5,8 +5,8 @@ use Rattle.files.specs.declared.error.ProgramError.TheVariants.{Memory}
 use Rattle.files.specs.Files.{IsRefused}
 use Rattle.files.specs.Texts.{named_of}
 use Rattle.formats.specs.Preparing.{turns_in}
-use Rattle.wanted_columns.specs.Columns.{AreColumns, RefusesColumns}
-use Rattle.formats.specs.Drawing.{only_of, Draws}
+use Rattle.wanted_columns.specs.Columns.{AreColumns, RefusesColumns, only_of}
+use Rattle.formats.specs.Drawing.{Draws}
 use Rattle.formats.proofs.RefusedLemmas.{no_columns, not_drawn}
 use Rattle.formats.proofs.drawing.draw_source.Goals as goal
 
@@ -15,7 +15,7 @@ returns-in_err-columns g c =
     let p = err_from_is_err_and c.from_residual.result c.from_residual.ensures.1 in
     let error = c.in_err-columns.field-0.0 in
     rw (p.1, p.2) (no_columns g.W.Out.sink c.args.out.now (turns_in c.args.source.now) [] (named_of c.args.source.now) c.args.wanted.now error
-    (subst (λ (ns : List (List ℕ)). RefusesColumns ns (only_of c.args.wanted.now) error) c.names-names.ensures c.in_err-columns.ensures.err))
+    (subst (λ (ns : List (List ℕ)). RefusesColumns ns (only_of c.args.wanted.now.only) error) c.names-names.ensures c.in_err-columns.ensures.err))
 
 pub returns-in_err-closure : goal.returns-in_err-closure
 returns-in_err-closure g c =
@@ -23,7 +23,7 @@ returns-in_err-closure g c =
     let error = c.in_err-closure.field-0.0 in
     let named = named_of c.args.source.now in
     rw (p.1, p.2) (not_drawn g.W.Out.sink c.args.out.now (turns_in c.args.source.now) [] named c.args.wanted.now c.in_ok-columns.columns.items
-    (subst (λ (ns : List (List ℕ)). AreColumns ns (only_of c.args.wanted.now) c.in_ok-columns.columns.items) c.names-names.ensures c.in_ok-columns.ensures.ok)
+    (subst (λ (ns : List (List ℕ)). AreColumns ns (only_of c.args.wanted.now.only) c.in_ok-columns.columns.items) c.names-names.ensures c.in_ok-columns.ensures.ok)
     error
     (subst₂ (λ (ns : List (List ℕ)) (ls : List LineView). (error ≡ Memory) ⊎ IsRefused error (ns, ls)) c.names-names.ensures c.chart.ensures.value c.in_err-closure.ensures.refused))
 

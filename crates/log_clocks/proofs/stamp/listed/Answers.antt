@@ -2,7 +2,8 @@ use Rattle.std.proofs.Common.{List, [], ◌∷◌, map, ap, sym, ◌∙◌, rule
 use Rattle.std.proofs.lemmas.List.{map-append}
 use Rattle.std.proofs.lemmas.Iterator.Splits.{YieldsList-from_slice_split}
 use Rattle.std.proofs.lemmas.Iterator.Consumers.{YieldsList-end}
-use Rattle.log_clocks.specs.Stamps.{StampView, stamp_in, with_stamp, is_comma, with_parts, listed}
+use Rattle.line_statements.specs.Words.{is_comma}
+use Rattle.log_clocks.specs.Stamps.{StampView, stamp_in, with_stamp, with_parts, listed}
 use Rattle.log_clocks.proofs.StampLemmas.{parts_more}
 use Rattle.log_clocks.proofs.stamp.listed.Goals as goal
 

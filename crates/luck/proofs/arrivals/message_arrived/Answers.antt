@@ -1,5 +1,5 @@
 use Rattle.std.proofs.Common.{sym, ◌∙◌, ◌<◌, subst, length, arith}
-use Rattle.luck.specs.ArrivalTables.{naming_line}
+use Rattle.logs.specs.Items.{naming_line}
 use Rattle.luck.specs.Arrivals.{IsArrivalOf}
 use Rattle.luck.proofs.ArrivalLemmas.{next_is, arrived_received, arrived_left, arrived_none}
 use Rattle.luck.proofs.LineLemmas.{there}

@@ -1,6 +1,7 @@
 use Rattle.std.proofs.Common.{◌≡◌, drop, map}
 use Rattle.line_statements.specs.Statements.{line_view, statement_view}
-use Rattle.mermaid_text.specs.Diagrams.{behind, statements_of}
+use Rattle.line_statements.specs.Readings.{behind}
+use Rattle.mermaid_text.specs.Diagrams.{statements_of}
 use Rattle.mermaid_text.proofs.diagram.statements_of.Given as goal
 
 abbrev pub invariant-loop-piece : goal.invariant-loop-piece

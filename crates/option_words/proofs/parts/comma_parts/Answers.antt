@@ -1,7 +1,7 @@
 use Rattle.std.proofs.Common.{map, ap, ◌∙◌, rules}
 use Rattle.std.proofs.lemmas.Iterator.Splits.{YieldsList-from_slice_split}
 use Rattle.std.proofs.lemmas.Iterator.Consumers.{YieldsList-end}
-use Rattle.option_words.specs.Words.{is_comma}
+use Rattle.line_statements.specs.Words.{is_comma}
 use Rattle.option_words.proofs.parts.comma_parts.Goals as goal
 
 pub returns : goal.returns

@@ -5,8 +5,8 @@ use Rattle.chart.specs.Reports.{ReportView}
 use Rattle.files.specs.declared.error.ProgramError.TheVariants as errors
 use Rattle.wanted_columns.specs.declared.error.FormatError.{FormatError}
 use Rattle.wanted_columns.specs.declared.error.FormatError.TheVariants.{Program}
+use Rattle.files.specs.Statuses.{status_in}
 use Rattle.msc_text.specs.Writing.{Puts, Breaks}
-use Rattle.race_answers.specs.Statuses.{status_in}
 use Rattle.told_races.specs.Telling.{Manner, AreTold, is_there}
 use Rattle.told_luck.specs.Telling.{IsRaceIn, PartedReport, AreParted, HaveParted, luck_text, shows_luck}
 use Rattle.race_answers.specs.Judging.{luck_manner_of}

@@ -1,10 +1,10 @@
 use Rattle.std.proofs.Common.{◌≡◌, Bool, List, ap, ◌∙◌, subst}
 use Rattle.chart.specs.Charts.{LineView}
 use Rattle.chart.specs.Reports.{ReportView}
+use Rattle.files.specs.Statuses.{status_in}
 use Rattle.msc_text.specs.Writing.{Puts, Breaks}
 use Rattle.told_races.specs.Telling.{AreTold, is_there, races_text, shows_races}
 use Rattle.race_answers.specs.Showing.{manner_of}
-use Rattle.race_answers.specs.Statuses.{status_in}
 use Rattle.race_answers.proofs.showing.show_told.Goals as goal
 
 pub returns-in-Ok-write_races : goal.returns-in-Ok-write_races

@@ -3,7 +3,8 @@ use Rattle.std.specs.List.{slice_split}
 use Rattle.std.proofs.lemmas.Iterator.Splits.{YieldsList-from_slice_split}
 use Rattle.std.proofs.lemmas.Iterator.Consumers.{YieldsList-end}
 use Rattle.text_bytes.specs.Classes.{is_blank}
-use Rattle.tidying.specs.Typing.{is_word, typed_words}
+use Rattle.tidying.specs.Typing.{typed_words}
+use Rattle.msc_text.specs.Lines.{is_word}
 use Rattle.tidying.proofs.line.typed_words.Goals as goal
 
 pub returns : goal.returns

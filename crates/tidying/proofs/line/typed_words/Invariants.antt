@@ -1,5 +1,5 @@
 use Rattle.std.proofs.Common.{◌≡◌, map, filter}
-use Rattle.tidying.specs.Typing.{is_word}
+use Rattle.msc_text.specs.Lines.{is_word}
 use Rattle.tidying.proofs.line.typed_words.Given as goal
 
 abbrev pub invariant-loop-word : goal.invariant-loop-word

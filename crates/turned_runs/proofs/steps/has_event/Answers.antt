@@ -1,7 +1,7 @@
 use Rattle.std.proofs.Common.{ap, ◌∙◌}
 use Rattle.std.specs.Option.{is_some}
 use Rattle.chart.specs.Charts.{chart_lines}
-use Rattle.turned_runs.specs.Turns.{place_of}
+use Rattle.closure.specs.Faults.{place_of}
 use Rattle.turned_runs.proofs.EventLemmas.{event_there}
 use Rattle.turned_runs.proofs.steps.has_event.Goals as goal
 

@@ -1,6 +1,7 @@
 use Rattle.std.proofs.Common.{ap, ◌∙◌}
 use Rattle.chart.specs.Charts.{chart_lines}
-use Rattle.turned_runs.specs.Turns.{place_of, receives}
+use Rattle.closure.specs.Faults.{place_of}
+use Rattle.turned_runs.specs.Turns.{receives}
 use Rattle.turned_runs.proofs.EventLemmas.{receive_there}
 use Rattle.turned_runs.proofs.steps.is_receive.Goals as goal
 

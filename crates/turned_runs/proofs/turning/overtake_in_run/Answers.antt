@@ -4,7 +4,8 @@ use Rattle.chart.specs.Histories.{chart_of, IsLegal}
 use Rattle.chart.specs.Charts.{IsReceiveFrom}
 use Rattle.chart.proofs.Belongs.{IsEvent-from_event}
 use Rattle.run_steps.specs.Steps.{history_of}
-use Rattle.turned_runs.specs.Turns.{place_of, IsKept}
+use Rattle.turned_runs.specs.Turns.{IsKept}
+use Rattle.closure.specs.Faults.{place_of}
 use Rattle.turned_runs.proofs.StepsMade.{receive-by}
 use Rattle.turned_runs.proofs.turning.overtake_in_run.Goals as goal
 

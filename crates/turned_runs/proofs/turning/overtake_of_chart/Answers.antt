@@ -6,9 +6,10 @@ use Rattle.chart.specs.Histories.{chart_of, IsLegal}
 use Rattle.chart.specs.Places.{IsEvent}
 use Rattle.run_steps.specs.declared.step.Step.{Step}
 use Rattle.run_steps.specs.Steps.{history_of}
+use Rattle.closure.specs.Faults.{place_of}
 use Rattle.turned_runs.specs.declared.turning.Turned.{Turned}
 use Rattle.turned_runs.specs.Runs.{IsLeastRun}
-use Rattle.turned_runs.specs.Turns.{place_of, IsTurned, IsKept}
+use Rattle.turned_runs.specs.Turns.{IsTurned, IsKept}
 use Rattle.turned_runs.proofs.TurnLemmas.{turned_of_drawn}
 use Rattle.turned_runs.proofs.turning.overtake_of_chart.Goals as goal
 

@@ -3,7 +3,8 @@ use Rattle.chart.specs.Charts.{IsReceiveFrom}
 use Rattle.chart.specs.Histories.{chart_of, IsLegal}
 use Rattle.chart.specs.Places.{IsEvent}
 use Rattle.run_steps.specs.Steps.{history_of}
-use Rattle.turned_runs.specs.Turns.{place_of, IsTurned, IsKept}
+use Rattle.turned_runs.specs.Turns.{IsTurned, IsKept}
+use Rattle.closure.specs.Faults.{place_of}
 use Rattle.turned_runs.proofs.TurnLemmas.{recorded_chart}
 use Rattle.turned_runs.proofs.turning.overtake_of_schedule.Goals as goal
 

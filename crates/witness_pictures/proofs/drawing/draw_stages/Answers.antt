@@ -1,7 +1,7 @@
 use Rattle.std.proofs.Common.{List, ap₂, ◌∙◌, subst}
 use Rattle.chart.specs.Charts.{LineView}
+use Rattle.wanted_columns.specs.Columns.{only_of}
 use Rattle.witness_pictures.specs.Counterparts.{counterpart}
-use Rattle.witness_pictures.specs.Drawing.{only_of}
 use Rattle.witness_pictures.specs.Stages.{IsWhole}
 use Rattle.witness_pictures.proofs.DrawnLemmas.{marked_as}
 use Rattle.witness_pictures.proofs.drawing.draw_stages.Goals as goal
@@ -15,7 +15,7 @@ returns-in-Ok-write_beside g c = (
     here = c.in-Ok.left;
     there = c.in-Ok-picture_of.right;
     whole_here = c.whole-chart.ensures;
-    whole_there = subst (λ title. IsWhole title (only_of c.args.subject.now.wanted.now) c.args.subject.now.wanted.now.numbers c.whole-witness.result) c.other_title-title.ensures c.whole-witness.ensures;
+    whole_there = subst (λ title. IsWhole title (only_of c.args.subject.now.wanted.now.only) c.args.subject.now.wanted.now.numbers c.whole-witness.result) c.other_title-title.ensures c.whole-witness.ensures;
     left = c.in-Ok.ensures;
     right = c.in-Ok-picture_of.ensures;
     is = marked_as _ _ _ _ _ _ _ _ _
@@ -34,7 +34,7 @@ returns g c = (
     here = c.in-Ok.left;
     there = c.in-Ok-picture_of.right;
     whole_here = c.whole-chart.ensures;
-    whole_there = subst (λ title. IsWhole title (only_of c.args.subject.now.wanted.now) c.args.subject.now.wanted.now.numbers c.whole-witness.result) c.other_title-title.ensures c.whole-witness.ensures;
+    whole_there = subst (λ title. IsWhole title (only_of c.args.subject.now.wanted.now.only) c.args.subject.now.wanted.now.numbers c.whole-witness.result) c.other_title-title.ensures c.whole-witness.ensures;
     left = c.in-Ok.ensures;
     right = c.in-Ok-picture_of.ensures;
     is = marked_as _ _ _ _ _ _ _ _ _

@@ -1,6 +1,7 @@
 use Rattle.std.proofs.Common.{◌<◌, ◌↔◌, ◌∙◌, sym, subst, length, false, inl, inr}
 use Rattle.std.specs.Prelude.{IsTrue, nat_lt}
-use Rattle.luck.specs.ArrivalTables.{naming_line, arrival_in}
+use Rattle.logs.specs.Items.{naming_line}
+use Rattle.luck.specs.ArrivalTables.{arrival_in}
 use Rattle.luck.specs.Arrivals.{CameFirst}
 use Rattle.luck.proofs.ArrivalLemmas.{entry_first, came_both, came_not}
 use Rattle.recordings.specs.Recordings.{RecordingView, recording_view}

@@ -1,23 +1,25 @@
-//! The exit status by whether some race is shown.
+//! The exit status by whether there are races.
 ghost use Rattle.std.specs.Prelude.{◌≡◌};
-ghost use Rattle.race_answers.specs.Statuses.{status_in, code_of, status_said};
+ghost use Rattle.files.specs.Statuses.{status_in, code_of, status_said};
 
-use files::Answer;
+use crate::answer::Answer;
 use msc_text::Out;
 
-/// Whether some race is shown.
+/// Whether there are races, or some race is shown.
 #[derive(Clone, Copy, Debug, PartialEq, Eq)]
 pub enum Status {
+    /// No receive has a race, or none is shown.
     NoRaces,
+    /// Some receive has one, which is shown.
     Races,
 }
 
 impl Status {
-    /// By whether a race is shown.
-    pub(crate) fn of(shown: bool) -> Status
-        ensures { result ≡ status_in shown }
+    /// By whether there are races, or some race is shown.
+    pub fn of(has_races: bool) -> Status
+        ensures { result ≡ status_in has_races }
     {
-        if shown {
+        if has_races {
             Status::Races
         } else {
             Status::NoRaces

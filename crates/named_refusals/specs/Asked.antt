@@ -1,5 +1,6 @@
--- The instance that bytes name.
-use Rattle.std.specs.Prelude.{ℕ, List, Option, None, Result, Ok, Err}
+-- What is asked for by an instance's name and an event's number.
+use Rattle.std.specs.Prelude.{ℕ, Bool, ◌&&◌, nat_le, List, length, Option, None, Result, Ok, Err}
+use Rattle.chart.specs.declared.event.Event.{Event}
 use Rattle.chart.specs.Names.{instance_of}
 use Rattle.msc_text.specs.Lines.{name_or_cause}
 use Rattle.msc_text.specs.declared.fault.Cause.{Cause}
@@ -12,3 +13,7 @@ named_so names (Err cause) = None
 -- the instance that has these bytes as its name
 abbrev pub instance_said : List (List ℕ) → List ℕ → Option ℕ
 instance_said names word = named_so names (name_or_cause word)
+
+-- the line has an event of this number
+abbrev pub has_event : List Event → ℕ → Bool
+has_event events n = nat_le 1 n && nat_le n (length events)
