@@ -1,6 +1,6 @@
 # shellcheck shell=bash
-# Read by the scripts beside it and by bench/engines/ping_pong: `mpi` is openmpi or mpich, `room` a folder for what is made. Whatever they run has a low
-# priority, and a rank that waits sleeps (pause.c), but where `pauses` is nothing.
+# Read by the scripts beside it and by bench/engines/ping_pong: `mpi` is openmpi or mpich, `room` a folder for what is made.
+# Whatever they run has a low priority, and a rank that waits sleeps (pause.c), but where `pauses` is nothing.
 set -u
 root=$(cd "$(dirname "${BASH_SOURCE[0]}")/../../.." && pwd)
 . "$root/bench/timing.sh"
