@@ -34,10 +34,10 @@ for (const name of readdirSync("cases")) {
 }
 tell("cases");
 
-const examples = readdirSync("examples").map((name) => `examples/${name}`);
+const examples = readdirSync("examples").flatMap((story) => readdirSync(`examples/${story}`).map((name) => `examples/${story}/${name}`));
 const origin = (name) => [`${name}.msc`, `${name}.schedule`].find((it) => existsSync(it));
 const base = (name) => name.replace(/\.\w+$/, "");
-for (const name of examples) {
+for (const name of examples.filter((it) => existsSync(`${base(it)}.stdout`))) {
   const of = base(name), end = name.slice(of.length + 1), from = origin(of);
   if (end === "stdout") {
     const races = lines(name).some((line) => line.startsWith("race "));
@@ -59,6 +59,6 @@ for (const folder of ["logs", "erlang", "mpi"]) {
 }
 tell("examples");
 
-const chart = "examples/two_answers.msc", script = readFileSync("tools/page/races.js", "utf8").trimEnd();
+const chart = "examples/two_answers/two_answers.msc", script = readFileSync("tools/page/races.js", "utf8").trimEnd();
 const isShared = [page, text(engine.answer("mscview", ["page", chart], [file(chart)]).out)].every((it) => it.includes(script));
 console.log(`${isShared ? "held" : "FAILED"} in a page: what marks races there is the script of mscview page`);

@@ -68,7 +68,7 @@ const OTHER = "client | answer (4, from west) | answer (3, from east)";
 
 for (const [kind, file] of [["a chart", "msc"], ["mscgen", "mscgen"], ["PlantUML", "plantuml"], ["Mermaid", "mermaid"], ["a log for ShiViz", "shiviz"]]) {
   await story(`two answers, as ${kind}`, async (page) => {
-    await type(page, text(`examples/two_answers.${file}`));
+    await type(page, text(`examples/two_answers/two_answers.${file}`));
     const found = await rows(page);
     wants(found.length === 2 && found[0].startsWith(TWO) && found[1].startsWith(OTHER), `its races are ${found.join("; ")}`);
     await clickOn(page, "#races tbody tr");
@@ -83,7 +83,7 @@ for (const [kind, file] of [["a chart", "msc"], ["mscgen", "mscgen"], ["PlantUML
   });
 }
 await story("a schedule, its orders and keys", async (page) => {
-  await type(page, text("examples/handover.schedule"));
+  await type(page, text("examples/handover/handover.schedule"));
   const found = await rows(page);
   wants(found[0] === "control | handover_complete (6, from mobile) | events 4 to 5 (handover_detection, establish_indication)", found[0]);
   await page.ask("document.activeElement.blur()");
@@ -103,14 +103,14 @@ await story("a log of a lock server, and luck alone", async (page) => {
   wants(left.length > 0 && left.length < before && left.every((row) => row.endsWith(" | luck")), `left are ${left.length}`);
 });
 await story("a click on a dot", async (page) => {
-  await type(page, text("examples/two_answers.msc"));
+  await type(page, text("examples/two_answers/two_answers.msc"));
   const {x, y} = await page.ask("(() => { const dot = document.getElementById('picture').shadowRoot.querySelector('g[id^=r] > circle.r, svg > circle.r').getBoundingClientRect(); return {x: dot.x + dot.width / 2, y: dot.y + dot.height / 2}; })()");
   await page.click(x, y);
   await settled(page);
   wants((await marks(page)).includes("receive 1 3"), `marked are ${await marks(page)}`);
 });
 await story("a search, and a click that leaves a race", async (page) => {
-  await type(page, text("examples/two_answers.msc"));
+  await type(page, text("examples/two_answers/two_answers.msc"));
   const find = (word) => page.ask(`(() => { const box = document.getElementById("search"); box.value = ${quoted(word)}; box.dispatchEvent(new Event("input"));
     return [document.querySelectorAll("#races tbody tr:not([hidden])").length, document.getElementById("picture").shadowRoot.querySelectorAll("text.hit").length]; })()`);
   const [none, some, all] = [await find("no such message"), await find("ask"), await find("")].map(String);
@@ -152,14 +152,14 @@ await story("a comparison", async (page) => {
   wants((await words(page, "compared")) === text("cases/compare_two_answers/stdout"), await words(page, "compared"));
 });
 await story("a command line", async (page) => {
-  await type(page, text("examples/two_answers.mscgen"));
+  await type(page, text("examples/two_answers/two_answers.mscgen"));
   await page.ask("document.querySelector('[data-pane=command_pane]').click(); document.getElementById('command').value = `mscview export --to 'mermaid' CHART`; document.getElementById('command_form').requestSubmit()");
   await settled(page);
-  wants((await words(page, "command_out")) === text("examples/two_answers.mermaid"), await words(page, "command_err"));
+  wants((await words(page, "command_out")) === text("examples/two_answers/two_answers.mermaid"), await words(page, "command_err"));
 });
 await story("a file that is opened", async (page) => {
   const name = join(room, "handover.schedule");
-  writeFileSync(name, text("examples/handover.schedule"));
+  writeFileSync(name, text("examples/handover/handover.schedule"));
   const {root} = await page.send("DOM.getDocument");
   const {nodeId} = await page.send("DOM.querySelector", {nodeId: root.nodeId, selector: "#open"});
   await page.send("DOM.setFileInputFiles", {files: [name], nodeId});
@@ -175,13 +175,13 @@ await story("an empty text, and one that is nothing", async (page) => {
 
 let link;
 await story("a link is made", async (page) => {
-  await type(page, text("examples/two_answers.plantuml"));
+  await type(page, text("examples/two_answers/two_answers.plantuml"));
   await page.ask("document.getElementById('link').click()");
   await page.until("location.hash.startsWith('#z')");
   link = await page.ask("location.href");
 });
 await story("a link opens with its text", async (page) => {
-  wants((await page.ask("document.getElementById('text').value")) === text("examples/two_answers.plantuml"), "another text");
+  wants((await page.ask("document.getElementById('text').value")) === text("examples/two_answers/two_answers.plantuml"), "another text");
   await settled(page);
   wants((await rows(page))[0].startsWith(TWO), "its races aren't shown");
 }, {at: link});
@@ -215,7 +215,7 @@ const ring = (rounds) => {
 await story("what takes too long is stopped, and begun anew", async (page) => {
   await page.ask(`(() => { const box = document.getElementById("text"); box.value = ${quoted(ring(2048))}; box.dispatchEvent(new Event("input")); })()`);
   await page.until("document.getElementById('summary').textContent.startsWith('stopped after')", 60);
-  await type(page, text("examples/two_answers.msc"));
+  await type(page, text("examples/two_answers/two_answers.msc"));
   wants((await rows(page)).length === 2, "the next text isn't looked at");
 }, {at: `file://${hasty}`});
 await story("a button stops what is at work", async (page) => {
@@ -223,15 +223,15 @@ await story("a button stops what is at work", async (page) => {
   await page.until("document.getElementById('stop').checkVisibility()", 60);
   await page.ask("document.getElementById('stop').click()");
   wants((await words(page, "working")).startsWith("stopped"), await words(page, "working"));
-  await type(page, text("examples/two_answers.msc"));
+  await type(page, text("examples/two_answers/two_answers.msc"));
   wants((await rows(page)).length === 2, "the next text isn't looked at");
 });
 await story("a narrow window", async (page) => {
-  await type(page, text("examples/two_answers.msc"));
+  await type(page, text("examples/two_answers/two_answers.msc"));
   wants((await page.ask("document.documentElement.scrollWidth")) <= 420, "it is wider than its window");
 }, {width: 420});
 await story("a dark scheme", async (page) => {
-  await type(page, text("examples/handover.schedule"));
+  await type(page, text("examples/handover/handover.schedule"));
   wants((await page.ask("getComputedStyle(document.body).backgroundColor")) === "rgb(20, 23, 28)", "it isn't dark");
 }, {dark: true});
 

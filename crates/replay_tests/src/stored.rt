@@ -1,4 +1,4 @@
-//! What the plain model in Python says that schedules come to. `tools/plain_model/stored_replays.py` prints this file.
+//! What the plain model in Python says that schedules come to. `tools/model/stored_replays.py` prints this file.
 
 /// A schedule, and what it comes to: its chart, its races and its notes.
 pub type Told = (&'static [u8], &'static [u8]);
