@@ -9,6 +9,7 @@ rules of that order leaves. Prints 'held' or 'FAILED' for each file.
 import json
 import pathlib
 import random
+import subprocess
 import sys
 import tempfile
 
@@ -107,10 +108,11 @@ def main():
     with tempfile.TemporaryDirectory() as folder:
         room = pathlib.Path(folder)
         # (the plain closure of full lines takes minutes)
-        files = sorted(path for path in pathlib.Path("cases").glob("*/input") if path.stat().st_size < 60_000)
+        subprocess.run(["tools/read_cases", folder], check=True)
+        files = sorted(path for path in room.glob("cases/*/*/*/input") if path.stat().st_size < 60_000)
         files += sorted(path for path in pathlib.Path("examples").iterdir() if path.suffix in (".schedule", ".msc"))
         for path in files:
-            try_file(path, str(path))
+            try_file(str(path).replace(f"{room}/", ""), str(path))
         draw = random.Random(37)
         for number in range(DRAWN):
             schedule = room / "drawn"

@@ -147,12 +147,13 @@ def main():
     turned = moved = 0
     with tempfile.TemporaryDirectory() as folder:
         room = pathlib.Path(folder)
-        files = sorted(pathlib.Path("cases").glob("*/input"))
+        subprocess.run(["tools/read_cases", folder], check=True)
+        files = sorted(room.glob("cases/*/*/*/input"))
         files += sorted(path for path in pathlib.Path("examples").iterdir() if path.suffix in (".schedule", ".msc"))
         for path in files:
             text = chart_and_races(str(path))
             if text is not None:
-                races, others = try_file(path, str(path), text, room)
+                races, others = try_file(str(path).replace(f"{room}/", ""), str(path), text, room)
                 turned, moved = turned + races, moved + others
         draw = random.Random(18)
         for number in range(DRAWN):

@@ -5,6 +5,7 @@ import {spawnSync} from "node:child_process";
 import {mkdtempSync, readFileSync, readdirSync, rmSync, writeFileSync} from "node:fs";
 import {tmpdir} from "node:os";
 import {join} from "node:path";
+import {cases, unpacked} from "./cases.mjs";
 import {file, moduleOf, text} from "./module.mjs";
 
 const [, , page, count, seed] = process.argv;
@@ -20,27 +21,27 @@ function draw(below) {
 }
 const pick = (list) => list[draw(list.length)];
 
-const inputs = (wanted) => readdirSync("cases").filter((name) => wanted.test(name)).map((name) => `cases/${name}/input`);
+const inputs = (wanted) => cases.filter((name) => wanted.test(name)).map((name) => `${unpacked(name)}/input`);
 const ended = (end, folder = "examples") => readdirSync(folder).filter((name) => name.endsWith(end)).map((name) => `${folder}/${name}`);
 
 // What is broken, and what is asked of it then (FILE is its place).
 const KINDS = [
-  {texts: [...ended(".msc"), ...inputs(/^(chart|hostile|coregion.*checked|crossing.*checked)/)],
+  {texts: [...ended(".msc"), ...inputs(/mscrun\/\w+\/(chart|hostile|coregion.*checked|crossing.*checked)/)],
     asks: ["mscrun check FILE", "mscview races FILE", "mscview races --json --run-to-completion FILE", "mscview draw FILE",
       "mscview draw --around client 2 FILE", "mscview draw --witness client 2 3 FILE", "mscview page FILE", "mscview explain FILE",
       "mscview tidy FILE", "mscview why FILE client 2 3", "mscview witness FILE client 3 4", "mscview mend FILE client 2 3",
       "mscview mend --all FILE", "mscview export --to plantuml FILE"]},
-  {texts: [...ended(".schedule"), ...inputs(/^(drawn|any|ended|refused|coregion_notes|touching|explain_.*schedule)/)],
+  {texts: [...ended(".schedule"), ...inputs(/mscrun\/\w+\/(drawn|any|ended|refused|coregion_notes|touching)|explain\/.*schedule/)],
     asks: ["mscrun replay FILE", "mscrun random FILE --seed 12", "mscview races FILE", "mscview races --luck FILE",
       "mscview draw --numbers FILE", "mscview page FILE", "mscview explain FILE", "mscview tidy FILE",
       "mscview export --to mscgen FILE", "mscview witness FILE control 4 6"]},
-  ...["mscgen", "plantuml", "mermaid"].map((tool) => ({texts: [...ended(`.${tool}`), ...inputs(new RegExp(`^import_${tool}`))],
+  ...["mscgen", "plantuml", "mermaid"].map((tool) => ({texts: [...ended(`.${tool}`), ...inputs(new RegExp(`import/${tool}`))],
     asks: [`mscview import --from ${tool} FILE`, "mscview import FILE", `mscview races --from ${tool} FILE`,
       `mscview draw --from ${tool} FILE`, `mscview import --strict --from ${tool} FILE`, "mscview explain FILE"]})),
-  {texts: [...ended(".log", "examples/logs"), ...ended(".log", "examples/erlang"), ...inputs(/^import_log/)],
+  {texts: [...ended(".log", "examples/logs"), ...ended(".log", "examples/erlang"), ...inputs(/import\/log/)],
     asks: ["mscview import --from log FILE", "mscview races --from log --luck FILE", "mscview races --from log --json FILE",
       "mscview import --from log --pattern (?<host>\\w+)\\s(?<dir>\\w+)\\s(?<peer>\\w+)\\s(?<name>\\w+) FILE"]},
-  {texts: [...ended(".shiviz"), ...ended(".shiviz", "examples/logs"), ...inputs(/^import_shiviz/)],
+  {texts: [...ended(".shiviz"), ...ended(".shiviz", "examples/logs"), ...inputs(/import\/shiviz/)],
     asks: ["mscview import --from shiviz FILE", "mscview races --from shiviz FILE"]},
 ];
 
