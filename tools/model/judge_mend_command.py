@@ -228,7 +228,8 @@ def main(mscrun, mscview, count, first):
         room = pathlib.Path(folder)
         programs = mscrun, mscview, room
         # (the plain closure of full lines takes minutes)
-        files = sorted(path for path in pathlib.Path("cases").glob("*/input") if path.stat().st_size < 60_000)
+        subprocess.run(["tools/lib/read_cases", folder], check=True)
+        files = sorted(path for path in room.glob("cases/*/*/*/input") if path.stat().st_size < 60_000)
         examples = sorted(path for path in pathlib.Path("examples").glob("*/*") if path.suffix in (".schedule", ".msc"))
         files += [path for path in examples if path.with_suffix(".stdout").exists()]
         for seed in range(first, first + count):
@@ -239,7 +240,7 @@ def main(mscrun, mscview, count, first):
             fault = try_file(programs, file.name, str(file), seen)
             if fault:
                 failed += 1
-                print(f"FAILED {file}: {fault}", flush=True)
+                print(f"FAILED {str(file).replace(folder + '/', '')}: {fault}", flush=True)
     for what, number in sorted(seen.items()):
         print(f"{what}: {number}")
     print(f"{seen['charts'] - failed} charts are mended as they should be, {failed} otherwise")

@@ -187,9 +187,8 @@ def point_of(side, instance, index):
 
 def files(judge, count, seed):
     """Each file that may say a chart, and of drawn schedules both the schedule and its chart."""
-    for case in sorted(pathlib.Path("cases").iterdir()):
-        if (case / "input").is_file():
-            yield str(case / "input")
+    subprocess.run(["tools/lib/read_cases", str(judge.room)], check=True)
+    yield from (str(path) for path in sorted(judge.room.glob("cases/*/*/*/input")))
     for kind in ("*/*.schedule", "*/*.msc"):
         yield from (str(path) for path in sorted(pathlib.Path("examples").glob(kind)))
     for number in range(seed, seed + count):

@@ -2,6 +2,7 @@
 // output and standard error are to be those of the case, to the byte.
 //   node try_answers.mjs PAGE
 import {existsSync, readFileSync, readdirSync} from "node:fs";
+import {cases, unpacked} from "./cases.mjs";
 import {file, moduleOf, text} from "./module.mjs";
 
 const {module, Engine, page} = moduleOf(process.argv[2]);
@@ -25,12 +26,12 @@ function tell(what) {
   failed.length = held = 0;
 }
 
-for (const name of readdirSync("cases")) {
-  const folder = `cases/${name}`;
+for (const name of cases) {
+  const folder = unpacked(name);
   const program = existsSync(`${folder}/program`) ? readFileSync(`${folder}/program`, "utf8").trim() : "mscrun";
   const words = readFileSync(`${folder}/args`, "utf8").trim().split(/\s+/).map((word) => word.replace(/^FILE/, `${folder}/input`));
   if (words[0] === "threads") continue;
-  answers(folder, program, words, Number(readFileSync(`${folder}/status`, "utf8")), `${folder}/stdout`, `${folder}/stderr`);
+  answers(name, program, words, Number(readFileSync(`${folder}/status`, "utf8")), `${folder}/stdout`, `${folder}/stderr`);
 }
 tell("cases");
 

@@ -2,6 +2,7 @@
 // to refuse, each of the first requests is refused in turn, and the call behind it is answered as ever.
 //   node try_memory.mjs PAGE CALLS [REFUSING_PAGE]
 import {readFileSync} from "node:fs";
+import {unpacked} from "./cases.mjs";
 import {file, moduleOf, text} from "./module.mjs";
 
 const [, , page, calls, refusing] = process.argv;
@@ -21,13 +22,14 @@ const commands = [
   ["mscview", "races", "--from", "log", "--luck", "examples/erlang/lock_server.log"],
   ["mscview", "import", "--from", "shiviz", "examples/two_answers/two_answers.shiviz"],
   ["mscview", "import", "--from", "log", "--pattern", "(?<host>\\w+) (?<dir>\\w+) (?<peer>\\w+) (?<name>\\w+)", "examples/logs/shop.log"],
-  ["mscview", "explain", "cases/explain_send_mistyped/input"],
-  ["mscview", "tidy", "cases/explain_comment/input"],
+  ["mscview", "explain", "cases/mscview/explain/send_mistyped.case/input"],
+  ["mscview", "tidy", "cases/mscview/explain/comment.case/input"],
   ["mscview", "export", "--to", "mscgen", "examples/two_answers/two_answers.msc"],
-  ["mscview", "compare", "cases/compare_two_answers/input", "cases/compare_two_answers/input2"],
+  ["mscview", "compare", "cases/mscview/compare/two_answers.case/input", "cases/mscview/compare/two_answers.case/input2"],
 ];
 
-const filesOf = (words) => words.filter((word) => word.includes("/")).map((name) => file(name, readFileSync(name)));
+const bytesOf = (name) => readFileSync(name.startsWith("cases/") ? unpacked(name) : name);
+const filesOf = (words) => words.filter((word) => word.includes("/")).map((name) => file(name, bytesOf(name)));
 const said = ({status, out, err}) => `${status}\n${text(out)}\n${text(err)}`;
 const tried = commands.map(([program, ...words]) => ({program, words, files: filesOf(words)}));
 const ask = (engine, {program, words, files}) => engine.answer(program, words, files);

@@ -5,6 +5,7 @@ import {mkdtempSync, readFileSync, rmSync, writeFileSync} from "node:fs";
 import {tmpdir} from "node:os";
 import {join, resolve} from "node:path";
 import {Browser} from "./browser.mjs";
+import {unpacked} from "./cases.mjs";
 
 const [, , pageFile, chromium, screenshots] = process.argv;
 const address = `file://${resolve(pageFile)}`;
@@ -121,7 +122,7 @@ await story("a search, and a click that leaves a race", async (page) => {
   wants((await marks(page)).length === 0 && !(await shown(page, "details")), "the race isn't left");
 });
 await story("a fault at its place", async (page) => {
-  await type(page, text("cases/explain_send_mistyped/input"));
+  await type(page, text(unpacked("cases/mscview/explain/send_mistyped.case/input")));
   const cards = await page.ask("[...document.querySelectorAll('.fault_card')].map((card) => card.textContent)");
   wants(cards[0]?.startsWith("F20 Syntax: this can't stand here") && cards[0].includes("here may stand: `send`, `receive`"), String(cards));
   wants((await page.ask("document.querySelector('#gutter .fault')?.textContent")) === "3", "the line isn't marked");
@@ -146,10 +147,11 @@ await story("hostile texts stay text", async (page) => {
   wants((await page.ask("document.querySelectorAll('#input b').length")) === 0, "an element was made of a name");
 });
 await story("a comparison", async (page) => {
-  await type(page, text("cases/compare_two_answers/input"));
-  await page.ask(`document.querySelector('[data-pane=compare_pane]').click(); document.getElementById("text_b").value = ${quoted(text("cases/compare_two_answers/input2"))}; document.getElementById("compare").click()`);
+  const compared = (name) => text(unpacked(`cases/mscview/compare/two_answers.case/${name}`));
+  await type(page, compared("input"));
+  await page.ask(`document.querySelector('[data-pane=compare_pane]').click(); document.getElementById("text_b").value = ${quoted(compared("input2"))}; document.getElementById("compare").click()`);
   await settled(page);
-  wants((await words(page, "compared")) === text("cases/compare_two_answers/stdout"), await words(page, "compared"));
+  wants((await words(page, "compared")) === compared("stdout"), await words(page, "compared"));
 });
 await story("a command line", async (page) => {
   await type(page, text("examples/two_answers/two_answers.mscgen"));

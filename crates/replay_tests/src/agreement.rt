@@ -47,7 +47,7 @@ fn rounds(rt: &impl Abort, alloc: Global, times: usize) -> Schedule {
     Schedule::read(alloc, text.as_slice()).expect(rt, "a schedule")
 }
 
-/// The digest tells that something differs, and not what: `bench/judge_replays` compares drawn orders one by one.
+/// The digest tells that something differs, and not what: `tools/fuzz/judge_replays` compares drawn orders one by one.
 #[test]
 fn a_thousand_drawn(rt: HostRuntime) {
     let schedule = rounds(&rt, rt.alloc(), 20);
