@@ -18,8 +18,9 @@ use crate::verdicts::{Verdicts, is_luck};
 use crate::{json, plain};
 use chart::{Event, EventNo, EventRange};
 use closure::Reporter;
+use line_events::events_of;
 use msc_text::{Out, TextBuffer, WriteError};
-use told_races::{Form, KeptEvents, Told, Word, add_word, either, events_of, is_among, passed_by};
+use told_races::{Form, KeptEvents, Told, Word, add_word, either, is_among, passed_by};
 
 /// Whose races are told, and how: each with its word, or luck alone.
 pub struct ToldLuck<'a, V> {
