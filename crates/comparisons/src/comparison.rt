@@ -6,13 +6,14 @@ ghost use Rattle.comparisons.specs.Ends.{other_of};
 ghost use Rattle.comparisons.specs.Matches.{AreMatches};
 ghost use Rattle.comparisons.specs.Comparing.{AreDifferences, IsCompared, AreCompared};
 
-use crate::fronts::{events_of, fronts_of};
+use crate::fronts::fronts_of;
 use crate::lane_end::other_of;
 use crate::matching::{BothLines, matches_of};
 use crate::pairs::{Difference, judge, pairs_of, unmatched};
 use crate::verdict::Side;
 use chart::InstanceNo;
 use closure::Closure;
+use line_events::events_of;
 use std::alloc::{AllocError, Global};
 
 /// Two recordings of one system, the first of which is looked at line by line.

@@ -6,12 +6,12 @@ ghost use Rattle.msc_text.specs.Writing.{Wrote, Adds};
 ghost use Rattle.comparisons.specs.Comparisons.{difference_text, only_text, plain_owner, json_owner, line_text};
 
 use crate::comparison::LineComparison;
-use crate::fronts::events_of;
 use crate::json::{add_json_difference, add_json_only};
 use crate::pairs::Difference;
 use crate::plain::{add_plain_difference, add_plain_only};
 use crate::word::Word;
 use chart::{Event, InstanceNo, Line, Names};
+use line_events::events_of;
 use msc_text::{Out, TextBuffer, WriteError};
 
 /// How it is written.

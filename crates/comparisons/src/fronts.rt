@@ -1,25 +1,14 @@
 //! How many first events of its line come before each event.
-ghost use Rattle.std.specs.Prelude.{◌≡◌, ◌≤◌, length, Some, IfOk};
-ghost use Rattle.chart.specs.declared.line.TheConstants.{MAX_EVENTS};
+ghost use Rattle.std.specs.Prelude.{◌≡◌, length, Some, IfOk};
 ghost use Rattle.chart.specs.Charts.{chart_event, chart_lines};
 ghost use Rattle.closure.specs.Faults.{place_of};
 ghost use Rattle.comparisons.specs.Verdicts.{IsFront, AreFronts};
 
 use causes::past;
-use chart::{Event, EventNo, InstanceNo, Line};
+use chart::{Event, EventNo, InstanceNo};
 use closure::Closure;
+use line_events::events_of;
 use std::alloc::{AllocError, Global};
-
-/// The events of an instance's line, none where the chart has no such instance.
-pub fn events_of(lines: &[Line], instance: InstanceNo) -> &[Event]
-    ensures events { result.now ≡ chart_lines lines.now instance }
-    ensures short { length result.now ≤ MAX_EVENTS }
-{
-    match lines.get(instance.place()) {
-        Some(line) => line.events(),
-        None => &[],
-    }
-}
 
 /// How many first events of its line come before the event. Beside them only those come before it that are, as itself,
 /// receives from one instance.

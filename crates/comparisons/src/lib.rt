@@ -30,7 +30,6 @@ mod word;
 
 pub use comparison::{LineComparison, Recordings, compared};
 pub use error::CompareError;
-pub use fronts::events_of;
 pub use naming::counterparts;
 pub use pairs::{Difference, Pair};
 pub use showing::{Form, compare};

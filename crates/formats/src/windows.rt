@@ -1,7 +1,6 @@
 //! Which rows of a picture are chosen.
 ghost use Rattle.std.specs.Prelude.{◌≡◌, ◌≤◌, ◌-◌, length, MatchResult};
 ghost use Rattle.chart.specs.declared.line.TheConstants.{MAX_EVENTS};
-ghost use Rattle.chart.specs.Charts.{chart_lines};
 ghost use Rattle.formats.specs.Windows.{event_on, event_said, round, IsWindow, HasNoWindow};
 ghost use Rattle.formats.specs.declared.windows.Rows.TheVariants as rows;
 ghost use Rattle.layout.specs.Layouts.{IsDrawing};
@@ -10,6 +9,7 @@ ghost use Rattle.named_refusals.specs.Asked.{has_event};
 use crate::events::Events;
 use chart::{Event, EventNo, InstanceNo, Line, Names};
 use layout::Layout;
+use line_events::events_of;
 use named_refusals::{Missing, has_event, instance_said, missing_on};
 
 /// An event: the name of its instance, and its number on the line, from 1.
@@ -40,17 +40,6 @@ fn place_of(row: u32) -> usize
     ensures { result ≡ row - 1 }
 {
     row.saturating_sub(1) as usize
-}
-
-/// The events of an instance's line.
-fn events_of(lines: &[Line], instance: InstanceNo) -> &[Event]
-    ensures events { result.now ≡ chart_lines lines.now instance }
-    ensures short { length result.now ≤ MAX_EVENTS }
-{
-    match lines.get(instance.place()) {
-        Some(line) => line.events(),
-        None => &[],
-    }
 }
 
 /// The event of this number, if the instance's line has it.

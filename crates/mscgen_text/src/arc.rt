@@ -6,11 +6,11 @@ ghost use Rattle.mscgen_text.specs.Reading.{Sees};
 ghost use Rattle.mscgen_text.specs.Tokens.{seen, kind_view};
 
 use crate::attributes::attributes_in;
-use text_bytes::Place;
 use crate::reading::{end_in, name_in, skip_mark, skip_spacer};
 use crate::relation::Relation;
 use crate::token::{Kind, Token};
 use crate::words::box_of;
+use text_bytes::Place;
 
 /// What an arc is.
 #[derive(Clone, Copy, Debug, PartialEq, Eq)]

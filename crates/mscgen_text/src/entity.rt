@@ -5,9 +5,9 @@ ghost use Rattle.mscgen_text.specs.Reading.{Sees};
 ghost use Rattle.mscgen_text.specs.Tokens.{seen};
 
 use crate::attributes::attributes_in;
-use text_bytes::Place;
 use crate::reading::{end_in, name_in};
 use crate::token::Token;
+use text_bytes::Place;
 
 /// An entity.
 #[derive(Clone, Copy, Debug)]

@@ -5,9 +5,9 @@ ghost use Rattle.text_bytes.specs.Classes.{printable};
 ghost use Rattle.mscgen_text.specs.Tokens.{seen};
 ghost use Rattle.mscgen_text.specs.declared.fault.MscgenError.TheVariants.{Memory};
 
-use text_bytes::{Place, START};
 use crate::token::Token;
 use std::alloc::AllocError;
+use text_bytes::{Place, START};
 
 /// The first fault of a text.
 #[derive(Clone, Copy, Debug)]

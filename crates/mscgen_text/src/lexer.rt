@@ -4,9 +4,9 @@ ghost use Rattle.mscgen_text.specs.Tokens.{seen, first_token, tokens_of, mark_le
 ghost use Rattle.mscgen_text.specs.Pieces.{piece_at};
 
 use crate::piece::{Piece, piece_at};
-use text_bytes::{Place, START, begins};
 use crate::token::{Token, kind_of};
 use std::alloc::{AllocError, Global};
+use text_bytes::{Place, START, begins};
 
 /// How many bytes a byte order mark has, if the text begins with one.
 #[tactic(auto, unfolding(crate::specs::Tokens::mark_length))]

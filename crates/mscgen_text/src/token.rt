@@ -4,8 +4,8 @@ ghost use Rattle.mscgen_text.specs.Tokens.{seen, inner, kind_of, kind_view, firs
 ghost use Rattle.mscgen_text.specs.Pieces.{piece_at};
 
 use crate::piece::Shape;
-use text_bytes::Place;
 use crate::relation::Relation;
+use text_bytes::Place;
 
 /// What a token is.
 #[derive(Clone, Copy, Debug)]

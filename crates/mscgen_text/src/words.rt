@@ -1,7 +1,6 @@
 //! The words of mscgen's language, in any letters.
 ghost use Rattle.std.specs.Prelude.{◌≡◌, ◌↔◌, IsTrue, map};
 ghost use Rattle.std.specs.List.{list_any};
-ghost use Rattle.std.specs.Char.{to_ascii_lowercase};
 ghost use Rattle.mscgen_text.specs.Words.{is_one_of, is_option, is_style, box_of, attribute_name};
 ghost use Rattle.text_bytes.specs.Words.{is_spelled};
 

@@ -10,12 +10,13 @@ ghost use Rattle.schedule_luck.specs.Verdicts.{IsBehind, TakesAny, IsVerdict};
 
 use crate::makers::lines_named;
 use chart::{Event, EventNo, InstanceNo, Line};
+use line_events::events_of;
 use recordings::Verdict;
 use schedule::{Command, Note};
 use std::alloc::{AllocError, Global};
 use std::marker::Model;
 use told_luck::Verdicts;
-use told_races::{event_at, events_of};
+use told_races::event_at;
 
 /// Which commands made the receives of a schedule. A contract sees its commands, their notes and the lines of its chart.
 #[derive(Drop)]

@@ -13,13 +13,14 @@ ghost use Rattle.told_luck.specs.Telling.{PartedReport, first_text, later_text, 
 ghost use Rattle.told_luck.specs.declared.part.Part.{Part};
 ghost use Rattle.told_luck.specs.Telling.{IsRaceIn, HasParted, luck_manner, told_events, report_text, shows_parts, HasAdded, HasWritten};
 
+use crate::{json, plain};
 use crate::part::Part;
 use crate::verdicts::{Verdicts, is_luck};
-use crate::{json, plain};
 use chart::{Event, EventNo, EventRange};
 use closure::Reporter;
+use line_events::events_of;
 use msc_text::{Out, TextBuffer, WriteError};
-use told_races::{Form, KeptEvents, Told, Word, add_word, either, events_of, is_among, passed_by};
+use told_races::{Form, KeptEvents, Told, Word, add_word, either, is_among, passed_by};
 
 /// Whose races are told, and how: each with its word, or luck alone.
 pub struct ToldLuck<'a, V> {

@@ -17,5 +17,5 @@ mod words;
 pub use json::{add_message_and_sender, add_messages, add_number, add_range_front};
 pub use kept::{KeptEvents, event_at, goes_on};
 pub use plain::{add_line, add_range, last_of};
-pub use telling::{Form, Told, either, events_of, is_among, passed_by, write_races};
+pub use telling::{Form, Told, either, is_among, passed_by, write_races};
 pub use words::{Word, add_event_at, add_name, add_word};

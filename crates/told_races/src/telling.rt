@@ -10,11 +10,12 @@ ghost use Rattle.told_races.specs.Kept.{kept_ranges, later_than};
 ghost use Rattle.told_races.specs.Telling.{ranges_text, has_ranges, manner_of, shown_of, report_text, HasAdded};
 ghost use Rattle.told_races.specs.Telling.{HasWritten, IsPassed, IsToldOf};
 
-use crate::kept::KeptRanges;
 use crate::{json, plain};
+use crate::kept::KeptRanges;
 use chart::{Event, EventNo, EventRange, InstanceNo, Line, Names};
 use closure::Reporter;
 use completion::Completion;
+use line_events::events_of;
 use msc_text::{Out, TextBuffer, WriteError};
 
 /// In which form races are told.
@@ -39,16 +40,6 @@ pub struct Told<'a> {
     /// that are left are told.
     pub completion: Option<&'a Completion<'a>>,
     pub form: Form,
-}
-
-/// The events of an instance's line, none where the chart has no such instance.
-pub fn events_of(lines: &[Line], instance: InstanceNo) -> &[Event]
-    ensures { result.now ≡ chart_lines lines.now instance }
-{
-    match lines.get(instance.place()) {
-        Some(line) => line.events(),
-        None => &[],
-    }
 }
 
 /// Whether the instance is asked for.

@@ -1,5 +1,5 @@
 //! The tool of a diagram.
-ghost use Rattle.std.specs.Prelude.{◌≡◌, map, bytes_eq, take, length};
+ghost use Rattle.std.specs.Prelude.{◌≡◌, take, length};
 ghost use Rattle.text_bytes.specs.Classes.{is_word_byte};
 ghost use Rattle.text_bytes.specs.Places.{start, behind};
 ghost use Rattle.text_bytes.specs.Words.{is_spelled};

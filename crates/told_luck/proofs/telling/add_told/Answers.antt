@@ -28,6 +28,6 @@ returns g c =
       record { receive = receive; parts = added.0 },
       parted_so is (manner_of told.told) told.told.lines.now report c.add_parts.result added.0 judged,
       subst (λ (line : List Event). Adds g.W.Out.sink c.args.text.now c.add_parts.new.text c.add_parts.result (parts_text told.told.form told.told.names.now line receive (shown_parts told.luck added.0)))
-          c.events_of-events.ensures added.2,
+          c.events_of-events.ensures.events added.2,
       added.3,
     )
