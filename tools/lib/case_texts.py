@@ -35,8 +35,10 @@ The folder COMMAND is named by the first word, but for no_command, where that is
 """
 
 import itertools
+import pathlib
 import re
 
+ROOT = pathlib.Path(__file__).resolve().parents[2]
 REQUIRED = ("command", "input", "stdout", "stderr", "status")
 FLAGS = ("may_spend", "many_growths")
 NAMES = ("command", "input", "input2", "stdout", "stderr", "status", *FLAGS)
@@ -63,6 +65,7 @@ def escaped(line):
 
 
 def unescaped(content, file):
+    # (what is no escape goes, and then the case has another form)
     def unescape(found):
         return file if found[1] == b"FILE" else MEANT.get(found[1]) or bytes.fromhex(found[1][1:].decode())
 
@@ -79,7 +82,7 @@ def section_text(name, content, is_beside, file):
     if is_beside or len(content) > MOST:
         return f"{name}, beside:\n"
     is_unended = content[-1:] not in (b"", b"\n")
-    text, named = (bytes_.decode("utf-8", "surrogateescape") for bytes_ in (content, file))
+    text, named = (it.decode("utf-8", "surrogateescape") for it in (content, file))
     lines = text.replace(named, FILE).split("\n")
     lines = lines if is_unended else lines[:-1]
     is_escaped = any(map(UNSEEN.search, lines))
@@ -123,7 +126,7 @@ def heads_and_lines(text):
 
 
 def read_sections(path, folder):
-    """The sections that a text has, as bytes for the folder in which it is unpacked, and the names of those that lie beside it."""
+    """The sections that a text has, as they are unpacked in a folder, and the names of those that lie beside it."""
     found = heads_and_lines(path.read_bytes().decode())
     sections = {head[1]: content_of(path, folder, head, lines) for head, lines in found}
     if len(sections) < len(found):
@@ -142,7 +145,7 @@ def look_at_words(path, sections):
 
 
 def read_case(path, folder):
-    """The sections of a case, as bytes for the folder in which it is unpacked, and the names of those that lie beside it."""
+    """The sections of a case, as they are unpacked in a folder, and the names of those that lie beside it."""
     sections, beside = read_sections(path, folder)
     for name in REQUIRED:
         if name not in sections:
