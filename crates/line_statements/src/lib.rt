@@ -16,6 +16,5 @@ pub use statement::{
 };
 pub use words::{
     begins, begins_with, behind_blanks, behind_keyword, behind_keyword_of, behind_word,
-    blank_length, end_stripped, ends_word, first_place, place_of, skip_word,
-    stripped,
+    blank_length, end_stripped, ends_word, first_place, place_of, skip_word, stripped,
 };

@@ -9,9 +9,12 @@ use crate::arrow::arrow_of;
 use crate::names::is_listed;
 use crate::note::{Note, add_names, note_of};
 use crate::participant::{behind_participant, participant_of};
-use line_statements::{End, Group, NoteAt, Place, Said, Statement, begins_with, behind_blanks, behind_keyword, behind_keyword_of, behind_word, first_place, skip_word, stripped};
-use text_bytes::is_blank;
+use line_statements::{
+    End, Group, NoteAt, Place, Said, Statement, begins_with, behind_blanks, behind_keyword,
+    behind_keyword_of, behind_word, first_place, skip_word, stripped,
+};
 use std::alloc::AllocError;
+use text_bytes::is_blank;
 
 /// What a statement means.
 #[derive(Clone, Copy, Debug)]

@@ -7,9 +7,12 @@ ghost use Rattle.plantuml_statements.specs.Looks.{is_set_for, setting_rest, is_n
 ghost use Rattle.plantuml_statements.specs.Looks.{header_block, block_of, is_page, is_footbox, are_bars, is_space, is_duration, behind_look_word, behind_other_look_word, is_look_word};
 ghost use Rattle.plantuml_statements.specs.Looks.{is_late_look};
 
-use line_statements::{begins_with, behind_blanks, behind_keyword, behind_keyword_of, behind_word, blank_length, place_of, skip_word};
-use text_bytes::{is_blank, is_spelled};
+use line_statements::{
+    begins_with, behind_blanks, behind_keyword, behind_keyword_of, behind_word, blank_length,
+    place_of, skip_word,
+};
 use plantuml_arrows::{Class, begins_blank, behind_brace, behind_gap, behind_run, colon_tail};
+use text_bytes::{is_blank, is_spelled};
 
 /// The words that are about how the diagram looks.
 const LOOK_WORDS: [&[u8]; 6] = [

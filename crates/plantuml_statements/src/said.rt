@@ -12,9 +12,12 @@ use crate::life::{life_of, short_life_of, switch_of};
 use crate::look::{Block, block_of, is_early_look, is_late_look};
 use crate::note::{Note, behind_comma, note_of, reference_of};
 use crate::participant::participant_of;
-use line_statements::{Group, NoteAt, Said, begins_with, behind_blanks, behind_keyword, behind_word, ends_word, stripped};
-use text_bytes::is_spelled;
+use line_statements::{
+    Group, NoteAt, Said, begins_with, behind_blanks, behind_keyword, behind_word, ends_word,
+    stripped,
+};
 use plantuml_arrows::{Class, Found, arrow_of, begins_blank, behind_colour, name_at, row_at};
+use text_bytes::is_spelled;
 
 /// What a statement means.
 #[derive(Clone, Copy, Debug)]
