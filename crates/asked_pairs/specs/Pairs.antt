@@ -2,7 +2,9 @@
 use Rattle.std.specs.Prelude.{ℕ, nat_lt, List, Option, None, Some, Result, Ok, Err, if◌then◌else◌}
 use Rattle.chart.specs.declared.event.Event.{Event}
 use Rattle.chart.specs.Events.{ith}
-use Rattle.chart.specs.Charts.{LineView, chart_lines}
+use Rattle.chart.specs.Charts.{Chart, LineView, IsReceiveFrom, chart_lines}
+use Rattle.chart.specs.Order.{IsEarlier}
+use Rattle.closure.specs.Faults.{place_of}
 use Rattle.named_refusals.specs.declared.missing.Missing.TheVariants.{Instance}
 use Rattle.named_refusals.specs.NamedRefusals.{missing_on}
 use Rattle.named_refusals.specs.Asked.{instance_said, has_event}

@@ -4,8 +4,8 @@ ghost use Rattle.diagram_imports.specs.Shown.{before, without_lines, from_column
 
 use diagrams::Place;
 use line_statements::behind_line;
-use text_bytes::printable;
 use std::alloc::{AllocError, Global};
+use text_bytes::printable;
 
 /// The place of the first such byte.
 fn place_of(text: &[u8], byte: u8) -> Option<usize>

@@ -7,7 +7,9 @@ ghost use Rattle.mermaid_text.specs.Participants.{split_in, participant_of, Labe
 
 use crate::names::is_listed;
 use crate::text::text_of;
-use line_statements::{End, Said, behind_blanks, behind_keyword, behind_keyword_of, end_stripped, ends_word, place_of};
+use line_statements::{
+    End, Said, behind_blanks, behind_keyword, behind_keyword_of, end_stripped, ends_word, place_of,
+};
 use text_bytes::is_blank;
 
 /// A label, and how many bytes stand before its `as`.

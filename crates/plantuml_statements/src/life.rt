@@ -6,8 +6,8 @@ ghost use Rattle.plantuml_statements.specs.Sayings.{meaning_view, are_colours, v
 
 use crate::said::Meaning;
 use line_statements::{Said, behind_blanks, behind_word};
-use text_bytes::is_spelled;
 use plantuml_arrows::{Class, behind_colour, behind_gap, name_at, run_at};
+use text_bytes::is_spelled;
 
 /// Whether nothing but colours comes next: two at most.
 #[tactic(auto, unfolding(crate::specs::Sayings::are_colours))]

@@ -6,8 +6,8 @@ ghost use Rattle.plantuml_statements.specs.Participants.{opens, with_decoration,
 ghost use Rattle.plantuml_statements.specs.Participants.{behind_create, behind_kind, kind_in, participant_of};
 
 use line_statements::{End, begins, begins_with, behind_keyword_of, behind_word, blank_length};
-use text_bytes::is_blank;
 use plantuml_arrows::{Class, behind_gap, name_at, quoted_at, run_at, run_length};
+use text_bytes::is_blank;
 
 /// The words that say what a participant is.
 const KINDS: [&[u8]; 8] = [

@@ -3,8 +3,8 @@ ghost use Rattle.std.specs.Prelude.{◌≡◌};
 ghost use Rattle.plantuml_text.specs.Ends.{is_end_of, is_brace, brace_depth, is_bracket, ends_block, braces, behind_block};
 
 use line_statements::behind_word;
-use text_bytes::{is_blank, is_spelled};
 use plantuml_statements::{Block, ends_with_brace};
+use text_bytes::{is_blank, is_spelled};
 
 /// Whether a line is `end` and this word, with one blank between them or none.
 #[tactic(auto, unfolding(crate::specs::Ends::is_end_of))]

@@ -4,6 +4,7 @@ use Rattle.std.specs.Borrow.{Bor}
 use Rattle.std.specs.List.{list_any, IsDistinct, range_with_len}
 use Rattle.msc_text.specs.Lines.{parts}
 use Rattle.files.specs.declared.error.ProgramError.TheVariants as errors
+use Rattle.named_refusals.specs.Naming.{instance_said}
 use Rattle.wanted_columns.specs.declared.error.FormatError.{FormatError}
 use Rattle.wanted_columns.specs.declared.error.FormatError.TheVariants.{Program, NoSuchName}
 use Rattle.named_refusals.specs.Asked.{instance_said}

@@ -7,6 +7,7 @@ use Rattle.chart.specs.Histories.{sent, received, chart_of}
 use Rattle.chart.specs.Charts.{Place}
 use Rattle.run_steps.specs.declared.step.Step.{Step}
 use Rattle.run_steps.specs.declared.step.Step.TheVariants.{Send, Receive}
+use Rattle.run_steps.specs.Steps.{history_of, maker_of, turn_of}
 use Rattle.witness.specs.declared.turned.Turned.{Turned}
 use Rattle.witness.specs.Tables.{AreCounts, AreFlags}
 use Rattle.real_races.specs.Walks.{Wanted, raise}
