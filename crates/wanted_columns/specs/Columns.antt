@@ -4,10 +4,9 @@ use Rattle.std.specs.Borrow.{Bor}
 use Rattle.std.specs.List.{list_any, IsDistinct, range_with_len}
 use Rattle.msc_text.specs.Lines.{parts}
 use Rattle.files.specs.declared.error.ProgramError.TheVariants as errors
-use Rattle.named_refusals.specs.Naming.{instance_said}
+use Rattle.named_refusals.specs.Asked.{instance_said}
 use Rattle.wanted_columns.specs.declared.error.FormatError.{FormatError}
 use Rattle.wanted_columns.specs.declared.error.FormatError.TheVariants.{Program, NoSuchName}
-use Rattle.named_refusals.specs.Asked.{instance_said}
 
 -- these are the instances that the words name, in this order, and none is named twice
 pub record AreNamed (names words : List (List ℕ)) (columns : List ℕ) : Type 0 where
