@@ -1,5 +1,5 @@
 """Times mscrun's check and mscview's draw of three charts of 32 lines with 4,096 events each, and tells their peak memory:
-a token that is passed round, mixed traffic, and bursts of 64 messages, which library_bench makes. A check that is written by
+a token that is passed round, mixed traffic, and bursts of 64 messages, which bench_library makes. A check that is written by
 hand in C (bench/peers/check.c) takes its turns with them, where there is a C compiler: both have to write the same races.
 With the path of another mscrun its check does so too. The ratios of each turn's times are told by their median.
 
@@ -39,7 +39,7 @@ def main(folder, *others):
     commands = {"check": (os.path.join(folder, "mscrun"), "check"), "draw": (os.path.join(folder, "mscview"), "draw")}
     if others:
         commands["other check"] = (others[0], "check")
-    maker = os.path.join(folder, "library_bench")
+    maker = os.path.join(folder, "bench_library")
     with tempfile.TemporaryDirectory() as room:
         program = by_hand(room)
         if program:

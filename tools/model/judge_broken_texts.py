@@ -1,7 +1,7 @@
 """
 Compares what the program answers to broken texts with what the plain model does.
 
-`judge_broken_texts.py BREAKER COUNT SEED FILE..`: the program `text_breaker` breaks the texts of the files so many times,
+`judge_broken_texts.py BREAKER COUNT SEED FILE..`: the program `fuzz_texts` breaks the texts of the files so many times,
 and tells each broken text with its answer. What it prints at the end is compared too, and printed again, so that it may be
 compared with what it prints where it tells no text.
 """

@@ -1,4 +1,4 @@
-"""Races that go by one message more, by the definitions of crates/mending/specs, and a plain search for such messages."""
+"""Races that go by one message more, by the definitions of crates/repair/specs, and a plain search for such messages."""
 
 from charts import events_before, places, sends_of_receives
 from chart_texts import Chart, Event

@@ -1,7 +1,7 @@
 """
-Prints crates/replay_tests/src/stored.rt, in which tests find what the plain model says that schedules come to:
+Prints crates/test_replay/src/stored.rt, in which tests find what the plain model says that schedules come to:
 
-    tools/lib/with_python tools/model/stored_replays.py >crates/replay_tests/src/stored.rt
+    tools/lib/with_python tools/model/stored_replays.py >crates/test_replay/src/stored.rt
 """
 
 import hashlib

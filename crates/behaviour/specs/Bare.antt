@@ -7,9 +7,7 @@ use Rattle.behaviour.specs.declared.answer.Answer.TheVariants as answer
 use Rattle.behaviour.specs.declared.bare_act.BareAct.{BareAct}
 use Rattle.behaviour.specs.declared.bare_act.BareAct.TheVariants.{Send, Receive, Any, Close, Open, Shut, Stop}
 use Rattle.behaviour.specs.declared.bare_answer.BareAnswer.{BareAnswer}
-use Rattle.behaviour.specs.declared.bare_answer.BareAnswer.TheVariants.{Start, Sent, Unsent, Got, Nothing, Ended}
-use Rattle.behaviour.specs.declared.bare_answer.BareAnswer.TheVariants.{Unreceived, NowClosed, Unclosed, Marked}
-use Rattle.behaviour.specs.declared.bare_answer.BareAnswer.TheVariants.{Unmarked}
+use Rattle.behaviour.specs.declared.bare_answer.BareAnswer.TheVariants.{Start, Sent, Unsent, Got, Nothing, Ended, Unreceived, NowClosed, Unclosed, Marked, Unmarked}
 
 -- an act by its kind, its partner and its message's name
 abbrev pub bare_act : Act → BareAct

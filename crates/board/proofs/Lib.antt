@@ -9,6 +9,7 @@ pub mod EndLemmas
 pub mod FilledSlots
 pub mod Finding
 pub mod Leavers
+pub mod LongRunsLemmas
 pub mod Looking
 pub mod Meetings
 pub mod NoteLemmas
@@ -21,10 +22,10 @@ pub mod ReceiveAnswers
 pub mod Receives
 pub mod Rooms
 pub mod RoomsMade
+pub mod Scanning
 pub mod SendAllAnswers
 pub mod SendAnswers
-pub mod Scanning
 pub mod SentAtOnce
 pub mod SeveralSends
-pub mod WholeBoards
 pub mod Untaught
+pub mod WholeBoards

@@ -5,6 +5,7 @@ pub mod Found
 pub mod Gathering
 pub mod Glancing
 pub mod Known
+pub mod LongRuns
 pub mod Meeting
 pub mod Parked
 pub mod Parting

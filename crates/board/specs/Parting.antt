@@ -1,6 +1,5 @@
 -- What the parts of a gathering tell each other (this project's profile).
-use Rattle.std.specs.Prelude.{◌≡◌, ℕ, suc, ◌+◌, ◌<◌, ◌≤◌, ◌==◌, List, [], ◌∷◌, ◌++◌, length, map, filter, take, drop}
-use Rattle.std.specs.Prelude.{All, slice_get, vec_capacity, Option, Some}
+use Rattle.std.specs.Prelude.{◌≡◌, ℕ, suc, ◌+◌, ◌<◌, ◌≤◌, ◌==◌, List, [], ◌∷◌, ◌++◌, length, map, filter, take, drop, All, slice_get, vec_capacity, Option, Some}
 use Rattle.std.specs.Global.{Vec}
 use Rattle.chart.specs.Words.{Instance}
 use Rattle.chart.specs.declared.event.Event.{Event}

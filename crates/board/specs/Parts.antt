@@ -6,8 +6,7 @@ use Rattle.line_recorder.specs.Recorders.{RecorderView}
 use Rattle.line_recorder.specs.Recording.{IsRecorder}
 use Rattle.board_table.specs.Layout.{LaneView}
 use Rattle.board.specs.declared.error.SendError.{SendError}
-use Rattle.board.specs.declared.error.SendError.TheVariants.{NoSuchInstance, ToItself, InCoregion, Closed, TooMany}
-use Rattle.board.specs.declared.error.SendError.TheVariants.{LineFull, Full, Memory}
+use Rattle.board.specs.declared.error.SendError.TheVariants.{NoSuchInstance, ToItself, InCoregion, Closed, TooMany, LineFull, Full, Memory}
 use Rattle.board.specs.declared.ends.Outgoing.{Outgoing}
 use Rattle.board.specs.Known.{IsOutgoing, Did}
 use Rattle.board_table.specs.Knowing.{Mine, held, packets_out, vacant_out, Rests, IsFilling}

@@ -27,6 +27,7 @@ mod ends;
 mod error;
 mod gathering;
 mod glance;
+pub mod long_runs;
 mod meeting;
 mod opening;
 mod parked;

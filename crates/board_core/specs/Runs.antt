@@ -9,8 +9,7 @@ use Rattle.lane_core.specs.Steps as lane
 use Rattle.lane_core.specs.IndexWords.{MayFollow as MayBeOnLane}
 use Rattle.line_recorder.specs.Recorders.{RecorderView, after_receive, IsReportOf}
 use Rattle.board_core.specs.Parcels.{Parcel}
-use Rattle.board_core.specs.Steps.{Step, Sender_loads, Fills, Publishes, Closes, Receiver_loads, Takes, Puts_back}
-use Rattle.board_core.specs.Steps.{Frees, Opens, Shuts}
+use Rattle.board_core.specs.Steps.{Step, Sender_loads, Fills, Publishes, Closes, Receiver_loads, Takes, Puts_back, Frees, Opens, Shuts}
 use Rattle.board_core.specs.World.{World, new_world, after, filled, taken, parcel_of}
 
 -- An instance that has parcels in its hands is in the midst of a call, on their lane. It makes one call at a time.

@@ -12,8 +12,7 @@ use Rattle.lane_core.specs.Traffic.{with_at}
 use Rattle.lane_core.specs.IndexWords.{IndexLane, new_lane, after as lane_with}
 use Rattle.line_recorder.specs.Recorders.{RecorderView, new_recorder, send_clock, after_sends, after_receive}
 use Rattle.board_core.specs.Parcels.{Parcel, names}
-use Rattle.board_core.specs.Steps.{Step, Sender_loads, Fills, Publishes, Closes, Receiver_loads, Takes, Puts_back}
-use Rattle.board_core.specs.Steps.{Frees, Opens, Shuts}
+use Rattle.board_core.specs.Steps.{Step, Sender_loads, Fills, Publishes, Closes, Receiver_loads, Takes, Puts_back, Frees, Opens, Shuts}
 
 pub record World : Type 0 where
   -- by sender and receiver

@@ -1,6 +1,5 @@
 -- What a seat at a board's table knows, and how that grows (this project's profile).
-use Rattle.std.specs.Prelude.{◌≡◌, ℕ, ◌+◌, ◌==◌, List, [], ◌∷◌, ◌++◌, length, take, drop, Option, cond, leb}
-use Rattle.std.specs.Prelude.{if◌then◌else◌}
+use Rattle.std.specs.Prelude.{◌≡◌, ℕ, ◌+◌, ◌==◌, List, [], ◌∷◌, ◌++◌, length, take, drop, Option, cond, leb, if◌then◌else◌}
 use Rattle.chart.specs.Words.{Clock}
 use Rattle.atomic_table.specs.Table.{Me}
 use Rattle.chart.specs.declared.history.Occurrence.{Occurrence}

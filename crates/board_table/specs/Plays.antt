@@ -6,8 +6,7 @@ use Rattle.chart.specs.Histories.{own, sent, received, is_closed, IsLegal, Begin
 use Rattle.board_table.specs.declared.held.Held.{Held}
 use Rattle.board_table.specs.Layout.{LaneView}
 use Rattle.board_table.specs.Carrying.{with_sent, with_received}
-use Rattle.board_table.specs.Knowing.{Mine, many_out, held, packets_out, vacant_out, IsPost, Rests, IsFilling}
-use Rattle.board_table.specs.Knowing.{IsEmptying, Sees, Moves, at_rest, first_of, later_of, longer, met}
+use Rattle.board_table.specs.Knowing.{Mine, many_out, held, packets_out, vacant_out, IsPost, Rests, IsFilling, IsEmptying, Sees, Moves, at_rest, first_of, later_of, longer, met}
 use Rattle.board_table.specs.Rule.{closed_bit}
 
 -- The sender has taken all slots of the lane that are free: as many as the capacity leaves beside the messages that

@@ -7,8 +7,8 @@ pub mod Cycles
 pub mod Entries
 pub mod Existence
 pub mod Growing
-pub mod Histories
 pub mod HeldNames
+pub mod Histories
 pub mod HistoryLines
 pub mod InRegions
 pub mod Knowledge
@@ -23,9 +23,11 @@ pub mod Regions
 pub mod ReportLists
 pub mod Reports
 pub mod Rising
+pub mod RunStepsLemmas
 pub mod Runs
 pub mod SameBytes
 pub mod Scans
 pub mod Sends
+pub mod StableOrderLemmas
 pub mod Steps
 pub mod Tally

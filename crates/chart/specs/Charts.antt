@@ -1,7 +1,6 @@
 -- Charts, and which send a receive belongs to (ITU-T Z.120: a message is its output and its input event; lanes are
 -- first in, first out, as Alur, Holzmann and Peled 1996 have them).
-use Rattle.std.specs.Prelude.{◌≡◌, ◌≢◌, ℕ, zero, suc, ◌<◌, ◌≤◌, true, List, [], length, slice_index_or, slice_get}
-use Rattle.std.specs.Prelude.{Option, Some, count_by, All}
+use Rattle.std.specs.Prelude.{◌≡◌, ◌≢◌, ℕ, zero, suc, ◌<◌, ◌≤◌, true, List, [], length, slice_index_or, slice_get, Option, Some, count_by, All}
 use Rattle.chart.specs.Words.{Instance, Index}
 use Rattle.chart.specs.declared.history.Occurrence.{Occurrence}
 use Rattle.chart.specs.declared.event.Event.{Event}

@@ -4,8 +4,7 @@ use Rattle.std.specs.Prelude.{Bool, List, [], ◌∷◌, codes, bytes_eq}
 use Rattle.std.specs.List.{list_any}
 use Rattle.chart.specs.Words.{Text}
 use Rattle.chart.specs.declared.keyword.Keyword.{Keyword}
-use Rattle.chart.specs.declared.keyword.Keyword.TheVariants.{Msc, EndMsc, Instance, EndInstance, Out, To, In, From}
-use Rattle.chart.specs.declared.keyword.Keyword.TheVariants.{Concurrent, EndConcurrent}
+use Rattle.chart.specs.declared.keyword.Keyword.TheVariants.{Msc, EndMsc, Instance, EndInstance, Out, To, In, From, Concurrent, EndConcurrent}
 
 -- how the word is spelled
 unfoldable pub spelled : Keyword → Text

@@ -1,7 +1,6 @@
 -- The laws of charts: statements that the functions of `laws` prove. Those of knowledge and of what is heard are vector
 -- time's (Fidge 1988, Mattern 1989); the others are this project's profile, over the definitions that they cite.
-use Rattle.std.specs.Prelude.{◌≡◌, ℕ, ◌+◌, ◌<◌, ◌≤◌, ◌↔◌, ◌⊎◌, max, List, [], ◌∷◌, ◌++◌, take, length, slice_get, Some}
-use Rattle.std.specs.Prelude.{Err}
+use Rattle.std.specs.Prelude.{◌≡◌, ℕ, ◌+◌, ◌<◌, ◌≤◌, ◌↔◌, ◌⊎◌, max, List, [], ◌∷◌, ◌++◌, take, length, slice_get, Some, Err}
 use Rattle.chart.specs.Words.{Indices}
 use Rattle.chart.specs.declared.history.Occurrence.{Occurrence}
 use Rattle.chart.specs.declared.history.Occurrence.TheVariants.{Send, Receive, Close}
@@ -9,8 +8,7 @@ use Rattle.chart.specs.declared.event.Event.{Event}
 use Rattle.chart.specs.Messages.{Content}
 use Rattle.chart.specs.Events.{send_event, receive_event}
 use Rattle.chart.specs.Histories.{by, sent, received, waiting, chart_of, IsLegal, Begins}
-use Rattle.chart.specs.Charts.{Chart, Place, at, chart_event, IsSendTo, IsReceiveFrom, BelongsTo, HasNoSend}
-use Rattle.chart.specs.Charts.{HasOtherName}
+use Rattle.chart.specs.Charts.{Chart, Place, at, chart_event, IsSendTo, IsReceiveFrom, BelongsTo, HasNoSend, HasOtherName}
 use Rattle.chart.specs.Places.{IsEvent, IsSendAfter}
 use Rattle.chart.specs.Order.{Before, IsCyclic, IsReport, IsRaces, region_of_event}
 use Rattle.chart.specs.Knowing.{IsKnown, IsGreatestHeard}

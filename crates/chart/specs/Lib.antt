@@ -1,11 +1,11 @@
 pub mod Charts
+pub mod Events
 pub mod Histories
 pub mod HistoryLines
 pub mod Keywords
 pub mod Knowing
 pub mod Laws
 pub mod LineLayout
-pub mod Events
 pub mod Messages
 pub mod NameSets
 pub mod Names
@@ -14,6 +14,8 @@ pub mod Padding
 pub mod Places
 pub mod Ranges
 pub mod Reports
+pub mod RunSteps
 pub mod Runs
 pub mod Scans
+pub mod StableOrder
 pub mod Words

@@ -1,6 +1,5 @@
 -- What a line that grows keeps: for each event an entry, which says where its runs start too (this project's profile).
-use Rattle.std.specs.Prelude.{◌≡◌, ℕ, suc, ◌+◌, ◌<◌, ◌≤◌, List, [], ◌∷◌, ◌++◌, length, map, slice_get}
-use Rattle.std.specs.Prelude.{slice_index_or, Some, All, if◌then◌else◌}
+use Rattle.std.specs.Prelude.{◌≡◌, ℕ, suc, ◌+◌, ◌<◌, ◌≤◌, List, [], ◌∷◌, ◌++◌, length, map, slice_get, slice_index_or, Some, All, if◌then◌else◌}
 use Rattle.chart.specs.Words.{Instance, Name}
 use Rattle.chart.specs.declared.event.Event.{Event}
 use Rattle.chart.specs.declared.growing_line.Entry.{Entry}

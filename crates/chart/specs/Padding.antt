@@ -1,6 +1,5 @@
 -- A name's bytes as they are held, in a place of a fixed size (this project's profile).
-use Rattle.std.specs.Prelude.{ℕ, ◌-◌, ◌==◌, List, ◌++◌, length, take, replicate, nat_le, slice_index, slice_set}
-use Rattle.std.specs.Prelude.{if◌then◌else◌}
+use Rattle.std.specs.Prelude.{ℕ, ◌-◌, ◌==◌, List, ◌++◌, length, take, replicate, nat_le, slice_index, slice_set, if◌then◌else◌}
 use Rattle.chart.specs.declared.name.TheConstants.{MAX_NAME}
 
 -- the name's bytes; behind fewer than the most zeros, and in the last place how many there are too few

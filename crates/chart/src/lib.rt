@@ -24,12 +24,15 @@ mod instance;
 mod keyword;
 pub mod laws;
 mod line;
+pub mod line_events;
 mod message;
 mod message_names;
 mod name;
 mod names;
 mod ranges;
 mod report;
+pub mod run_steps;
+pub mod stable_order;
 
 pub use chart::{Chart, LinesError};
 pub use event::Event;

@@ -1,5 +1,7 @@
 pub mod BeforeLemmas
+pub mod ChainLemmas
 pub mod Circles
+pub mod CycleLemmas
 pub mod Impossible
 pub mod KnowLemmas
 pub mod LinkLemmas

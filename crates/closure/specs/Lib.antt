@@ -1,5 +1,7 @@
 pub mod Audits
+pub mod Chain
 pub mod Closures
+pub mod Cycle
 pub mod Faults
 pub mod Links
 pub mod Reported

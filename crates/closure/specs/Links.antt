@@ -5,8 +5,7 @@ use Rattle.chart.specs.Words.{Counts}
 use Rattle.chart.specs.declared.event.Event.{Event}
 use Rattle.chart.specs.declared.instance.EventNo.{EventNo}
 use Rattle.chart.specs.Events.{ith, tally, is_send_to, is_receive_from, name_of}
-use Rattle.chart.specs.Charts.{Chart, Place, at, chart_event, LineView, IsSendTo, BelongsTo, HasNoSend, HasOtherName}
-use Rattle.chart.specs.Charts.{chart_lines}
+use Rattle.chart.specs.Charts.{Chart, Place, at, chart_event, LineView, IsSendTo, BelongsTo, HasNoSend, HasOtherName, chart_lines}
 use Rattle.closure.specs.declared.error.ChartError.{ChartError}
 use Rattle.closure.specs.declared.error.ChartError.TheVariants.{ReceiveWithoutSend, NameMismatch, Cyclic, Memory}
 use Rattle.closure.specs.declared.linking.Fault.{Fault}

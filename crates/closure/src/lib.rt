@@ -16,8 +16,10 @@
 //!   ([`audit`]).
 #![tactic(auto)]
 
+pub mod chain;
 mod checking;
 mod closure;
+pub mod cycle;
 mod error;
 mod knowing;
 mod linked;

@@ -7,8 +7,8 @@ ghost use Rattle.closure.specs.Links.{IsPartner};
 
 use crate::partner::Partner;
 use crate::row::{Row, value_at};
+use chart::line_events::{event_at, len_of, line_of};
 use chart::{Event, Line};
-use line_events::{event_at, len_of, line_of};
 use std::marker::Model;
 
 /// The lines of a chart, with the partner of each event. A contract sees the lines.

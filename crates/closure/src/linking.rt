@@ -10,8 +10,8 @@ use crate::error::ChartError;
 use crate::numbers::Numbers;
 use crate::partner::Partner;
 use crate::row::Row;
+use chart::line_events::{event_at, events_at, len_of};
 use chart::{Event, EventNo, InstanceNo, Line, Name};
-use line_events::{event_at, events_at, len_of};
 use std::alloc::Global;
 
 /// What is wrong with a receive.

@@ -1,6 +1,6 @@
 -- The messages of a diagram that stay are messages of which a chart can be drawn.
 use Rattle.std.proofs.Common.{◌≡◌, ℕ, List, [], Option, None, Some, Result, Ok, Err, length, refl, sym, ap, subst}
-use Rattle.label_names.specs.Labels.{none}
+use Rattle.diagram_labels.specs.Labels.{none}
 use Rattle.diagrams.specs.Collecting.{CollectedView, nothing, collected}
 use Rattle.diagrams.specs.Crossing.{fault_from}
 use Rattle.diagrams.specs.Diagrams.{ItemView}
@@ -9,7 +9,7 @@ use Rattle.diagrams.specs.Full.{full_from}
 use Rattle.diagrams.specs.Losing.{kept, with_lost}
 use Rattle.diagrams.specs.Naming.{named_from}
 use Rattle.diagrams.specs.Placing.{first_misplaced}
-use Rattle.message_charts.specs.Following.{AreDrawn}
+use Rattle.diagrams.specs.Messages.Following.{AreDrawn}
 use Rattle.diagrams.specs.declared.drawn.DrawError.{DrawError}
 use Rattle.diagrams.specs.declared.left_out.LeftOut.{LeftOut}
 use Rattle.diagrams.specs.declared.message.Message.{Message}

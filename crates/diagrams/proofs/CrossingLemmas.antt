@@ -9,7 +9,7 @@ use Rattle.diagrams.specs.Crossing.{is_received, overtakes, crosses, fault_besid
 use Rattle.diagrams.specs.Ends.{furthest, AreFurthest}
 use Rattle.diagrams.specs.Lanes.{is_on, Numbers, AreNumbers, changed}
 use Rattle.diagrams.specs.declared.message.Message.{Message}
-use Rattle.message_charts.proofs.ListLemmas.{from_here}
+use Rattle.diagrams.proofs.MessagesLemmas.ListLemmas.{from_here}
 use Rattle.diagrams.proofs.LaneTables.{numbers-same}
 
 -- a lost message isn't received

@@ -5,22 +5,22 @@ use Rattle.std.proofs.lemmas.Bool.{ltb-false}
 use Rattle.std.proofs.lemmas.List.{length-append}
 use Rattle.chart.specs.Charts.{LineView}
 use Rattle.chart.specs.declared.instance.TheConstants.{MAX_INSTANCES}
-use Rattle.label_names.specs.Giving.{called}
-use Rattle.label_names.specs.Labels.{none}
-use Rattle.label_names.specs.Spelling.{spelled}
+use Rattle.diagram_labels.specs.Giving.{called}
+use Rattle.diagram_labels.specs.Labels.{none}
+use Rattle.diagram_labels.specs.Spelling.{spelled}
 use Rattle.diagrams.specs.Collecting.{CollectedView, collected}
 use Rattle.diagrams.specs.Diagrams.{ParticipantView, ItemView, DiagramView, participant_view}
 use Rattle.diagrams.specs.Drawing.{DrawnView, staying, drawn_of, drawn_by, has_no_chart, drawn, Fails, ◌>>=◌}
-use Rattle.label_names.specs.Renaming.{renamed_from}
+use Rattle.diagram_labels.specs.Renaming.{renamed_from}
 use Rattle.diagrams.specs.Naming.{names_from, named_from, labels_from}
-use Rattle.message_charts.specs.Lines.{lines_from}
-use Rattle.message_charts.specs.Turns.{all_ends}
+use Rattle.diagrams.specs.Messages.Lines.{lines_from}
+use Rattle.diagrams.specs.Messages.Turns.{all_ends}
 use Rattle.diagrams.specs.declared.diagram.Participant.{Participant}
 use Rattle.diagrams.specs.declared.drawn.DrawError.{DrawError}
 use Rattle.diagrams.specs.declared.drawn.DrawError.TheVariants.{Memory, Instances, LineFull, NotPossible}
 use Rattle.diagrams.specs.declared.left_out.LeftOut.{LeftOut}
 use Rattle.diagrams.specs.declared.message.Message.{Message}
-use Rattle.message_charts.proofs.LinesLemmas.{length-lines}
+use Rattle.diagrams.proofs.MessagesLemmas.LinesLemmas.{length-lines}
 
 -- a step that failed decides
 fails_first : {A B : Type 0} (error : DrawError) (r : Result A DrawError) (f : A → Result B DrawError) → Fails error r → Fails error (r >>= f)

@@ -7,7 +7,7 @@ use Rattle.chart.specs.declared.line.TheConstants.{MAX_EVENTS}
 use Rattle.diagrams.specs.Full.{receives, load, is_full, full_from}
 use Rattle.diagrams.specs.Loads.{AreCounts, AreLoads, raised}
 use Rattle.diagrams.specs.declared.message.Message.{Message}
-use Rattle.message_charts.proofs.ListLemmas.{from_here}
+use Rattle.diagrams.proofs.MessagesLemmas.ListLemmas.{from_here}
 
 -- of no messages there are none
 pub none_loaded : (table : List ℕ) → AreCounts table (λ p. 0) → AreLoads table []

@@ -1,7 +1,7 @@
 -- A diagram's items, one after the other.
 use Rattle.std.proofs.Common.{◌≡◌, ℕ, ◌+◌, ◌<◌, ◌≤◌, List, length, map, drop, get_or, refl}
 use Rattle.std.proofs.lemmas.List.{drop_all}
-use Rattle.message_charts.proofs.ListLemmas.{from_here}
+use Rattle.diagrams.proofs.MessagesLemmas.ListLemmas.{from_here}
 use Rattle.diagrams.specs.declared.diagram.Item.{Item}
 use Rattle.diagrams.specs.Collecting.{CollectedView, with_item, with_items}
 use Rattle.diagrams.specs.Diagrams.{item_view}

@@ -5,6 +5,7 @@ pub mod FullLemmas
 pub mod ItemLemmas
 pub mod LaneTables
 pub mod LosingLemmas
+pub mod MessagesLemmas
 pub mod NamingLemmas
 pub mod PlacedLemmas
 pub mod PlacingLemmas

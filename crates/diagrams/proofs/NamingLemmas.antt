@@ -3,15 +3,15 @@ use Rattle.std.proofs.Common.{◌≡◌, ℕ, ◌+◌, ◌<◌, ◌≤◌, Bool,
 use Rattle.std.proofs.lemmas.List.{drop_all, append-nil}
 use Rattle.std.specs.Prelude.{MatchBool, Contains}
 use Rattle.chart.proofs.NameLists.{not_there}
-use Rattle.label_names.specs.Giving.{is_given, called, IsFreeNumbered, IsCalled}
-use Rattle.label_names.specs.Labels.{Labelling, with_label, name_of}
-use Rattle.label_names.specs.Spelling.{spelled}
+use Rattle.diagram_labels.specs.Giving.{is_given, called, IsFreeNumbered, IsCalled}
+use Rattle.diagram_labels.specs.Labels.{Labelling, with_label, name_of}
+use Rattle.diagram_labels.specs.Spelling.{spelled}
 use Rattle.diagrams.specs.Diagrams.{ItemView, participant_view}
 use Rattle.diagrams.specs.Naming.{names_from, label_at, named_as, labels_from, named_from}
 use Rattle.diagrams.specs.declared.diagram.Participant.{Participant}
 use Rattle.diagrams.specs.declared.message.Message.{Message}
-use Rattle.message_charts.specs.declared.message.Named.{Named}
-use Rattle.message_charts.proofs.ListLemmas.{from_here}
+use Rattle.diagrams.specs.declared.messages.message.Named.{Named}
+use Rattle.diagrams.proofs.MessagesLemmas.ListLemmas.{from_here}
 
 -- a name that a new label is called is none of those that were given
 pub not_among : (names : List (List ℕ)) (word name : List ℕ) → IsCalled names word name → Contains names name → ⊥

@@ -14,8 +14,8 @@ use Rattle.diagrams.specs.Placing.{row_of, place_of, is_arrow, is_placed, may_st
 use Rattle.diagrams.specs.declared.message.Message.{Message}
 use Rattle.diagrams.specs.declared.message.Waiting.{Waiting}
 use Rattle.diagrams.specs.declared.note_event.NoteEvent.{NoteEvent}
-use Rattle.message_charts.specs.Each.{Each, Pairs}
-use Rattle.message_charts.proofs.EachLemmas.{each_weaker, each_append, pairs_push, each_get, each_set}
+use Rattle.diagrams.specs.Messages.Each.{Each, Pairs}
+use Rattle.diagrams.proofs.MessagesLemmas.EachLemmas.{each_weaker, each_append, pairs_push, each_get, each_set}
 
 -- a message between two of n instances, sent in no row below this one, and not received above its send
 pub record IsCollected (n row : ℕ) (m : Message) : Type 0 where

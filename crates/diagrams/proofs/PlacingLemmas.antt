@@ -4,7 +4,7 @@ use Rattle.std.proofs.lemmas.List.{drop_all}
 use Rattle.diagrams.specs.Diagrams.{item_view}
 use Rattle.diagrams.specs.Placing.{row_of, place_of, may_stand, first_misplaced}
 use Rattle.diagrams.specs.declared.diagram.Item.{Item}
-use Rattle.message_charts.proofs.ListLemmas.{from_here}
+use Rattle.diagrams.proofs.MessagesLemmas.ListLemmas.{from_here}
 
 -- an item that may stand there, and one that may not
 pub placed_more : (count row next n : ℕ) (items : List Item) (i : Item) → n < length items → i ≡ get_or items n i → may_stand count row (item_view i) ≡ true → next ≡ row_of (item_view i)

@@ -5,22 +5,21 @@ use Rattle.std.specs.Prelude.{nat_lt, max}
 use Rattle.std.specs.List.{list_any}
 use Rattle.std.proofs.lemmas.Bool.{or_parts, eq-eqb, eqb-true, ltb-false}
 use Rattle.chart.specs.declared.line.TheConstants.{MAX_EVENTS}
-use Rattle.label_names.specs.Labels.{Labelling, with_label, name_of}
+use Rattle.diagram_labels.specs.Labels.{Labelling, with_label, name_of}
 use Rattle.diagrams.specs.Collecting.{first_line}
 use Rattle.diagrams.specs.Crossing.{is_received, overtakes, fault_beside, fault_with, fault_from}
 use Rattle.diagrams.specs.Diagrams.{ItemView}
 use Rattle.diagrams.specs.Full.{sends_of, receives_of, load, is_full, full_from}
 use Rattle.diagrams.specs.Losing.{is_received_later, is_left_out, kept}
 use Rattle.diagrams.specs.Naming.{label_at, named_as, named_from}
-use Rattle.message_charts.specs.Turns.{send_end, receive_end, all_ends, own_ends}
-use Rattle.message_charts.specs.declared.end.End.{End}
+use Rattle.diagrams.specs.Messages.Turns.{send_end, receive_end, all_ends, own_ends}
+use Rattle.diagrams.specs.declared.messages.end.End.{End}
 use Rattle.diagrams.specs.declared.message.Message.{Message}
-use Rattle.message_charts.specs.declared.message.Named.{Named}
-use Rattle.message_charts.specs.Each.{Each, Pairs}
-use Rattle.message_charts.proofs.EachLemmas.{each_front, each_back, each_weaker}
-use Rattle.message_charts.specs.Following.{Follows}
+use Rattle.diagrams.specs.declared.messages.message.Named.{Named}
+use Rattle.diagrams.specs.Messages.Each.{Each, Pairs}
+use Rattle.diagrams.proofs.MessagesLemmas.EachLemmas.{each_front, each_back, each_weaker}
+use Rattle.diagrams.specs.Messages.Following.{Follows, IsMessage, AreDrawn}
 use Rattle.diagrams.proofs.PlacedLemmas.{IsCollected, AreCollected, still_none}
-use Rattle.message_charts.specs.Following.{IsMessage, AreDrawn}
 
 -- No message overtakes an earlier one.
 

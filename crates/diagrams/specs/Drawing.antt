@@ -2,16 +2,16 @@
 use Rattle.std.specs.Prelude.{◌≡◌, ℕ, Bool, ◌||◌, nat_lt, List, [], length, map, Option, None, Some, Result, Ok, Err, if◌then◌else◌}
 use Rattle.chart.specs.Charts.{LineView}
 use Rattle.chart.specs.declared.instance.TheConstants.{MAX_INSTANCES}
-use Rattle.label_names.specs.Labels.{Labelling, none}
-use Rattle.label_names.specs.Renaming.{renamed_view, renamed_from}
+use Rattle.diagram_labels.specs.Labels.{Labelling, none}
+use Rattle.diagram_labels.specs.Renaming.{renamed_view, renamed_from}
 use Rattle.diagrams.specs.Collecting.{CollectedView, collected}
 use Rattle.diagrams.specs.Crossing.{fault_from}
 use Rattle.diagrams.specs.Diagrams.{ParticipantView, ItemView, DiagramView}
 use Rattle.diagrams.specs.Full.{full_from}
 use Rattle.diagrams.specs.Losing.{kept, with_lost}
 use Rattle.diagrams.specs.Naming.{names_from, labels_from, named_from}
-use Rattle.message_charts.specs.Lines.{lines_from}
-use Rattle.message_charts.specs.Turns.{all_ends}
+use Rattle.diagrams.specs.Messages.Lines.{lines_from}
+use Rattle.diagrams.specs.Messages.Turns.{all_ends}
 use Rattle.diagrams.specs.declared.drawn.DrawError.{DrawError}
 use Rattle.diagrams.specs.declared.drawn.DrawError.TheVariants.{Memory, Instances, LineFull, NotPossible}
 use Rattle.diagrams.specs.declared.drawn.Drawn.{Drawn}

@@ -1,4 +1,3 @@
-pub use Rattle.chart.specs.Names
 pub mod Collecting
 pub mod Crossing
 pub mod Diagrams
@@ -10,7 +9,9 @@ pub mod Later
 pub mod LeftOuts
 pub mod Loads
 pub mod Losing
+pub mod Messages
 pub mod Naming
 pub mod NoteEvents
 pub mod Places
 pub mod Placing
+pub use Rattle.chart.specs.Names

@@ -1,13 +1,13 @@
 -- The names of a diagram's participants and of its messages. Each participant has a name of its own; the same label of
 -- messages has the same name wherever it stands.
 use Rattle.std.specs.Prelude.{ℕ, List, [], ◌∷◌, ◌++◌, Option, None, Some, slice_get}
-use Rattle.label_names.specs.Giving.{called}
-use Rattle.label_names.specs.Labels.{Labelling, with_label, name_of}
-use Rattle.label_names.specs.Spelling.{spelled}
+use Rattle.diagram_labels.specs.Giving.{called}
+use Rattle.diagram_labels.specs.Labels.{Labelling, with_label, name_of}
+use Rattle.diagram_labels.specs.Spelling.{spelled}
 use Rattle.diagrams.specs.Diagrams.{ParticipantView, ItemView, AnArrow, ANote}
 use Rattle.diagrams.specs.NoteEvents.{SaidView, said_in}
 use Rattle.diagrams.specs.declared.message.Message.{Message}
-use Rattle.message_charts.specs.declared.message.Named.{Named}
+use Rattle.diagrams.specs.declared.messages.message.Named.{Named}
 
 -- the names after these, where these participants come
 unfoldable pub names_from : List (List ℕ) → List ParticipantView → List (List ℕ)

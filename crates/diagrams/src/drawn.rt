@@ -5,8 +5,8 @@ ghost use Rattle.diagrams.specs.Diagrams.{diagram_view, participant_view, item_v
 ghost use Rattle.diagrams.specs.Drawing.{Gives, staying, drawn_view, has_no_chart, drawn_of, drawn};
 ghost use Rattle.diagrams.specs.Naming.{named_from};
 ghost use Rattle.diagrams.specs.declared.drawn.DrawError.TheVariants.{Memory};
-ghost use Rattle.label_names.specs.Labels.{none};
-ghost use Rattle.message_charts.specs.Following.{AreDrawn};
+ghost use Rattle.diagram_labels.specs.Labels.{none};
+ghost use Rattle.diagrams.specs.Messages.Following.{AreDrawn};
 
 use crate::collecting::collect;
 use crate::crossing::first_fault;
@@ -15,11 +15,11 @@ use crate::full::first_full;
 use crate::left_out::LeftOut;
 use crate::losing::without_lost;
 use crate::message::Message;
+use crate::messages::chart_of;
 use crate::naming::{name_messages, names_of};
 use crate::renaming::told_names;
 use chart::{Chart, MAX_INSTANCES, Names};
-use label_names::{LabelNames, Renamed};
-use message_charts::chart_of;
+use diagram_labels::{LabelNames, Renamed};
 use std::alloc::{AllocError, AllocFailed, Global};
 use thiserror::Error;
 

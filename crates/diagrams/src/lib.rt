@@ -10,6 +10,7 @@ mod lanes;
 mod left_out;
 mod losing;
 mod message;
+pub mod messages;
 mod naming;
 mod note_event;
 mod place;

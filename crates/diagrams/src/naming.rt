@@ -1,16 +1,16 @@
 //! The names of participants and of messages.
 ghost use Rattle.std.specs.Prelude.{◌≡◌, ◌≤◌, ◌<◌, ◌++◌, ◌∷◌, [], length, map, Contains, IfOk, OnOk};
 ghost use Rattle.chart.specs.declared.instance.TheConstants.{MAX_INSTANCES};
-ghost use Rattle.label_names.specs.Labels.{with_label, name_of};
+ghost use Rattle.diagram_labels.specs.Labels.{with_label, name_of};
 ghost use Rattle.diagrams.specs.Diagrams.{participant_view, item_view};
 ghost use Rattle.diagrams.specs.Naming.{names_from, label_of, label_at, named_as, labels_from, named_from};
 
 use crate::diagram::{Item, Participant};
 use crate::message::Message;
+use crate::messages::Named;
 use crate::note_event::message_said;
 use chart::{Name, Names, NamesError};
-use label_names::{GivenNames, LabelNames, spelled};
-use message_charts::Named;
+use diagram_labels::{GivenNames, LabelNames, spelled};
 use std::alloc::{AllocError, Global};
 
 /// One name more, which no participant has.

@@ -1,10 +1,10 @@
 //! Names that aren't their labels' words.
 ghost use Rattle.std.specs.Prelude.{◌≡◌, [], map, slice_get, IfOk, OnOk};
-ghost use Rattle.label_names.specs.Renaming.{renamed_view, renamed_from};
+ghost use Rattle.diagram_labels.specs.Renaming.{renamed_view, renamed_from};
 
 use crate::diagram::Participant;
 use chart::{InstanceNo, MAX_INSTANCES, Name, Names};
-use label_names::{LabelNames, Renamed, tell_label, tell_labels};
+use diagram_labels::{LabelNames, Renamed, tell_label, tell_labels};
 use std::alloc::{AllocError, Global};
 
 /// The name at this place, from 0.

@@ -1,10 +1,10 @@
 -- The instances of a chain's events are the chart's.
 use Rattle.std.proofs.Common.{◌≡◌, ℕ, zero, suc, ◌≤◌, List, [], ◌∷◌, length, subst, arith}
 use Rattle.std.proofs.lemmas.Option.{none-some, same_Some}
-use Rattle.causes.specs.Chains.{IsStepBy, Lead}
-use Rattle.causes.specs.declared.link.Link.{Link}
-use Rattle.causes.specs.declared.link.Rule.{Rule}
-use Rattle.causes.specs.declared.link.Rule.TheVariants.{Message, BeforeSend, SameSender}
+use Rattle.closure.specs.Chain.Chains.{IsStepBy, Lead}
+use Rattle.closure.specs.declared.chain.link.Link.{Link}
+use Rattle.closure.specs.declared.chain.link.Rule.{Rule}
+use Rattle.closure.specs.declared.chain.link.Rule.TheVariants.{Message, BeforeSend, SameSender}
 use Rattle.chart.specs.Charts.{Place, LineView, chart_lines}
 use Rattle.chart.specs.Events.{is_send_to, is_receive_from}
 use Rattle.chart.specs.Places.{IsEvent}

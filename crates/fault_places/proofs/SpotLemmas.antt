@@ -4,9 +4,9 @@ use Rattle.std.specs.Prelude.{Option, None, Some, MatchOption, bytes_eq, min}
 use Rattle.fault_places.specs.Spots.{is_among, is_wrong, inner, spot_from}
 use Rattle.fault_places.specs.Wants.{next}
 use Rattle.fault_places.specs.declared.want.Want.{Want}
-use Rattle.msc_text.proofs.Parts.{Cons, words_cons}
-use Rattle.msc_text.specs.Lines.{words_of}
-use Rattle.msc_text.specs.declared.fault.Cause.{Cause}
+use Rattle.texts.proofs.Parts.{Cons, words_cons}
+use Rattle.texts.specs.Lines.{words_of}
+use Rattle.texts.specs.declared.fault.Cause.{Cause}
 
 -- there is a first word
 pub cut_first : {R : Type 0} (text : R → List (List ℕ)) (more : Option R) (word : List ℕ) (words : List (List ℕ)) → MatchOption more (words ≡ word ∷ []) (λ r. words ≡ word ∷ text r) → (others : List (List ℕ)) × (words ≡ word ∷ others)

@@ -6,10 +6,10 @@ use Rattle.fault_places.specs.declared.spot.Spot.{Spot}
 use Rattle.fault_places.specs.declared.want.Want.{Want}
 use Rattle.fault_places.specs.declared.want.Want.TheVariants as wants
 use Rattle.fault_places.specs.Wants.{next}
-use Rattle.msc_reader.specs.Steps.{name_part}
-use Rattle.msc_text.specs.Lines.{words_of, name_or_cause}
-use Rattle.msc_text.specs.declared.fault.Cause.{Cause}
-use Rattle.msc_text.specs.declared.fault.Cause.TheVariants as causes
+use Rattle.msc_text.specs.Reader.Steps.{name_part}
+use Rattle.texts.specs.Lines.{words_of, name_or_cause}
+use Rattle.texts.specs.declared.fault.Cause.{Cause}
+use Rattle.texts.specs.declared.fault.Cause.TheVariants as causes
 
 abbrev pub first_of : List (List ℕ) → List ℕ
 first_of [] = []

@@ -3,7 +3,7 @@ use Rattle.std.specs.Prelude.{ℕ, ◌+◌, ◌==◌, ◌||◌, ◌&&◌, Bool, 
 use Rattle.fault_places.specs.Spots.{first_of}
 use Rattle.fault_places.specs.declared.want.Want.{Want}
 use Rattle.fault_places.specs.declared.want.Want.TheVariants as wants
-use Rattle.msc_text.specs.Lines.{words_of}
+use Rattle.texts.specs.Lines.{words_of}
 
 -- a coregion was opened, and has no receive yet
 abbrev pub is_opened : Want → Bool

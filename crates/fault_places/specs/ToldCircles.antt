@@ -1,13 +1,13 @@
 -- What is told of a circle: its steps, by the names of the instances and the lines of the chart's text.
 use Rattle.std.specs.Prelude.{◌≡◌, ℕ, ◌≤◌, List, ◌++◌, length, map, codes, decimal, Some, slice_get}
-use Rattle.causes.specs.declared.link.Link.{Link}
-use Rattle.causes.specs.Rules.{rule_text}
+use Rattle.closure.specs.declared.chain.link.Link.{Link}
+use Rattle.closure.specs.Chain.Rules.{rule_text}
 use Rattle.chart.specs.Charts.{LineView, chart_lines}
 use Rattle.chart.specs.declared.instance.EventNo.{EventNo}
-use Rattle.circles.specs.Circles.{IsShortestCircle}
+use Rattle.closure.specs.Cycle.Circles.{IsShortestCircle}
 use Rattle.fault_places.specs.Standings.{event_from}
-use Rattle.msc_text.specs.ChartText.{name_at}
-use Rattle.msc_text.specs.Lines.{lines_of}
+use Rattle.texts.specs.Instances.{name_at}
+use Rattle.texts.specs.Lines.{lines_of}
 use Rattle.fault_places.specs.declared.step.Step.{Step}
 use Rattle.fault_places.specs.declared.step.Told.{Told}
 

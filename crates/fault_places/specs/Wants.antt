@@ -3,8 +3,8 @@
 use Rattle.std.specs.Prelude.{ℕ, Bool, true, false, ◌||◌, List, codes, bytes_eq, Option, None, Some, is_some, if◌then◌else◌}
 use Rattle.fault_places.specs.declared.want.Want.{Want}
 use Rattle.fault_places.specs.declared.want.Want.TheVariants as wants
-use Rattle.msc_reader.specs.Steps.{name_part, is_plain}
-use Rattle.msc_text.specs.Lines.{is_word}
+use Rattle.msc_text.specs.Reader.Steps.{name_part, is_plain}
+use Rattle.texts.specs.Lines.{is_word}
 use Rattle.schedule.specs.FirstLines.{is_number}
 
 -- what comes next, if the word may stand where it does

@@ -1,7 +1,7 @@
 //! The words of a line, one after another.
 ghost use Rattle.std.specs.Prelude.{◌≡◌, ◌<◌, ◌+◌, ◌==◌, ◌∷◌, [], length, position, MatchOption, IfSome};
 ghost use Rattle.fault_places.specs.Spots.{first_of, behind_first, is_among};
-ghost use Rattle.msc_text.specs.Lines.{words_of};
+ghost use Rattle.texts.specs.Lines.{words_of};
 
 use crate::want::is;
 

@@ -2,11 +2,11 @@
 ghost use Rattle.std.specs.Prelude.{◌≡◌, ◌-◌, ◌≤◌, length, take, drop};
 ghost use Rattle.fault_places.specs.Standings.{behind, want_behind, line_at, first_or, event_from};
 ghost use Rattle.fault_places.specs.declared.want.Want.TheVariants.{Msc};
-ghost use Rattle.msc_text.specs.Lines.{lines_of, end_of};
+ghost use Rattle.texts.specs.Lines.{lines_of, end_of};
 
 use crate::cutting::first_word;
 use crate::want::{Want, is};
-use msc_text::next_line;
+use texts::next_line;
 
 /// What may stand at the begin of a chart's line, and the text from this line on.
 #[derive(Clone, Copy, Debug)]

@@ -3,7 +3,7 @@ ghost use Rattle.std.specs.Prelude.{◌≡◌, ◌<◌, length, position, is_som
 ghost use Rattle.std.specs.Char.{is_ascii_digit};
 ghost use Rattle.std.specs.List.{list_all};
 ghost use Rattle.fault_places.specs.Spots.{name_in};
-ghost use Rattle.msc_reader.specs.Steps.{is_semicolon, is_other, name_part, is_plain};
+ghost use Rattle.msc_text.specs.Reader.Steps.{is_semicolon, is_other, name_part, is_plain};
 ghost use Rattle.schedule.specs.FirstLines.{is_number};
 
 fn is_semicolon(byte: u8) -> bool
@@ -21,7 +21,7 @@ fn index_of_semicolon(word: &[u8]) -> Option<usize>
 }
 
 /// Whether the word is `NAME;`: the semicolon is its last byte and its only one, and not the first.
-#[tactic(auto, unfolding(msc_reader::specs::Steps::name_part))]
+#[tactic(auto, unfolding(msc_text::specs::Reader::Steps::name_part))]
 pub(crate) fn has_name_part(word: &[u8]) -> bool
     ensures { result ≡ is_some (name_part word.now) }
 {
@@ -32,7 +32,7 @@ pub(crate) fn has_name_part(word: &[u8]) -> bool
 }
 
 /// What stands before the semicolon of `NAME;`, or all of another word.
-#[tactic(auto, unfolding(msc_reader::specs::Steps::name_part, crate::specs::Spots::name_in))]
+#[tactic(auto, unfolding(msc_text::specs::Reader::Steps::name_part, crate::specs::Spots::name_in))]
 pub(crate) fn name_in(word: &[u8]) -> &[u8]
     ensures { result.now ≡ name_in word.now }
 {
@@ -60,7 +60,7 @@ fn has_others_alone(word: &[u8]) -> bool
 }
 
 /// Whether the word has a byte at least, and no semicolon.
-#[tactic(auto, unfolding(msc_reader::specs::Steps::is_plain))]
+#[tactic(auto, unfolding(msc_text::specs::Reader::Steps::is_plain))]
 pub(crate) fn is_plain(word: &[u8]) -> bool
     ensures { result ≡ is_plain word.now }
 {

@@ -1,13 +1,13 @@
 //! Whether a word has a fault that is looked for.
 ghost use Rattle.std.specs.Prelude.{◌≡◌, is_err};
 ghost use Rattle.fault_places.specs.Spots.{is_name, is_unknown, is_partner, is_again, is_too_many, is_wrong, named_by, inner};
-ghost use Rattle.msc_text.specs.Lines.{words_of, name_or_cause};
+ghost use Rattle.texts.specs.Lines.{words_of, name_or_cause};
 
 use crate::cutting::is_named;
 use crate::parts::name_in;
 use crate::want::{Want, is};
 use chart::{MAX_INSTANCES, NameError};
-use msc_text::Cause;
+use texts::Cause;
 
 /// Whether a name is wanted.
 fn is_name(want: Want) -> bool
@@ -43,7 +43,7 @@ fn named_by(want: Want, word: &[u8]) -> &[u8]
 fn is_no_name(word: &[u8]) -> bool
     ensures { result ≡ is_err (name_or_cause word.now) }
 {
-    msc_text::name_in(word).is_err()
+    texts::name_in(word).is_err()
 }
 
 /// Whether the instance of this name isn't among those of a schedule's first line. In a chart it's the partner.

@@ -5,7 +5,7 @@ ghost use Rattle.fault_places.specs.Spots.{spot_of};
 use crate::cutting::cut_word;
 use crate::seeking::{inner, is_wrong};
 use crate::want::{Want, next};
-use msc_text::Cause;
+use texts::Cause;
 
 /// A place in a line, and what may stand there.
 #[derive(Clone, Copy, Debug, PartialEq, Eq)]

@@ -2,13 +2,13 @@
 ghost use Rattle.std.specs.Prelude.{◌≡◌, ◌≤◌, length, map, IfOk};
 ghost use Rattle.chart.specs.Charts.{Place, chart_lines, HasNoSend};
 ghost use Rattle.chart.specs.Order.{IsCyclic};
-ghost use Rattle.msc_text.specs.ChartText.{name_at};
+ghost use Rattle.texts.specs.Instances.{name_at};
 ghost use Rattle.fault_places.specs.ToldCircles.{told_of, step_of, HasNames, HaveNames, AreStepsOf};
 
 use crate::lines::line_of_event;
-use causes::{Link, Rule};
 use chart::{Chart, EventNo, InstanceNo, Name, Names};
-use circles::shortest_circle;
+use closure::chain::{Link, Rule};
+use closure::cycle::shortest_circle;
 use std::alloc::{AllocError, Global};
 
 /// An event: the name of its instance, and its number there.

@@ -1,12 +1,12 @@
 //! The text of a step.
 ghost use Rattle.std.specs.Prelude.{◌≡◌};
-ghost use Rattle.msc_text.specs.Writing.{Adds};
+ghost use Rattle.texts.specs.Writing.{Adds};
 ghost use Rattle.fault_places.specs.ToldCircles.{step_text};
 
 use crate::step::Step;
-use causes::rule_of;
-use msc_text::{Out, TextBuffer, WriteError};
-use text_parts::{Piece, add_pieces};
+use closure::chain::rule_of;
+use texts::pieces::{Piece, add_pieces};
+use texts::{Out, TextBuffer, WriteError};
 
 /// Adds a step: the line of its earlier event, the two events, and why the one comes before the other. F24: a put
 /// failed.

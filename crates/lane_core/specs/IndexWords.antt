@@ -12,8 +12,7 @@ use Rattle.lane_core.specs.declared.answers.ReceiverStep.{ReceiverStep}
 use Rattle.lane_core.specs.declared.answers.ReceiverStep.TheVariants.{Look, Take, Free}
 use Rattle.lane_core.specs.Steps.{Step, Sender_loads, Fills, Publishes, Closes, Receiver_loads, Takes, Puts_back, Frees}
 use Rattle.lane_core.specs.Forms.{Form}
-use Rattle.lane_core.specs.Traffic.{Traffic, no_traffic, put_in, published_all, closed_off, taken_out, back_in}
-use Rattle.lane_core.specs.Traffic.{freed_all}
+use Rattle.lane_core.specs.Traffic.{Traffic, no_traffic, put_in, published_all, closed_off, taken_out, back_in, freed_all}
 
 -- The sender.
 

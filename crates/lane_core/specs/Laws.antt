@@ -3,8 +3,7 @@
 use Rattle.std.specs.Prelude.{◌≡◌, ℕ, ◌%◌, ◌≤◌, ◌<◌, ◌↔◌, true, false, List, [], ◌∷◌, ◌++◌, length, None, Some}
 use Rattle.lane_core.specs.declared.answers.Room.TheVariants.{Full}
 use Rattle.lane_core.specs.declared.answers.Found.TheVariants.{Message, Ended}
-use Rattle.lane_core.specs.Forms.{Form, IsRun, traffic_of, sender_finds, receiver_finds, SenderHas, ReceiverHas}
-use Rattle.lane_core.specs.Forms.{fills_next, takes_next, puts_back_next}
+use Rattle.lane_core.specs.Forms.{Form, IsRun, traffic_of, sender_finds, receiver_finds, SenderHas, ReceiverHas, fills_next, takes_next, puts_back_next}
 use Rattle.lane_core.specs.Steps.{Step, Fills, Takes, Puts_back}
 use Rattle.lane_core.specs.Traffic.{waiting}
 

@@ -1,8 +1,7 @@
 -- What passes through a lane whose messages are of the type M: the slots, the messages in the ends' hands, and the
 -- content of the run (this project's profile). No end sees it: an end has its own numbers and the words that it
 -- loads.
-use Rattle.std.specs.Prelude.{ℕ, ◌==◌, Bool, true, false, List, [], ◌∷◌, ◌++◌, length, drop, reverse, Option, None}
-use Rattle.std.specs.Prelude.{Some, if◌then◌else◌}
+use Rattle.std.specs.Prelude.{ℕ, ◌==◌, Bool, true, false, List, [], ◌∷◌, ◌++◌, length, drop, reverse, Option, None, Some, if◌then◌else◌}
 
 pub record Traffic (M : Type 0) : Type 0 where
   -- what each slot holds

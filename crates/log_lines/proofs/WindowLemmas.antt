@@ -3,8 +3,8 @@ use Rattle.std.proofs.Common.{◌≡◌, ℕ, zero, suc, ◌+◌, ◌≤◌, Lis
 use Rattle.std.specs.List.{flat_map, join_with_byte}
 use Rattle.std.proofs.Math.Seq.{take-append_seam, take-append-add, take-length}
 use Rattle.std.proofs.lemmas.List.{take-append-le}
-use Rattle.msc_text.specs.Lines.{lines_of, end_of, ended}
-use Rattle.msc_text.proofs.Parts.{lines_joined}
+use Rattle.texts.specs.Lines.{lines_of, end_of, ended}
+use Rattle.texts.proofs.Parts.{lines_joined}
 use Rattle.log_lines.specs.Reading.{all_lines}
 
 -- a text whose first line ends

@@ -1,7 +1,7 @@
 -- Lines `HOST {CLOCK} EVENT` of a log for ShiViz (Beschastnikh and others, the log format of ShiViz).
 use Rattle.std.specs.Prelude.{ℕ, ◌+◌, ◌==◌, ◌&&◌, Bool, List, [], ◌∷◌, Option, None, Some, length, take, drop, option_map, unwrap_or, is_some, codes, bytes_eq, if◌then◌else◌}
-use Rattle.line_statements.specs.Words.{first_place, place_of, stripped}
-use Rattle.line_statements.specs.Options.{◌>>=◌}
+use Rattle.texts.specs.Words.{first_place, place_of, stripped}
+use Rattle.diagram_statements.specs.Options.{◌>>=◌}
 use Rattle.log_lines.specs.Events.{ClockedView, LineView, AnEvent, Other}
 use Rattle.log_lines.specs.Words.{words_of}
 use Rattle.log_lines.specs.declared.event.Act.TheVariants.{Send, Receive}

@@ -1,10 +1,12 @@
 pub mod ByWords
 pub mod ClockLines
 pub mod Events
+pub mod Names
 pub mod Places
 pub mod Plain
 pub mod PlainReading
 pub mod Reading
 pub mod ShiViz
+pub mod Takes
 pub mod Windows
 pub mod Words

@@ -2,7 +2,7 @@
 -- ShiViz's convention).
 use Rattle.std.specs.Prelude.{ℕ, Bool, ◌||◌, List, [], ◌∷◌, Option, None, Some, codes, nat_eq, if◌then◌else◌}
 use Rattle.std.specs.List.{starts_with}
-use Rattle.text_bytes.specs.Words.{is_spelled}
+use Rattle.texts.specs.Bytes.Words.{is_spelled}
 use Rattle.log_lines.specs.Events.{LineView, AnEvent, Nothing, Other}
 use Rattle.log_lines.specs.declared.event.Act.{Act}
 use Rattle.log_lines.specs.declared.event.Act.TheVariants.{Send, Receive}

@@ -1,6 +1,6 @@
 -- What is read of a log: its events, in the order of the lines, and how many lines aren't read.
 use Rattle.std.specs.Prelude.{ℕ, ◌+◌, ◌&&◌, Bool, nat_le, List, [], ◌∷◌, ◌++◌, Option, None, Some, map, if◌then◌else◌}
-use Rattle.msc_text.specs.Lines.{lines_of, end_of}
+use Rattle.texts.specs.Lines.{lines_of, end_of}
 use Rattle.log_lines.specs.Events.{SaidView, said_view, ClockedAtView, clocked_at_view, LineView, AnEvent, AClocked, AMessage, Nothing, Other, received}
 use Rattle.log_lines.specs.Places.{earlier}
 use Rattle.log_lines.specs.declared.event.Place.{Place}

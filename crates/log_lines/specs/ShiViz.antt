@@ -1,7 +1,7 @@
 -- What the texts of a log for ShiViz say: an event is `HOST {CLOCK} EVENT` in one line, as our own exports are, or EVENT
 -- stands in the line above or below (the log format of ShiViz, and that of GoVector).
 use Rattle.std.specs.Prelude.{ℕ, ◌==◌, ◌||◌, List, [], ◌∷◌, Option, None, Some, length, if◌then◌else◌}
-use Rattle.line_statements.specs.Words.{stripped}
+use Rattle.texts.specs.Words.{stripped}
 use Rattle.log_lines.specs.ClockLines.{clock_line, is_parser}
 use Rattle.log_lines.specs.Events.{ClockedView, AClocked, Nothing, Other}
 use Rattle.log_lines.specs.Reading.{ReadView, nothing_read}

@@ -1,8 +1,8 @@
 -- The words of a line.
 use Rattle.std.specs.Prelude.{ℕ, List, filter}
 use Rattle.std.specs.List.{slice_split}
-use Rattle.text_bytes.specs.Classes.{is_blank}
-use Rattle.msc_text.specs.Lines.{is_word}
+use Rattle.texts.specs.Bytes.Classes.{is_blank}
+use Rattle.texts.specs.Lines.{is_word}
 
 -- the words of a line: what stands between its blanks
 unfoldable pub words_of : List ℕ → List (List ℕ)

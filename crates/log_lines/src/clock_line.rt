@@ -5,8 +5,8 @@ ghost use Rattle.log_lines.specs.Events.{clocked_view, line_view};
 
 use crate::event::{Act, Clocked, Event, LineSays};
 use crate::words::words_of;
-use line_statements::{first_place, place_of, stripped};
 use std::alloc::{AllocError, Global};
+use texts::{first_place, place_of, stripped};
 
 /// Where a clock ends with which the bytes begin.
 fn clock_end(bytes: &[u8]) -> Option<usize>

@@ -7,12 +7,14 @@
 
 mod clock_line;
 mod event;
+pub mod names;
 mod plain;
 mod plain_reading;
 mod range;
 mod read;
 mod shiviz;
 mod step;
+pub mod takes;
 mod windows;
 mod worded;
 mod words;

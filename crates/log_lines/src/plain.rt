@@ -4,8 +4,8 @@ ghost use Rattle.log_lines.specs.Events.{line_view};
 ghost use Rattle.log_lines.specs.Plain.{is_send_word, is_receive_word, is_preposition, direction_of, behind_preposition, begins_rest, id_in, event_of, directed, said_by};
 
 use crate::event::{Act, Event, LineSays};
-use line_statements::begins_with;
-use text_bytes::is_spelled;
+use texts::begins_with;
+use texts::bytes::is_spelled;
 
 /// What the second word of a line tells.
 #[derive(Clone, Copy, Debug, PartialEq, Eq)]

@@ -10,8 +10,8 @@ use crate::plain::said_by;
 use crate::range::{LineRange, is_within};
 use crate::read::Read;
 use crate::words::words_of;
-use msc_text::next_line;
 use std::alloc::{AllocError, Global};
+use texts::next_line;
 
 /// What a line says.
 #[tactic(auto, unfolding(crate::specs::PlainReading::plain_line))]

@@ -10,9 +10,8 @@ use crate::event::{Clocked, LineSays, Place};
 use crate::range::{LineRange, is_within};
 use crate::read::Read;
 use crate::step::Step;
-use line_statements::stripped;
-use msc_text::next_line;
 use std::alloc::{AllocError, Global};
+use texts::{next_line, stripped};
 
 /// What a line with a clock says, where this line is the next one.
 fn by_line<'a>(clocked: Clocked<'a>, next: &'a [u8]) -> Step<'a>

@@ -4,7 +4,7 @@ ghost use Rattle.std.specs.List.{join_with_byte};
 ghost use Rattle.log_lines.specs.Reading.{all_lines};
 ghost use Rattle.log_lines.specs.Windows.{without_return};
 
-use msc_text::next_line;
+use texts::next_line;
 
 /// How many bytes the first lines have, the first and so many more, with the line feeds between them.
 fn window_length(text: &[u8], more: usize) -> usize

@@ -3,7 +3,7 @@ ghost use Rattle.std.specs.Prelude.{◌≡◌, map, IfOk};
 ghost use Rattle.log_lines.specs.Words.{words_of};
 
 use std::alloc::{AllocError, Global};
-use text_bytes::is_blank;
+use texts::bytes::is_blank;
 
 /// The words of a line: what stands between its blanks.
 pub fn words_of(alloc: Global, line: &[u8]) -> Result<Vec<&[u8]>, AllocError>

@@ -4,33 +4,33 @@ use Rattle.std.specs.Prelude.{◌≡◌, ℕ, cond, List, Option, None, Some, Re
 use lib.IntN.{ℤ, pos, neg_ℤ}
 use Rattle.board.specs.declared.answer.Arrival.{Arrival}
 use Rattle.chart.specs.declared.instance.EventNo.{EventNo}
-use Rattle.handles.specs.declared.found.Arrived.{Arrived}
-use Rattle.handles.specs.declared.found.Found.{Found}
-use Rattle.handles.specs.declared.found.Found.TheVariants.{Message, Nothing, Ended}
-use Rattle.handles.specs.declared.kept.Kept.{Kept}
-use Rattle.handles.specs.declared.refusal.Refusal.{Refusal}
-use Rattle.handles.specs.Refusals.{number_of}
-use Rattle.handles.specs.Sending.{HandleSends}
-use Rattle.handles.specs.SendingAll.{HandleSendsAll}
+use Rattle.c_board.specs.declared.found.Arrived.{Arrived}
+use Rattle.c_board.specs.declared.found.Found.{Found}
+use Rattle.c_board.specs.declared.found.Found.TheVariants.{Message, Nothing, Ended}
+use Rattle.c_board.specs.declared.kept.Kept.{Kept}
+use Rattle.c_board.specs.declared.refusal.Refusal.{Refusal}
+use Rattle.c_board.specs.Refusals.{number_of}
+use Rattle.c_board.specs.Sending.{HandleSends}
+use Rattle.c_board.specs.SendingAll.{HandleSendsAll}
 use Rattle.chart.specs.Messages.{Content}
-use Rattle.handles.specs.Receiving.{HandleTakes, HandleTakesAny, told_after}
-use Rattle.handles.specs.Closing.{HandleCloses}
-use Rattle.handles.specs.Copying as races
-use Rattle.handles.specs.Copying.{CopiesOut, picked_in}
-use Rattle.handles.specs.declared.came.Which.{Which}
-use Rattle.handles.specs.Opening.{Opens}
-use Rattle.handles.specs.declared.found.Told.{Told}
-use Rattle.handles.specs.Regions.{HandleOpens, HandleShuts}
-use Rattle.handles.specs.Reserving.{HandleReserves}
-use Rattle.board_handles.specs.declared.reports.Reported.{Reported}
-use Rattle.board_handles.specs.declared.left.Place.{Place}
-use Rattle.board_handles.specs.declared.left.Waiting.{Waiting}
-use Rattle.board_handles.specs.BoardTelling.{HandleReports, HandleWaits, NameAndBody}
-use Rattle.board_handles.specs.BoardText.{HandleWritesText}
-use Rattle.handles.specs.Gathering.{Gathers}
-use Rattle.handles.specs.Meeting.{Meets}
-use Rattle.handles.specs.Carrying.{CarriesAll}
-use Rattle.handles.specs.Telling.{HandleTells}
+use Rattle.c_board.specs.Receiving.{HandleTakes, HandleTakesAny, told_after}
+use Rattle.c_board.specs.Closing.{HandleCloses}
+use Rattle.c_board.specs.Copying as races
+use Rattle.c_board.specs.Copying.{CopiesOut, picked_in}
+use Rattle.c_board.specs.declared.came.Which.{Which}
+use Rattle.c_board.specs.Opening.{Opens}
+use Rattle.c_board.specs.declared.found.Told.{Told}
+use Rattle.c_board.specs.Regions.{HandleOpens, HandleShuts}
+use Rattle.c_board.specs.Reserving.{HandleReserves}
+use Rattle.c_board.specs.declared.boards.reports.Reported.{Reported}
+use Rattle.c_board.specs.declared.boards.left.Place.{Place}
+use Rattle.c_board.specs.declared.boards.left.Waiting.{Waiting}
+use Rattle.c_board.specs.Boards.BoardTelling.{HandleReports, HandleWaits, NameAndBody}
+use Rattle.c_board.specs.Boards.BoardText.{HandleWritesText}
+use Rattle.c_board.specs.Gathering.{Gathers}
+use Rattle.c_board.specs.Meeting.{Meets}
+use Rattle.c_board.specs.Carrying.{CarriesAll}
+use Rattle.c_board.specs.Telling.{HandleTells}
 use Rattle.msc.specs.declared.answers.MscEvent.{MscEvent}
 use Rattle.msc.specs.declared.answers.MscLeft.{MscLeft}
 use Rattle.msc.specs.declared.answers.MscReport.{MscReport}

@@ -2,9 +2,9 @@
 -- its texts are.
 use Rattle.std.specs.Prelude.{◌≡◌, ℕ, List, Result, Ok, Err}
 use lib.IntN.{ℤ, pos}
-use Rattle.handles.specs.declared.refusal.Refusal.{Refusal}
-use Rattle.offline.specs.declared.performing.Performed.{Performed}
-use Rattle.offline.specs.Performing.{task_in, Performs}
+use Rattle.c_board.specs.declared.refusal.Refusal.{Refusal}
+use Rattle.c_commands.specs.declared.performing.Performed.{Performed}
+use Rattle.c_commands.specs.Performing.{task_in, Performs}
 use Rattle.msc.specs.declared.performing.MscLengths.{MscLengths}
 use Rattle.msc.specs.Answers.{code_of, Got}
 

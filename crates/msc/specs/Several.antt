@@ -4,13 +4,13 @@ use Rattle.std.specs.Prelude.{◌≡◌, ℕ, List, Option, Result, Ok, Err}
 use lib.IntN.{ℤ, pos}
 use Rattle.board.specs.declared.answer.Stop.{Stop}
 use Rattle.board.specs.declared.answer.Stop.TheVariants.{Asked, NoMore, Refused}
-use Rattle.handles.specs.declared.found.Arrived.{Arrived}
-use Rattle.handles.specs.declared.found.FoundMany.{FoundMany}
-use Rattle.handles.specs.declared.found.FoundMany.TheVariants.{Messages, Nothing, Ended}
-use Rattle.handles.specs.declared.kept.Kept.{Kept}
-use Rattle.handles.specs.declared.refusal.Refusal.{Refusal}
-use Rattle.handles.specs.declared.refusal.Refusal.TheVariants as why
-use Rattle.handles.specs.ReceivingMany.{HandleTakesMany}
+use Rattle.c_board.specs.declared.found.Arrived.{Arrived}
+use Rattle.c_board.specs.declared.found.FoundMany.{FoundMany}
+use Rattle.c_board.specs.declared.found.FoundMany.TheVariants.{Messages, Nothing, Ended}
+use Rattle.c_board.specs.declared.kept.Kept.{Kept}
+use Rattle.c_board.specs.declared.refusal.Refusal.{Refusal}
+use Rattle.c_board.specs.declared.refusal.Refusal.TheVariants as why
+use Rattle.c_board.specs.ReceivingMany.{HandleTakesMany}
 use Rattle.msc.specs.Answers.{code_of}
 
 -- why no more came

@@ -1,10 +1,10 @@
 -- What C gets of a command line whose files are in memory (this project's profile): the exit status, and how long its texts
 -- are.
 use Rattle.std.specs.Prelude.{◌≡◌, List, Result}
-use Rattle.handles.specs.declared.refusal.Refusal.{Refusal}
-use Rattle.offline.specs.declared.performing.Performed.{Performed}
-use Rattle.offline.specs.declared.texts.Bytes.{Bytes}
-use Rattle.offline.specs.Viewing.{ViewsSome}
+use Rattle.c_board.specs.declared.refusal.Refusal.{Refusal}
+use Rattle.c_commands.specs.declared.performing.Performed.{Performed}
+use Rattle.c_commands.specs.declared.given.Bytes.{Bytes}
+use Rattle.c_commands.specs.Viewing.{ViewsSome}
 use Rattle.msc.specs.declared.performing.MscLengths.{MscLengths}
 use Rattle.msc.specs.Answers.{Got}
 use Rattle.msc.specs.Performing.{performed_code, lengths_after, Streams}

@@ -1,15 +1,15 @@
 //! The exports over whole boards.
 ghost use Rattle.std.specs.Prelude.{◌≡◌};
-ghost use Rattle.handles.specs.Carrying.{MayCarryOver};
-ghost use Rattle.handles.specs.Chairs.{KeepOneBoard};
-ghost use Rattle.board_handles.specs.Naming.{words_in};
-ghost use Rattle.handles.specs.Opening.{kept_by};
+ghost use Rattle.c_board.specs.Carrying.{MayCarryOver};
+ghost use Rattle.c_board.specs.Chairs.{KeepOneBoard};
+ghost use Rattle.c_board.specs.Boards.Naming.{words_in};
+ghost use Rattle.c_board.specs.Opening.{kept_by};
 ghost use Rattle.msc.specs.Answers.{CarriesBoard, GathersAll, MeetsAll, WritesText, TellsReport, TellsLeft};
 
 use crate::answers::{MscLeft, MscReport};
 use crate::codes::{count_code, done_code, report_code, waiting_code};
-use board_handles::{Place, copy_text, tell_report, tell_waiting};
-use handles::{Handle, gather, meet};
+use c_board::boards::{Place, copy_text, tell_report, tell_waiting};
+use c_board::{Handle, gather, meet};
 use std::alloc::Global;
 
 #[unsafe(no_mangle)]

@@ -1,15 +1,15 @@
 //! Answers as numbers.
 ghost use Rattle.std.specs.Prelude.{◌≡◌};
-ghost use Rattle.handles.specs.Receiving.{found_with, told_after};
-ghost use Rattle.handles.specs.declared.found.Arrived.{Arrived};
+ghost use Rattle.c_board.specs.Receiving.{found_with, told_after};
+ghost use Rattle.c_board.specs.declared.found.Arrived.{Arrived};
 ghost use Rattle.msc.specs.Answers.{code_of, done_code, found_code, number_after};
 ghost use Rattle.msc.specs.Answers.{event_from, told_event, report_from, told_report, left_from, waiting_code};
 ghost use Rattle.msc.specs.Answers.{told_left};
 
 use crate::answers::{MscEvent, MscLeft, MscReport};
 use board::Glance;
-use board_handles::{Reported, Waiting};
-use handles::{Arrived, Found, Refusal, Told};
+use c_board::boards::{Reported, Waiting};
+use c_board::{Arrived, Found, Refusal, Told};
 
 /// The number of a refusal, below 0.
 #[inline(always)]

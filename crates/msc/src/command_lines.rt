@@ -2,7 +2,7 @@
 ghost use Rattle.msc.specs.Viewing.{ViewsTexts};
 
 use crate::performing::{MscLengths, performed_code};
-use offline::{Bytes, view_into};
+use c_commands::{Bytes, view_into};
 use std::alloc::Global;
 
 #[unsafe(no_mangle)]

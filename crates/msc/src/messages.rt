@@ -1,13 +1,13 @@
 //! The exports over the messages that came last.
 ghost use Rattle.std.specs.Prelude.{◌≡◌};
-ghost use Rattle.handles.specs.Copying.{name_in, body_in};
-ghost use Rattle.handles.specs.declared.came.Which.TheVariants.{Last, At};
+ghost use Rattle.c_board.specs.Copying.{name_in, body_in};
+ghost use Rattle.c_board.specs.declared.came.Which.TheVariants.{Last, At};
 ghost use Rattle.msc.specs.Answers.{Copies, CopiesRaces};
 ghost use Rattle.msc.specs.Several.{TakesUpTo};
 
 use crate::codes::count_code;
 use crate::several::many_code;
-use handles::{Arrived, Handle, Which};
+use c_board::{Arrived, Handle, Which};
 use std::alloc::Global;
 
 #[unsafe(no_mangle)]

@@ -3,8 +3,8 @@ ghost use Rattle.std.specs.Prelude.{◌≡◌};
 ghost use Rattle.msc.specs.Performing.{PerformsTask, performed_code, lengths_after};
 
 use crate::codes::code_of;
-use handles::Refusal;
-use offline::{Performed, perform_into};
+use c_board::Refusal;
+use c_commands::{Performed, perform_into};
 use std::alloc::Global;
 
 /// How long the texts are that a task wrote.

@@ -1,13 +1,13 @@
 //! The exports over posts.
 ghost use Rattle.std.specs.Prelude.{◌≡◌, None};
-ghost use Rattle.handles.specs.Opening.{kept_by};
+ghost use Rattle.c_board.specs.Opening.{kept_by};
 ghost use Rattle.msc.specs.Answers.{Sends, Takes, TakesAny, Closes, OpensAll, OpensRegion};
 ghost use Rattle.msc.specs.Answers.{ShutsRegion, TellsEvent, Reserves, SendsAll};
-ghost use Rattle.handles.specs.SendingAll.{contents_in};
+ghost use Rattle.c_board.specs.SendingAll.{contents_in};
 
 use crate::answers::MscEvent;
 use crate::codes::{code_of, done_code, event_code, first_code, found_code, glance_code};
-use handles::{Arrived, Handle, MessageLengths, open};
+use c_board::{Arrived, Handle, MessageLengths, open};
 use std::alloc::Global;
 
 #[unsafe(no_mangle)]

@@ -4,7 +4,7 @@ ghost use Rattle.msc.specs.Several.{stop_code, many_code, many_of};
 
 use crate::codes::code_of;
 use board::Stop;
-use handles::{FoundMany, Refusal};
+use c_board::{FoundMany, Refusal};
 
 /// The number of why no more messages were received.
 fn stop_code(stop: Stop) -> i32

@@ -4,11 +4,11 @@ use Rattle.std.proofs.lemmas.List.{drop_all}
 use Rattle.std.specs.Result.{is_err}
 use Rattle.chart.specs.declared.event.Event.{Event}
 use Rattle.chart.specs.Events.{region_of}
-use Rattle.msc_text.specs.Outs.{Sink}
+use Rattle.texts.specs.Outs.{Sink}
 use Rattle.msc_text.specs.ChartText.{events_text, event_lines_text, ending}
-use Rattle.msc_text.specs.Writing.{Buffers, Stops, Adds}
-use Rattle.msc_text.specs.declared.text_buffer.TextBuffer.{TextBuffer}
-use Rattle.msc_text.proofs.Writes.{buffers_nothing, buffers_then, stops_then, stops_early, adds_then}
+use Rattle.texts.specs.Writing.{Buffers, Stops, Adds}
+use Rattle.texts.specs.declared.text_buffer.TextBuffer.{TextBuffer}
+use Rattle.texts.proofs.Writes.{buffers_nothing, buffers_then, stops_then, stops_early, adds_then}
 
 -- some text was added, and with that of the events that are left, behind one in the coregion r, it is all of it
 pub record HasCome {S : Type 0} (sink : S → Sink) (old new : TextBuffer S) (names : List (List ℕ)) (r : ℕ) (rest : List Event) (all : List ℕ) : Type 0 where

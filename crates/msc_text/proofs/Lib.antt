@@ -1,9 +1,4 @@
 pub mod EventLoops
-pub mod Lookups
 pub mod NamedReports
-pub mod NewNames
-pub mod Parts
 pub mod RaceTexts
-pub mod Results
-pub mod Spacing
-pub mod Writes
+pub mod ReaderLemmas

@@ -10,11 +10,6 @@ use Rattle.chart.specs.Keywords.{spelled}
 use Rattle.chart.specs.declared.keyword.Keyword.{Keyword}
 use Rattle.chart.specs.declared.keyword.Keyword.TheVariants as keywords
 
--- the name of an instance, by its number from 1
-abbrev pub name_at : List Name → ℕ → Name
-name_at names zero = []
-name_at names (suc place) = unwrap_or (slice_get names place) []
-
 -- the name of an event's message, where there is an event
 abbrev pub message_at : Option Event → List ℕ
 message_at None = []

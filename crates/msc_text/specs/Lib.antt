@@ -1,9 +1,4 @@
 pub mod ChartText
-pub mod Faults
-pub mod Instances
-pub mod Lines
 pub mod MadeLines
-pub mod Outs
 pub mod RaceText
-pub mod Shapes
-pub mod Writing
+pub mod Reader

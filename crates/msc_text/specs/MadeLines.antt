@@ -3,7 +3,7 @@ use Rattle.std.specs.Prelude.{◌≡◌, ◌+◌, ◌/◌, ◌^◌, ◌<◌, ◌
 use Rattle.chart.specs.Words.{Text}
 use Rattle.chart.specs.declared.instance.EventNo.{EventNo}
 use Rattle.msc_text.specs.RaceText.{race_line}
-use Rattle.msc_text.specs.declared.held.TheConstants.{BUFFERED}
+use Rattle.texts.specs.declared.held.TheConstants.{BUFFERED}
 use Rattle.msc_text.specs.declared.race_text.TheConstants.{NO_TENS}
 use Rattle.msc_text.specs.declared.race_text.MadeLine.{MadeLine}
 

@@ -4,7 +4,7 @@ use Rattle.std.specs.List.{flat_map}
 use Rattle.chart.specs.Words.{Name, Text}
 use Rattle.chart.specs.declared.instance.EventNo.{EventNo}
 use Rattle.chart.specs.Reports.{ReportView}
-use Rattle.msc_text.specs.ChartText.{name_at}
+use Rattle.texts.specs.Instances.{name_at}
 
 -- race INSTANCE, and a space: the front of the line of a race of an instance of this name
 unfoldable pub race_front : Name → Text

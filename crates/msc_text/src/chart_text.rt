@@ -3,27 +3,14 @@ ghost use Rattle.std.specs.Prelude.{◌≡◌, ◌≤◌, length, All};
 ghost use Rattle.chart.specs.Charts.{HasPartners};
 ghost use Rattle.chart.specs.Events.{partner_of};
 ghost use Rattle.std.specs.List.{flat_map};
-ghost use Rattle.msc_text.specs.ChartText.{name_at, event_line, lone_line, event_text, ending, beginning};
+ghost use Rattle.msc_text.specs.ChartText.{event_line, lone_line, event_text, ending, beginning};
+ghost use Rattle.texts.specs.Instances.{name_at};
 ghost use Rattle.msc_text.specs.ChartText.{event_lines_text, events_text, head_text, foot_text, line_text, chart_name};
 ghost use Rattle.msc_text.specs.ChartText.{begin_text, end_text, chart_text};
-ghost use Rattle.msc_text.specs.Writing.{Wrote, Adds};
+ghost use Rattle.texts.specs.Writing.{Wrote, Adds};
 
-use crate::out::Out;
-use crate::text_buffer::{TextBuffer, WriteError};
 use chart::{Chart, Event, InstanceNo, Keyword, Line, Name, Names};
-
-/// The name of the instance, which has one. It takes no memory.
-pub fn named(names: &Names, instance: InstanceNo) -> Name
-    requires { instance ≤ length names.now }
-    ensures { result ≡ name_at names.now instance }
-{
-    let place = instance.place();
-    prove!(place < names.len());
-    match names.name(instance) {
-        Some(name) => name,
-        None => unreachable!(),
-    }
-}
+use texts::{Out, TextBuffer, WriteError, named};
 
 /// Adds a line of one word.
 #[tactic(auto, unfolding(crate::specs::ChartText::lone_line))]
@@ -106,7 +93,7 @@ fn add_event<W: Out>(
 }
 
 /// Adds an event behind one that is in the coregion `before`, with what ends that one or begins its own.
-#[tactic(auto, using(crate::proofs::Writes::joining), unfolding(crate::specs::ChartText::event_lines_text))]
+#[tactic(auto, using(texts::proofs::Writes::joining), unfolding(crate::specs::ChartText::event_lines_text))]
 fn add_event_lines<W: Out>(
     text: &mut TextBuffer<'_, W>,
     names: &Names,
@@ -160,7 +147,7 @@ fn add_foot<W: Out>(text: &mut TextBuffer<'_, W>) -> Result<(), WriteError>
 }
 
 /// Adds an instance.
-#[tactic(auto, using(crate::proofs::Writes::joining), unfolding(crate::specs::ChartText::line_text))]
+#[tactic(auto, using(texts::proofs::Writes::joining), unfolding(crate::specs::ChartText::line_text))]
 fn add_line<W: Out>(
     text: &mut TextBuffer<'_, W>,
     names: &Names,
@@ -215,7 +202,7 @@ fn add_end<W: Out>(text: &mut TextBuffer<'_, W>) -> Result<(), WriteError>
 /// Adds the chart's text to one that is being written. It takes no memory.
 ///
 /// The chart has as many instances as there are names.
-#[tactic(auto, using(crate::proofs::Writes::joining), unfolding(crate::specs::ChartText::chart_text))]
+#[tactic(auto, using(texts::proofs::Writes::joining), unfolding(crate::specs::ChartText::chart_text))]
 pub fn add_chart<W: Out>(
     text: &mut TextBuffer<'_, W>,
     names: &Names,
@@ -233,7 +220,7 @@ pub fn add_chart<W: Out>(
 /// written, and no other put is tried.
 ///
 /// The chart has as many instances as there are names.
-#[tactic(auto, using(crate::proofs::Writes::joining))]
+#[tactic(auto, using(texts::proofs::Writes::joining))]
 pub fn write<W: Out>(names: &Names, chart: &Chart, out: &mut W) -> Result<(), WriteError>
     requires { length names.now ≡ length chart.now }
     ensures { Wrote W.sink out.old out.new result (chart_text names.now chart.now) }

@@ -9,22 +9,8 @@
 #![tactic(auto)]
 
 mod chart_text;
-mod fault;
-mod held;
-mod instances;
-mod lines;
-mod out;
 mod race_text;
-mod retrying;
-mod text_buffer;
-mod word;
+pub mod reader;
 
-pub use chart_text::{add_chart, chart_name, named, write};
-pub use fault::{Cause, Fault, TextError};
-pub use held::BUFFERED;
-pub use instances::{add_name, at_line, fault_at, known_in};
-pub use lines::next_line;
-pub use out::{MemoryOut, Out, OutFault, StreamOut};
+pub use chart_text::{add_chart, chart_name, write};
 pub use race_text::{RaceLines, add_races};
-pub use text_buffer::{TextBuffer, WriteError};
-pub use word::{Words, name_in, next_word, words_in};

@@ -4,16 +4,13 @@ ghost use Rattle.std.specs.List.{flat_map};
 ghost use Rattle.chart.specs.Ranges.{IsRange, events_of, events_in};
 ghost use Rattle.msc_text.specs.RaceText.{race_front, race_end, race_line, report_text, races_text, AreNamed};
 ghost use Rattle.msc_text.specs.MadeLines.{IsMade};
-ghost use Rattle.msc_text.specs.Writing.{Adds};
-ghost use Rattle.msc_text.specs.declared.held.TheConstants.{BUFFERED};
+ghost use Rattle.texts.specs.Writing.{Adds};
+ghost use Rattle.texts.specs.declared.held.TheConstants.{BUFFERED};
 ghost use Rattle.msc_text.specs.declared.race_text.TheConstants.{MOST_ENDS};
 
-use crate::chart_text::named;
-use crate::held::Held;
-use crate::out::Out;
-use crate::text_buffer::{TextBuffer, WriteError};
 use chart::{EventNo, EventRange, Name, Names, Report};
 use itoa::Buffer;
+use texts::{Held, Out, TextBuffer, WriteError, named};
 
 /// The most bytes that stand around the number of an earlier event: a word and a space, a name and a space before it, and
 /// behind it a space, a number and the line's end.

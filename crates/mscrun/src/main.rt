@@ -3,15 +3,15 @@
 
 ghost use Rattle.std.specs.Prelude.{◌≡◌};
 
-use command_line::{CommandLineError, Request, requested};
-use files::{ProgramError, number_in, refused};
-use msc_text::StreamOut;
+use cli::{CommandLineError, Request, requested};
+use cmd_base::{ProgramError, number_in, refused};
+use cmd_run::{Task, perform, perform_on_threads, turns_in};
 use std::alloc::Global;
 use std::convert::AsStr;
 use std::process::ExitCode;
 use std::rt::{Env, Files};
 use std::{env, fs, io};
-use tasks::{Task, perform, perform_on_threads, turns_in};
+use texts::StreamOut;
 
 /// What is asked for.
 #[derive(Clone, Copy)]

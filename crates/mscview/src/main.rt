@@ -4,12 +4,12 @@
 mod system;
 
 use crate::system::{System, words_of};
-use files::{ProgramError, refused};
-use msc_text::{Out, StreamOut};
+use cmd_base::{ProgramError, refused};
+use mscview_requests::view;
 use std::io;
 use std::process::ExitCode;
 use std::rt::{Env, Files};
-use viewing::view;
+use texts::{Out, StreamOut};
 
 /// Does what the words of the command line ask for, and answers the exit status.
 fn view_words<R: Env + Files + Input + AllocGlobal, W: Out, V: Out>(

@@ -1,10 +1,10 @@
 //! The words of the command line, and the files and the standard input of the system.
-use files::ProgramError;
+use cmd_base::ProgramError;
+use mscview_requests::{FileBytes, Giver};
 use std::alloc::Global;
 use std::io::Read;
 use std::rt::{Env, Files};
 use std::{env, fs, io};
-use viewing::{FileBytes, Giver};
 
 /// What the system refused is F6 where memory ran out, and else the other refusal.
 fn cause(error: &io::Error, other: ProgramError) -> ProgramError {

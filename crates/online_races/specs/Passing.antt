@@ -1,7 +1,6 @@
 -- How the events of a line are passed, from its end on back, in search of races (Alur, Holzmann and Peled 1996; which
 -- events are no races is this project's profile).
-use Rattle.std.specs.Prelude.{◌≡◌, ℕ, ◌<◌, ◌≤◌, ◌↔◌, ◌⊎◌, true, false, List, length, take, map, All, AllPairs, Contains}
-use Rattle.std.specs.Prelude.{Some}
+use Rattle.std.specs.Prelude.{◌≡◌, ℕ, ◌<◌, ◌≤◌, ◌↔◌, ◌⊎◌, true, false, List, length, take, map, All, AllPairs, Contains, Some}
 use Rattle.chart.specs.Words.{Indices}
 use Rattle.chart.specs.declared.event.Event.{Event}
 use Rattle.online_races.specs.declared.Stretch.{Stretch}

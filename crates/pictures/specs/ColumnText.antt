@@ -1,16 +1,15 @@
 -- The columns of a picture as text: heads and lifelines (this project's profile, after the graphical form of ITU-T
 -- Z.120).
-use Rattle.std.specs.Prelude.{ℕ, ◌+◌, ◌-◌, ◌*◌, ◌/◌, true, ◌==◌, List, [], ◌∷◌, ◌++◌, Option, None, Some, option_map}
-use Rattle.std.specs.Prelude.{if◌then◌else◌}
+use Rattle.std.specs.Prelude.{ℕ, ◌+◌, ◌-◌, ◌*◌, ◌/◌, true, ◌==◌, List, [], ◌∷◌, ◌++◌, Option, None, Some, option_map, if◌then◌else◌}
 use Rattle.chart.specs.declared.event.Event.{Event}
 use Rattle.chart.specs.Events.{region_of}
 use Rattle.chart.specs.Charts.{chart_lines}
-use Rattle.msc_text.specs.ChartText.{name_at}
+use Rattle.texts.specs.Instances.{name_at}
 use Rattle.pictures.specs.declared.columns.Life.{Life}
 use Rattle.chart.specs.declared.instance.EventNo.{EventNo}
-use Rattle.picture_columns.specs.declared.column.Column.{Column}
-use Rattle.picture_columns.specs.Widths.{line_break, name_width}
-use Rattle.picture_elements.specs.Elements.{segment, head_box, name_lines, foot}
+use Rattle.picture_parts.specs.declared.columns.column.Column.{Column}
+use Rattle.picture_parts.specs.Columns.Widths.{line_break, name_width}
+use Rattle.picture_parts.specs.Elements.Elements.{segment, head_box, name_lines, foot}
 use Rattle.pictures.specs.Pictures.{PictureView, cell_of}
 use Rattle.pictures.specs.Spots.{height}
 

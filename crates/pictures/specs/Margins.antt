@@ -1,16 +1,15 @@
 -- The margin of a picture: texts on the right of its columns, each at the row of the first message that is sent below it, or
 -- below the last row, and dashed lines that part the rows (this project's profile).
-use Rattle.std.specs.Prelude.{ℕ, ◌+◌, ◌-◌, ◌*◌, ◌/◌, ◌^◌, min, max, Bool, true, false, ◌==◌, List, [], ◌++◌, length, fold, codes, decimal}
-use Rattle.std.specs.Prelude.{Option, None, Some, slice_get, if◌then◌else◌}
+use Rattle.std.specs.Prelude.{ℕ, ◌+◌, ◌-◌, ◌*◌, ◌/◌, ◌^◌, min, max, Bool, true, false, ◌==◌, List, [], ◌++◌, length, fold, codes, decimal, Option, None, Some, slice_get, if◌then◌else◌}
 use Rattle.chart.specs.declared.event.Event.{Event}
 use Rattle.chart.specs.declared.event.Event.TheVariants.{Send, Receive}
 use Rattle.chart.specs.Charts.{LineView, chart_event, chart_lines}
 use Rattle.closure.specs.Faults.{place_of}
-use Rattle.layout.specs.declared.row.Row.{Row}
-use Rattle.layout.specs.declared.row.Row.TheVariants as variants
-use Rattle.margin_notes.specs.declared.MarginNote.{MarginNote}
-use Rattle.picture_elements.specs.declared.spot.Spot.{Spot}
-use Rattle.text_parts.specs.Pieces.{escaped}
+use Rattle.chart_layout.specs.declared.row.Row.{Row}
+use Rattle.chart_layout.specs.declared.row.Row.TheVariants as variants
+use Rattle.chart_layout.specs.declared.margin.MarginNote.{MarginNote}
+use Rattle.picture_parts.specs.declared.elements.spot.Spot.{Spot}
+use Rattle.texts.specs.Pieces.Pieces.{escaped}
 use Rattle.pictures.specs.ColumnText.{place_drawn}
 use Rattle.pictures.specs.Pictures.{PictureView}
 

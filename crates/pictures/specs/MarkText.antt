@@ -1,17 +1,16 @@
 -- The marks of races as text: a dot at each receive, and a bracket for each range of events that it may come before
 -- (this project's profile).
-use Rattle.std.specs.Prelude.{ℕ, ◌+◌, ◌-◌, ◌*◌, ◌%◌, ◌^◌, ◌==◌, Bool, false, nat_lt, nat_le, is_some, min, max, List, [], ◌∷◌, ◌++◌, length, Option, None}
-use Rattle.std.specs.Prelude.{Some, slice_get, codes, if◌then◌else◌}
+use Rattle.std.specs.Prelude.{ℕ, ◌+◌, ◌-◌, ◌*◌, ◌%◌, ◌^◌, ◌==◌, Bool, false, nat_lt, nat_le, is_some, min, max, List, [], ◌∷◌, ◌++◌, length, Option, None, Some, slice_get, codes, if◌then◌else◌}
 use Rattle.std.specs.List.{flat_map}
 use Rattle.chart.specs.declared.instance.EventNo.{EventNo}
 use Rattle.chart.specs.declared.ranges.EventRange.{EventRange}
 use Rattle.chart.specs.Ranges.{ranges_of}
 use Rattle.chart.specs.Reports.{ReportView}
-use Rattle.text_parts.specs.RaceWords.{amount, range_text, ranges_text}
-use Rattle.picture_elements.specs.declared.spot.Spot.{Spot}
+use Rattle.texts.specs.Pieces.RaceWords.{amount, range_text, ranges_text}
+use Rattle.picture_parts.specs.declared.elements.spot.Spot.{Spot}
 use Rattle.pictures.specs.declared.spots.Cell.{Cell}
-use Rattle.picture_columns.specs.declared.column.Column.{Column}
-use Rattle.picture_elements.specs.Elements.{dot_start, dot_end, bracket_name, bracket_outline, bracket_end, number_text, group_end}
+use Rattle.picture_parts.specs.declared.columns.column.Column.{Column}
+use Rattle.picture_parts.specs.Elements.Elements.{dot_start, dot_end, bracket_name, bracket_outline, bracket_end, number_text, group_end}
 use Rattle.pictures.specs.Pictures.{PictureView, column_of, row_at, cell_of, end_of}
 use Rattle.pictures.specs.Spots.{height, number_spot}
 

@@ -6,8 +6,8 @@ use Rattle.chart.specs.declared.event.Event.TheVariants.{Send, Receive}
 use Rattle.chart.specs.declared.instance.EventNo.{EventNo}
 use Rattle.chart.specs.Events.{region_of}
 use Rattle.chart.specs.Reports.{ReportView}
-use Rattle.layout.specs.declared.row.Row.{Row}
-use Rattle.layout.specs.declared.row.Row.TheVariants as variants
+use Rattle.chart_layout.specs.declared.row.Row.{Row}
+use Rattle.chart_layout.specs.declared.row.Row.TheVariants as variants
 use Rattle.pictures.specs.Pictures.{PictureView, column_of, cell_of, end_of, event_of}
 
 -- the receive of a report has a dot

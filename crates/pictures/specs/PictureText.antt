@@ -4,8 +4,8 @@ use Rattle.std.specs.List.{flat_map, list_any}
 use Rattle.pictures.specs.Spots.{height}
 use Rattle.pictures.specs.Pictures.{PictureView}
 use Rattle.pictures.specs.ColumnText.{column_text}
-use Rattle.picture_elements.specs.Frames.{styles, markers, svg_start, title, heading, svg_end}
-use Rattle.picture_elements.specs.Legends.{legend, legend_tall}
+use Rattle.picture_parts.specs.Elements.Frames.{styles, markers, svg_start, title, heading, svg_end}
+use Rattle.picture_parts.specs.Elements.Legends.{legend, legend_tall}
 use Rattle.pictures.specs.MarksThere.{has_marks, has_waiting, has_region}
 use Rattle.pictures.specs.RowText.{row_text}
 use Rattle.pictures.specs.MarkText.{marks}

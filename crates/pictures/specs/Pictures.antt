@@ -5,13 +5,13 @@ use Rattle.chart.specs.declared.instance.EventNo.{EventNo}
 use Rattle.chart.specs.Charts.{LineView, at, chart_event, chart_lines}
 use Rattle.chart.specs.Reports.{ReportView}
 use Rattle.closure.specs.Faults.{place_of}
-use Rattle.layout.specs.Layouts.{row_of}
-use Rattle.layout.specs.declared.row.Row.{Row}
-use Rattle.margin_notes.specs.declared.MarginNote.{MarginNote}
-use Rattle.picture_columns.specs.declared.column.Column.{Column}
-use Rattle.picture_columns.specs.Choices as choices
-use Rattle.picture_columns.specs.Choices.{ChoiceView, is_shown}
-use Rattle.picture_elements.specs.declared.spot.Spot.{Spot}
+use Rattle.chart_layout.specs.Layouts.{row_of}
+use Rattle.chart_layout.specs.declared.row.Row.{Row}
+use Rattle.chart_layout.specs.declared.margin.MarginNote.{MarginNote}
+use Rattle.picture_parts.specs.declared.columns.column.Column.{Column}
+use Rattle.picture_parts.specs.Columns.Choices as choices
+use Rattle.picture_parts.specs.Columns.Choices.{ChoiceView, is_shown}
+use Rattle.picture_parts.specs.declared.elements.spot.Spot.{Spot}
 use Rattle.pictures.specs.declared.spots.Cell.{Cell}
 use Rattle.pictures.specs.Spots.{on_line}
 

@@ -3,10 +3,10 @@ use Rattle.std.specs.Prelude.{◌≡◌, Option, ℕ, Bool, List, length, filter
 use Rattle.chart.specs.declared.instance.EventNo.{EventNo}
 use Rattle.chart.specs.Charts.{LineView}
 use Rattle.chart.specs.Reports.{ReportView}
-use Rattle.layout.specs.declared.row.Row.{Row}
-use Rattle.picture_columns.specs.Choices.{ChoiceView, places_from, count_from}
-use Rattle.picture_columns.specs.Placing.{PlanView, columns_of, width_of}
-use Rattle.margin_notes.specs.declared.MarginNote.{MarginNote}
+use Rattle.chart_layout.specs.declared.row.Row.{Row}
+use Rattle.picture_parts.specs.Columns.Choices.{ChoiceView, places_from, count_from}
+use Rattle.picture_parts.specs.Columns.Placing.{PlanView, columns_of, width_of}
+use Rattle.chart_layout.specs.declared.margin.MarginNote.{MarginNote}
 use Rattle.pictures.specs.Margins.{has_send, with_margin}
 use Rattle.pictures.specs.Pictures.{PictureView}
 

@@ -1,21 +1,20 @@
 -- The rows of a picture as text: arrows with their labels, and the numbers of events (this project's profile, after the
 -- graphical form of ITU-T Z.120).
-use Rattle.std.specs.Prelude.{ℕ, ◌+◌, ◌-◌, Bool, true, false, ◌==◌, is_some, nat_lt, List, [], ◌++◌, Option, None, Some, codes}
-use Rattle.std.specs.Prelude.{if◌then◌else◌}
+use Rattle.std.specs.Prelude.{ℕ, ◌+◌, ◌-◌, Bool, true, false, ◌==◌, is_some, nat_lt, List, [], ◌++◌, Option, None, Some, codes, if◌then◌else◌}
 use Rattle.chart.specs.declared.event.Event.{Event}
 use Rattle.chart.specs.declared.event.Event.TheVariants.{Send, Receive}
 use Rattle.chart.specs.declared.instance.EventNo.{EventNo}
 use Rattle.chart.specs.Events.{name_of}
-use Rattle.layout.specs.declared.row.Row.{Row}
-use Rattle.layout.specs.declared.row.Row.TheVariants as variants
-use Rattle.msc_text.specs.ChartText.{name_at}
+use Rattle.chart_layout.specs.declared.row.Row.{Row}
+use Rattle.chart_layout.specs.declared.row.Row.TheVariants as variants
+use Rattle.texts.specs.Instances.{name_at}
 use Rattle.pictures.specs.declared.labels.Side.{Side}
 use Rattle.pictures.specs.declared.labels.Side.TheVariants.{Receiver, Sender}
-use Rattle.picture_elements.specs.declared.spot.Spot.{Spot}
+use Rattle.picture_parts.specs.declared.elements.spot.Spot.{Spot}
 use Rattle.pictures.specs.declared.spots.Cell.{Cell}
-use Rattle.picture_columns.specs.declared.column.Column.{Column}
-use Rattle.picture_columns.specs.Widths.{name_width}
-use Rattle.picture_elements.specs.Elements.{arrow, ring, label, label_start, label_end, number_text, point_start, group_end}
+use Rattle.picture_parts.specs.declared.columns.column.Column.{Column}
+use Rattle.picture_parts.specs.Columns.Widths.{name_width}
+use Rattle.picture_parts.specs.Elements.Elements.{arrow, ring, label, label_start, label_end, number_text, point_start, group_end}
 use Rattle.pictures.specs.Pictures.{PictureView, column_of, cell_of, end_of, event_of}
 use Rattle.pictures.specs.Spots.{on_line, are_near, label_x, aside, cut_spot, height, number_spot}
 

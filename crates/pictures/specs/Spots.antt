@@ -1,7 +1,7 @@
 -- Where things are on a picture, in pixels from its upper left corner (this project's profile).
 use Rattle.std.specs.Prelude.{ℕ, ◌+◌, ◌-◌, ◌*◌, ◌/◌, Bool, ◌||◌, ◌==◌, nat_lt, if◌then◌else◌}
-use Rattle.picture_columns.specs.declared.column.Column.{Column}
-use Rattle.picture_elements.specs.declared.spot.Spot.{Spot}
+use Rattle.picture_parts.specs.declared.columns.column.Column.{Column}
+use Rattle.picture_parts.specs.declared.elements.spot.Spot.{Spot}
 use Rattle.pictures.specs.declared.spots.Cell.{Cell}
 
 -- where the arrows of a row are that has so many rows above it

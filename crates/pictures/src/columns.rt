@@ -4,17 +4,17 @@ ghost use Rattle.std.specs.List.{flat_map};
 ghost use Rattle.chart.specs.Charts.{chart_lines};
 ghost use Rattle.chart.specs.Events.{region_of};
 ghost use Rattle.chart.specs.declared.line.TheConstants.{MAX_EVENTS};
-ghost use Rattle.msc_text.specs.ChartText.{name_at};
-ghost use Rattle.msc_text.specs.Writing.{Adds};
+ghost use Rattle.texts.specs.Instances.{name_at};
+ghost use Rattle.texts.specs.Writing.{Adds};
 ghost use Rattle.pictures.specs.ColumnText.{cut, part, next_life, life_end, life_text, name_height, head_of, head};
 ghost use Rattle.pictures.specs.ColumnText.{place_drawn, lifeline, column_text};
 
 use crate::picture::Picture;
 use crate::spots::height;
 use chart::{Event, EventNo, InstanceNo};
-use msc_text::{Out, TextBuffer, WriteError, named};
-use picture_columns::{Column, line_break, name_width};
-use picture_elements::{Spot, add_foot, add_head_box, add_name_lines, add_segment};
+use picture_parts::columns::{Column, line_break, name_width};
+use picture_parts::elements::{Spot, add_foot, add_head_box, add_name_lines, add_segment};
+use texts::{Out, TextBuffer, WriteError, named};
 
 /// How far a lifeline is drawn.
 #[derive(Clone, Copy)]
@@ -77,7 +77,7 @@ fn next_life(life: Life, place: Option<u32>, region: u32) -> Life
 }
 
 /// Adds the last part of a lifeline, down to this height.
-#[tactic(auto, using(msc_text::proofs::Writes::joining), unfolding(crate::specs::ColumnText::life_end))]
+#[tactic(auto, using(texts::proofs::Writes::joining), unfolding(crate::specs::ColumnText::life_end))]
 fn add_life_end<W: Out>(
     text: &mut TextBuffer<'_, W>,
     x: u64,
@@ -138,7 +138,7 @@ fn name_height(upper: usize) -> u64
 }
 
 /// Adds the head of a line at x, with this name.
-#[tactic(auto, using(msc_text::proofs::Writes::joining), unfolding(crate::specs::ColumnText::head_of))]
+#[tactic(auto, using(texts::proofs::Writes::joining), unfolding(crate::specs::ColumnText::head_of))]
 fn add_head_of<W: Out>(text: &mut TextBuffer<'_, W>, name: &[u8], x: u64) -> Result<(), WriteError>
     ensures { Adds W.sink text.old text.new result (head_of name.now x) }
 {
@@ -171,7 +171,7 @@ fn add_head<W: Out>(
 }
 
 /// Adds a column: its head, its lifeline and its foot.
-#[tactic(auto, using(msc_text::proofs::Writes::joining), unfolding(crate::specs::ColumnText::column_text))]
+#[tactic(auto, using(texts::proofs::Writes::joining), unfolding(crate::specs::ColumnText::column_text))]
 fn add_column<W: Out>(
     text: &mut TextBuffer<'_, W>,
     picture: &Picture<'_>,

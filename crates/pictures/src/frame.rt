@@ -1,6 +1,6 @@
 //! What stands round the columns and rows of a picture.
 ghost use Rattle.std.specs.Prelude.{◌≡◌};
-ghost use Rattle.msc_text.specs.Writing.{Wrote, Adds};
+ghost use Rattle.texts.specs.Writing.{Wrote, Adds};
 ghost use Rattle.pictures.specs.PictureText.{top, ground, remarks, bottom, picture_text};
 
 use crate::columns::add_columns;
@@ -10,13 +10,13 @@ use crate::picture::Picture;
 use crate::rows::add_rows;
 use crate::spots::height;
 use crate::there::marks_in;
-use msc_text::{Out, TextBuffer, WriteError};
-use picture_elements::{
+use picture_parts::elements::{
     add_heading, add_legend, add_markers, add_styles, add_svg_end, add_svg_start, add_title,
 };
+use texts::{Out, TextBuffer, WriteError};
 
 /// Adds what stands above the columns.
-#[tactic(auto, using(msc_text::proofs::Writes::joining), unfolding(crate::specs::PictureText::top))]
+#[tactic(auto, using(texts::proofs::Writes::joining), unfolding(crate::specs::PictureText::top))]
 fn add_top<W: Out>(text: &mut TextBuffer<'_, W>, picture: &Picture<'_>) -> Result<(), WriteError>
     ensures { Adds W.sink text.old text.new result (top picture.now) }
 {
@@ -28,7 +28,7 @@ fn add_top<W: Out>(text: &mut TextBuffer<'_, W>, picture: &Picture<'_>) -> Resul
 }
 
 /// Adds the columns, and beneath them the lines that part the rows.
-#[tactic(auto, using(msc_text::proofs::Writes::joining), unfolding(crate::specs::PictureText::ground))]
+#[tactic(auto, using(texts::proofs::Writes::joining), unfolding(crate::specs::PictureText::ground))]
 fn add_ground<W: Out>(text: &mut TextBuffer<'_, W>, picture: &Picture<'_>) -> Result<(), WriteError>
     ensures { Adds W.sink text.old text.new result (ground picture.now) }
 {
@@ -37,7 +37,7 @@ fn add_ground<W: Out>(text: &mut TextBuffer<'_, W>, picture: &Picture<'_>) -> Re
 }
 
 /// Adds the marks of races, and the margin.
-#[tactic(auto, using(msc_text::proofs::Writes::joining), unfolding(crate::specs::PictureText::remarks))]
+#[tactic(auto, using(texts::proofs::Writes::joining), unfolding(crate::specs::PictureText::remarks))]
 fn add_remarks<W: Out>(
     text: &mut TextBuffer<'_, W>,
     picture: &Picture<'_>,
@@ -49,7 +49,7 @@ fn add_remarks<W: Out>(
 }
 
 /// Adds what stands below the columns.
-#[tactic(auto, using(msc_text::proofs::Writes::joining), unfolding(crate::specs::PictureText::bottom))]
+#[tactic(auto, using(texts::proofs::Writes::joining), unfolding(crate::specs::PictureText::bottom))]
 fn add_bottom<W: Out>(text: &mut TextBuffer<'_, W>, picture: &Picture<'_>) -> Result<(), WriteError>
     ensures { Adds W.sink text.old text.new result (bottom picture.now) }
 {
@@ -59,7 +59,7 @@ fn add_bottom<W: Out>(text: &mut TextBuffer<'_, W>, picture: &Picture<'_>) -> Re
 }
 
 /// Adds the whole picture. It takes no memory.
-#[tactic(auto, using(msc_text::proofs::Writes::joining), unfolding(crate::specs::PictureText::picture_text))]
+#[tactic(auto, using(texts::proofs::Writes::joining), unfolding(crate::specs::PictureText::picture_text))]
 pub fn add_picture<W: Out>(
     text: &mut TextBuffer<'_, W>,
     picture: &Picture<'_>,
@@ -75,7 +75,7 @@ pub fn add_picture<W: Out>(
 
 /// Writes the picture's text and nothing else. It takes no memory. Where a put fails (F24), a beginning of the text was
 /// written, and no other put is tried.
-#[tactic(auto, using(msc_text::proofs::Writes::joining))]
+#[tactic(auto, using(texts::proofs::Writes::joining))]
 pub fn write_picture<W: Out>(picture: &Picture<'_>, out: &mut W) -> Result<(), WriteError>
     ensures { Wrote W.sink out.old out.new result (picture_text picture.now) }
 {

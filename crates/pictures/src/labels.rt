@@ -1,17 +1,17 @@
 //! The labels of messages, and the points and numbers of events.
 ghost use Rattle.std.specs.Prelude.{◌≡◌};
-ghost use Rattle.msc_text.specs.ChartText.{name_at};
-ghost use Rattle.msc_text.specs.Writing.{Adds};
+ghost use Rattle.texts.specs.Instances.{name_at};
+ghost use Rattle.texts.specs.Writing.{Adds};
 ghost use Rattle.pictures.specs.RowText.{message_name, side_text, number_at, point, label_of, event_label, cut_label};
 
 use crate::picture::Picture;
 use crate::spots::{Cell, are_near, height, label_x, number_of, number_spot, on_line};
 use chart::{EventNo, InstanceNo};
-use msc_text::{Out, TextBuffer, WriteError, named};
-use picture_columns::{Column, name_width};
-use picture_elements::{
+use picture_parts::columns::{Column, name_width};
+use picture_parts::elements::{
     Spot, add_group_end, add_label, add_label_end, add_label_start, add_number, add_point_start,
 };
+use texts::{Out, TextBuffer, WriteError, named};
 
 /// On which side of a message the instance is that has no column.
 #[derive(Clone, Copy)]
@@ -85,7 +85,7 @@ fn add_number_at<W: Out>(
 }
 
 /// Adds an event's group.
-#[tactic(auto, using(msc_text::proofs::Writes::joining), unfolding(crate::specs::RowText::point))]
+#[tactic(auto, using(texts::proofs::Writes::joining), unfolding(crate::specs::RowText::point))]
 pub(crate) fn add_point<W: Out>(
     text: &mut TextBuffer<'_, W>,
     picture: &Picture<'_>,
@@ -136,7 +136,7 @@ pub(crate) fn add_event_label<W: Out>(
 }
 
 /// Adds the label of a message that is cut, with the instance on its other side.
-#[tactic(auto, using(msc_text::proofs::Writes::joining), unfolding(crate::specs::RowText::cut_label))]
+#[tactic(auto, using(texts::proofs::Writes::joining), unfolding(crate::specs::RowText::cut_label))]
 pub(crate) fn add_cut_label<W: Out>(
     text: &mut TextBuffer<'_, W>,
     picture: &Picture<'_>,

@@ -1,19 +1,19 @@
 //! The margin of a picture: texts beside its rows, and lines that part them.
 ghost use Rattle.std.specs.Prelude.{◌≡◌, ◌≤◌, length, filter, IfOk};
 ghost use Rattle.std.specs.List.{flat_map};
-ghost use Rattle.msc_text.specs.Writing.{Adds};
+ghost use Rattle.texts.specs.Writing.{Adds};
 ghost use Rattle.pictures.specs.Margins.{has_send, text_width, widest, margin_of, with_margin, margin_x};
 ghost use Rattle.pictures.specs.Margins.{row_place, note_place, note_at, note_text, line_at, dividing_line};
 
 use crate::columns::place_drawn;
 use crate::picture::Picture;
 use chart::{Event, Line};
-use layout::{Row, event_in};
-use margin_notes::MarginNote;
-use msc_text::{Out, TextBuffer, WriteError};
-use picture_elements::Spot;
+use chart_layout::margin::MarginNote;
+use chart_layout::{Row, event_in};
+use picture_parts::elements::Spot;
 use std::alloc::{AllocError, Global};
-use text_parts::{Piece, add_pieces};
+use texts::pieces::{Piece, add_pieces};
+use texts::{Out, TextBuffer, WriteError};
 
 /// Whether a message is sent in a row.
 fn has_send(lines: &[Line], row: &Row) -> bool

@@ -2,7 +2,7 @@
 ghost use Rattle.std.specs.Prelude.{◌≡◌, ◌≤◌, All};
 ghost use Rattle.std.specs.List.{flat_map};
 ghost use Rattle.chart.specs.Ranges.{IsRange, ranges_of};
-ghost use Rattle.msc_text.specs.Writing.{Adds};
+ghost use Rattle.texts.specs.Writing.{Adds};
 ghost use Rattle.pictures.specs.MarkText.{from_left, dot_spot, dot, race_number, offset, bracket_x, inner_x, upper_y};
 ghost use Rattle.pictures.specs.MarkText.{bracket_between, first_drawn, last_drawn, bracket_places, bracket_rows};
 ghost use Rattle.pictures.specs.MarkText.{bracket_text, marked, marks};
@@ -11,13 +11,13 @@ ghost use Rattle.pictures.specs.Pictures.{cell_of};
 use crate::picture::Picture;
 use crate::spots::{Cell, height, number_of, number_spot};
 use chart::{EventNo, EventRange, EventRanges, Report};
-use msc_text::{Out, TextBuffer, WriteError};
-use picture_columns::Column;
-use picture_elements::{
+use picture_parts::columns::Column;
+use picture_parts::elements::{
     Spot, add_bracket_end, add_bracket_name, add_bracket_outline, add_dot_end, add_dot_start,
     add_group_end, add_number,
 };
-use text_parts::{add_amount, add_range, add_ranges};
+use texts::pieces::{add_amount, add_range, add_ranges};
+use texts::{Out, TextBuffer, WriteError};
 
 /// Whether the message of a receive on this column's line comes from the left.
 fn from_left(picture: &Picture<'_>, receive: &EventNo, column: &Column) -> bool
@@ -49,7 +49,7 @@ fn dot_spot(left: bool, cell: &Cell) -> Spot
 }
 
 /// Adds the dot of a receive, which says the earlier events.
-#[tactic(auto, using(msc_text::proofs::Writes::joining), unfolding(crate::specs::MarkText::dot))]
+#[tactic(auto, using(texts::proofs::Writes::joining), unfolding(crate::specs::MarkText::dot))]
 fn add_dot<W: Out>(
     text: &mut TextBuffer<'_, W>,
     receive: &EventNo,
@@ -140,7 +140,7 @@ fn upper_y(receive: u32, place: u32) -> u64
 }
 
 /// Adds the bracket of a range below so many rows, with the number of its receive at its top.
-#[tactic(auto, using(msc_text::proofs::Writes::joining), unfolding(crate::specs::MarkText::bracket_between))]
+#[tactic(auto, using(texts::proofs::Writes::joining), unfolding(crate::specs::MarkText::bracket_between))]
 fn add_bracket_between<W: Out>(
     text: &mut TextBuffer<'_, W>,
     receive: &EventNo,
@@ -277,7 +277,7 @@ fn add_brackets<W: Out>(
 }
 
 /// Adds the marks of a receive with races, which is drawn.
-#[tactic(auto, using(msc_text::proofs::Writes::joining), unfolding(crate::specs::MarkText::marked))]
+#[tactic(auto, using(texts::proofs::Writes::joining), unfolding(crate::specs::MarkText::marked))]
 fn add_marked<W: Out>(
     text: &mut TextBuffer<'_, W>,
     picture: &Picture<'_>,

@@ -7,7 +7,7 @@ use crate::picture::Picture;
 use crate::spots::{height, on_line};
 use crate::there::marks_in;
 use chart::EventNo;
-use picture_elements::{Spot, legend_tall};
+use picture_parts::elements::{Spot, legend_tall};
 
 impl<'a> Picture<'a> {
     /// How wide the picture is, in pixels.

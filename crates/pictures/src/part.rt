@@ -1,8 +1,8 @@
 //! What is drawn, and what of it.
 use chart::{InstanceNo, Names, Report};
+use chart_layout::margin::MarginNote;
+use chart_layout::{Ends, Layout};
 use closure::Closure;
-use layout::{Ends, Layout};
-use margin_notes::MarginNote;
 
 /// What a picture is of: a chart with its names, a title, its layout and the reports of its receives.
 #[derive(Clone, Copy)]

@@ -6,9 +6,9 @@ ghost use Rattle.pictures.specs.Pictures.{column_of, row_at, cell_of, end_of, ev
 
 use crate::spots::Cell;
 use chart::{Event, EventNo, InstanceNo, Line, Names, Report};
-use layout::{Row, event_in};
-use margin_notes::MarginNote;
-use picture_columns::{Choice, Column};
+use chart_layout::margin::MarginNote;
+use chart_layout::{Row, event_in};
+use picture_parts::columns::{Choice, Column};
 use std::marker::Model;
 
 /// A picture of a chart: what is drawn of it, and where.

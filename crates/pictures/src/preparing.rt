@@ -5,7 +5,7 @@ ghost use Rattle.pictures.specs.Preparing.{plan_of, IsPictureOf};
 use crate::margin::{sends_in, with_margin};
 use crate::part::{Part, Source};
 use crate::picture::Picture;
-use picture_columns::{Choice, Column, Plan, columns_of, places_of, width_of};
+use picture_parts::columns::{Choice, Column, Plan, columns_of, places_of, width_of};
 use std::alloc::{AllocError, Global};
 
 /// What the columns of a part are placed by.

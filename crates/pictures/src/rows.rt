@@ -1,7 +1,7 @@
 //! The rows of a picture: arrows with their labels, and the points of events.
 ghost use Rattle.std.specs.Prelude.{◌≡◌};
 ghost use Rattle.std.specs.List.{flat_map};
-ghost use Rattle.msc_text.specs.Writing.{Adds};
+ghost use Rattle.texts.specs.Writing.{Adds};
 ghost use Rattle.pictures.specs.Pictures.{cell_of, end_of, event_of};
 ghost use Rattle.pictures.specs.RowText.{leaving, coming, message, toward, waiting_ends, waiting, both, slanted};
 ghost use Rattle.pictures.specs.RowText.{level, sent, has_end, received, alone, row_text};
@@ -10,13 +10,13 @@ use crate::labels::{Side, add_cut_label, add_event_label, add_point};
 use crate::picture::Picture;
 use crate::spots::{Cell, aside, cut_spot, height, on_line};
 use chart::{Event, EventNo, InstanceNo};
-use layout::Row;
-use msc_text::{Out, TextBuffer, WriteError};
-use picture_columns::Column;
-use picture_elements::{Spot, add_arrow, add_ring};
+use chart_layout::Row;
+use picture_parts::columns::Column;
+use picture_parts::elements::{Spot, add_arrow, add_ring};
+use texts::{Out, TextBuffer, WriteError};
 
 /// Adds a send whose message is cut.
-#[tactic(auto, using(msc_text::proofs::Writes::joining), unfolding(crate::specs::RowText::leaving))]
+#[tactic(auto, using(texts::proofs::Writes::joining), unfolding(crate::specs::RowText::leaving))]
 fn add_leaving<W: Out>(
     text: &mut TextBuffer<'_, W>,
     picture: &Picture<'_>,
@@ -32,7 +32,7 @@ fn add_leaving<W: Out>(
 }
 
 /// Adds a receive whose message is cut.
-#[tactic(auto, using(msc_text::proofs::Writes::joining), unfolding(crate::specs::RowText::coming))]
+#[tactic(auto, using(texts::proofs::Writes::joining), unfolding(crate::specs::RowText::coming))]
 fn add_coming<W: Out>(
     text: &mut TextBuffer<'_, W>,
     picture: &Picture<'_>,
@@ -48,7 +48,7 @@ fn add_coming<W: Out>(
 }
 
 /// Adds the arrow of a message from its send to its receive, with its label.
-#[tactic(auto, using(msc_text::proofs::Writes::joining), unfolding(crate::specs::RowText::message))]
+#[tactic(auto, using(texts::proofs::Writes::joining), unfolding(crate::specs::RowText::message))]
 fn add_message<W: Out>(
     text: &mut TextBuffer<'_, W>,
     picture: &Picture<'_>,
@@ -80,7 +80,7 @@ fn waiting_ends(cell: &Cell, column: &Column) -> (Spot, Spot)
 }
 
 /// Adds the arrow of a message that waits and the open circle at its end, beside the room of the column's line.
-#[tactic(auto, using(msc_text::proofs::Writes::joining), unfolding(crate::specs::RowText::toward))]
+#[tactic(auto, using(texts::proofs::Writes::joining), unfolding(crate::specs::RowText::toward))]
 fn add_toward<W: Out>(
     text: &mut TextBuffer<'_, W>,
     cell: &Cell,
@@ -94,7 +94,7 @@ fn add_toward<W: Out>(
 }
 
 /// Adds a send whose message waits for the instance of a column.
-#[tactic(auto, using(msc_text::proofs::Writes::joining), unfolding(crate::specs::RowText::waiting))]
+#[tactic(auto, using(texts::proofs::Writes::joining), unfolding(crate::specs::RowText::waiting))]
 fn add_waiting<W: Out>(
     text: &mut TextBuffer<'_, W>,
     picture: &Picture<'_>,
@@ -110,7 +110,7 @@ fn add_waiting<W: Out>(
 }
 
 /// Adds both ends of a message.
-#[tactic(auto, using(msc_text::proofs::Writes::joining), unfolding(crate::specs::RowText::both))]
+#[tactic(auto, using(texts::proofs::Writes::joining), unfolding(crate::specs::RowText::both))]
 fn add_both<W: Out>(
     text: &mut TextBuffer<'_, W>,
     picture: &Picture<'_>,
@@ -145,7 +145,7 @@ fn add_level<W: Out>(
 }
 
 /// Adds a send above its receive, with the arrow down to it.
-#[tactic(auto, using(msc_text::proofs::Writes::joining), unfolding(crate::specs::RowText::slanted))]
+#[tactic(auto, using(texts::proofs::Writes::joining), unfolding(crate::specs::RowText::slanted))]
 fn add_slanted<W: Out>(
     text: &mut TextBuffer<'_, W>,
     picture: &Picture<'_>,

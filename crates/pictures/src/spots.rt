@@ -4,8 +4,8 @@ ghost use Rattle.pictures.specs.Spots.{height, on_line, are_near, amid, between,
 ghost use Rattle.pictures.specs.Spots.{cut_spot};
 
 use chart::InstanceNo;
-use picture_columns::Column;
-use picture_elements::Spot;
+use picture_parts::columns::Column;
+use picture_parts::elements::Spot;
 
 /// Where an event stands.
 #[derive(Clone, Copy)]

@@ -5,8 +5,8 @@ ghost use Rattle.pictures.specs.MarksThere.{is_marked, has_marks, is_waiting, ha
 
 use crate::picture::Picture;
 use chart::{Event, EventNo, Report};
-use layout::Row;
-use picture_elements::Marks;
+use chart_layout::Row;
+use picture_parts::elements::Marks;
 
 /// Whether the receive of a report has a dot.
 fn is_marked(picture: &Picture<'_>, report: &Report) -> bool

@@ -3,17 +3,17 @@ use Rattle.std.proofs.Common.{◌≡◌, ℕ, Bool, true, false, not, List, [], 
 use Rattle.std.specs.Prelude.{MatchOption}
 use Rattle.std.specs.List.{list_all}
 use Rattle.std.proofs.lemmas.Bool.{ne_eqb, and_right, cond-false}
-use Rattle.msc_text.proofs.Parts.{Cons, words_cons}
-use Rattle.msc_text.specs.Faults.{in_line, Fails}
-use Rattle.msc_text.specs.Lines.{words_of, name_or_cause, is_word}
-use Rattle.msc_text.specs.declared.fault.Cause.{Cause}
-use Rattle.msc_text.specs.declared.fault.Cause.TheVariants.{Syntax}
-use Rattle.msc_text.specs.declared.fault.TextError.{TextError}
-use Rattle.msc_text.specs.Instances.{with_name}
+use Rattle.texts.proofs.Parts.{Cons, words_cons}
+use Rattle.texts.specs.Faults.{in_line, Fails}
+use Rattle.texts.specs.Lines.{words_of, name_or_cause, is_word}
+use Rattle.texts.specs.declared.fault.Cause.{Cause}
+use Rattle.texts.specs.declared.fault.Cause.TheVariants.{Syntax}
+use Rattle.texts.specs.declared.fault.TextError.{TextError}
+use Rattle.texts.specs.Instances.{with_name}
 use Rattle.schedule.specs.FirstLines.{are_words, with_word, with_words, instances_of, instances_by, names_of}
 use Rattle.schedule.specs.Keywords.{is_written}
 use Rattle.schedule.specs.declared.keyword.ScheduleWord.TheVariants as keywords
-use Rattle.msc_text.proofs.Results.{in_line_ok, bind_at, fails_in_line}
+use Rattle.texts.proofs.Results.{in_line_ok, bind_at, fails_in_line}
 
 -- ---- words
 

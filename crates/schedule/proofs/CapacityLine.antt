@@ -3,9 +3,9 @@ use Rattle.std.proofs.Common.{◌≡◌, ℕ, ◌+◌, ◌-◌, ◌*◌, ◌/◌
 use Rattle.std.specs.Prelude.{decimal}
 use Rattle.std.proofs.lemmas.Bool.{and_parts, and_from, le-leb, leb-true, ne_eqb, cond-true, cases_lt}
 use Rattle.std.proofs.lemmas.Fmt.{decimal_digit, decimal_step}
-use Rattle.msc_text.proofs.Lookups.{same_bytes}
-use Rattle.msc_text.specs.Lines.{words_of, Lacks}
-use Rattle.msc_text.specs.declared.fault.Cause.TheVariants.{Capacity, Syntax}
+use Rattle.texts.proofs.Lookups.{same_bytes}
+use Rattle.texts.specs.Lines.{words_of, Lacks}
+use Rattle.texts.specs.declared.fault.Cause.TheVariants.{Capacity, Syntax}
 use Rattle.std.specs.Char.{is_ascii_digit}
 use Rattle.schedule.specs.FirstLines.{is_number, slots, slots_of, capacity_by, capacity_of}
 use Rattle.schedule.specs.Keywords.{written, is_written}
@@ -14,8 +14,8 @@ use Rattle.schedule.proofs.PlainWords.{plain_written}
 use Rattle.schedule.specs.ScheduleText.{capacity_line, spaced}
 use Rattle.chart.specs.declared.history.TheConstants.{MAX_CAPACITY}
 use Rattle.schedule.proofs.Numbers.{above_zero, long_number}
-use Rattle.msc_text.proofs.Spacing.{IsPlain, ArePlain, spaced_again, spaced_lacks, is_spaced}
-use Rattle.msc_text.proofs.Results.{when_ok, ok_is}
+use Rattle.texts.proofs.Spacing.{IsPlain, ArePlain, spaced_again, spaced_lacks, is_spaced}
+use Rattle.texts.proofs.Results.{when_ok, ok_is}
 
 -- ---- decimal digits
 

@@ -4,14 +4,13 @@ use Rattle.std.specs.Prelude.{bytes_eq}
 use Rattle.std.specs.List.{AllByRecursion}
 use Rattle.std.proofs.lemmas.Bool.{eqb-false}
 use Rattle.chart.specs.Names.{IsName, instance_of}
-use Rattle.msc_text.specs.ChartText.{name_at}
-use Rattle.msc_text.specs.Faults.{◌>>=◌, in_line}
-use Rattle.msc_text.specs.Lines.{words_of, name_or_cause}
-use Rattle.msc_text.specs.declared.fault.Cause.{Cause}
-use Rattle.msc_text.specs.declared.fault.Cause.TheVariants.{Syntax, ToItself}
-use Rattle.msc_text.proofs.Lookups.{IsNamed, instance_is, same_bytes}
-use Rattle.msc_text.proofs.Results.{bind_ok, guard_ok, in_line_ok, name_is, when_ok, chosen, ok_is}
-use Rattle.msc_text.specs.Instances.{known, known_of}
+use Rattle.texts.specs.Instances.{name_at, known, known_of}
+use Rattle.texts.specs.Faults.{◌>>=◌, in_line}
+use Rattle.texts.specs.Lines.{words_of, name_or_cause}
+use Rattle.texts.specs.declared.fault.Cause.{Cause}
+use Rattle.texts.specs.declared.fault.Cause.TheVariants.{Syntax, ToItself}
+use Rattle.texts.proofs.Lookups.{IsNamed, instance_is, same_bytes}
+use Rattle.texts.proofs.Results.{bind_ok, guard_ok, in_line_ok, name_is, when_ok, chosen, ok_is}
 use Rattle.schedule.specs.ActionLines.{ActorAction, pair_of, partners_of, send_of, receive_of, close_of, alone_of, by_two, by_three, action_by, action_of}
 use Rattle.schedule.specs.Keywords.{written, is_written}
 use Rattle.schedule.specs.declared.keyword.ScheduleWord.TheVariants as keywords
@@ -21,7 +20,7 @@ use Rattle.schedule.specs.ScheduleText.{action_words, command_line, spaced, AreN
 use Rattle.schedule.specs.declared.command.Action.{Action}
 use Rattle.schedule.specs.declared.command.Action.TheVariants.{Send, Receive, Any, Close, Open, Shut}
 use Rattle.schedule.specs.declared.command.Command.{Command}
-use Rattle.msc_text.proofs.Spacing.{is_spaced}
+use Rattle.texts.proofs.Spacing.{is_spaced}
 
 -- ---- what is read is spelled so
 

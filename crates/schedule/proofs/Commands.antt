@@ -1,15 +1,15 @@
 -- Reading commands one after the other, as a loop does.
 use Rattle.std.proofs.Common.{◌≡◌, ℕ, ◌+◌, List, [], ◌∷◌, ◌++◌, length, Result, Ok, Err, refl, sym, ap, ◌∙◌, append_assoc, append-nil, eq-eqb}
 use Rattle.std.proofs.lemmas.Bool.{ne_eqb}
-use Rattle.msc_text.specs.Faults.{◌>>=◌, in_line, Fails}
-use Rattle.msc_text.specs.declared.fault.Fault.{Fault}
-use Rattle.msc_text.specs.declared.fault.Fault.TheVariants.{Unfinished}
-use Rattle.msc_text.specs.declared.fault.TextError.{TextError}
-use Rattle.msc_text.specs.declared.fault.TextError.TheVariants as errors
+use Rattle.texts.specs.Faults.{◌>>=◌, in_line, Fails}
+use Rattle.texts.specs.declared.fault.Fault.{Fault}
+use Rattle.texts.specs.declared.fault.Fault.TheVariants.{Unfinished}
+use Rattle.texts.specs.declared.fault.TextError.{TextError}
+use Rattle.texts.specs.declared.fault.TextError.TheVariants as errors
 use Rattle.schedule.specs.ActionLines.{ActorAction, action_of}
 use Rattle.schedule.specs.Reading.{command_at, commands_from, commands_of, with_end}
 use Rattle.schedule.specs.declared.command.Command.{Command}
-use Rattle.msc_text.proofs.Results.{bind_at, fails_then}
+use Rattle.texts.proofs.Results.{bind_at, fails_then}
 
 -- what was read before, and what is still read
 abbrev pub with_front : List Command → Result (List Command) Fault → Result (List Command) Fault

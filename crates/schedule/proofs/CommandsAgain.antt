@@ -4,13 +4,12 @@ use Rattle.std.specs.List.{AllByRecursion}
 use Rattle.std.proofs.lemmas.Bool.{ne_eqb, cond-false}
 use Rattle.chart.specs.Names.{IsName}
 use Rattle.chart.specs.NameSets.{AreNames}
-use Rattle.msc_text.specs.ChartText.{name_at}
-use Rattle.msc_text.specs.Faults.{◌>>=◌, in_line}
-use Rattle.msc_text.specs.Lines.{name_or_cause, Lacks}
-use Rattle.msc_text.specs.declared.fault.Cause.TheVariants.{Syntax, ToItself}
-use Rattle.msc_text.proofs.Lookups.{instance_again, name_at_all}
-use Rattle.msc_text.proofs.Results.{bind_at, name_again, name_some}
-use Rattle.msc_text.specs.Instances.{known, known_of}
+use Rattle.texts.specs.Instances.{name_at, known, known_of}
+use Rattle.texts.specs.Faults.{◌>>=◌, in_line}
+use Rattle.texts.specs.Lines.{name_or_cause, Lacks}
+use Rattle.texts.specs.declared.fault.Cause.TheVariants.{Syntax, ToItself}
+use Rattle.texts.proofs.Lookups.{instance_again, name_at_all}
+use Rattle.texts.proofs.Results.{bind_at, name_again, name_some}
 use Rattle.schedule.specs.ActionLines.{pair_of, partners_of, send_of, receive_of, close_of, alone_of, by_two, by_three, action_by, action_of}
 use Rattle.schedule.specs.Keywords.{written, is_written}
 use Rattle.chart.specs.Keywords.{spelled}
@@ -22,7 +21,7 @@ use Rattle.schedule.specs.ScheduleText.{action_words, command_line, AreNumbered,
 use Rattle.schedule.specs.declared.command.Action.{Action}
 use Rattle.schedule.specs.declared.command.Action.TheVariants.{Send, Receive, Any, Close, Open, Shut}
 use Rattle.schedule.specs.declared.command.Command.{Command}
-use Rattle.msc_text.proofs.Spacing.{IsPlain, ArePlain, plain_name, spaced_again, spaced_lacks}
+use Rattle.texts.proofs.Spacing.{IsPlain, ArePlain, plain_name, spaced_again, spaced_lacks}
 
 -- ---- tests of words
 

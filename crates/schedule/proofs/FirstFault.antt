@@ -1,11 +1,11 @@
 -- The first faulty line decides: what follows it changes nothing. A law about lists alone.
 use Rattle.std.proofs.Common.{◌≡◌, ℕ, ◌+◌, Bool, true, false, cond, eqb, List, [], ◌∷◌, ◌++◌, length, Ok, Err, ap, ◌∙◌, inl, inr}
-use Rattle.msc_text.proofs.Parts.{lines_onto}
-use Rattle.msc_text.proofs.Results.{bind_err, bind_at, stops}
-use Rattle.msc_text.specs.Faults.{◌>>=◌, in_line}
-use Rattle.msc_text.specs.Lines.{lines_of, end_of}
-use Rattle.msc_text.specs.declared.fault.Cause.{Cause}
-use Rattle.msc_text.specs.declared.fault.Fault.TheVariants.{Line, Unfinished}
+use Rattle.texts.proofs.Parts.{lines_onto}
+use Rattle.texts.proofs.Results.{bind_err, bind_at, stops}
+use Rattle.texts.specs.Faults.{◌>>=◌, in_line}
+use Rattle.texts.specs.Lines.{lines_of, end_of}
+use Rattle.texts.specs.declared.fault.Cause.{Cause}
+use Rattle.texts.specs.declared.fault.Fault.TheVariants.{Line, Unfinished}
 use Rattle.schedule.specs.FirstLines.{names_of, capacity_of}
 use Rattle.schedule.specs.Reading.{command_at, commands_from, commands_of, with_end, schedule_of}
 use Rattle.schedule.proofs.Read.{after_second, after_first, read_lines}

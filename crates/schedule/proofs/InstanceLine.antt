@@ -11,18 +11,18 @@ use Rattle.chart.proofs.Places.{slice_get-append}
 use Rattle.chart.specs.Names.{IsName}
 use Rattle.chart.specs.NameSets.{AreNames}
 use Rattle.chart.specs.declared.instance.TheConstants.{MAX_INSTANCES}
-use Rattle.msc_text.proofs.Lookups.{same_bytes}
-use Rattle.msc_text.proofs.Results.{bind_ok, bind_at, guard_ok, name_is, name_again, name_some, when_ok, ok_is}
-use Rattle.msc_text.specs.Lines.{words_of, name_or_cause, Lacks, is_word}
-use Rattle.msc_text.specs.declared.fault.Cause.TheVariants.{Instances, Syntax}
-use Rattle.msc_text.specs.Instances.{with_name}
+use Rattle.texts.proofs.Lookups.{same_bytes}
+use Rattle.texts.proofs.Results.{bind_ok, bind_at, guard_ok, name_is, name_again, name_some, when_ok, ok_is}
+use Rattle.texts.specs.Lines.{words_of, name_or_cause, Lacks, is_word}
+use Rattle.texts.specs.declared.fault.Cause.TheVariants.{Instances, Syntax}
+use Rattle.texts.specs.Instances.{with_name}
 use Rattle.schedule.specs.FirstLines.{are_words, with_word, with_words, several, instances_of, instances_by, names_of}
 use Rattle.schedule.specs.Keywords.{written, is_written}
 use Rattle.schedule.specs.declared.keyword.ScheduleWord.TheVariants as keywords
 use Rattle.schedule.proofs.PlainWords.{plain_written}
 use Rattle.schedule.specs.ScheduleText.{instances_line, spaced}
-use Rattle.msc_text.proofs.NewNames.{with_name-ok, with_name-names}
-use Rattle.msc_text.proofs.Spacing.{ArePlain, plain_names, spaced_again, spaced_lacks, is_spaced}
+use Rattle.texts.proofs.NewNames.{with_name-ok, with_name-names}
+use Rattle.texts.proofs.Spacing.{ArePlain, plain_names, spaced_again, spaced_lacks, is_spaced}
 
 -- ---- what is read is spelled so
 

@@ -2,14 +2,14 @@
 use Rattle.std.proofs.Common.{◌≡◌, ◌≢◌, ℕ, true, false, cond, eqb, List, [], ◌∷◌, length, Result, Ok, Err, refl, sym, ap, ◌∙◌, ◌||◌, not}
 use Rattle.std.proofs.lemmas.Bool.{ne_eqb, cond-false}
 use Rattle.chart.specs.Names.{IsName}
-use Rattle.msc_text.specs.Faults.{◌>>=◌}
-use Rattle.msc_text.specs.Instances.{known_of}
-use Rattle.msc_text.specs.Lines.{words_of, name_or_cause}
-use Rattle.msc_text.specs.declared.fault.Cause.{Cause}
-use Rattle.msc_text.specs.declared.fault.Cause.TheVariants.{Syntax, ToItself}
-use Rattle.text_reading.specs.NamedWords.{IsNamed}
-use Rattle.msc_text.proofs.Results.{bind_at, name_is, name_some}
-use Rattle.msc_text.proofs.Spacing.{plain_name, spaced_again}
+use Rattle.texts.specs.Faults.{◌>>=◌}
+use Rattle.texts.specs.Instances.{known_of}
+use Rattle.texts.specs.Lines.{words_of, name_or_cause}
+use Rattle.texts.specs.declared.fault.Cause.{Cause}
+use Rattle.texts.specs.declared.fault.Cause.TheVariants.{Syntax, ToItself}
+use Rattle.texts.specs.Reading.NamedWords.{IsNamed}
+use Rattle.texts.proofs.Results.{bind_at, name_is, name_some}
+use Rattle.texts.proofs.Spacing.{plain_name, spaced_again}
 use Rattle.schedule.specs.ActionLines.{pair_of, partners_of, send_of, receive_of, by_three, action_by, action_of}
 use Rattle.schedule.specs.Keywords.{written, is_written}
 use Rattle.schedule.specs.KnownLines.{IsInstance}

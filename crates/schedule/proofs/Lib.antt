@@ -6,10 +6,13 @@ pub mod Commands
 pub mod CommandsAgain
 pub mod FirstFault
 pub mod InstanceLine
+pub mod InterleaverLemmas
 pub mod KnownLines
 pub mod Legal
 pub mod Numbers
+pub mod OutcomesLemmas
 pub mod PlainWords
 pub mod Read
 pub mod Scanning
+pub mod TurnsLemmas
 pub mod Written

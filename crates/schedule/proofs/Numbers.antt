@@ -2,7 +2,7 @@
 use Rattle.std.proofs.Common.{◌≡◌, ℕ, ◌+◌, ◌-◌, ◌*◌, ◌≤◌, ◌<◌, Bool, true, not, leb, eqb, List, [], ◌∷◌, length, Ok, Err, refl, sym, arith, ◌∙◌, ◌&&◌, ◌||◌, inl, inr}
 use Rattle.std.specs.List.{list_all}
 use Rattle.std.proofs.lemmas.Bool.{and_parts, or_cases, eqb-true, eqb-false, leb-true, lt-leb, and_right, not-true, cond-false}
-use Rattle.msc_text.specs.declared.fault.Cause.TheVariants.{Capacity}
+use Rattle.texts.specs.declared.fault.Cause.TheVariants.{Capacity}
 use Rattle.std.specs.Char.{is_ascii_digit}
 use Rattle.schedule.specs.FirstLines.{is_number, number_from, slots_of}
 use Rattle.chart.specs.declared.history.TheConstants.{MAX_CAPACITY}

@@ -1,7 +1,7 @@
 -- The words of a schedule's text have neither a space nor a line feed.
 use Rattle.std.proofs.Common.{refl}
 use Rattle.chart.specs.declared.keyword.Keyword.TheVariants as chart_words
-use Rattle.msc_text.proofs.Spacing.{IsPlain, plain_literal, plain_keyword}
+use Rattle.texts.proofs.Spacing.{IsPlain, plain_literal, plain_keyword}
 use Rattle.schedule.specs.Keywords.{written}
 use Rattle.schedule.specs.declared.keyword.ScheduleWord.{ScheduleWord}
 use Rattle.schedule.specs.declared.keyword.ScheduleWord.TheVariants.{Instances, Capacity, Send, Receive, Any, Close, Concurrent, EndConcurrent}

@@ -3,13 +3,13 @@ use Rattle.std.proofs.Common.{◌≡◌, ℕ, eqb, List, [], ◌∷◌, ◌++◌
 use Rattle.std.specs.List.{AllByRecursion, flat_map}
 use Rattle.std.proofs.lemmas.Bool.{eqb-true}
 use Rattle.std.proofs.lemmas.List.Elements.{All-from_recursion, recursion_from_All}
-use Rattle.msc_text.proofs.Parts.{lines_joined, lines_again, end_again}
-use Rattle.msc_text.proofs.Results.{bind_ok, in_line_ok, when_ok, ok_is}
-use Rattle.msc_text.specs.Faults.{◌>>=◌, in_line, Fails}
-use Rattle.msc_text.specs.Lines.{Lacks, lines_of, end_of, ended}
-use Rattle.msc_text.specs.declared.fault.Fault.{Fault}
-use Rattle.msc_text.specs.declared.fault.Fault.TheVariants.{Unfinished}
-use Rattle.msc_text.specs.declared.fault.TextError.{TextError}
+use Rattle.texts.proofs.Parts.{lines_joined, lines_again, end_again}
+use Rattle.texts.proofs.Results.{bind_ok, in_line_ok, when_ok, ok_is}
+use Rattle.texts.specs.Faults.{◌>>=◌, in_line, Fails}
+use Rattle.texts.specs.Lines.{Lacks, lines_of, end_of, ended}
+use Rattle.texts.specs.declared.fault.Fault.{Fault}
+use Rattle.texts.specs.declared.fault.Fault.TheVariants.{Unfinished}
+use Rattle.texts.specs.declared.fault.TextError.{TextError}
 use Rattle.schedule.specs.FirstLines.{names_of, capacity_of}
 use Rattle.schedule.specs.Plans.{Plan, IsAmong}
 use Rattle.schedule.specs.Reading.{next_of, commands_from, commands_of, with_end, schedule_of}

@@ -1,8 +1,8 @@
 -- That a schedule's text as it is written is its lines, with one space between words.
 use Rattle.std.proofs.Common.{◌≡◌, ℕ, List, [], ◌∷◌, ◌++◌, refl, sym, ap, ◌∙◌, append_assoc, append-nil, map, decimal, codes}
 use Rattle.std.specs.List.{flat_map}
-use Rattle.msc_text.specs.ChartText.{name_at}
-use Rattle.msc_text.specs.Lines.{ended}
+use Rattle.texts.specs.Instances.{name_at}
+use Rattle.texts.specs.Lines.{ended}
 use Rattle.schedule.specs.Keywords.{written}
 use Rattle.schedule.specs.declared.command.Command.{Command}
 use Rattle.schedule.specs.declared.keyword.ScheduleWord.TheVariants as keywords

@@ -1,10 +1,10 @@
 -- The commands of a schedule's text: who acts, and what it does (this project's profile).
 use Rattle.std.specs.Prelude.{ℕ, not, ◌||◌, ◌==◌, List, [], ◌∷◌, length, Result, Ok, Err, if◌then◌else◌}
-use Rattle.msc_text.specs.Faults.{◌>>=◌}
-use Rattle.msc_text.specs.Instances.{known_of}
-use Rattle.msc_text.specs.Lines.{words_of, name_or_cause}
-use Rattle.msc_text.specs.declared.fault.Cause.{Cause}
-use Rattle.msc_text.specs.declared.fault.Cause.TheVariants.{ToItself, Syntax}
+use Rattle.texts.specs.Faults.{◌>>=◌}
+use Rattle.texts.specs.Instances.{known_of}
+use Rattle.texts.specs.Lines.{words_of, name_or_cause}
+use Rattle.texts.specs.declared.fault.Cause.{Cause}
+use Rattle.texts.specs.declared.fault.Cause.TheVariants.{ToItself, Syntax}
 use Rattle.schedule.specs.Keywords.{is_written}
 use Rattle.schedule.specs.declared.keyword.ScheduleWord.TheVariants as keywords
 use Rattle.schedule.specs.declared.command.Action.{Action}

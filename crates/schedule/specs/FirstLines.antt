@@ -2,11 +2,11 @@
 use Rattle.std.specs.Prelude.{ℕ, ◌+◌, ◌-◌, ◌*◌, Bool, false, not, ◌&&◌, ◌||◌, ◌==◌, List, [], ◌∷◌, length, Result, Ok, Err, nat_lt, nat_le, if◌then◌else◌}
 use Rattle.std.specs.Char.{is_ascii_digit}
 use Rattle.std.specs.List.{list_all}
-use Rattle.msc_text.specs.Instances.{with_name}
-use Rattle.msc_text.specs.Faults.{◌>>=◌}
-use Rattle.msc_text.specs.Lines.{words_of, name_or_cause, is_word}
-use Rattle.msc_text.specs.declared.fault.Cause.{Cause}
-use Rattle.msc_text.specs.declared.fault.Cause.TheVariants.{Instances, Capacity, Syntax}
+use Rattle.texts.specs.Instances.{with_name}
+use Rattle.texts.specs.Faults.{◌>>=◌}
+use Rattle.texts.specs.Lines.{words_of, name_or_cause, is_word}
+use Rattle.texts.specs.declared.fault.Cause.{Cause}
+use Rattle.texts.specs.declared.fault.Cause.TheVariants.{Instances, Capacity, Syntax}
 use Rattle.schedule.specs.Keywords.{is_written}
 use Rattle.schedule.specs.declared.keyword.ScheduleWord.TheVariants as keywords
 use Rattle.chart.specs.declared.history.TheConstants.{MAX_CAPACITY}

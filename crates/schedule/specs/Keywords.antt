@@ -4,8 +4,7 @@ use Rattle.std.specs.Prelude.{ℕ, Bool, List, codes, bytes_eq}
 use Rattle.chart.specs.Keywords.{spelled}
 use Rattle.chart.specs.declared.keyword.Keyword.TheVariants as chart_words
 use Rattle.schedule.specs.declared.keyword.ScheduleWord.{ScheduleWord}
-use Rattle.schedule.specs.declared.keyword.ScheduleWord.TheVariants.{Instances, Capacity, Send, Receive, Any, Close}
-use Rattle.schedule.specs.declared.keyword.ScheduleWord.TheVariants.{Concurrent, EndConcurrent}
+use Rattle.schedule.specs.declared.keyword.ScheduleWord.TheVariants.{Instances, Capacity, Send, Receive, Any, Close, Concurrent, EndConcurrent}
 
 -- how the word is spelled
 unfoldable pub written : ScheduleWord → List ℕ

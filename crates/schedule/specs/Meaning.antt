@@ -1,6 +1,5 @@
 -- What a schedule means: its commands, one after the other, over a history (this project's profile).
-use Rattle.std.specs.Prelude.{ℕ, ◌+◌, Bool, ◌==◌, List, [], ◌∷◌, ◌++◌, length, find, fold, Option, None, Some, Result}
-use Rattle.std.specs.Prelude.{Ok, Err, nat_lt, nat_le, if◌then◌else◌, All}
+use Rattle.std.specs.Prelude.{ℕ, ◌+◌, Bool, ◌==◌, List, [], ◌∷◌, ◌++◌, length, find, fold, Option, None, Some, Result, Ok, Err, nat_lt, nat_le, if◌then◌else◌, All}
 use Rattle.std.specs.List.{list_all}
 use Rattle.chart.specs.declared.history.Occurrence.{Occurrence}
 use Rattle.chart.specs.declared.history.Occurrence.TheVariants as events

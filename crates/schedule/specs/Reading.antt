@@ -1,10 +1,10 @@
 -- A schedule's text, line by line from the top: the plan that it says, or the first fault (this project's profile).
 use Rattle.std.specs.Prelude.{◌≡◌, ℕ, ◌+◌, ◌==◌, List, [], ◌∷◌, ◌++◌, length, Result, Ok, Err, if◌then◌else◌}
-use Rattle.msc_text.specs.Faults.{◌>>=◌, in_line}
-use Rattle.msc_text.specs.Lines.{lines_of, end_of}
-use Rattle.msc_text.specs.declared.fault.Cause.{Cause}
-use Rattle.msc_text.specs.declared.fault.Fault.{Fault}
-use Rattle.msc_text.specs.declared.fault.Fault.TheVariants.{Line, Unfinished}
+use Rattle.texts.specs.Faults.{◌>>=◌, in_line}
+use Rattle.texts.specs.Lines.{lines_of, end_of}
+use Rattle.texts.specs.declared.fault.Cause.{Cause}
+use Rattle.texts.specs.declared.fault.Fault.{Fault}
+use Rattle.texts.specs.declared.fault.Fault.TheVariants.{Line, Unfinished}
 use Rattle.schedule.specs.ActionLines.{action_of}
 use Rattle.schedule.specs.FirstLines.{names_of, capacity_of}
 use Rattle.schedule.specs.Plans.{Plan}

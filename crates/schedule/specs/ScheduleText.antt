@@ -3,8 +3,8 @@
 use Rattle.std.specs.Prelude.{◌≡◌, ℕ, ◌+◌, ◌≤◌, List, [], ◌∷◌, All, decimal, map}
 use Rattle.std.specs.List.{flat_map, join_with_byte}
 use Rattle.chart.specs.Names.{IsName}
-use Rattle.msc_text.specs.ChartText.{name_at}
-use Rattle.msc_text.specs.Lines.{ended}
+use Rattle.texts.specs.Instances.{name_at}
+use Rattle.texts.specs.Lines.{ended}
 use Rattle.schedule.specs.Keywords.{written}
 use Rattle.schedule.specs.declared.keyword.ScheduleWord.TheVariants as keywords
 use Rattle.schedule.specs.declared.command.Action.{Action}

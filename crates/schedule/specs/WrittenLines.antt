@@ -1,7 +1,7 @@
 -- A schedule's text as it is written: a line is its first word, and then a space and a word for each other one.
 use Rattle.std.specs.Prelude.{ℕ, List, ◌++◌, codes, decimal}
 use Rattle.std.specs.List.{flat_map}
-use Rattle.msc_text.specs.ChartText.{name_at}
+use Rattle.texts.specs.Instances.{name_at}
 use Rattle.schedule.specs.Keywords.{written}
 use Rattle.schedule.specs.declared.keyword.ScheduleWord.TheVariants as keywords
 use Rattle.schedule.specs.Plans.{Plan}

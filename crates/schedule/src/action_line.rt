@@ -7,8 +7,8 @@ use crate::command::Action;
 use crate::keyword::ScheduleWord;
 use crate::known_line::known_action;
 use chart::{InstanceNo, Name, Names};
-use msc_text::{Cause, Words, known_in, name_in, words_in};
-use text_reading::Guesses;
+use texts::reading::Guesses;
+use texts::{Cause, Words, known_in, name_in, words_in};
 
 /// Two instances that were found, or the first one's F23, and F13 where they are the same.
 fn read_pair(

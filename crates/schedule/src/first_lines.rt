@@ -2,15 +2,15 @@
 ghost use Rattle.std.specs.Prelude.{◌≡◌, IsTrue};
 ghost use Rattle.std.specs.Char.{is_ascii_digit};
 ghost use Rattle.std.specs.List.{list_all};
-ghost use Rattle.msc_text.specs.Faults.{Gives, in_line};
-ghost use Rattle.msc_text.specs.Lines.{words_of, is_word};
+ghost use Rattle.texts.specs.Faults.{Gives, in_line};
+ghost use Rattle.texts.specs.Lines.{words_of, is_word};
 ghost use Rattle.schedule.specs.FirstLines.{are_words, with_word, with_words, instances_of, names_of, is_number, slots, slots_of, capacity_of};
 
 use crate::keyword::ScheduleWord;
 use crate::schedule::Capacity;
 use chart::Names;
-use msc_text::{Cause, TextError, Words, add_name, at_line, fault_at, name_in, next_word, words_in};
 use std::alloc::Global;
+use texts::{Cause, TextError, Words, add_name, at_line, fault_at, name_in, next_word, words_in};
 
 /// Whether each word has a byte at least.
 fn are_words(line: &[u8]) -> bool

@@ -1,7 +1,7 @@
 //! Commands' lines that are read at once: sends and receives whose words stand where theirs do, and whose names were mostly
 //! read before. What a line is that isn't read so is for [`crate::action_line`] to say.
 ghost use Rattle.std.specs.Prelude.{◌≡◌, ◌∷◌, Ok, IfSome};
-ghost use Rattle.msc_text.specs.Lines.{words_of};
+ghost use Rattle.texts.specs.Lines.{words_of};
 ghost use Rattle.schedule.specs.ActionLines.{action_by, action_of};
 ghost use Rattle.schedule.specs.Keywords.{written};
 ghost use Rattle.schedule.specs.KnownLines.{IsInstance};
@@ -9,8 +9,8 @@ ghost use Rattle.schedule.specs.declared.keyword.ScheduleWord.TheVariants as key
 
 use crate::command::Action;
 use chart::{InstanceNo, Names};
-use msc_text::next_word;
-use text_reading::{Guesses, behind};
+use texts::next_word;
+use texts::reading::{Guesses, behind};
 
 /// Receiver and message of `send NAME MESSAGE`.
 fn send_words(bytes: &[u8]) -> Option<(&[u8], &[u8])>

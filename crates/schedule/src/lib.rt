@@ -12,12 +12,15 @@
 mod action_line;
 mod command;
 mod first_lines;
+pub mod interleaver;
 mod keyword;
 mod known_line;
 pub mod laws;
+pub mod outcomes;
 mod reading;
 mod schedule;
 mod text;
+pub mod turns;
 
 pub use command::{Action, Command, Note, Word};
 pub use schedule::{Capacity, Schedule};

@@ -1,7 +1,7 @@
 //! Reads a schedule's text.
 ghost use Rattle.std.specs.Prelude.{◌≡◌, ◌<◌, length, IfOk, Ok};
-ghost use Rattle.msc_text.specs.Faults.{Gives};
-ghost use Rattle.msc_text.specs.Lines.{lines_of, end_of};
+ghost use Rattle.texts.specs.Faults.{Gives};
+ghost use Rattle.texts.specs.Lines.{lines_of, end_of};
 ghost use Rattle.schedule.specs.Plans.{Plan};
 ghost use Rattle.schedule.specs.Reading.{next_of, commands_of, schedule_of};
 ghost use Rattle.schedule.specs.ScheduleText.{schedule_text, HasText};
@@ -11,9 +11,9 @@ use crate::command::Command;
 use crate::first_lines::{capacity_in, names_in};
 use crate::schedule::{Capacity, Schedule};
 use chart::Names;
-use msc_text::{Fault, TextError, at_line};
 use std::alloc::Global;
-use text_reading::{Guesses, next_line};
+use texts::reading::{Guesses, next_line};
+use texts::{Fault, TextError, at_line};
 
 /// The next line, and what follows it, or F21.
 fn next_in(bytes: &[u8]) -> Result<(&[u8], &[u8]), TextError>

@@ -1,8 +1,8 @@
 //! Schedules as text.
 ghost use Rattle.std.specs.Prelude.{◌≡◌, ◌≤◌, ◌∷◌, [], length, All};
 ghost use Rattle.std.specs.List.{flat_map};
-ghost use Rattle.msc_text.specs.ChartText.{name_at};
-ghost use Rattle.msc_text.specs.Writing.{Wrote, Adds};
+ghost use Rattle.texts.specs.Instances.{name_at};
+ghost use Rattle.texts.specs.Writing.{Wrote, Adds};
 ghost use Rattle.schedule.specs.Keywords.{written};
 ghost use Rattle.schedule.specs.declared.keyword.ScheduleWord.TheVariants as keywords;
 ghost use Rattle.schedule.specs.Plans.{IsAmong, HasPartner};
@@ -14,7 +14,7 @@ use crate::keyword::ScheduleWord;
 use crate::schedule::{Capacity, Schedule};
 use chart::{InstanceNo, Names};
 use itoa::Buffer;
-use msc_text::{Out, TextBuffer, WriteError, named};
+use texts::{Out, TextBuffer, WriteError, named};
 
 /// Adds a space and the word.
 #[tactic(auto, unfolding(crate::specs::WrittenLines::behind_space))]
@@ -43,7 +43,7 @@ fn add_names<W: Out>(text: &mut TextBuffer<'_, W>, names: &Names) -> Result<(), 
 }
 
 /// Adds line 1.
-#[tactic(auto, using(msc_text::proofs::Writes::joining), unfolding(crate::specs::WrittenLines::line_of))]
+#[tactic(auto, using(texts::proofs::Writes::joining), unfolding(crate::specs::WrittenLines::line_of))]
 fn add_instances<W: Out>(text: &mut TextBuffer<'_, W>, names: &Names) -> Result<(), WriteError>
     ensures { Adds W.sink text.old text.new result (line_of (written keywords.Instances) names.now) }
 {
@@ -53,7 +53,7 @@ fn add_instances<W: Out>(text: &mut TextBuffer<'_, W>, names: &Names) -> Result<
 }
 
 /// Adds line 2.
-#[tactic(auto, using(msc_text::proofs::Writes::joining), unfolding(crate::specs::WrittenLines::capacity_text))]
+#[tactic(auto, using(texts::proofs::Writes::joining), unfolding(crate::specs::WrittenLines::capacity_text))]
 fn add_capacity<W: Out>(text: &mut TextBuffer<'_, W>, capacity: Capacity) -> Result<(), WriteError>
     ensures { Adds W.sink text.old text.new result (capacity_text capacity) }
 {
@@ -113,7 +113,7 @@ fn add_action<W: Out>(
 }
 
 /// Adds the command's line.
-#[tactic(auto, using(msc_text::proofs::Writes::joining), unfolding(crate::specs::WrittenLines::line_of))]
+#[tactic(auto, using(texts::proofs::Writes::joining), unfolding(crate::specs::WrittenLines::line_of))]
 fn add_command<W: Out>(
     text: &mut TextBuffer<'_, W>,
     names: &Names,
@@ -143,7 +143,7 @@ fn add_commands<W: Out>(
 }
 
 /// Adds the three parts of a schedule's text.
-#[tactic(auto, using(msc_text::proofs::Writes::joining), unfolding(crate::specs::WrittenLines::plan_text))]
+#[tactic(auto, using(texts::proofs::Writes::joining), unfolding(crate::specs::WrittenLines::plan_text))]
 fn add_schedule<W: Out>(text: &mut TextBuffer<'_, W>, schedule: &Schedule) -> Result<(), WriteError>
     ensures { Adds W.sink text.old text.new result (plan_text schedule.now) }
 {
@@ -154,7 +154,7 @@ fn add_schedule<W: Out>(text: &mut TextBuffer<'_, W>, schedule: &Schedule) -> Re
 }
 
 /// Writes the three parts.
-#[tactic(auto, using(msc_text::proofs::Writes::joining))]
+#[tactic(auto, using(texts::proofs::Writes::joining))]
 fn write_lines<W: Out>(schedule: &Schedule, out: &mut W) -> Result<(), WriteError>
     ensures { Wrote W.sink out.old out.new result (plan_text schedule.now) }
 {

@@ -1,8 +1,8 @@
 use Rattle.std.proofs.Common.{◌≡◌, List, length, map, sym, ap, ◌∙◌, subst}
 use Rattle.chart.specs.Charts.{LineView, IsPossible, chart_lines}
 use Rattle.diagrams.specs.Diagrams.{item_view}
-use Rattle.label_names.specs.Renaming.{renamed_view}
-use Rattle.message_charts.proofs.LinesLemmas.{length-lines}
+use Rattle.diagram_labels.specs.Renaming.{renamed_view}
+use Rattle.diagrams.proofs.MessagesLemmas.LinesLemmas.{length-lines}
 use Rattle.diagrams.proofs.DrawnLemmas.{drawn_parts}
 use Rattle.diagrams.proofs.drawn.drawn_of.Goals as goal
 

@@ -1,7 +1,7 @@
 use Rattle.std.proofs.Common.{◌≡◌, ℕ, List, ◌++◌, ◌∷◌, [], length, sym, ◌∙◌, ap, arith}
 use Rattle.std.proofs.lemmas.List.{length-append}
-use Rattle.label_names.specs.Giving.{called}
-use Rattle.label_names.specs.Spelling.{spelled}
+use Rattle.diagram_labels.specs.Giving.{called}
+use Rattle.diagram_labels.specs.Spelling.{spelled}
 use Rattle.diagrams.proofs.NamingLemmas.{not_among, name_more, names_end}
 use Rattle.diagrams.proofs.naming.names_of.Goals as goal
 

@@ -1,7 +1,7 @@
 use Rattle.std.proofs.Common.{sym, ◌∙◌, ap, map}
 use Rattle.diagrams.specs.declared.diagram.Participant.{Participant}
-use Rattle.label_names.specs.Renaming.{renamed_view, with_renamed}
-use Rattle.label_names.proofs.RenamingLemmas.{renamed_more, renamed_stop, renamed_end}
+use Rattle.diagram_labels.specs.Renaming.{renamed_view, with_renamed}
+use Rattle.diagram_labels.proofs.RenamingLemmas.{renamed_more, renamed_stop, renamed_end}
 use Rattle.diagrams.proofs.renaming.tell_participants.Goals as goal
 
 pub loop-place-preserved : goal.loop-place-preserved

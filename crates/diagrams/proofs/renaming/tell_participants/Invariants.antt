@@ -1,6 +1,6 @@
 use Rattle.std.proofs.Common.{◌≡◌, map, drop}
 use Rattle.diagrams.specs.declared.diagram.Participant.{Participant}
-use Rattle.label_names.specs.Renaming.{renamed_view, renamed_from}
+use Rattle.diagram_labels.specs.Renaming.{renamed_view, renamed_from}
 use Rattle.diagrams.proofs.renaming.tell_participants.Given as goal
 
 abbrev pub invariant-loop-place : goal.invariant-loop-place

@@ -1,8 +1,8 @@
 use Rattle.std.proofs.Common.{sym}
 use Rattle.std.proofs.lemmas.List.{take_rest}
 use Rattle.fault_places.proofs.cutting.cut_word.Goals as goal
-use Rattle.msc_text.proofs.Parts.{parts_at, parts_whole}
-use Rattle.msc_text.specs.Lines.{words_of}
+use Rattle.texts.proofs.Parts.{parts_at, parts_whole}
+use Rattle.texts.specs.Lines.{words_of}
 
 pub returns-in-None-clause-words : goal.returns-in-None-clause-words
 unfolding words_of

@@ -1,6 +1,6 @@
 use Rattle.std.proofs.Common.{◌≡◌, ◌+◌, ◌≤◌, length}
 use Rattle.fault_places.proofs.lines.count_of_lines.Given as goal
-use Rattle.msc_text.specs.Lines.{lines_of}
+use Rattle.texts.specs.Lines.{lines_of}
 
 abbrev pub invariant-lines : goal.invariant-lines
 invariant-lines l = record {

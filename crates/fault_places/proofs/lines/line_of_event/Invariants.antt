@@ -1,7 +1,7 @@
 use Rattle.std.proofs.Common.{◌≡◌, ◌+◌, ◌≤◌, length}
 use Rattle.fault_places.specs.Standings.{event_from}
 use Rattle.fault_places.proofs.lines.line_of_event.Given as goal
-use Rattle.msc_text.specs.Lines.{lines_of}
+use Rattle.texts.specs.Lines.{lines_of}
 
 abbrev pub invariant-lines : goal.invariant-lines
 invariant-lines l = record {

@@ -2,7 +2,7 @@ use Rattle.std.proofs.Common.{◌≡◌, ◌-◌, take, drop}
 use Rattle.fault_places.specs.Standings.{line_at}
 use Rattle.fault_places.specs.declared.want.Want.TheVariants.{Msc}
 use Rattle.fault_places.proofs.lines.standing_at.Given as goal
-use Rattle.msc_text.specs.Lines.{lines_of, end_of}
+use Rattle.texts.specs.Lines.{lines_of, end_of}
 
 abbrev pub invariant-lines : goal.invariant-lines
 invariant-lines l = record {

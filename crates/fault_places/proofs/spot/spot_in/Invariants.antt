@@ -1,7 +1,7 @@
 use Rattle.std.proofs.Common.{◌≡◌, ◌+◌, ◌≤◌, length}
 use Rattle.fault_places.specs.Spots.{spot_from}
 use Rattle.fault_places.proofs.spot.spot_in.Given as goal
-use Rattle.msc_text.specs.Lines.{words_of}
+use Rattle.texts.specs.Lines.{words_of}
 
 abbrev pub invariant-words : goal.invariant-words
 invariant-words l = record {

@@ -1,9 +1,9 @@
 use Rattle.std.proofs.Common.{Option, Vec, Global, sym, subst}
 use Rattle.std.specs.Prelude.{MatchOption}
-use Rattle.causes.specs.declared.link.Link.{Link}
+use Rattle.closure.specs.declared.chain.link.Link.{Link}
 use Rattle.chart.specs.Charts.{chart_lines}
 use Rattle.chart.specs.Order.{IsCyclic}
-use Rattle.circles.specs.Circles.{IsShortestCircle}
+use Rattle.closure.specs.Cycle.Circles.{IsShortestCircle}
 use Rattle.fault_places.specs.ToldCircles.{HaveNames}
 use Rattle.fault_places.proofs.NameLemmas.{links_have_names}
 use Rattle.fault_places.proofs.step.steps_of.Goals as goal

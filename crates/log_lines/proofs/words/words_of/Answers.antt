@@ -1,10 +1,10 @@
 use Rattle.std.proofs.Common.{ap, ◌∙◌, rules, filter}
 use Rattle.std.proofs.lemmas.Iterator.Splits.{YieldsList-from_slice_split}
 use Rattle.std.proofs.lemmas.Iterator.Consumers.{YieldsList-end}
-use Rattle.text_bytes.specs.Classes.{is_blank}
+use Rattle.texts.specs.Bytes.Classes.{is_blank}
 use Rattle.log_lines.specs.Words.{words_of}
 use Rattle.log_lines.proofs.words.words_of.Goals as goal
-use Rattle.msc_text.specs.Lines.{is_word}
+use Rattle.texts.specs.Lines.{is_word}
 
 pub returns : goal.returns
 unfolding words_of

@@ -1,4 +1,4 @@
-use Rattle.msc_text.proofs.Writes.{buffers_more, adds_in}
+use Rattle.texts.proofs.Writes.{buffers_more, adds_in}
 use Rattle.msc_text.specs.ChartText.{line_text}
 use Rattle.msc_text.proofs.chart_text.add_lines.Goals as goal
 

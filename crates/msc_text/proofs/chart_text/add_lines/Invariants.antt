@@ -1,7 +1,7 @@
 use Rattle.std.proofs.Common.{take}
 use Rattle.std.specs.List.{flat_map}
 use Rattle.msc_text.specs.ChartText.{line_text}
-use Rattle.msc_text.specs.Writing.{Buffers}
+use Rattle.texts.specs.Writing.{Buffers}
 use Rattle.msc_text.proofs.chart_text.add_lines.Given as goal
 
 -- the lines so far were added

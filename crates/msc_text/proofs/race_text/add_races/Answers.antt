@@ -1,5 +1,5 @@
 use Rattle.std.proofs.Common.{◌∙◌}
-use Rattle.msc_text.proofs.Writes.{buffers_more, adds_in}
+use Rattle.texts.proofs.Writes.{buffers_more, adds_in}
 use Rattle.msc_text.specs.RaceText.{report_text}
 use Rattle.msc_text.proofs.race_text.add_races.Goals as goal
 

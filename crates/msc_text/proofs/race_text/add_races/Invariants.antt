@@ -1,7 +1,7 @@
 use Rattle.std.proofs.Common.{take}
 use Rattle.std.specs.List.{flat_map}
 use Rattle.msc_text.specs.RaceText.{report_text}
-use Rattle.msc_text.specs.Writing.{Buffers}
+use Rattle.texts.specs.Writing.{Buffers}
 use Rattle.msc_text.proofs.race_text.add_races.Given as goal
 
 -- the reports so far were added

@@ -1,7 +1,7 @@
 use Rattle.std.proofs.Common.{◌+◌, refl, ap, ◌∙◌}
 use Rattle.pictures.specs.ColumnText.{next_life}
 use Rattle.pictures.specs.Spots.{height}
-use Rattle.text_parts.proofs.Coming.{come_as, come_more, come_stops, come_ends}
+use Rattle.texts.proofs.PiecesLemmas.Coming.{come_as, come_more, come_stops, come_ends}
 use Rattle.pictures.proofs.Walks.{life_step, life_last}
 use Rattle.pictures.proofs.columns.add_lifeline.Goals as goal
 

@@ -1,6 +1,6 @@
 use Rattle.std.proofs.Common.{◌≡◌, ◌+◌, drop}
 use Rattle.pictures.specs.ColumnText.{life_text, lifeline}
-use Rattle.text_parts.proofs.Coming.{HasCome}
+use Rattle.texts.proofs.PiecesLemmas.Coming.{HasCome}
 use Rattle.pictures.proofs.columns.add_lifeline.Given as goal
 
 -- the parts so far were added, and what is left is the rest

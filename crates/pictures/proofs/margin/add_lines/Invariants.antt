@@ -1,6 +1,6 @@
 use Rattle.std.proofs.Common.{take}
 use Rattle.std.specs.List.{flat_map}
-use Rattle.msc_text.specs.Writing.{Buffers}
+use Rattle.texts.specs.Writing.{Buffers}
 use Rattle.pictures.specs.Margins.{dividing_line}
 use Rattle.pictures.proofs.margin.add_lines.Given as goal
 

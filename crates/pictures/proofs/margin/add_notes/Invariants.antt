@@ -1,6 +1,6 @@
 use Rattle.std.proofs.Common.{take}
 use Rattle.std.specs.List.{flat_map}
-use Rattle.msc_text.specs.Writing.{Buffers}
+use Rattle.texts.specs.Writing.{Buffers}
 use Rattle.pictures.specs.Margins.{note_text}
 use Rattle.pictures.proofs.margin.add_notes.Given as goal
 

@@ -1,4 +1,4 @@
-use Rattle.msc_text.proofs.Writes.{buffers_more_read, adds_in_read}
+use Rattle.texts.proofs.Writes.{buffers_more_read, adds_in_read}
 use Rattle.pictures.specs.MarkText.{marks}
 use Rattle.pictures.proofs.marks.add_marks.Goals as goal
 

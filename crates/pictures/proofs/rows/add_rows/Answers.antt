@@ -1,4 +1,4 @@
-use Rattle.msc_text.proofs.Writes.{buffers_more_read, adds_in_read}
+use Rattle.texts.proofs.Writes.{buffers_more_read, adds_in_read}
 use Rattle.pictures.specs.RowText.{row_text}
 use Rattle.pictures.proofs.rows.add_rows.Goals as goal
 

@@ -1,7 +1,7 @@
 use Rattle.std.proofs.Common.{sym, ◌∙◌, ap}
 use Rattle.std.proofs.lemmas.Result.{err_from_is_err_and}
-use Rattle.msc_text.specs.Faults.{in_line}
-use Rattle.msc_text.specs.Lines.{words_of}
+use Rattle.texts.specs.Faults.{in_line}
+use Rattle.texts.specs.Lines.{words_of}
 use Rattle.schedule.specs.FirstLines.{with_words}
 use Rattle.schedule.proofs.Adding.{words_end, words_go_on, words_stop}
 use Rattle.schedule.proofs.first_lines.add_words.Goals as goal

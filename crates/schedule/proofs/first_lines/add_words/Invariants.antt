@@ -1,5 +1,5 @@
 use Rattle.std.proofs.Common.{◌≡◌, length}
-use Rattle.msc_text.specs.Lines.{words_of}
+use Rattle.texts.specs.Lines.{words_of}
 use Rattle.schedule.specs.FirstLines.{with_words}
 use Rattle.schedule.proofs.first_lines.add_words.Given as goal
 

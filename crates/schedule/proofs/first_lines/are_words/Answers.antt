@@ -1,5 +1,5 @@
 use Rattle.std.proofs.Common.{sym, ◌∙◌, []}
-use Rattle.msc_text.specs.Lines.{words_of}
+use Rattle.texts.specs.Lines.{words_of}
 use Rattle.schedule.proofs.Adding.{are_words_by, empty_first, word_first}
 use Rattle.schedule.proofs.first_lines.are_words.Goals as goal
 

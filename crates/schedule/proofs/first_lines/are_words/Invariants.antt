@@ -1,6 +1,6 @@
 use Rattle.std.proofs.Common.{◌≡◌, length}
 use Rattle.std.specs.List.{list_all}
-use Rattle.msc_text.specs.Lines.{words_of, is_word}
+use Rattle.texts.specs.Lines.{words_of, is_word}
 use Rattle.schedule.proofs.first_lines.are_words.Given as goal
 
 abbrev pub invariant-words : goal.invariant-words

@@ -1,5 +1,5 @@
 use Rattle.std.proofs.Common.{ap}
-use Rattle.msc_text.specs.Faults.{in_line}
+use Rattle.texts.specs.Faults.{in_line}
 use Rattle.schedule.proofs.Adding.{lone_keyword}
 use Rattle.schedule.proofs.first_lines.names_in.Goals as goal
 

@@ -1,5 +1,5 @@
 use Rattle.std.proofs.Common.{ap, ◌∙◌}
-use Rattle.msc_text.specs.Lines.{words_of}
+use Rattle.texts.specs.Lines.{words_of}
 use Rattle.schedule.proofs.KnownLines.{behind_receive}
 use Rattle.schedule.proofs.known_line.receive_word.Goals as goal
 

@@ -1,5 +1,5 @@
 use Rattle.std.proofs.Common.{ap, ◌∙◌, ◌∷◌}
-use Rattle.msc_text.specs.Lines.{words_of}
+use Rattle.texts.specs.Lines.{words_of}
 use Rattle.schedule.specs.Keywords.{written}
 use Rattle.schedule.specs.declared.keyword.ScheduleWord.TheVariants as keywords
 use Rattle.schedule.proofs.KnownLines.{behind_send}

@@ -1,7 +1,7 @@
 use Rattle.std.proofs.Common.{◌≡◌, Ok, sym, ◌∙◌, ap, subst, arith}
 use Rattle.std.proofs.lemmas.Bool.{eqb-true, eqb-false}
 use Rattle.std.proofs.lemmas.Result.{err_from_is_err_and}
-use Rattle.msc_text.specs.Faults.{in_line, Fails}
+use Rattle.texts.specs.Faults.{in_line, Fails}
 use Rattle.schedule.specs.ActionLines.{action_of}
 use Rattle.schedule.proofs.Commands.{goes_on, ends, is_done, all_read, not_ended, line_fails}
 use Rattle.schedule.proofs.reading.commands_in.Goals as goal

@@ -1,5 +1,5 @@
 use Rattle.std.proofs.Common.{◌≡◌, ◌+◌, ◌≤◌, length}
-use Rattle.msc_text.specs.Lines.{lines_of, end_of}
+use Rattle.texts.specs.Lines.{lines_of, end_of}
 use Rattle.schedule.specs.Reading.{commands_from}
 use Rattle.schedule.proofs.Commands.{with_front}
 use Rattle.schedule.proofs.reading.commands_in.Given as goal

@@ -1,4 +1,4 @@
-use Rattle.msc_text.proofs.Writes.{buffers_more, adds_in}
+use Rattle.texts.proofs.Writes.{buffers_more, adds_in}
 use Rattle.schedule.specs.WrittenLines.{command_text}
 use Rattle.schedule.proofs.text.add_commands.Goals as goal
 

@@ -1,6 +1,6 @@
 use Rattle.std.proofs.Common.{take}
 use Rattle.std.specs.List.{flat_map}
-use Rattle.msc_text.specs.Writing.{Buffers}
+use Rattle.texts.specs.Writing.{Buffers}
 use Rattle.schedule.specs.WrittenLines.{command_text}
 use Rattle.schedule.proofs.text.add_commands.Given as goal
 

@@ -1,7 +1,7 @@
 use Rattle.std.proofs.Common.{[], ap, ◌∙◌}
 use Rattle.std.proofs.lemmas.Option.{unwrap_or-slice_get}
-use Rattle.msc_text.proofs.Writes.{buffers_more, adds_in}
-use Rattle.msc_text.specs.ChartText.{name_at}
+use Rattle.texts.proofs.Writes.{buffers_more, adds_in}
+use Rattle.texts.specs.Instances.{name_at}
 use Rattle.schedule.specs.WrittenLines.{behind_space}
 use Rattle.schedule.proofs.text.add_names.Goals as goal
 

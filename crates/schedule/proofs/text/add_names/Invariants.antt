@@ -1,6 +1,6 @@
 use Rattle.std.proofs.Common.{take}
 use Rattle.std.specs.List.{flat_map}
-use Rattle.msc_text.specs.Writing.{Buffers}
+use Rattle.texts.specs.Writing.{Buffers}
 use Rattle.schedule.specs.WrittenLines.{behind_space}
 use Rattle.schedule.proofs.text.add_names.Given as goal
 

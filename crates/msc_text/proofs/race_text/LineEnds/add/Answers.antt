@@ -3,7 +3,7 @@ use Rattle.std.specs.Prelude.{slice_set}
 use Rattle.chart.specs.declared.instance.EventNo.{EventNo}
 use Rattle.msc_text.specs.MadeLines.{IsLineOf, IsMade}
 use Rattle.msc_text.specs.RaceText.{race_line}
-use Rattle.msc_text.specs.Writing.{Adds}
+use Rattle.texts.specs.Writing.{Adds}
 use Rattle.msc_text.specs.declared.race_text.MadeLine.{MadeLine}
 use Rattle.msc_text.proofs.RaceTexts.{line_with}
 use Rattle.msc_text.proofs.race_text.LineEnds.add.Goals as goal

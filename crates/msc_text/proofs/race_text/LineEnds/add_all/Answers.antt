@@ -1,9 +1,9 @@
 use Rattle.std.proofs.Common.{◌∙◌, ap, sym, subst, arith}
 use Rattle.std.proofs.lemmas.List.{take_all}
 use Rattle.std.specs.List.{flat_map}
-use Rattle.msc_text.specs.Writing.{Buffers, Adds}
+use Rattle.texts.specs.Writing.{Buffers, Adds}
 use Rattle.msc_text.proofs.RaceTexts.{range_lines, lines_of_ranges}
-use Rattle.msc_text.proofs.Writes.{buffers_more_read, adds_in_read}
+use Rattle.texts.proofs.Writes.{buffers_more_read, adds_in_read}
 use Rattle.msc_text.proofs.race_text.LineEnds.add_all.Goals as goal
 
 pub loop-range-preserved : goal.loop-range-preserved

@@ -2,7 +2,7 @@ use Rattle.std.proofs.Common.{take}
 use Rattle.std.specs.List.{flat_map}
 use Rattle.msc_text.proofs.RaceTexts.{range_lines}
 use Rattle.msc_text.specs.MadeLines.{IsMade}
-use Rattle.msc_text.specs.Writing.{Buffers}
+use Rattle.texts.specs.Writing.{Buffers}
 use Rattle.msc_text.proofs.race_text.LineEnds.add_all.Given as goal
 
 -- the races of the ranges so far were added

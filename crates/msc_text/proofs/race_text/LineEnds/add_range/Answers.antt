@@ -4,8 +4,8 @@ use Rattle.std.specs.List.{flat_map}
 use Rattle.chart.specs.Ranges.{events_of}
 use Rattle.chart.proofs.RangeLists.{events_from-length, event_read}
 use Rattle.msc_text.specs.RaceText.{race_line}
-use Rattle.msc_text.specs.Writing.{Buffers}
-use Rattle.msc_text.proofs.Writes.{buffers_more_read, adds_in_read}
+use Rattle.texts.specs.Writing.{Buffers}
+use Rattle.texts.proofs.Writes.{buffers_more_read, adds_in_read}
 use Rattle.msc_text.proofs.race_text.LineEnds.add_range.Goals as goal
 
 pub loop-number-preserved : goal.loop-number-preserved

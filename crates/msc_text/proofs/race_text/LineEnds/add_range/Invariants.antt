@@ -3,7 +3,7 @@ use Rattle.std.specs.List.{flat_map}
 use Rattle.chart.specs.Ranges.{events_of}
 use Rattle.msc_text.specs.MadeLines.{IsMade}
 use Rattle.msc_text.specs.RaceText.{race_line}
-use Rattle.msc_text.specs.Writing.{Buffers}
+use Rattle.texts.specs.Writing.{Buffers}
 use Rattle.msc_text.proofs.race_text.LineEnds.add_range.Given as goal
 
 -- the races so far were added

@@ -1,5 +1,5 @@
 use Rattle.std.proofs.Common.{subst}
-use Rattle.msc_text.specs.Writing.{Adds}
+use Rattle.texts.specs.Writing.{Adds}
 use Rattle.msc_text.proofs.RaceTexts.{race_lines}
 use Rattle.msc_text.proofs.race_text.RaceLines.add_report.Goals as goal
 

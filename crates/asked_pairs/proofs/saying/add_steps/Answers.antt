@@ -1,9 +1,0 @@
-use Rattle.msc_text.proofs.Writes.{buffers_more_read, adds_in_read}
-use Rattle.asked_pairs.specs.SayingText.{step_text}
-use Rattle.asked_pairs.proofs.saying.add_steps.Goals as goal
-
-pub loop-link-preserved : goal.loop-link-preserved
-loop-link-preserved g c = buffers_more_read (step_text c.args.names.now) c.args.links.now c.loop-link.link-index _ c.loop-link-test.true c.link-item.is c.loop-link.invariant c.in_ok-add_step.ensures
-
-pub returns-in_err-add_step : goal.returns-in_err-add_step
-returns-in_err-add_step g c = adds_in_read (step_text c.args.names.now) c.from_residual.result c.args.links.now c.loop-link.link-index _ c.from_residual.ensures.0 c.loop-link-test.true c.link-item.is c.loop-link.invariant c.in_err-add_step.ensures

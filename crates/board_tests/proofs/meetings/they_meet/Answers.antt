@@ -1,5 +1,0 @@
-use Rattle.board.proofs.OneBoard.{one_board-met}
-use Rattle.board_tests.proofs.meetings.they_meet.Goals as goal
-
-pub returns : goal.returns
-returns c = one_board-met c.args.posts.now c.meet.new.posts c.meet.ensures.met c.requires

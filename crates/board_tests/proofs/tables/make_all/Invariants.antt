@@ -1,5 +1,0 @@
-use Rattle.board.specs.Meeting.{AreOfOneBoard}
-use Rattle.board_tests.proofs.tables.make_all.Given as goal
-
-abbrev pub invariant-loop-by : goal.invariant-loop-by
-invariant-loop-by g l = AreOfOneBoard l.posts

@@ -1,5 +1,0 @@
-use Rattle.board.specs.Meeting.{AreOfOneBoard}
-use Rattle.board_tests.proofs.tables.play_turns.Given as goal
-
-abbrev pub invariant-loop : goal.invariant-loop
-invariant-loop g l = AreOfOneBoard l.posts

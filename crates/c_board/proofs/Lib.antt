@@ -1,0 +1,12 @@
+pub mod BoardsLemmas
+pub mod CarryLemmas
+pub mod ChairLemmas
+pub mod GatherLemmas
+pub mod KeptLists
+pub mod Lists
+pub mod MeetLemmas
+pub mod MessageLemmas
+pub mod Names
+pub mod SlotValues
+pub mod Values
+pub mod WordLemmas

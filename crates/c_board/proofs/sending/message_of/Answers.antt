@@ -1,0 +1,19 @@
+use Rattle.std.proofs.Common.{◌∙◌, sym, arith}
+use Rattle.c_board.proofs.Names.{named_same, is_name}
+use Rattle.c_board.proofs.sending.message_of.Goals as goal
+
+pub returns-in_default : goal.returns-in_default
+returns-in_default c = record {
+  is_name = is_name _ _ (sym c.new.ensures ∙ c.in-Ok.is);
+  short = omega arith;
+}
+
+pub returns : goal.returns
+returns c =
+    let same = named_same _ _ (sym c.new.ensures ∙ c.in-Ok.is) in (
+      rw (sym same, sym c.in-Ok-copied.ensures) c.in-Ok-new.ensures.ok,
+      record {
+        is_name = is_name _ _ (sym c.new.ensures ∙ c.in-Ok.is);
+        short = omega arith;
+      },
+    )

@@ -1,0 +1,83 @@
+-- Seats whose posts are elsewhere, one by one and several in a row (this project's profile).
+use Rattle.std.specs.Prelude.{◌≡◌, ℕ, ◌≤◌, Bool, true, false, List, [], ◌∷◌, map, length, slice_get, unwrap_or, Option, None, Some, Result, Ok, Err}
+use Rattle.board.specs.Views.{PostView}
+use Rattle.board.specs.Parked.{IsAtBoard}
+use Rattle.c_board.specs.Came.{came_list}
+use Rattle.c_board.specs.declared.chair.Chair.{Chair}
+use Rattle.c_board.specs.declared.chair.Taken.{Taken}
+use Rattle.c_board.specs.declared.kept.Kept.{Kept}
+use Rattle.c_board.specs.declared.kept.Kept.TheVariants.{Post, Board, Away}
+use Rattle.c_board.specs.declared.refusal.Refusal.{Refusal}
+use Rattle.c_board.specs.declared.refusal.Refusal.TheVariants as why
+use Rattle.c_board.specs.Opening.{AreEmpty}
+use Rattle.c_board.specs.Seats.{SeatView}
+
+-- the seat is that of this post, or of another one at the same board
+pub record Fits (chair : Chair) (post : PostView) : Type 0 where
+  pub at : IsAtBoard chair.table.value.shared.key chair.table.value.shared.table_id post
+  pub known : unwrap_or chair.last 0 ≤ post.board.size
+
+-- the seat with the post
+abbrev pub seat_with : Chair → PostView → SeatView
+seat_with chair post = record { post = post; last = unwrap_or chair.last 0; came = came_list chair.came }
+
+-- a post was taken out of its seat
+pub record IsParted (kept : Kept) (chair : Chair) (post : PostView) : Type 0 where
+  pub same : kept ≡ Post (seat_with chair post)
+  pub fits : Fits chair post
+
+-- several seats, each with a post
+abbrev pub AreFit : List Chair → List PostView → Type 0
+AreFit [] [] = Unit {0}
+AreFit [] (post ∷ posts) = ⊥
+AreFit (chair ∷ chairs) [] = ⊥
+AreFit (chair ∷ chairs) (post ∷ posts) = Fits chair post × AreFit chairs posts
+
+abbrev pub seats_with : List Chair → List PostView → List SeatView
+seats_with [] posts = []
+seats_with (chair ∷ chairs) [] = []
+seats_with (chair ∷ chairs) (post ∷ posts) = seat_with chair post ∷ seats_with chairs posts
+
+-- what handles keep that keep these seats, in their order, and the posts of these seats
+abbrev pub kept_seats : List SeatView → List (Option Kept)
+kept_seats seats = map (λ (seat : SeatView). Some (Post seat)) seats
+
+abbrev pub posts_of : List SeatView → List PostView
+posts_of seats = map (λ (seat : SeatView). seat.post) seats
+
+-- it is a post
+abbrev pub is_post : Option Kept → Bool
+is_post None = false
+is_post (Some (Post seat)) = true
+is_post (Some (Board it)) = false
+is_post (Some Away) = false
+
+-- each handle keeps a post
+abbrev pub KeepPosts : List (Option Kept) → Type 0
+KeepPosts all = (i : ℕ) (kept : Option Kept) → slice_get all i ≡ Some kept → is_post kept ≡ true
+
+-- one of them keeps none
+abbrev pub IsOneNoPost : List (Option Kept) → Type 0
+IsOneNoPost all = (i : ℕ) × (kept : Option Kept) × (slice_get all i ≡ Some kept) × (is_post kept ≡ false)
+
+-- the posts that are kept are of one board
+abbrev pub KeepOneBoard : List (Option Kept) → Type 0
+KeepOneBoard all = (i j : ℕ) (x y : SeatView) → slice_get all i ≡ Some (Some (Post x))
+    → slice_get all j ≡ Some (Some (Post y))
+    → x.post.board ≡ y.post.board
+
+-- the handles kept these seats, and keep nothing now
+pub record AreTaken (old : List (Option Kept)) (chairs : List Chair) (posts : List PostView)
+    (new : List (Option Kept)) : Type 0 where
+  pub seats : old ≡ kept_seats (seats_with chairs posts)
+  pub fit : AreFit chairs posts
+  pub empty : AreEmpty new
+
+-- what taking the posts out of handles answers
+abbrev pub TakesPosts : List (Option Kept) → Result Taken Refusal → List (Option Kept) → Type 0
+TakesPosts old (Ok it) new = AreTaken old it.chairs.items it.posts.items new × (length old ≡ 0 → ⊥)
+TakesPosts old (Err why.Misuse) new = (new ≡ old) × IsOneNoPost old
+TakesPosts old (Err why.NotAllPosts) new = (new ≡ old) × (old ≡ [])
+TakesPosts old (Err why.OtherBoard) new = (new ≡ old) × KeepPosts old
+TakesPosts old (Err why.Memory) new = (new ≡ old) × KeepPosts old
+TakesPosts old (Err _) new = ⊥

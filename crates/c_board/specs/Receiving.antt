@@ -1,0 +1,125 @@
+-- What a receive over a handle answers, and what is told of the message (this project's profile).
+use Rattle.std.specs.Prelude.{◌≡◌, ℕ, ◌-◌, ◌^◌, true, false, List, [], ◌∷◌, length, slice_get, min, Option, None, Some, Result, Ok, Err}
+use Rattle.chart.specs.declared.event.Event.{Event}
+use Rattle.chart.specs.Events.{name_of}
+use Rattle.board.specs.declared.answer.Arrival.{Arrival}
+use Rattle.board.specs.declared.answer.Glance.{Glance}
+use Rattle.board.specs.declared.answer.Glance.TheVariants as glance
+use Rattle.board.specs.declared.answer.Taken.TheVariants as taken
+use Rattle.board.specs.Views.{PostView, Sound, Stays, line_of}
+use Rattle.board.specs.Taking.{IsGot, IsFoundEmpty, IsUntaken}
+use Rattle.mailbox.specs.TakingAny.{TakesAny}
+use Rattle.c_board.specs.declared.found.Arrived.{Arrived}
+use Rattle.c_board.specs.declared.found.Found.{Found}
+use Rattle.c_board.specs.declared.found.Found.TheVariants.{Message, Nothing, Ended}
+use Rattle.c_board.specs.declared.kept.Kept.{Kept}
+use Rattle.c_board.specs.declared.kept.Kept.TheVariants.{Post, Board, Away}
+use Rattle.c_board.specs.declared.refusal.Refusal.{Refusal}
+use Rattle.c_board.specs.declared.refusal.Refusal.TheVariants as why
+use Rattle.c_board.specs.Seats.{SeatView, Keeps}
+use Rattle.c_board.specs.Sending.{IsNoInstance, IsNoPost}
+
+-- what is told of a message: who sent it, the number of its receive, how long its name and its body are, and how many
+-- races its receive has
+abbrev pub arrived_of : Arrival → Arrived
+arrived_of arrival = record {
+  from = arrival.from;
+  event = arrival.report.receive.index;
+  name = length arrival.message.name;
+  body = length arrival.message.body;
+  races = min (length arrival.report.earlier) (2 ^ 64 - 1);
+}
+
+-- what a receive finds, where what is told of the message stands in a place of its own
+abbrev pub found_with : Result Glance Refusal → Arrived → Result Found Refusal
+found_with (Ok glance.Message) told = Ok (Message told)
+found_with (Ok glance.Nothing) told = Ok Nothing
+found_with (Ok glance.Ended) told = Ok Ended
+found_with (Err refusal) told = Err refusal
+
+-- what is told after a receive: of the message that came, and else what was told before
+abbrev pub told_after : Arrived → Result Found Refusal → Arrived
+told_after before (Ok (Message arrived)) = arrived
+told_after before (Ok Nothing) = before
+told_after before (Ok Ended) = before
+told_after before (Err refusal) = before
+
+-- the last event of the post's line has this name
+abbrev pub IsLastNamed : PostView → List ℕ → Type 0
+IsLastNamed post name = (event : Event) × (slice_get (line_of post) (length (line_of post) - 1) ≡ Some event)
+    × (name_of event ≡ name)
+
+-- the message stays in the handle, which tells of it
+pub record IsTold (arrival : Arrival) (arrived : Arrived) (new : SeatView) : Type 0 where
+  pub told : arrived ≡ arrived_of arrival
+  pub stays : new.came ≡ arrival ∷ []
+  pub last : new.last ≡ arrival.from
+
+-- what a receive over a seated post answers: what the post's own receive does
+abbrev pub SeatTakes : SeatView → ℕ → Result Found Refusal → SeatView → Type 0
+SeatTakes old from (Ok (Message arrived)) new = (arrival : Arrival) × IsTold arrival arrived new
+    × Sound old.post new.post × IsGot old.post from arrival new.post
+SeatTakes old from (Ok Nothing) new = Keeps old new × Sound old.post new.post × Stays old.post new.post
+    × IsFoundEmpty old.post from false new.post
+SeatTakes old from (Ok Ended) new = Keeps old new × Sound old.post new.post × Stays old.post new.post
+    × IsFoundEmpty old.post from true new.post
+SeatTakes old from (Err why.NoInstance) new = (new ≡ old) × IsNoInstance from
+SeatTakes old from (Err (why.Taking error)) new = Keeps old new × Sound old.post new.post × Stays old.post new.post
+    × IsUntaken old.post from error new.post
+SeatTakes old from (Err why.Misuse) new = ⊥
+SeatTakes old from (Err (why.Naming error)) new = ⊥
+SeatTakes old from (Err why.BodyTooLong) new = ⊥
+SeatTakes old from (Err why.Memory) new = ⊥
+SeatTakes old from (Err why.NoEvent) new = ⊥
+SeatTakes old from (Err why.NotAllPosts) new = ⊥
+SeatTakes old from (Err why.OtherBoard) new = ⊥
+SeatTakes old from (Err why.NameTwice) new = ⊥
+SeatTakes old from (Err (why.Opening error)) new = ⊥
+SeatTakes old from (Err (why.Sending error)) new = ⊥
+SeatTakes old from (Err (why.Closing error)) new = ⊥
+SeatTakes old from (Err (why.Region error)) new = ⊥
+
+-- what a receive from any instance answers: what a mailbox's does, which begins after the instance that the post got a
+-- message from last
+abbrev pub SeatTakesAny : SeatView → Result Found Refusal → SeatView → Type 0
+SeatTakesAny old (Ok (Message arrived)) new = (arrival : Arrival) × IsTold arrival arrived new
+    × Sound old.post new.post × TakesAny old.post old.last (Ok (taken.Got arrival)) new.post
+SeatTakesAny old (Ok Nothing) new = Keeps old new × Sound old.post new.post
+    × TakesAny old.post old.last (Ok taken.Nothing) new.post
+SeatTakesAny old (Ok Ended) new = Keeps old new × Sound old.post new.post
+    × TakesAny old.post old.last (Ok taken.Ended) new.post
+SeatTakesAny old (Err (why.Taking error)) new = Keeps old new × Sound old.post new.post
+    × TakesAny old.post old.last (Err error) new.post
+SeatTakesAny old (Err why.NoInstance) new = ⊥
+SeatTakesAny old (Err why.Misuse) new = ⊥
+SeatTakesAny old (Err (why.Naming error)) new = ⊥
+SeatTakesAny old (Err why.BodyTooLong) new = ⊥
+SeatTakesAny old (Err why.Memory) new = ⊥
+SeatTakesAny old (Err why.NoEvent) new = ⊥
+SeatTakesAny old (Err why.NotAllPosts) new = ⊥
+SeatTakesAny old (Err why.OtherBoard) new = ⊥
+SeatTakesAny old (Err why.NameTwice) new = ⊥
+SeatTakesAny old (Err (why.Opening error)) new = ⊥
+SeatTakesAny old (Err (why.Sending error)) new = ⊥
+SeatTakesAny old (Err (why.Closing error)) new = ⊥
+SeatTakesAny old (Err (why.Region error)) new = ⊥
+
+-- and over what a handle keeps
+abbrev pub KeptTakes : Kept → ℕ → Result Found Refusal → Kept → Type 0
+KeptTakes (Post old) from result new = (seat : SeatView) × (new ≡ Post seat) × SeatTakes old from result seat
+KeptTakes (Board it) from result new = (new ≡ Board it) × (result ≡ Err why.Misuse)
+KeptTakes Away from result new = (new ≡ Away) × (result ≡ Err why.Misuse)
+
+abbrev pub KeptTakesAny : Kept → Result Found Refusal → Kept → Type 0
+KeptTakesAny (Post old) result new = (seat : SeatView) × (new ≡ Post seat) × SeatTakesAny old result seat
+KeptTakesAny (Board it) result new = (new ≡ Board it) × (result ≡ Err why.Misuse)
+KeptTakesAny Away result new = (new ≡ Away) × (result ≡ Err why.Misuse)
+
+-- and over a handle
+abbrev pub HandleTakes : Option Kept → ℕ → Result Found Refusal → Option Kept → Type 0
+HandleTakes None from result new = IsNoPost None result new
+HandleTakes (Some old) from result new = (kept : Kept) × (new ≡ Some kept) × KeptTakes old from result kept
+
+abbrev pub HandleTakesAny : Option Kept → Result Found Refusal → Option Kept → Type 0
+HandleTakesAny None result new = IsNoPost None result new
+HandleTakesAny (Some old) result new = (kept : Kept) × (new ≡ Some kept) × KeptTakesAny old result kept

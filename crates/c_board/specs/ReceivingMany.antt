@@ -1,0 +1,56 @@
+-- What a receive of several messages over a handle answers, and what is told of them (this project's profile).
+use Rattle.std.specs.Prelude.{◌≡◌, ℕ, List, [], length, map, Option, None, Some, Result, Ok, Err}
+use Rattle.std.specs.Global.{Vec}
+use Rattle.board.specs.declared.answer.Arrival.{Arrival}
+use Rattle.board.specs.declared.answer.TakenMany.TheVariants as taken
+use Rattle.board.specs.Views.{Sound}
+use Rattle.board.specs.TakingMany.{TakesMany}
+use Rattle.c_board.specs.declared.found.Arrived.{Arrived}
+use Rattle.c_board.specs.declared.found.FoundMany.{FoundMany}
+use Rattle.c_board.specs.declared.found.FoundMany.TheVariants.{Messages, Nothing, Ended}
+use Rattle.c_board.specs.declared.kept.Kept.{Kept}
+use Rattle.c_board.specs.declared.kept.Kept.TheVariants.{Post, Board, Away}
+use Rattle.c_board.specs.declared.refusal.Refusal.{Refusal}
+use Rattle.c_board.specs.declared.refusal.Refusal.TheVariants as why
+use Rattle.c_board.specs.Copying.{put_over}
+use Rattle.c_board.specs.Receiving.{arrived_of}
+use Rattle.c_board.specs.Seats.{SeatView, Keeps}
+use Rattle.c_board.specs.Sending.{IsNoInstance}
+
+-- the messages stay in the handle, which tells of each, in their order, and how many they are
+pub record AreTold (arrivals : List Arrival) (from : ℕ) (room : List Arrived) (count : ℕ) (new : SeatView)
+    (told : List Arrived) : Type 0 where
+  pub each : told ≡ put_over (map arrived_of arrivals) room
+  pub many : count ≡ length arrivals
+  pub stay : new.came ≡ arrivals
+  pub last : new.last ≡ from
+
+-- what a receive of several messages over a seated post answers: what the post's own call does, of at most as many as
+-- there is room to tell of
+abbrev pub SeatTakesMany : SeatView → ℕ → List Arrived → Result FoundMany Refusal → SeatView → List Arrived → Type 0
+SeatTakesMany old from room (Ok (Messages count stop)) new told = (arrivals : Vec Arrival)
+    × AreTold arrivals.items from room count new told × Sound old.post new.post
+    × TakesMany old.post from (length room) (Ok (taken.Got arrivals stop)) new.post
+SeatTakesMany old from room (Ok Nothing) new told = Keeps old new × (told ≡ room) × Sound old.post new.post
+    × TakesMany old.post from (length room) (Ok taken.Nothing) new.post
+SeatTakesMany old from room (Ok Ended) new told = Keeps old new × (told ≡ room) × Sound old.post new.post
+    × TakesMany old.post from (length room) (Ok taken.Ended) new.post
+SeatTakesMany old from room (Err (why.Taking error)) new told = Keeps old new × (told ≡ room) × Sound old.post new.post
+    × TakesMany old.post from (length room) (Err error) new.post
+SeatTakesMany old from room (Err why.NoInstance) new told = (new ≡ old) × (told ≡ room) × IsNoInstance from
+SeatTakesMany old from room (Err why.Misuse) new told = (new ≡ old) × (told ≡ room) × (room ≡ [])
+SeatTakesMany old from room (Err _) new told = ⊥
+
+-- and over what a handle keeps
+abbrev pub KeptTakesMany : Kept → ℕ → List Arrived → Result FoundMany Refusal → Kept → List Arrived → Type 0
+KeptTakesMany (Post old) from room result new told = (seat : SeatView) × (new ≡ Post seat)
+    × SeatTakesMany old from room result seat told
+KeptTakesMany (Board it) from room result new told = (new ≡ Board it) × (told ≡ room) × (result ≡ Err why.Misuse)
+KeptTakesMany Away from room result new told = (new ≡ Away) × (told ≡ room) × (result ≡ Err why.Misuse)
+
+-- and over a handle
+abbrev pub HandleTakesMany : Option Kept → ℕ → List Arrived → Result FoundMany Refusal → Option Kept → List Arrived
+    → Type 0
+HandleTakesMany None from room result new told = (new ≡ None) × (told ≡ room) × (result ≡ Err why.Misuse)
+HandleTakesMany (Some old) from room result new told = (kept : Kept) × (new ≡ Some kept)
+    × KeptTakesMany old from room result kept told

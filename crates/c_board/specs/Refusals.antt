@@ -1,0 +1,69 @@
+-- The number of each refusal (`docs/FORMATS.md`).
+use Rattle.std.specs.Prelude.{ℕ}
+use Rattle.chart.specs.declared.name.NameError.{NameError}
+use Rattle.chart.specs.declared.name.NameError.TheVariants as naming
+use Rattle.board.specs.declared.error.BoardError.{BoardError}
+use Rattle.board.specs.declared.error.BoardError.TheVariants as opening
+use Rattle.board.specs.declared.error.SendError.{SendError}
+use Rattle.board.specs.declared.error.SendError.TheVariants as sending
+use Rattle.board.specs.declared.error.TakeError.{TakeError}
+use Rattle.board.specs.declared.error.TakeError.TheVariants as taking
+use Rattle.board.specs.declared.error.CloseError.{CloseError}
+use Rattle.board.specs.declared.error.CloseError.TheVariants as closing
+use Rattle.board.specs.declared.error.RegionError.{RegionError}
+use Rattle.board.specs.declared.error.RegionError.TheVariants as region
+use Rattle.c_board.specs.declared.refusal.Refusal.{Refusal}
+use Rattle.c_board.specs.declared.refusal.Refusal.TheVariants as why
+
+abbrev pub of_name : NameError → ℕ
+of_name naming.Empty = 1
+of_name naming.TooLong = 2
+of_name (naming.BadByte place) = 3
+of_name naming.Reserved = 4
+
+abbrev pub of_board : BoardError → ℕ
+of_board opening.Instances = 8
+of_board opening.Capacity = 9
+of_board opening.Memory = 6
+
+abbrev pub of_send : SendError → ℕ
+of_send sending.NoSuchInstance = 14
+of_send sending.ToItself = 13
+of_send sending.InCoregion = 30
+of_send sending.Closed = 12
+of_send sending.TooMany = 27
+of_send sending.LineFull = 7
+of_send sending.Full = 11
+of_send sending.Memory = 6
+
+abbrev pub of_take : TakeError → ℕ
+of_take taking.NoSuchInstance = 14
+of_take taking.ToItself = 13
+of_take taking.LineFull = 7
+of_take taking.Memory = 6
+
+abbrev pub of_close : CloseError → ℕ
+of_close closing.NoSuchInstance = 14
+of_close closing.ToItself = 13
+of_close closing.Closed = 12
+
+abbrev pub of_region : RegionError → ℕ
+of_region region.CoregionOpen = 28
+of_region region.CoregionNotOpen = 29
+
+-- 100 tells of a misuse, as posts of two boards are one, which has no number there
+abbrev pub number_of : Refusal → ℕ
+number_of why.Misuse = 100
+number_of (why.Naming error) = of_name error
+number_of why.BodyTooLong = 5
+number_of why.Memory = 6
+number_of why.NoInstance = 14
+number_of why.NoEvent = 31
+number_of why.NotAllPosts = 15
+number_of why.OtherBoard = 100
+number_of why.NameTwice = 22
+number_of (why.Opening error) = of_board error
+number_of (why.Sending error) = of_send error
+number_of (why.Taking error) = of_take error
+number_of (why.Closing error) = of_close error
+number_of (why.Region error) = of_region error

@@ -1,0 +1,63 @@
+-- What a send of several messages over a handle answers (this project's profile).
+use Rattle.std.specs.Prelude.{◌≡◌, ℕ, List, [], ◌∷◌, ◌++◌, length, take, drop, slice_get, Option, None, Some, Result, Ok, Err}
+use Rattle.std.specs.Global.{Vec}
+use Rattle.chart.specs.Messages.{Content}
+use Rattle.board.specs.declared.answer.Sent.{Sent}
+use Rattle.board.specs.Views.{Sound, Stays}
+use Rattle.board.specs.Sending.{AreSent, IsUnsent}
+use Rattle.c_board.specs.declared.found.MessageLengths.{MessageLengths}
+use Rattle.c_board.specs.declared.kept.Kept.{Kept}
+use Rattle.c_board.specs.declared.kept.Kept.TheVariants.{Post, Board, Away}
+use Rattle.c_board.specs.declared.refusal.Refusal.{Refusal}
+use Rattle.c_board.specs.declared.refusal.Refusal.TheVariants as why
+use Rattle.c_board.specs.Seats.{SeatView, Keeps}
+use Rattle.c_board.specs.Sending.{IsMessage, IsNoInstance, IsNoPost, MakesMessage}
+
+-- the messages whose names and bodies lie one after another
+abbrev pub contents_in : List ℕ → List MessageLengths → List Content
+contents_in bytes [] = []
+contents_in bytes (its ∷ more) = record { name = take its.name bytes; body = take its.body (drop its.name bytes) }
+    ∷ contents_in (drop its.body (drop its.name bytes)) more
+
+-- the number of the first send, 0 for none
+abbrev pub first_event : List Sent → ℕ
+first_event [] = 0
+first_event (sent ∷ more) = sent.event.index
+
+-- all of these are messages
+abbrev pub AreMessages : List Content → Type 0
+AreMessages all = (i : ℕ) (it : Content) → slice_get all i ≡ Some it → IsMessage it.name it.body
+
+-- one of these is refused, and those before it are messages
+pub record IsFirstRefused (all : List Content) (refusal : Refusal) : Type 0 where
+  pub before : List Content
+  pub it : Content
+  pub rest : List Content
+  pub splits : all ≡ before ++ it ∷ rest
+  pub messages : AreMessages before
+  pub refused : MakesMessage it.name it.body (Err refusal)
+
+-- the messages, or why they are none
+abbrev pub ReadsMessages : List Content → Result (Vec Content) Refusal → Type 0
+ReadsMessages all (Ok messages) = (messages.items ≡ all) × AreMessages all
+ReadsMessages all (Err why.Memory) = Unit {0}
+ReadsMessages all (Err refusal) = IsFirstRefused all refusal
+
+-- what a send of these messages over a seated post answers: what the post's own call does
+abbrev pub SeatSendsAll : SeatView → ℕ → List Content → Result ℕ Refusal → SeatView → Type 0
+SeatSendsAll old to all (Ok event) new = AreMessages all × Keeps old new × Sound old.post new.post
+    × (sents : List Sent) × AreSent old.post to all sents new.post × (event ≡ first_event sents)
+SeatSendsAll old to all (Err why.NoInstance) new = (new ≡ old) × IsNoInstance to
+SeatSendsAll old to all (Err why.Memory) new = new ≡ old
+SeatSendsAll old to all (Err (why.Sending error)) new = AreMessages all × Keeps old new × Sound old.post new.post
+    × Stays old.post new.post × IsUnsent old.post to (length all) error new.post
+SeatSendsAll old to all (Err refusal) new = (new ≡ old) × IsFirstRefused all refusal
+
+abbrev pub KeptSendsAll : Kept → ℕ → List Content → Result ℕ Refusal → Kept → Type 0
+KeptSendsAll (Post old) to all result new = (seat : SeatView) × (new ≡ Post seat) × SeatSendsAll old to all result seat
+KeptSendsAll (Board it) to all result new = (new ≡ Board it) × (result ≡ Err why.Misuse)
+KeptSendsAll Away to all result new = (new ≡ Away) × (result ≡ Err why.Misuse)
+
+abbrev pub HandleSendsAll : Option Kept → ℕ → List Content → Result ℕ Refusal → Option Kept → Type 0
+HandleSendsAll None to all result new = IsNoPost None result new
+HandleSendsAll (Some old) to all result new = (kept : Kept) × (new ≡ Some kept) × KeptSendsAll old to all result kept

@@ -1,0 +1,108 @@
+//! Calls that want all posts of a board, over posts that borrow nothing.
+ghost use Rattle.std.specs.Prelude.{◌≡◌, ◌≤◌, [], length, vec_capacity};
+ghost use Rattle.board.specs.Parked.{AreAtBoard};
+ghost use Rattle.board.specs.Meeting.{AreOfOneBoard};
+ghost use Rattle.c_board.specs.Gathering.{GathersParked, refusal_of};
+ghost use Rattle.c_board.specs.Meeting.{MeetsParked};
+
+use crate::refusal::Refusal;
+use board::{GatherCause, Gathered, Parked, Post, Words, gather, meet_all, wake_all};
+use std::alloc::Global;
+
+/// Posts that come back, and why.
+#[derive(Drop)]
+pub(crate) struct Returned {
+    pub posts: Vec<Parked>,
+    pub refusal: Refusal,
+}
+
+/// Parks these posts, in their order.
+#[inline(never)]
+pub(crate) fn park_into(parked: &mut Vec<Parked>, posts: Vec<Post>)
+    requires none { parked.old.items ≡ [] }
+    requires room { length posts.items ≤ vec_capacity parked.old }
+    ensures { parked.new.items ≡ posts.entry.items }
+{
+    for post in posts {
+        parked.push_reserved(post.park());
+    }
+}
+
+/// Why a board isn't gathered.
+fn refusal_of(cause: GatherCause) -> Refusal
+    ensures { result ≡ refusal_of cause }
+{
+    match cause {
+        GatherCause::NotAllPosts => Refusal::NotAllPosts,
+        GatherCause::Memory => Refusal::Memory,
+    }
+}
+
+/// Gathers these posts at their board's words. F15 and F6: then they come back as they were.
+pub(crate) fn gather_parked(
+    alloc: Global,
+    words: &Words,
+    posts: Vec<Parked>,
+) -> Result<Gathered, Returned>
+    requires at { AreAtBoard words.now.key words.now.table_id posts.items }
+    requires board { AreOfOneBoard posts.items }
+    ensures { GathersParked posts.items result }
+{
+    let refusal = Refusal::Memory;
+    let Ok(mut parked) = Vec::with_capacity(alloc, posts.len()) else {
+        return Err(Returned { posts, refusal });
+    };
+    let awake = match wake_all(alloc, words, posts) {
+        Ok(awake) => awake,
+        Err(posts) => return Err(Returned { posts, refusal }),
+    };
+    match gather(alloc, awake) {
+        Ok(gathered) => Ok(gathered),
+        Err(error) => {
+            park_into(&mut parked, error.posts);
+            Err(Returned {
+                posts: parked,
+                refusal: refusal_of(error.cause),
+            })
+        }
+    }
+}
+
+/// Posts that came back from a meeting, and its answer.
+#[derive(Drop)]
+pub(crate) struct Met {
+    pub posts: Vec<Parked>,
+    pub answer: Result<(), Refusal>,
+}
+
+/// The posts meet at their board's words. F15 and F6: then they come back as they were.
+pub(crate) fn meet_parked(alloc: Global, words: &Words, posts: Vec<Parked>) -> Met
+    requires at { AreAtBoard words.now.key words.now.table_id posts.items }
+    requires board { AreOfOneBoard posts.items }
+    ensures { MeetsParked posts.items result.answer result.posts.items }
+{
+    let Ok(mut parked) = Vec::with_capacity(alloc, posts.len()) else {
+        return Met {
+            posts,
+            answer: Err(Refusal::Memory),
+        };
+    };
+    let mut awake = match wake_all(alloc, words, posts) {
+        Ok(awake) => awake,
+        Err(posts) => {
+            return Met {
+                posts,
+                answer: Err(Refusal::Memory),
+            };
+        }
+    };
+    let answer = match meet_all(&mut awake) {
+        Ok(()) => Ok(()),
+        Err(_) => Err(Refusal::NotAllPosts),
+    };
+    park_into(&mut parked, awake);
+    Met {
+        posts: parked,
+        answer,
+    }
+}

@@ -1,0 +1,74 @@
+//! What a board left, carried over by posts that borrow nothing.
+ghost use Rattle.std.specs.Prelude.{◌≡◌, List, map};
+ghost use Rattle.board.specs.declared.gathering.ClosedLane.{ClosedLane};
+ghost use Rattle.board.specs.Parked.{AreAtBoard};
+ghost use Rattle.board.specs.Gathering.{left_view, closed_view};
+ghost use Rattle.board.specs.Meeting.{AreOfOneBoard};
+ghost use Rattle.board.specs.LongRuns.CarryingOver.{MayAllCarry};
+ghost use Rattle.c_board.specs.Carrying.{CarriesParked, refusal_for};
+
+use crate::away::park_into;
+use crate::refusal::Refusal;
+use board::long_runs::{Carried, CarryCause, CarryError, carry_over};
+use board::{ClosedLane, Left, Parked, Words, wake_all};
+use std::alloc::Global;
+
+/// Posts that came back, and what they carried over.
+#[derive(Drop)]
+pub(crate) struct Borne {
+    pub posts: Vec<Parked>,
+    pub answer: Result<Carried, CarryError>,
+}
+
+/// Why nothing is carried over.
+pub(crate) fn refusal_for(cause: CarryCause) -> Refusal
+    ensures { result ≡ refusal_for cause }
+{
+    match cause {
+        CarryCause::NotAllPosts => Refusal::NotAllPosts,
+        CarryCause::Memory => Refusal::Memory,
+    }
+}
+
+/// Nothing is carried over, for want of memory.
+fn unborne(posts: Vec<Parked>, left: Vec<Left>) -> Borne
+    ensures posts { result.posts.items ≡ posts.items }
+    ensures left { (closed : List ClosedLane) → CarriesParked left.items closed posts.items result.answer posts.items }
+{
+    Borne {
+        posts,
+        answer: Err(CarryError {
+            left,
+            cause: CarryCause::Memory,
+        }),
+    }
+}
+
+/// Carries what a board left over to these posts at their board's words. F15 and F6: then they come back as they were,
+/// but that they may have more room, and so does what was left.
+pub(crate) fn bear(
+    alloc: Global,
+    words: &Words,
+    posts: Vec<Parked>,
+    left: Vec<Left>,
+    closed: &[ClosedLane],
+) -> Borne
+    requires at { AreAtBoard words.now.key words.now.table_id posts.items }
+    requires board { AreOfOneBoard posts.items }
+    requires may { MayAllCarry (map left_view left.items) (map closed_view closed.now) posts.items }
+    ensures { CarriesParked left.items closed.now posts.items result.answer result.posts.items }
+{
+    let Ok(mut parked) = Vec::with_capacity(alloc, posts.len()) else {
+        return unborne(posts, left);
+    };
+    let mut awake = match wake_all(alloc, words, posts) {
+        Ok(awake) => awake,
+        Err(posts) => return unborne(posts, left),
+    };
+    let answer = carry_over(alloc, &mut awake, left, closed);
+    park_into(&mut parked, awake);
+    Borne {
+        posts: parked,
+        answer,
+    }
+}

@@ -1,0 +1,119 @@
+//! What a gathered board left, message by message.
+ghost use Rattle.std.specs.Prelude.{◌≡◌, IfSome, IfNone, slice_get, Some, [], ℕ};
+ghost use Rattle.board.specs.declared.gathering.Left.{Left};
+ghost use Rattle.c_board.specs.Copying.{put_over};
+ghost use Rattle.c_board.specs.Boards.BoardTelling.{messages_on, is_on, waiting_of, TellsWaiting, KeptWaits};
+ghost use Rattle.c_board.specs.Boards.BoardTelling.{HandleWaits, message_at};
+
+use crate::{Handle, Kept, Refusal, copy_out};
+use board::Left;
+use chart::Message;
+use std::alloc::Global;
+
+/// Where a message waits on a gathered board.
+#[repr(C)]
+#[derive(Clone, Copy)]
+pub struct Place {
+    /// Its lane's sender.
+    pub from: u32,
+    /// Its lane's receiver.
+    pub to: u32,
+    /// Its number there, from 1.
+    pub number: usize,
+}
+
+/// What is told of a message that waits on a lane of a gathered board.
+#[derive(Clone, Copy)]
+pub struct Waiting {
+    /// How many bytes its name has.
+    pub name: usize,
+    /// How many bytes its body has.
+    pub body: usize,
+}
+
+/// Whether the lane has these ends.
+fn is_on(lane: &Left, from: u32, to: u32) -> bool
+    ensures { result ≡ is_on lane.now from to }
+{
+    lane.sender.number() == from as usize && lane.receiver.number() == to as usize
+}
+
+/// Where the lane with these ends is, if messages wait on it.
+fn place_of_lane(left: &[Left], from: u32, to: u32) -> Option<usize>
+    ensures some { IfSome result (λ place. (lane : Left) × (slice_get left.now place ≡ Some lane)
+        × (messages_on left.now from to ≡ lane.messages.items)) }
+    ensures none { IfNone result (messages_on left.now from to ≡ []) }
+{
+    for place in 0..left.len() {
+        if is_on(&left[place], from, to) {
+            return Some(place);
+        }
+    }
+    None
+}
+
+/// What is told of a message; its name and its body are copied out, as much as there is room for.
+fn tell_message(message: &Message, name: &mut [u8], body: &mut [u8]) -> Waiting
+    ensures told { result ≡ waiting_of message.now }
+    ensures names { name.new ≡ put_over message.now.name name.old }
+    ensures bodies { body.new ≡ put_over message.now.body body.old }
+{
+    let its = message.name();
+    Waiting {
+        name: copy_out(its.as_bytes(), name),
+        body: copy_out(message.body(), body),
+    }
+}
+
+/// Tells of the message at the place, if one waits there.
+fn tell_nth(left: &[Left], place: &Place, name: &mut [u8], body: &mut [u8]) -> Option<Waiting>
+    ensures { TellsWaiting (message_at left.now place.now) (record { name = name.old; body = body.old }) result
+        (record { name = name.new; body = body.new }) }
+{
+    let Some(lane) = place_of_lane(left, place.from, place.to) else {
+        return None;
+    };
+    let messages = left[lane].messages.as_slice();
+    let number = place.number;
+    if number == 0 || number > messages.len() {
+        return None;
+    }
+    Some(tell_message(&messages[number - 1], name, body))
+}
+
+/// The same where a board is kept.
+fn tell_kept(
+    kept: &Kept,
+    place: &Place,
+    name: &mut [u8],
+    body: &mut [u8],
+) -> Result<Option<Waiting>, Refusal>
+    ensures { KeptWaits kept.now place.now (record { name = name.old; body = body.old }) result
+        (record { name = name.new; body = body.new }) }
+{
+    match kept {
+        Kept::Board(it) => Ok(tell_nth(it.left.as_slice(), place, name, body)),
+        _ => Err(Refusal::Misuse),
+    }
+}
+
+/// Tells of the message at the place, if one waits there. Its name and its body are copied out, as much as there is room
+/// for.
+pub fn tell_waiting(
+    alloc: Global,
+    board: &mut Handle,
+    place: &Place,
+    name: &mut [u8],
+    body: &mut [u8],
+) -> Result<Option<Waiting>, Refusal>
+    ensures same { board.new.slot.value ≡ board.old.slot.value }
+    ensures answer { HandleWaits board.old.slot.value place.now (record { name = name.old; body = body.old }) result
+        (record { name = name.new; body = body.new }) }
+{
+    let Some(kept) = board.take(alloc) else {
+        return Err(Refusal::Misuse);
+    };
+    let result = tell_kept(&*kept, place, name, body);
+    board.put(kept);
+    result
+}

@@ -1,0 +1,42 @@
+//! The names of a board's instances, as another language gives them.
+ghost use Rattle.std.specs.Prelude.{◌<◌, ◌≤◌, length};
+ghost use Rattle.chart.specs.declared.instance.TheConstants.{MAX_INSTANCES};
+ghost use Rattle.c_board.specs.Boards.Naming.{words_in, AddsName, ReadsNames};
+
+use crate::{Refusal, word_at};
+use chart::{MAX_INSTANCES, Name, Names, NamesError};
+use std::alloc::Global;
+
+/// Gives the next instance the name that these bytes are. The first of F1 to F4, F22 and F6 refuses it.
+fn add_name(names: &mut Names, word: &[u8]) -> Result<(), Refusal>
+    requires { length names.old < MAX_INSTANCES }
+    ensures { AddsName names.old word.now result names.new }
+{
+    let name = match Name::new(word) {
+        Ok(name) => name,
+        Err(error) => return Err(Refusal::Naming(error)),
+    };
+    prove!(names.len() < MAX_INSTANCES);
+    match names.add(name) {
+        Ok(_) => Ok(()),
+        Err(NamesError::Duplicate) => Err(Refusal::NameTwice),
+        Err(NamesError::Instances) => unreachable!(),
+        Err(NamesError::Memory) => Err(Refusal::Memory),
+    }
+}
+
+/// The names that lie one after another in these bytes, of these lengths. The first of F1 to F4, F22 and F6 that a name
+/// meets refuses them.
+pub(crate) fn names_in(alloc: Global, bytes: &[u8], lengths: &[usize]) -> Result<Names, Refusal>
+    requires { length lengths.now ≤ MAX_INSTANCES }
+    ensures { ReadsNames (words_in bytes.now lengths.now) result }
+{
+    let mut names = Names::new(alloc);
+    let mut start = 0;
+    for many in lengths {
+        let word = word_at(bytes, start, *many);
+        add_name(&mut names, word)?;
+        start += word.len();
+    }
+    Ok(names)
+}

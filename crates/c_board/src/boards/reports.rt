@@ -1,0 +1,73 @@
+//! The reports of a gathered board, one by one.
+ghost use Rattle.std.specs.Prelude.{◌≡◌};
+ghost use Rattle.chart.specs.Events.{ith};
+ghost use Rattle.c_board.specs.Copying.{put_over, indices};
+ghost use Rattle.c_board.specs.Boards.BoardTelling.{reported_of, TellsReport, KeptReports, HandleReports};
+
+use crate::{Handle, Kept, Refusal, copy_events};
+use chart::Report;
+use std::alloc::Global;
+
+/// What is told of a report of a gathered board.
+#[derive(Clone, Copy)]
+pub struct Reported {
+    /// The number of the instance that received, from 1.
+    pub instance: u32,
+    /// The number of the receive on its line, from 1.
+    pub event: u32,
+    /// How many races it has.
+    pub races: usize,
+}
+
+/// What is told of a report; the numbers of its earlier events are copied out, as many as there is room for.
+fn copy_report(report: &Report, out: &mut [u32]) -> Reported
+    ensures told { result ≡ reported_of report.now }
+    ensures copied { out.new ≡ put_over (indices report.now.earlier) out.old }
+{
+    let receive = report.receive();
+    Reported {
+        instance: receive.instance.number() as u32,
+        event: receive.index,
+        races: copy_events(report.earlier(), out),
+    }
+}
+
+/// Tells of the report of this number, from 1.
+fn tell_nth(reports: &[Report], number: usize, out: &mut [u32]) -> Result<Reported, Refusal>
+    ensures { TellsReport (ith reports.now number) out.old result out.new }
+{
+    if number == 0 || number > reports.len() {
+        return Err(Refusal::NoEvent);
+    }
+    Ok(copy_report(&reports[number - 1], out))
+}
+
+/// Tells of the report of this number, from 1, where a board is kept.
+fn tell_kept(kept: &Kept, number: usize, out: &mut [u32]) -> Result<Reported, Refusal>
+    ensures { KeptReports kept.now number out.old result out.new }
+{
+    match kept {
+        Kept::Board(it) => tell_nth(it.reports.as_slice(), number, out),
+        _ => Err(Refusal::Misuse),
+    }
+}
+
+/// Tells of the report of this number, from 1, of the board, whose receives have one each, by instance and index; and
+/// copies its races out, the numbers of the earlier events, as many as there is room for. F31: the board has fewer
+/// receives.
+pub fn tell_report(
+    alloc: Global,
+    board: &mut Handle,
+    number: usize,
+    out: &mut [u32],
+) -> Result<Reported, Refusal>
+    ensures same { board.new.slot.value ≡ board.old.slot.value }
+    ensures answer { HandleReports board.old.slot.value number out.old result out.new }
+{
+    let Some(kept) = board.take(alloc) else {
+        return Err(Refusal::Misuse);
+    };
+    let result = tell_kept(&*kept, number, out);
+    board.put(kept);
+    result
+}

@@ -1,0 +1,52 @@
+//! Posts and boards in the memory of another language: a [`Handle`] is two words, and what it keeps lies in a box.
+//!
+//! C has no lifetimes, so a handle borrows nothing: with its post it keeps the board's words, which go with the last
+//! post of the board, in whatever thread. Each call works in the box, in place. A call on a handle that keeps nothing,
+//! or something else than the call wants, is answered [`Refusal::Misuse`], and nothing has changed.
+//!
+//! `specs/Seats.antt` says what a contract sees of a post in a handle; `Sending` and its neighbours say what each call
+//! answers: what the call of `board` below it does, restated over the handle. `Refusals` has the number of each
+//! refusal.
+#![tactic(auto)]
+
+mod any;
+mod away;
+mod bearing;
+pub mod boards;
+mod came;
+mod carrying;
+mod chair;
+mod closing;
+mod copying;
+mod found;
+mod gathering;
+mod handle;
+mod kept;
+mod loose;
+mod meeting;
+mod naming;
+mod opening;
+mod receiving;
+mod receiving_many;
+mod refusal;
+mod regions;
+mod reserving;
+mod seat;
+mod sending;
+mod sending_all;
+mod slot;
+mod taking;
+mod telling;
+mod words;
+
+pub use came::{Came, Which};
+pub use copying::{copy_events, copy_out};
+pub use found::{Arrived, Found, FoundMany, MessageLengths, Told};
+pub use gathering::gather;
+pub use handle::Handle;
+pub use kept::Kept;
+pub use meeting::meet;
+pub use opening::open;
+pub use refusal::Refusal;
+pub use seat::Seat;
+pub use words::word_at;

@@ -1,0 +1,163 @@
+//! Receives over a handle.
+ghost use Rattle.std.specs.Prelude.{◌≡◌, ◌≤◌};
+ghost use Rattle.c_board.specs.Receiving.{arrived_of, SeatTakes, SeatTakesAny, KeptTakes, KeptTakesAny};
+ghost use Rattle.c_board.specs.Receiving.{HandleTakes, HandleTakesAny, IsLastNamed, found_with, told_after};
+
+use crate::any::any_after;
+use crate::came::Came;
+use crate::found::{Arrived, Found};
+use crate::handle::Handle;
+use crate::kept::Kept;
+use crate::refusal::Refusal;
+use crate::seat::Seat;
+use board::{Arrival, Glance, Parked, Taken};
+use chart::{InstanceNo, Message};
+use std::alloc::Global;
+
+/// What is told of a message.
+#[inline(always)]
+pub(crate) fn arrived_of(arrival: &Arrival) -> Arrived
+    ensures { result ≡ arrived_of arrival.now }
+{
+    Arrived {
+        from: arrival.from.number() as u32,
+        event: arrival.report.receive().index,
+        name: arrival.message.name().as_bytes().len(),
+        body: arrival.message.body().len(),
+        races: arrival.report.earlier().len(),
+    }
+}
+
+/// The message, with the name that the event of its receive has, which is the last of the line.
+///
+/// Both are the same name. Where that of the message isn't read, what moves it through the calls below is left out.
+#[inline(always)]
+fn as_recorded(post: &Parked, message: Message) -> Message
+    requires { IsLastNamed post.now message.name }
+    ensures { result ≡ message }
+{
+    let (_, body) = message.into_parts();
+    let line = post.line();
+    let event = line.event(line.len() - 1);
+    let Ok(message) = Message::new(event.name(), body) else {
+        unreachable!()
+    };
+    message
+}
+
+impl Seat {
+    /// Receives the first message that waits on the lane from an instance, and tells of it.
+    #[inline(always)]
+    fn receive(&mut self, from: u32, told: &mut Arrived) -> Result<Glance, Refusal>
+        ensures answer { SeatTakes self.old from (found_with result told.new) self.new }
+        ensures told { told.new ≡ told_after told.old (found_with result told.new) }
+    {
+        let Some(from) = InstanceNo::new(from as usize) else {
+            return Err(Refusal::NoInstance);
+        };
+        let words = &(*self.table).shared;
+        match self.parked.receive(words, from) {
+            Ok(Taken::Got(arrival)) => {
+                let Arrival {
+                    from,
+                    message,
+                    report,
+                } = arrival;
+                let message = as_recorded(&self.parked, message);
+                self.came.keep(from, message, report);
+                self.last = Some(from);
+                let Came::One(arrival) = &self.came else {
+                    unreachable!()
+                };
+                *told = arrived_of(arrival);
+                Ok(Glance::Message)
+            }
+            Ok(Taken::Nothing) => Ok(Glance::Nothing),
+            Ok(Taken::Ended) => Ok(Glance::Ended),
+            Err(error) => Err(Refusal::Taking(error)),
+        }
+    }
+
+    /// Receives the first message that waits on the lanes from the others, in cyclic order after the instance that it
+    /// got a message from last.
+    fn any(&mut self) -> Result<Found, Refusal>
+        ensures { SeatTakesAny self.old result self.new }
+    {
+        let last = match self.last {
+            Some(instance) => instance.number(),
+            None => 0,
+        };
+        let words = &(*self.table).shared;
+        match any_after(&mut self.parked, words, last) {
+            Ok(Taken::Got(arrival)) => {
+                let arrived = arrived_of(&arrival);
+                self.last = Some(arrival.from);
+                self.came = Came::One(arrival);
+                Ok(Found::Message(arrived))
+            }
+            Ok(Taken::Nothing) => Ok(Found::Nothing),
+            Ok(Taken::Ended) => Ok(Found::Ended),
+            Err(error) => Err(Refusal::Taking(error)),
+        }
+    }
+}
+
+impl Kept {
+    /// Receives over the post that it is.
+    #[inline(always)]
+    fn receive(&mut self, from: u32, told: &mut Arrived) -> Result<Glance, Refusal>
+        ensures answer { KeptTakes self.old from (found_with result told.new) self.new }
+        ensures told { told.new ≡ told_after told.old (found_with result told.new) }
+    {
+        match self {
+            Kept::Post(seat) => seat.receive(from, told),
+            _ => Err(Refusal::Misuse),
+        }
+    }
+
+    /// Receives from any instance over the post that it is.
+    fn any(&mut self) -> Result<Found, Refusal>
+        ensures { KeptTakesAny self.old result self.new }
+    {
+        match self {
+            Kept::Post(seat) => seat.any(),
+            _ => Err(Refusal::Misuse),
+        }
+    }
+}
+
+impl Handle {
+    /// Receives the first message that waits on the lane from an instance, and tells of it. It stays in the handle
+    /// until the next one comes, and nothing but a number that no instance has refuses it before the post does.
+    ///
+    /// What is told is written where the caller reads it: what goes through an answer goes through memory twice.
+    pub fn receive(
+        &mut self,
+        alloc: Global,
+        from: u32,
+        told: &mut Arrived,
+    ) -> Result<Glance, Refusal>
+        ensures answer { HandleTakes self.old.slot.value from (found_with result told.new) self.new.slot.value }
+        ensures told { told.new ≡ told_after told.old (found_with result told.new) }
+    {
+        let Some(mut kept) = self.take(alloc) else {
+            return Err(Refusal::Misuse);
+        };
+        let result = kept.receive(from, told);
+        self.put(kept);
+        result
+    }
+
+    /// Receives the first message that it finds on the lanes from the other instances, which it looks at in cyclic
+    /// order, beginning after the instance that it got a message from last. The message stays in the handle.
+    pub fn any(&mut self, alloc: Global) -> Result<Found, Refusal>
+        ensures { HandleTakesAny self.old.slot.value result self.new.slot.value }
+    {
+        let Some(mut kept) = self.take(alloc) else {
+            return Err(Refusal::Misuse);
+        };
+        let result = kept.any();
+        self.put(kept);
+        result
+    }
+}

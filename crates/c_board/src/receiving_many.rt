@@ -1,0 +1,89 @@
+//! Receives of several messages at once over a handle.
+ghost use Rattle.std.specs.Prelude.{◌≡◌, map};
+ghost use Rattle.c_board.specs.Copying.{put_over};
+ghost use Rattle.c_board.specs.Receiving.{arrived_of};
+ghost use Rattle.c_board.specs.ReceivingMany.{SeatTakesMany, KeptTakesMany, HandleTakesMany};
+
+use crate::came::Came;
+use crate::found::{Arrived, FoundMany};
+use crate::handle::Handle;
+use crate::kept::Kept;
+use crate::receiving::arrived_of;
+use crate::refusal::Refusal;
+use crate::seat::Seat;
+use board::{Arrival, TakenMany};
+use chart::InstanceNo;
+use std::alloc::Global;
+
+/// Tells of these messages, one by one, as many as find room.
+fn tell_each(arrivals: &[Arrival], told: &mut [Arrived])
+    ensures { told.new ≡ put_over (map arrived_of arrivals.now) told.old }
+{
+    let many = arrivals.len().min(told.len());
+    for place in 0..many {
+        told[place] = arrived_of(&arrivals[place]);
+    }
+}
+
+impl Seat {
+    /// Receives the first messages that wait on the lane from an instance, at most as many as there is room to tell of.
+    fn receive_up_to(&mut self, from: u32, told: &mut [Arrived]) -> Result<FoundMany, Refusal>
+        ensures { SeatTakesMany self.old from told.old result self.new told.new }
+    {
+        let Some(from) = InstanceNo::new(from as usize) else {
+            return Err(Refusal::NoInstance);
+        };
+        if told.is_empty() {
+            return Err(Refusal::Misuse);
+        }
+        let words = &(*self.table).shared;
+        match self.parked.receive_up_to(words, from, told.len()) {
+            Ok(TakenMany::Got { arrivals, stop }) => {
+                tell_each(arrivals.as_slice(), told);
+                let count = arrivals.len();
+                self.last = Some(from);
+                self.came = Came::Several(arrivals);
+                Ok(FoundMany::Messages { count, stop })
+            }
+            Ok(TakenMany::Nothing) => Ok(FoundMany::Nothing),
+            Ok(TakenMany::Ended) => Ok(FoundMany::Ended),
+            Err(error) => Err(Refusal::Taking(error)),
+        }
+    }
+}
+
+impl Kept {
+    /// Receives several messages over the post that it is.
+    fn receive_up_to(&mut self, from: u32, told: &mut [Arrived]) -> Result<FoundMany, Refusal>
+        ensures { KeptTakesMany self.old from told.old result self.new told.new }
+    {
+        match self {
+            Kept::Post(seat) => seat.receive_up_to(from, told),
+            _ => Err(Refusal::Misuse),
+        }
+    }
+}
+
+impl Handle {
+    /// Receives the first messages that wait on the lane from an instance, at most as many as there is room to tell of,
+    /// and tells of each. They stay in the handle until the next ones come.
+    ///
+    /// A number that no instance has, and no room at all, which is a misuse, refuse it before the post does. What stops
+    /// it behind the first message is told with those that came: the message that was refused is still the first of its
+    /// lane.
+    pub fn receive_up_to(
+        &mut self,
+        alloc: Global,
+        from: u32,
+        told: &mut [Arrived],
+    ) -> Result<FoundMany, Refusal>
+        ensures { HandleTakesMany self.old.slot.value from told.old result self.new.slot.value told.new }
+    {
+        let Some(mut kept) = self.take(alloc) else {
+            return Err(Refusal::Misuse);
+        };
+        let result = kept.receive_up_to(from, told);
+        self.put(kept);
+        result
+    }
+}

@@ -1,0 +1,75 @@
+//! Coregions over a handle.
+ghost use Rattle.std.specs.Prelude.{◌≡◌};
+ghost use Rattle.c_board.specs.Regions.{SeatOpens, SeatShuts, KeptOpens, KeptShuts, HandleOpens, HandleShuts};
+
+use crate::handle::Handle;
+use crate::kept::Kept;
+use crate::refusal::Refusal;
+use crate::seat::Seat;
+use std::alloc::Global;
+
+impl Seat {
+    fn open_coregion(&mut self) -> Result<(), Refusal>
+        ensures { SeatOpens self.old result self.new }
+    {
+        match self.parked.open_coregion() {
+            Ok(()) => Ok(()),
+            Err(error) => Err(Refusal::Region(error)),
+        }
+    }
+
+    fn close_coregion(&mut self) -> Result<(), Refusal>
+        ensures { SeatShuts self.old result self.new }
+    {
+        match self.parked.close_coregion() {
+            Ok(()) => Ok(()),
+            Err(error) => Err(Refusal::Region(error)),
+        }
+    }
+}
+
+impl Kept {
+    fn open_coregion(&mut self) -> Result<(), Refusal>
+        ensures { KeptOpens self.old result self.new }
+    {
+        match self {
+            Kept::Post(seat) => seat.open_coregion(),
+            _ => Err(Refusal::Misuse),
+        }
+    }
+
+    fn close_coregion(&mut self) -> Result<(), Refusal>
+        ensures { KeptShuts self.old result self.new }
+    {
+        match self {
+            Kept::Post(seat) => seat.close_coregion(),
+            _ => Err(Refusal::Misuse),
+        }
+    }
+}
+
+impl Handle {
+    /// Opens a coregion, which the post's receives are in from now on: their order isn't claimed. F28: one is open.
+    pub fn open_coregion(&mut self, alloc: Global) -> Result<(), Refusal>
+        ensures { HandleOpens self.old.slot.value result self.new.slot.value }
+    {
+        let Some(mut kept) = self.take(alloc) else {
+            return Err(Refusal::Misuse);
+        };
+        let result = kept.open_coregion();
+        self.put(kept);
+        result
+    }
+
+    /// Closes the coregion that is open. F29: none is.
+    pub fn close_coregion(&mut self, alloc: Global) -> Result<(), Refusal>
+        ensures { HandleShuts self.old.slot.value result self.new.slot.value }
+    {
+        let Some(mut kept) = self.take(alloc) else {
+            return Err(Refusal::Misuse);
+        };
+        let result = kept.close_coregion();
+        self.put(kept);
+        result
+    }
+}

@@ -1,0 +1,49 @@
+//! Room for a post's events, over a handle.
+ghost use Rattle.std.specs.Prelude.{◌≡◌};
+ghost use Rattle.c_board.specs.Reserving.{SeatReserves, KeptReserves, HandleReserves};
+
+use crate::handle::Handle;
+use crate::kept::Kept;
+use crate::refusal::Refusal;
+use crate::seat::Seat;
+use chart::MAX_EVENTS;
+use std::alloc::Global;
+
+impl Seat {
+    fn reserve(&mut self, events: u32) -> Result<(), Refusal>
+        ensures { SeatReserves self.old events result self.new }
+    {
+        let events = (events as usize).min(MAX_EVENTS);
+        match self.parked.reserve(events) {
+            Ok(()) => Ok(()),
+            Err(_) => Err(Refusal::Memory),
+        }
+    }
+}
+
+impl Kept {
+    fn reserve(&mut self, events: u32) -> Result<(), Refusal>
+        ensures { KeptReserves self.old events result self.new }
+    {
+        match self {
+            Kept::Post(seat) => seat.reserve(events),
+            _ => Err(Refusal::Misuse),
+        }
+    }
+}
+
+impl Handle {
+    /// Makes room on the post's line for so many events, at most [`MAX_EVENTS`], since no line has more. While there is
+    /// room, on boards of up to [`clock::INLINE_ENTRIES`] instances, a send needs no memory but for the body. F6: then
+    /// nothing has changed.
+    pub fn reserve(&mut self, alloc: Global, events: u32) -> Result<(), Refusal>
+        ensures { HandleReserves self.old.slot.value events result self.new.slot.value }
+    {
+        let Some(mut kept) = self.take(alloc) else {
+            return Err(Refusal::Misuse);
+        };
+        let result = kept.reserve(events);
+        self.put(kept);
+        result
+    }
+}

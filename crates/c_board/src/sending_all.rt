@@ -1,0 +1,109 @@
+//! Several messages sent at once over a handle.
+ghost use Rattle.std.specs.Prelude.{◌≡◌};
+ghost use Rattle.c_board.specs.SendingAll.{contents_in, first_event, ReadsMessages, SeatSendsAll, KeptSendsAll};
+ghost use Rattle.c_board.specs.SendingAll.{HandleSendsAll};
+
+use crate::found::MessageLengths;
+use crate::handle::Handle;
+use crate::kept::Kept;
+use crate::refusal::Refusal;
+use crate::seat::Seat;
+use crate::sending::message_of;
+use crate::words::word_at;
+use board::Sent;
+use chart::{InstanceNo, Message};
+use std::alloc::Global;
+
+/// The messages whose names and bodies lie one after another in these bytes, of these lengths. The first of F1 to F6
+/// that a message meets refuses them.
+fn messages_in(
+    alloc: Global,
+    bytes: &[u8],
+    lengths: &[MessageLengths],
+) -> Result<Vec<Message>, Refusal>
+    ensures { ReadsMessages (contents_in bytes.now lengths.now) result }
+{
+    let Ok(mut messages) = Vec::with_capacity(alloc, lengths.len()) else {
+        return Err(Refusal::Memory);
+    };
+    let mut start = 0;
+    for its in lengths {
+        let name = word_at(bytes, start, its.name);
+        start += name.len();
+        let body = word_at(bytes, start, its.body);
+        start += body.len();
+        messages.push_reserved(message_of(alloc, name, body)?);
+    }
+    Ok(messages)
+}
+
+/// The number of the first of these sends, or 0 where there is none.
+fn first_event(sents: &[Sent]) -> u32
+    ensures { result ≡ first_event sents.now }
+{
+    match sents.first() {
+        Some(sent) => sent.event.index,
+        None => 0,
+    }
+}
+
+impl Seat {
+    fn send_all(
+        &mut self,
+        alloc: Global,
+        to: u32,
+        bytes: &[u8],
+        lengths: &[MessageLengths],
+    ) -> Result<u32, Refusal>
+        ensures { SeatSendsAll self.old to (contents_in bytes.now lengths.now) result self.new }
+    {
+        let Some(to) = InstanceNo::new(to as usize) else {
+            return Err(Refusal::NoInstance);
+        };
+        let messages = messages_in(alloc, bytes, lengths)?;
+        let words = &(*self.table).shared;
+        match self.parked.send_all(words, to, messages) {
+            Ok(sents) => Ok(first_event(sents.as_slice())),
+            Err(refused) => Err(Refusal::Sending(refused.1)),
+        }
+    }
+}
+
+impl Kept {
+    fn send_all(
+        &mut self,
+        alloc: Global,
+        to: u32,
+        bytes: &[u8],
+        lengths: &[MessageLengths],
+    ) -> Result<u32, Refusal>
+        ensures { KeptSendsAll self.old to (contents_in bytes.now lengths.now) result self.new }
+    {
+        match self {
+            Kept::Post(seat) => seat.send_all(alloc, to, bytes, lengths),
+            _ => Err(Refusal::Misuse),
+        }
+    }
+}
+
+impl Handle {
+    /// Sends all of the messages whose names and bodies lie one after another in `bytes`, of these lengths, one
+    /// directly after another, or none of them. It tells the number of the first send, 0 where there is no message. A
+    /// number that no instance has, and F1 to F6 of the messages refuse it before the post does.
+    pub fn send_all(
+        &mut self,
+        alloc: Global,
+        to: u32,
+        bytes: &[u8],
+        lengths: &[MessageLengths],
+    ) -> Result<u32, Refusal>
+        ensures { HandleSendsAll self.old.slot.value to (contents_in bytes.now lengths.now) result self.new.slot.value }
+    {
+        let Some(mut kept) = self.take(alloc) else {
+            return Err(Refusal::Misuse);
+        };
+        let result = kept.send_all(alloc, to, bytes, lengths);
+        self.put(kept);
+        result
+    }
+}

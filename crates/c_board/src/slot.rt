@@ -1,0 +1,59 @@
+//! A pointer to a box, or to nothing.
+ghost use Rattle.std.specs.Prelude.{◌≡◌};
+ghost use Rattle.std.specs.declared.option.Option.{Option};
+ghost use Rattle.std.specs.declared.option.Option.TheVariants.{None, Some};
+ghost use Rattle.c_board.specs.declared.kept.Kept.{Kept};
+ghost use Rattle.c_board.specs.Cells.{slot_owns};
+
+use crate::kept::Kept;
+use crate::loose::Loose;
+use std::alloc::Global;
+use std::marker::Model;
+use std::ptr::null_mut;
+
+/// A pointer that owns the box behind it, where there is one.
+#[repr(C)]
+#[derive(Drop)]
+pub struct Slot {
+    at: *mut u8,
+    pub ghost value: { Option Kept },
+}
+
+impl Model for Slot {
+    ghost also_owns = { λ slot. slot_owns slot.at slot.value };
+}
+
+impl Slot {
+    /// No box.
+    #[inline(always)]
+    pub(crate) fn empty() -> Slot
+        ensures { result.value ≡ None }
+    {
+        Slot { at: null_mut() }
+    }
+
+    /// This box.
+    #[inline(always)]
+    pub(crate) fn full(loose: Loose<Kept, Global>) -> Slot
+        ensures { result.value ≡ Some loose.value }
+    {
+        let Loose { at, alloc: _ } = loose;
+        Slot { at: at as *mut u8 }
+    }
+
+    /// The box that there is.
+    #[inline(always)]
+    pub(crate) fn into_loose(self, alloc: Global) -> Loose<Kept, Global>
+        requires { self.value ≡ None → ⊥ }
+        ensures { self.value ≡ Some result.value }
+    {
+        let Slot { at } = self;
+        Loose {
+            at: at as *mut Kept,
+            alloc,
+        }
+    }
+}
+
+// What is in the box may go to another thread, and nobody else has the pointer.
+unsafe impl Send for Slot {}

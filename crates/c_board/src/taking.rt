@@ -1,0 +1,145 @@
+//! Posts taken out of handles, and put back.
+ghost use Rattle.std.specs.Prelude.{◌≡◌, ◌≤◌, [], length, vec_capacity, true, false, IfOk};
+ghost use Rattle.c_board.specs.Opening.{kept_by, AreEmpty};
+ghost use Rattle.c_board.specs.Chairs.{is_post, KeepPosts, IsOneNoPost, AreFit, AreTaken, TakesPosts, seats_with};
+ghost use Rattle.c_board.specs.Chairs.{kept_seats};
+
+use crate::chair::{Chair, Taken};
+use crate::handle::Handle;
+use crate::kept::Kept;
+use crate::refusal::Refusal;
+use board::{BoardTable, Parked};
+use std::alloc::{AllocError, Global};
+use std::sync::Arc;
+
+impl Kept {
+    /// Whether it is a post.
+    fn is_post(&self) -> bool
+        ensures { result ≡ is_post (Some self.now) }
+    {
+        match self {
+            Kept::Post(_) => true,
+            _ => false,
+        }
+    }
+}
+
+impl Handle {
+    /// Whether it keeps a post.
+    fn has_post(&mut self, alloc: Global) -> bool
+        ensures same { self.new.slot.value ≡ self.old.slot.value }
+        ensures answer { result ≡ is_post self.old.slot.value }
+    {
+        let Some(kept) = self.take(alloc) else {
+            return false;
+        };
+        let result = kept.is_post();
+        self.put(kept);
+        result
+    }
+}
+
+/// Whether each of these handles keeps a post.
+fn have_posts(alloc: Global, handles: &mut [Handle]) -> bool
+    ensures same { kept_by handles.new ≡ kept_by handles.old }
+    ensures yes { result ≡ true → KeepPosts (kept_by handles.old) }
+    ensures no { result ≡ false → IsOneNoPost (kept_by handles.old) }
+{
+    for place in 0..handles.len() {
+        if !handles[place].has_post(alloc) {
+            return false;
+        }
+    }
+    true
+}
+
+/// Whether two tables are one, as far as it can be told: their owners are counted together, so one owner more of the
+/// first is one more of the second. No contract sees the count.
+fn is_one_table(one: &Arc<BoardTable>, other: &Arc<BoardTable>) -> bool {
+    let before = Arc::strong_count(other);
+    match Arc::try_clone(one) {
+        Ok(_one_more) => before < Arc::strong_count(other),
+        Err(_) => false,
+    }
+}
+
+/// Whether these seats are at one table, as far as it can be told.
+fn are_at_one_table(chairs: &[Chair]) -> bool {
+    for chair in chairs {
+        if !is_one_table(&chairs[0].table, &chair.table) {
+            return false;
+        }
+    }
+    true
+}
+
+/// Takes each post out of its handle.
+fn take_each(
+    alloc: Global,
+    handles: &mut [Handle],
+    chairs: &mut Vec<Chair>,
+    posts: &mut Vec<Parked>,
+)
+    requires posts { KeepPosts (kept_by handles.old) }
+    requires none { (chairs.old.items ≡ []) × (posts.old.items ≡ []) }
+    requires room { (length handles.old ≤ vec_capacity chairs.old) × (length handles.old ≤ vec_capacity posts.old) }
+    ensures { AreTaken (kept_by handles.old) chairs.new.items posts.new.items (kept_by handles.new) }
+{
+    for place in 0..handles.len() {
+        let Some(kept) = handles[place].take(alloc) else {
+            unreachable!()
+        };
+        let (chair, post) = Chair::of(kept);
+        chairs.push_reserved(chair);
+        posts.push_reserved(post);
+    }
+}
+
+/// Puts posts into their seats, and these into handles, in their order.
+pub(crate) fn put_posts(handles: &mut [Handle], chairs: Vec<Chair>, posts: Vec<Parked>)
+    requires empty { AreEmpty (kept_by handles.old) }
+    requires fit { AreFit chairs.items posts.items }
+    requires as_many { length chairs.items ≡ length handles.old }
+    ensures { kept_by handles.new ≡ kept_seats (seats_with chairs.items posts.items) }
+{
+    let mut place = 0;
+    for (chair, post) in chairs.into_iter().zip(posts) {
+        handles[place].put(chair.seat(post));
+        place += 1;
+    }
+}
+
+/// Lists for so many posts and their seats.
+fn make_lists(alloc: Global, many: usize) -> Result<Taken, AllocError>
+    ensures none { IfOk result (λ made. (made.chairs.items ≡ []) × (made.posts.items ≡ [])) }
+    ensures room { IfOk result (λ made. (many ≤ vec_capacity made.chairs) × (many ≤ vec_capacity made.posts)) }
+{
+    Ok(Taken {
+        chairs: Vec::with_capacity(alloc, many)?,
+        posts: Vec::with_capacity(alloc, many)?,
+    })
+}
+
+/// Takes the posts out of these handles, which then keep nothing. A handle that keeps no post is a misuse; then no
+/// handle at all is F15. Posts of two boards are refused too, as far as that can be told, and F6 for want of memory for
+/// the lists. After a refusal all is as it was.
+pub(crate) fn take_posts(alloc: Global, handles: &mut [Handle]) -> Result<Taken, Refusal>
+    ensures { TakesPosts (kept_by handles.old) result (kept_by handles.new) }
+{
+    if handles.is_empty() {
+        return Err(Refusal::NotAllPosts);
+    }
+    if !have_posts(alloc, handles) {
+        return Err(Refusal::Misuse);
+    }
+    let Ok(taken) = make_lists(alloc, handles.len()) else {
+        return Err(Refusal::Memory);
+    };
+    let mut taken = taken;
+    take_each(alloc, handles, &mut taken.chairs, &mut taken.posts);
+    if !are_at_one_table(taken.chairs.as_slice()) {
+        put_posts(handles, taken.chairs, taken.posts);
+        return Err(Refusal::OtherBoard);
+    }
+    Ok(taken)
+}

@@ -1,6 +1,0 @@
-use Rattle.closure.specs.Faults.{place_of}
-use Rattle.causes.specs.Reaching.{IsNearest}
-use Rattle.causes.proofs.chaining.nearest.Given as goal
-
-abbrev pub invariant-loop-number : goal.invariant-loop-number
-invariant-loop-number l = IsNearest l.found (place_of l.event) l.number l.best

@@ -1,0 +1,10 @@
+pub mod BegunLemmas
+pub mod DrawnLemmas
+pub mod EndLemmas
+pub mod FindLemmas
+pub mod IndexLemmas
+pub mod KeptTurnsLemmas
+pub mod OneLayout
+pub mod PickLemmas
+pub mod RowLemmas
+pub mod TurnLemmas

@@ -1,0 +1,198 @@
+//! Which row comes next.
+ghost use Rattle.std.specs.Prelude.{ℕ, ◌≡◌, ◌<◌, ◌≤◌, suc, length, nat_lt, if◌then◌else◌, MatchOption};
+ghost use Rattle.chart.specs.declared.instance.TheConstants.{MAX_INSTANCES};
+ghost use Rattle.chart.specs.declared.line.TheConstants.{MAX_EVENTS};
+ghost use Rattle.chart.specs.Charts.{chart_event, chart_lines};
+ghost use Rattle.closure.specs.Closures.{IsPossibleChart};
+ghost use Rattle.closure.specs.Faults.{place_of};
+ghost use Rattle.chart_layout.specs.Layouts.{drawn, AreInOrder};
+ghost use Rattle.chart_layout.specs.Picking.{last_line, sought_on, IsFirst, IsPicked};
+ghost use Rattle.chart_layout.specs.Searching.{IsHighestOf, higher};
+ghost use Rattle.chart_layout.specs.Ways.{IsArrival, IsNextEvent, IsWay, HasNoArrival, HasNoWay, HaveNoWay, AreDrawn};
+
+use crate::row::Row;
+use crate::rows::Layout;
+use chart::{Event, EventNo, InstanceNo, Line};
+use closure::Closure;
+
+/// How an event comes next, but as a receive whose send stands above.
+#[derive(Clone, Copy)]
+pub(crate) enum Way {
+    /// As an end of a message whose other end is next too.
+    Level,
+    /// Alone, as a send.
+    Early,
+}
+
+/// A receive that comes next, and the row of its send.
+#[derive(Clone, Copy)]
+pub(crate) struct Arrival {
+    receive: EventNo,
+    row: usize,
+}
+
+/// How many events a line has.
+pub(crate) fn len_of(lines: &[Line], line: usize) -> usize
+    requires { line < length lines.now }
+    ensures value { result ≡ length (chart_lines lines.now (suc line)) }
+    ensures limit { result ≤ MAX_EVENTS }
+{
+    lines[line].len()
+}
+
+/// The event of this number, if the lines have it.
+pub fn event_in(lines: &[Line], event: &EventNo) -> Option<Event>
+    ensures { result ≡ chart_event (chart_lines lines.now) (place_of event.now) }
+{
+    if event.index == 0 {
+        return None;
+    }
+    match lines.get(event.instance.place()) {
+        Some(line) => line.events().get(event.index as usize - 1).copied(),
+        None => None,
+    }
+}
+
+/// The next event of a line, where one is left.
+pub(crate) fn next_of(closure: &Closure<'_>, layout: &Layout, line: usize) -> Option<EventNo>
+    requires limit { length closure.now ≤ MAX_INSTANCES }
+    requires line { line < length closure.now }
+    ensures { MatchOption result
+        (length (chart_lines closure.now (suc line)) ≤ length (drawn layout.now (suc line)))
+        (λ event. (event.instance ≡ suc line) × IsNextEvent (chart_lines closure.now) layout.now (place_of event)) }
+{
+    let instance = InstanceNo::at_place(line);
+    let drawn = layout.drawn(instance);
+    if drawn >= len_of(closure.lines(), line) {
+        return None;
+    }
+    Some(EventNo {
+        instance,
+        index: drawn as u32 + 1,
+    })
+}
+
+/// The receive that the next event of a line is, if its send stands above.
+fn arrival_on(closure: &Closure<'_>, layout: &Layout, line: usize) -> Option<Arrival>
+    requires limit { length closure.now ≤ MAX_INSTANCES }
+    requires line { line < length closure.now }
+    ensures { MatchOption result (HasNoArrival (chart_lines closure.now) layout.now line)
+        (λ arrival. (arrival.receive.instance ≡ suc line)
+        × IsArrival (chart_lines closure.now) layout.now (place_of arrival.receive) arrival.row) }
+{
+    let Some(receive) = next_of(closure, layout, line) else {
+        return None;
+    };
+    let Some(send) = closure.send_of(&receive) else {
+        return None;
+    };
+    match layout.row_of(&send) {
+        None => None,
+        Some(row) => Some(Arrival { receive, row }),
+    }
+}
+
+/// Of two arrivals the one whose send is higher: the first, where they are level.
+fn higher(one: &Arrival, other: &Arrival) -> Arrival
+    ensures { result ≡ (if nat_lt other.now.row one.now.row then other.now else one.now) }
+{
+    if other.row < one.row { *other } else { *one }
+}
+
+/// Of what two lines have the arrival whose send is higher.
+fn highest_of(best: &Option<Arrival>, found: &Option<Arrival>) -> Option<Arrival>
+    ensures { result ≡ higher best.now found.now }
+{
+    match (best, found) {
+        (Some(one), Some(other)) => Some(higher(one, other)),
+        (Some(one), None) => Some(*one),
+        (None, None) => None,
+        (None, Some(other)) => Some(*other),
+    }
+}
+
+/// Of the receives that come next and whose sends stand above the one whose send is highest.
+fn highest(closure: &Closure<'_>, layout: &Layout) -> Option<Arrival>
+    requires limit { length closure.now ≤ MAX_INSTANCES }
+    ensures { IsHighestOf (chart_lines closure.now) (length closure.now) layout.now result }
+{
+    let mut best: Option<Arrival> = None;
+    for line in 0..closure.len() {
+        best = highest_of(&best, &arrival_on(closure, layout, line));
+    }
+    best
+}
+
+/// The row that a next event makes in this way.
+fn row_with(closure: &Closure<'_>, layout: &Layout, way: Way, event: &EventNo) -> Option<Row>
+    requires { IsNextEvent (chart_lines closure.now) layout.now (place_of event.now) }
+    ensures { (line : ℕ) → event.now.instance ≡ suc line
+        → MatchOption result (HasNoWay (chart_lines closure.now) layout.now way line)
+        (λ row. IsWay (chart_lines closure.now) layout.now way row × (sought_on row ≡ suc line)) }
+{
+    let Some(send) = closure.send_of(event) else {
+        return match way {
+            Way::Early => Some(Row::Event(*event)),
+            Way::Level => None,
+        };
+    };
+    let drawn = layout.drawn(send.instance);
+    match way {
+        Way::Level if send.index as usize - 1 == drawn => Some(Row::Message {
+            send,
+            receive: *event,
+        }),
+        _ => None,
+    }
+}
+
+/// The row that the next event of a line makes in this way.
+fn row_on(closure: &Closure<'_>, layout: &Layout, way: Way, line: usize) -> Option<Row>
+    requires limit { length closure.now ≤ MAX_INSTANCES }
+    requires line { line < length closure.now }
+    ensures { MatchOption result (HasNoWay (chart_lines closure.now) layout.now way line)
+        (λ row. IsWay (chart_lines closure.now) layout.now way row × (sought_on row ≡ suc line)) }
+{
+    match next_of(closure, layout, line) {
+        None => None,
+        Some(event) => row_with(closure, layout, way, &event),
+    }
+}
+
+/// The row that comes next in this way, by the line of the hint, or else by the first that has one.
+fn row_by(closure: &Closure<'_>, layout: &Layout, way: Way, hint: usize) -> Option<Row>
+    requires limit { length closure.now ≤ MAX_INSTANCES }
+    requires hint { hint < length closure.now }
+    ensures { MatchOption result (HaveNoWay (chart_lines closure.now) (length closure.now) layout.now way)
+        (λ row. IsWay (chart_lines closure.now) layout.now way row
+        × IsFirst (chart_lines closure.now) layout.now way (suc hint) row) }
+{
+    if let Some(row) = row_on(closure, layout, way, hint) {
+        return Some(row);
+    }
+    for line in 0..closure.len() {
+        if let Some(row) = row_on(closure, layout, way, line) {
+            return Some(row);
+        }
+    }
+    None
+}
+
+/// The row that comes next, sought from the line of the hint: of the receives whose sends stand above the one whose
+/// send is highest, or else a message of which both ends are next, or else a send. There is none only where all events
+/// have a row.
+pub(crate) fn next_row(closure: &Closure<'_>, layout: &Layout, hint: usize) -> Option<Row>
+    requires possible { IsPossibleChart closure.now }
+    requires order { AreInOrder layout.now }
+    requires hint { (hint < length closure.now) × (last_line layout.now ≡ suc hint) }
+    ensures { MatchOption result (AreDrawn (chart_lines closure.now) (length closure.now) layout.now)
+        (IsPicked (chart_lines closure.now) (length closure.now) layout.now) }
+{
+    if let Some(arrival) = highest(closure, layout) {
+        return Some(Row::Event(arrival.receive));
+    }
+    if let Some(row) = row_by(closure, layout, Way::Level, hint) {
+        return Some(row);
+    }
+    row_by(closure, layout, Way::Early, hint)
+}

@@ -1,8 +1,0 @@
-use Rattle.std.proofs.Common.{ℕ, suc, ◌<◌, length}
-use Rattle.chart.specs.Charts.{chart_lines}
-use Rattle.circles.specs.Rounds.{IsFoundRound, bound_of, HasNoneOn}
-use Rattle.circles.proofs.finding.shortest_round.Given as goal
-
-abbrev pub invariant-loop-line : goal.invariant-loop-line
-invariant-loop-line l = IsFoundRound (chart_lines l.hearing) l.best
-    × ((p : ℕ) → p < l.line → HasNoneOn (chart_lines l.hearing) (suc p) (length (chart_lines l.hearing (suc p))) (bound_of (length l.hearing) l.best))

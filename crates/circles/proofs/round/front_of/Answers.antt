@@ -1,7 +1,0 @@
-use Rattle.std.proofs.Common.{sym, subst, add-one}
-use Rattle.closure.specs.Faults.{place_of}
-use Rattle.circles.specs.Fronts.{IsLead}
-use Rattle.circles.proofs.round.front_of.Goals as goal
-
-pub loop-message-preserved : goal.loop-message-preserved
-loop-message-preserved c = subst (λ k. IsLead c.args.hearing.now (place_of c.args.event.now) k c.in_ok-front-2.front) (sym (add-one c.loop-message.message)) (c.in_ok-front-2.ensures (place_of c.args.event.now) c.loop-message.message c.loop-message.invariant)

@@ -1,0 +1,13 @@
+//! The command line of `mscrun`: which command is asked for, and with which words.
+//!
+//! It is a crate of its own because it stands on `clap` alone: it is proved beside the crates that do the work.
+#![tactic(auto)]
+
+mod error;
+mod request;
+pub mod view;
+mod words;
+
+pub use error::CommandLineError;
+pub use request::{Request, requested};
+pub use words::{Word, program_of};

@@ -1,0 +1,81 @@
+//! The commands, their options and their words.
+use crate::Word;
+
+/// The file that a command may do without.
+const FILE: &[Word] = &[Word::Free("FILE")];
+
+/// Files, all of which a command may do without.
+const FILES: &[Word] = &[Word::Rest("FILE")];
+
+/// A file and the words of a `race` line.
+const PAIR: &[Word] = &[
+    Word::Needed("FILE"),
+    Word::Needed("INSTANCE"),
+    Word::Needed("EARLIER"),
+    Word::Needed("RECEIVE"),
+];
+
+/// The options of reading another tool's text.
+const TOOLS: &[Word] = &[
+    Word::Option("from", 1),
+    Word::Flag("strict"),
+    Word::Repeated("skip"),
+    Word::Repeated("join"),
+];
+
+/// The options of reading a log.
+const LOGS: &[Word] = &[
+    Word::Option("pattern", 1),
+    Word::Option("hosts", 1),
+    Word::Repeated("peer"),
+    Word::Option("from-line", 1),
+    Word::Option("to-line", 1),
+];
+
+/// Which races are shown, and how.
+const SHOWING: &[Word] = &[
+    Word::Option("only", 1),
+    Word::Flag("receives"),
+    Word::Flag("run-to-completion"),
+    Word::Flag("luck"),
+    Word::Flag("json"),
+];
+
+/// What is drawn, and how.
+const DRAWING: &[Word] = &[
+    Word::Option("only", 1),
+    Word::Option("events", 1),
+    Word::Option("rows", 1),
+    Word::Option("around", 2),
+    Word::Option("witness", 3),
+    Word::Option("title", 1),
+    Word::Flag("numbers"),
+];
+
+/// Which message is added to a chart, or whether for all races.
+const MENDING: &[Word] = &[
+    Word::Option("name", 1),
+    Word::Flag("all"),
+    Word::Free("FILE"),
+    Word::Free("INSTANCE"),
+    Word::Free("EARLIER"),
+    Word::Free("RECEIVE"),
+];
+
+/// Two files, and how what differs is told.
+const TWO_FILES: &[Word] = &[Word::Flag("json"), Word::Needed("A"), Word::Needed("B")];
+
+/// The commands and their words. Help, the version, no command and an unknown one are all mistakes.
+pub(crate) const COMMANDS: [(&str, &[&[Word]]); 11] = [
+    ("witness", &[PAIR]),
+    ("why", &[PAIR]),
+    ("draw", &[DRAWING, TOOLS, FILE]),
+    ("page", &[TOOLS, LOGS, FILES]),
+    ("export", &[&[Word::NeededOption("to")], FILE]),
+    ("import", &[TOOLS, LOGS, FILES]),
+    ("compare", &[TWO_FILES]),
+    ("races", &[SHOWING, TOOLS, LOGS, FILES]),
+    ("mend", &[MENDING]),
+    ("tidy", &[FILE]),
+    ("explain", &[FILE]),
+];

@@ -1,0 +1,36 @@
+//! Direct steps of the enforced order.
+ghost use Rattle.std.specs.Prelude.{◌≡◌};
+ghost use Rattle.closure.specs.Chain.Rules.{rule_text};
+
+use chart::EventNo;
+
+/// The rule by which an event comes directly before another.
+#[derive(Clone, Copy, Debug, PartialEq, Eq)]
+pub enum Rule {
+    /// The one is the send of a message, the other its receive.
+    Message,
+    /// The one is an earlier event of a line, the other a send of it.
+    BeforeSend,
+    /// Both are receives of a line from the same sender.
+    SameSender,
+}
+
+/// A rule's name.
+#[tactic(auto, unfolding(crate::specs::Chain::Rules::rule_text))]
+pub fn rule_of(rule: &Rule) -> &[u8]
+    ensures { result.now ≡ rule_text rule.now }
+{
+    match rule {
+        Rule::Message => b"message",
+        Rule::BeforeSend => b"earlier event of a line, before a send",
+        Rule::SameSender => b"same sender",
+    }
+}
+
+/// Two events of which the one comes directly before the other.
+#[derive(Clone, Copy, Debug, PartialEq, Eq)]
+pub struct Link {
+    pub earlier: EventNo,
+    pub later: EventNo,
+    pub rule: Rule,
+}

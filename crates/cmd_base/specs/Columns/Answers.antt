@@ -1,0 +1,15 @@
+-- What is printed on standard error.
+use Rattle.std.specs.Prelude.{ℕ, List, None, codes}
+use Rattle.cmd_base.specs.Answers.{Said, refusal}
+use Rattle.cmd_base.specs.Refusals as refusals
+use Rattle.cmd_base.specs.declared.columns.error.FormatError.{FormatError}
+use Rattle.cmd_base.specs.declared.columns.error.FormatError.TheVariants.{Program, NoSuchName}
+
+-- the line of a refusal
+abbrev pub refusal_text : FormatError → List ℕ
+refusal_text (Program cause) = refusals.refusal_text cause
+refusal_text NoSuchName = refusals.labelled_text (codes "F34 NoSuchName") None
+
+-- what is said of a refusal
+abbrev pub error_said : FormatError → Said
+error_said error = refusal (refusal_text error)

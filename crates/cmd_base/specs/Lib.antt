@@ -1,0 +1,10 @@
+pub mod Answers
+pub mod Columns
+pub mod Files
+pub mod Named
+pub mod Numbers
+pub mod Pairs
+pub mod Refusals
+pub mod Statuses
+pub mod Texts
+pub use Rattle.texts.specs.Writing

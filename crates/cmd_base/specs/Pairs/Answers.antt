@@ -1,0 +1,19 @@
+-- What is printed on standard error.
+use Rattle.std.specs.Prelude.{ℕ, List, None, Some, codes}
+use Rattle.cmd_base.specs.Answers.{Said, refusal}
+use Rattle.cmd_base.specs.Refusals as refusals
+use Rattle.cmd_base.specs.Named.NamedRefusals.{missing_text}
+use Rattle.cmd_base.specs.declared.pairs.error.ViewError.{ViewError}
+use Rattle.cmd_base.specs.declared.pairs.error.ViewError.TheVariants.{Program, NoSuchEvent, NotEarlier, NotAReceive, ManySlots}
+
+-- the line of a refusal
+abbrev pub refusal_text : ViewError → List ℕ
+refusal_text (Program cause) = refusals.refusal_text cause
+refusal_text (NoSuchEvent missing) = missing_text missing
+refusal_text NotEarlier = refusals.labelled_text (codes "F32 NotAPair") None
+refusal_text (NotAReceive receive) = refusals.labelled_text (codes "F32 NotAPair") (Some receive)
+refusal_text (ManySlots slots) = refusals.labelled_text (codes "F33 ManySlots") (Some slots)
+
+-- what is said of a refusal
+abbrev pub error_said : ViewError → Said
+error_said error = refusal (refusal_text error)

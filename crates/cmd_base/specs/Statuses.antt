@@ -1,0 +1,18 @@
+-- The exit status by whether there are races, of which nothing is told beside it.
+use Rattle.std.specs.Prelude.{ℕ, Bool, None, if◌then◌else◌}
+use Rattle.cmd_base.specs.Answers.{Said}
+use Rattle.cmd_base.specs.declared.status.Status.{Status}
+use Rattle.cmd_base.specs.declared.status.Status.TheVariants.{NoRaces, Races}
+
+-- by whether there are races, or some race is shown
+abbrev pub status_in : Bool → Status
+status_in races = if races then Races else NoRaces
+
+-- 1 where there are races, and 0 where there are none
+abbrev pub code_of : Status → ℕ
+code_of NoRaces = 0
+code_of Races = 1
+
+-- nothing is told beside the status
+abbrev pub status_said : Status → Said
+status_said status = record { status = code_of status; told = None }

@@ -1,0 +1,31 @@
+//! Refusals, as text on standard error.
+ghost use Rattle.std.specs.Prelude.{◌≡◌};
+ghost use Rattle.cmd_base.specs.Refusals.{Tried};
+ghost use Rattle.cmd_base.specs.Columns.Answers.{refusal_text, error_said};
+
+use crate::columns::error::FormatError;
+use crate::{Answer, refused_by};
+use texts::Out;
+
+/// Prints the line of a refusal, and answers the exit status, which is 2 whether or not the line could be written.
+pub fn refused<V: Out>(error: &FormatError, err: &mut V) -> u8
+    ensures status { result ≡ 2 }
+    ensures line { Tried V.sink err.old err.new (refusal_text error.now) }
+{
+    match error {
+        FormatError::Program(cause) => crate::refused(cause, err),
+        FormatError::NoSuchName => refused_by(b"F34 NoSuchName", None, err),
+    }
+}
+
+impl Answer for FormatError {
+    ghost said = { error_said };
+
+    fn status(&self) -> u8 {
+        2
+    }
+
+    fn tell<V: Out>(&self, err: &mut V) {
+        let _ = refused(self, err);
+    }
+}

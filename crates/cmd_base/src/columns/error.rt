@@ -1,0 +1,26 @@
+//! What is refused.
+
+use crate::ProgramError;
+use thiserror::Error;
+
+/// Why nothing was drawn, exported or shown: the first of these that applies.
+#[derive(Clone, Copy, Debug, PartialEq, Eq, Error)]
+pub enum FormatError {
+    /// What `mscrun` refuses too: the command line, the file, its text, the chart that it says, a write.
+    #[error(transparent)]
+    Program(ProgramError),
+    /// F34: `--only` names an instance that the chart doesn't have, or one twice.
+    #[error("an instance is named that the chart doesn't have, or one twice")]
+    NoSuchName,
+}
+
+impl From<ProgramError> for FormatError {
+    ghost use Rattle.std.specs.Prelude.{◌≡◌};
+    ghost use Rattle.cmd_base.specs.declared.columns.error.FormatError.TheVariants.{Program};
+
+    ghost from_gives = { λ cause e. e ≡ Program cause };
+
+    fn from(cause: ProgramError) -> FormatError {
+        FormatError::Program(cause)
+    }
+}

@@ -1,0 +1,35 @@
+//! Refusals, as text on standard error.
+ghost use Rattle.std.specs.Prelude.{◌≡◌};
+ghost use Rattle.cmd_base.specs.Refusals.{Tried};
+ghost use Rattle.cmd_base.specs.Pairs.Answers.{error_said, refusal_text};
+
+use crate::named::refused_missing;
+use crate::pairs::error::ViewError;
+use crate::{Answer, refused_by};
+use texts::Out;
+
+/// Prints the line of a refusal, and answers the exit status, which is 2 whether or not the line could be written.
+pub fn refused<V: Out>(error: &ViewError, err: &mut V) -> u8
+    ensures status { result ≡ 2 }
+    ensures line { Tried V.sink err.old err.new (refusal_text error.now) }
+{
+    match error {
+        ViewError::Program(cause) => crate::refused(cause, err),
+        ViewError::NoSuchEvent(missing) => refused_missing(missing, err),
+        ViewError::NotEarlier => refused_by(b"F32 NotAPair", None, err),
+        ViewError::NotAReceive(receive) => refused_by(b"F32 NotAPair", Some(*receive), err),
+        ViewError::ManySlots(slots) => refused_by(b"F33 ManySlots", Some(*slots), err),
+    }
+}
+
+impl Answer for ViewError {
+    ghost said = { error_said };
+
+    fn status(&self) -> u8 {
+        2
+    }
+
+    fn tell<V: Out>(&self, err: &mut V) {
+        let _ = refused(self, err);
+    }
+}

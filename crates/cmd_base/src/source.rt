@@ -1,0 +1,57 @@
+//! Where a chart comes from that a file says: its own text, or the run of a schedule.
+ghost use Rattle.std.specs.Prelude.{◌≡◌, length, IfOk, IfErr};
+ghost use Rattle.cmd_base.specs.Texts.{IsSourceOf, named_of};
+
+use crate::error::ProgramError;
+use crate::text::{NamedChart, Text};
+use chart::{Chart, Names};
+use schedule::Schedule;
+use schedule::outcomes::{Outcome, ReplayError};
+use schedule_replay::replay;
+use std::alloc::Global;
+
+/// Where a chart comes from.
+#[derive(Debug, Drop)]
+pub enum Source<'a> {
+    /// A schedule, with what it came to.
+    Run(&'a Schedule, Outcome<'a>),
+    /// The chart's own text.
+    Drawn(&'a NamedChart),
+}
+
+impl<'a> Source<'a> {
+    /// The chart that a text says, or that its schedule comes to. F6: a growth was refused.
+    pub fn of(alloc: Global, text: &'a Text) -> Result<Source<'a>, ProgramError>
+        ensures source { IfOk result (IsSourceOf text.now) }
+        ensures memory { IfErr result (λ error. error ≡ ProgramError.Memory) }
+    {
+        match text {
+            Text::Chart(chart) => Ok(Source::Drawn(chart)),
+            Text::Schedule(schedule) => match replay(alloc, schedule) {
+                Ok(outcome) => Ok(Source::Run(schedule, outcome)),
+                Err(ReplayError::Memory) => Err(ProgramError::Memory),
+            },
+        }
+    }
+
+    /// The names of the chart's instances.
+    pub fn names(&self) -> &Names
+        ensures { result.now ≡ (named_of self.now).0 }
+    {
+        match self {
+            Source::Run(_, outcome) => outcome.names(),
+            Source::Drawn(drawn) => drawn.names(),
+        }
+    }
+
+    /// The chart, which has a line for each name.
+    pub fn chart(&self) -> &Chart
+        ensures value { result.now ≡ (named_of self.now).1 }
+        ensures named { length (named_of self.now).0 ≡ length (named_of self.now).1 }
+    {
+        match self {
+            Source::Run(_, outcome) => outcome.chart(),
+            Source::Drawn(drawn) => drawn.chart(),
+        }
+    }
+}

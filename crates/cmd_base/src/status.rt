@@ -1,0 +1,49 @@
+//! The exit status by whether there are races.
+ghost use Rattle.std.specs.Prelude.{◌≡◌};
+ghost use Rattle.cmd_base.specs.Statuses.{status_in, code_of, status_said};
+
+use crate::answer::Answer;
+use texts::Out;
+
+/// Whether there are races, or some race is shown.
+#[derive(Clone, Copy, Debug, PartialEq, Eq)]
+pub enum Status {
+    /// No receive has a race, or none is shown.
+    NoRaces,
+    /// Some receive has one, which is shown.
+    Races,
+}
+
+impl Status {
+    /// By whether there are races, or some race is shown.
+    pub fn of(has_races: bool) -> Status
+        ensures { result ≡ status_in has_races }
+    {
+        if has_races {
+            Status::Races
+        } else {
+            Status::NoRaces
+        }
+    }
+
+    /// The exit status.
+    fn code(self) -> u8
+        ensures { result ≡ code_of self }
+    {
+        match self {
+            Status::NoRaces => 0,
+            Status::Races => 1,
+        }
+    }
+}
+
+/// Nothing is told beside the status.
+impl Answer for Status {
+    ghost said = { status_said };
+
+    fn status(&self) -> u8 {
+        self.code()
+    }
+
+    fn tell<V: Out>(&self, _err: &mut V) {}
+}

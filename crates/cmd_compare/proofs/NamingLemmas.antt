@@ -1,0 +1,52 @@
+-- What the search for an instance's counterpart says.
+use Rattle.std.proofs.Common.{◌≡◌, ℕ, inl, inr, List, Option, None, Some, Result, Ok, Err, refl}
+use Rattle.std.specs.Prelude.{ok_or}
+use Rattle.cmd_base.specs.declared.error.ProgramError.TheVariants.{Usage, File, Memory, Text, ReceiveWithoutSend, NameMismatch, Cyclic, Write}
+use Rattle.cmd_base.specs.Files.{Named}
+use Rattle.texts.specs.Outs.{Sink}
+use Rattle.cmd_compare.specs.declared.comparison_text.Form.{Form}
+use Rattle.cmd_compare.specs.declared.error.CompareError.{CompareError}
+use Rattle.cmd_compare.specs.declared.error.CompareError.TheVariants.{Program, OtherInstances}
+use Rattle.cmd_compare.specs.Comparing.{AreCounterparts}
+use Rattle.cmd_compare.specs.Comparisons.{FindsCounterparts, Compares}
+
+abbrev found_as : ℕ → Result ℕ (List ℕ)
+found_as p = Ok p
+
+abbrev missing_as : List ℕ → Result ℕ (List ℕ)
+missing_as name = Err name
+
+-- it was found
+pub found : (o : Option ℕ) (w : List ℕ) (p : ℕ) → found_as p ≡ ok_or o w → o ≡ Some p
+found (Some q) w p is = cc
+found None w p is = cc
+
+-- it wasn't, and this is the name
+pub missing : (o : Option ℕ) (w name : List ℕ) → missing_as name ≡ ok_or o w → (o ≡ None) × (name ≡ w)
+missing None w name is = (refl, cc)
+missing (Some q) w name is = cc
+
+module _ {S : Type 0} (sink : S → Sink) (old : S) (form : Form) (a b : Named) where
+  -- an instance of the first is none of the second, or memory ran out: nothing is written
+  pub none_forth : (error : CompareError) → FindsCounterparts a.0 b.0 (Err error) → Compares sink old old form a b (Err error)
+  none_forth (OtherInstances name) is = (inl is, refl)
+  none_forth (Program Memory) is = refl
+  none_forth (Program Usage) is = absurd is
+  none_forth (Program File) is = absurd is
+  none_forth (Program (Text fault)) is = absurd is
+  none_forth (Program (ReceiveWithoutSend p index)) is = absurd is
+  none_forth (Program (NameMismatch p index)) is = absurd is
+  none_forth (Program Cyclic) is = absurd is
+  none_forth (Program Write) is = absurd is
+
+  -- the first has none such, but the second
+  pub none_back : (others : List ℕ) (error : CompareError) → AreCounterparts a.0 b.0 others → FindsCounterparts b.0 a.0 (Err error) → Compares sink old old form a b (Err error)
+  none_back others (OtherInstances name) are is = (inr ((others, are), is), refl)
+  none_back others (Program Memory) are is = refl
+  none_back others (Program Usage) are is = absurd is
+  none_back others (Program File) are is = absurd is
+  none_back others (Program (Text fault)) are is = absurd is
+  none_back others (Program (ReceiveWithoutSend p index)) are is = absurd is
+  none_back others (Program (NameMismatch p index)) are is = absurd is
+  none_back others (Program Cyclic) are is = absurd is
+  none_back others (Program Write) are is = absurd is

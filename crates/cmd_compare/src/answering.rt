@@ -1,0 +1,40 @@
+//! What is told of a comparison: the exit status, and a refusal's line.
+ghost use Rattle.cmd_compare.specs.Answers.{error_said, found_said};
+
+use crate::error::CompareError;
+use crate::showing::Found;
+use cmd_base::named::refused_at;
+use cmd_base::{Answer, refused};
+use texts::Out;
+
+impl Answer for CompareError {
+    ghost said = { error_said };
+
+    fn status(&self) -> u8 {
+        2
+    }
+
+    fn tell<V: Out>(&self, err: &mut V) {
+        match self {
+            CompareError::Program(cause) => {
+                let _ = refused(cause, err);
+            }
+            CompareError::OtherInstances(name) => {
+                let _ = refused_at(b"F40 OtherInstances", name, None, err);
+            }
+        }
+    }
+}
+
+impl Answer for Found {
+    ghost said = { found_said };
+
+    fn status(&self) -> u8 {
+        match self {
+            Found::Same => 0,
+            Found::Turned => 1,
+        }
+    }
+
+    fn tell<V: Out>(&self, _err: &mut V) {}
+}

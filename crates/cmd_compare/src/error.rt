@@ -1,0 +1,27 @@
+//! What the program refuses.
+
+use chart::Name;
+use cmd_base::ProgramError;
+use thiserror::Error;
+
+/// Why two recordings were not compared: the first of these that applies.
+#[derive(Clone, Copy, Debug, PartialEq, Eq, Error)]
+pub enum CompareError {
+    /// What `mscrun` refuses too: the command line, a file, its text, the chart that it says, a write.
+    #[error(transparent)]
+    Program(ProgramError),
+    /// F40: this instance of one recording is none of the other.
+    #[error("the two recordings have other instances")]
+    OtherInstances(Name),
+}
+
+impl From<ProgramError> for CompareError {
+    ghost use Rattle.std.specs.Prelude.{◌≡◌};
+    ghost use Rattle.cmd_compare.specs.declared.error.CompareError.TheVariants.{Program};
+
+    ghost from_gives = { λ cause e. e ≡ Program cause };
+
+    fn from(cause: ProgramError) -> CompareError {
+        CompareError::Program(cause)
+    }
+}

@@ -1,0 +1,46 @@
+//! Instances of two recordings that have one name.
+ghost use Rattle.std.specs.Prelude.{◌≡◌, ◌<◌, ℕ, List, length, slice_get, Some, ok_or};
+ghost use Rattle.chart.specs.declared.instance.TheConstants.{MAX_INSTANCES};
+ghost use Rattle.chart.specs.Names.{instance_of};
+ghost use Rattle.cmd_compare.specs.Comparisons.{FindsCounterparts};
+
+use crate::error::CompareError;
+use chart::{InstanceNo, Name, Names};
+use cmd_base::ProgramError;
+use std::alloc::Global;
+use texts::named;
+
+/// The number of the instance in the other recording, if that has one of its name, and else the name.
+fn counterpart(names: &Names, other_names: &Names, place: usize) -> Result<InstanceNo, Name>
+    requires within { place < length names.now }
+    requires limit { place < MAX_INSTANCES }
+    ensures { (w : List ℕ) → slice_get names.now place ≡ Some w → result ≡ ok_or (instance_of other_names.now w) w }
+{
+    let name = named(names, InstanceNo::at_place(place));
+    match other_names.instance(name) {
+        Some(other) => Ok(other),
+        None => Err(name),
+    }
+}
+
+/// The number that each instance of the first recording has in the second. F40: the first instance that is none of the
+/// second. F6: it fails so only where there is no memory.
+pub fn counterparts(
+    alloc: Global,
+    names: &Names,
+    other_names: &Names,
+) -> Result<Vec<InstanceNo>, CompareError>
+    ensures { FindsCounterparts names.now other_names.now result }
+{
+    let mut others = Vec::new(alloc);
+    for place in 0..names.len() {
+        match counterpart(names, other_names, place) {
+            Ok(other) => match others.push(other) {
+                Ok(()) => {}
+                Err(_) => return Err(CompareError::Program(ProgramError::Memory)),
+            },
+            Err(name) => return Err(CompareError::OtherInstances(name)),
+        }
+    }
+    Ok(others)
+}

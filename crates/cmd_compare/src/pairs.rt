@@ -1,0 +1,124 @@
+//! The pairs of events of a line that stand the other way round in another recording.
+ghost use Rattle.std.specs.Prelude.{◌≡◌, ◌<◌, ◌+◌, ◌++◌, length, map, slice_index_or, None, IfOk, OnOk};
+ghost use Rattle.cmd_compare.specs.Pairs.{pair_by, pairs_above, pairs_to, judged, unmatched_to};
+
+use crate::verdict::{Side, Verdict, verdict_at};
+use chart::InstanceNo;
+use std::alloc::{AllocError, Global};
+
+/// Two events of a line, and the numbers that they have in the other recording, where they stand the other way round.
+#[derive(Clone, Copy, Debug, PartialEq, Eq)]
+pub struct Pair {
+    pub earlier: usize,
+    pub later: usize,
+    pub earlier_there: usize,
+    pub later_there: usize,
+}
+
+/// Two events that stand the other way round in the other recording, and what they are in either: in this one the
+/// earlier is before the later, and there the later before the earlier.
+#[derive(Clone, Copy, Debug, PartialEq, Eq)]
+pub struct Difference {
+    pub instance: InstanceNo,
+    pub pair: Pair,
+    pub here: Verdict,
+    pub there: Verdict,
+}
+
+/// Adds the pair of the events at these places, where it is one.
+fn add_pair(
+    pairs: &mut Vec<Pair>,
+    found: &[Option<usize>],
+    earlier: usize,
+    later: usize,
+) -> Result<(), AllocError>
+    requires earlier { earlier < length found.now }
+    requires later { later < length found.now }
+    ensures { OnOk result (pairs.new.items ≡ pairs.old.items
+        ++ pair_by (earlier + 1) (later + 1) (slice_index_or found.now earlier None)
+        (slice_index_or found.now later None)) }
+{
+    let Some(earlier_there) = found[earlier] else {
+        return Ok(());
+    };
+    let Some(later_there) = found[later] else {
+        return Ok(());
+    };
+    if later_there < earlier_there {
+        pairs.push(Pair {
+            earlier: earlier + 1,
+            later: later + 1,
+            earlier_there,
+            later_there,
+        })?;
+    }
+    Ok(())
+}
+
+/// Adds the pairs of which the event at this place is the later one.
+fn add_pairs(pairs: &mut Vec<Pair>, found: &[Option<usize>], later: usize) -> Result<(), AllocError>
+    requires { later < length found.now }
+    ensures { OnOk result (pairs.new.items ≡ pairs.old.items ++ pairs_above found.now later later) }
+{
+    for place in 0..later {
+        add_pair(pairs, found, place, later)?;
+    }
+    Ok(())
+}
+
+/// The pairs of a line's events that stand the other way round there, by their later event and then by their earlier
+/// one.
+pub(crate) fn pairs_of(alloc: Global, found: &[Option<usize>]) -> Result<Vec<Pair>, AllocError>
+    ensures { IfOk result (λ pairs. pairs.items ≡ pairs_to found.now (length found.now)) }
+{
+    let mut pairs = Vec::new(alloc);
+    for place in 0..found.len() {
+        add_pairs(&mut pairs, found, place)?;
+    }
+    Ok(pairs)
+}
+
+/// The numbers of the events that the other recording hasn't.
+pub(crate) fn unmatched(alloc: Global, found: &[Option<usize>]) -> Result<Vec<usize>, AllocError>
+    ensures { IfOk result (λ numbers. numbers.items ≡ unmatched_to found.now (length found.now)) }
+{
+    let mut numbers = Vec::new(alloc);
+    for place in 0..found.len() {
+        if found[place].is_none() {
+            numbers.push(place + 1)?;
+        }
+    }
+    Ok(numbers)
+}
+
+/// What the pair is in both recordings.
+fn judged(instance: InstanceNo, here: &Side<'_>, there: &Side<'_>, pair: &Pair) -> Difference
+    ensures { result ≡ judged instance here.now.events.now here.now.fronts.now there.now.events.now
+        there.now.fronts.now pair.now }
+{
+    Difference {
+        instance,
+        pair: *pair,
+        here: verdict_at(here, pair.earlier, pair.later),
+        there: verdict_at(there, pair.later_there, pair.earlier_there),
+    }
+}
+
+/// What each pair is in both recordings.
+pub(crate) fn judge(
+    alloc: Global,
+    instance: InstanceNo,
+    here: &Side<'_>,
+    there: &Side<'_>,
+    pairs: &[Pair],
+) -> Result<Vec<Difference>, AllocError>
+    ensures { IfOk result (λ differences. differences.items
+        ≡ map (judged instance here.now.events.now here.now.fronts.now there.now.events.now there.now.fronts.now)
+        pairs.now) }
+{
+    let mut differences = Vec::new(alloc);
+    for pair in pairs {
+        differences.push(judged(instance, here, there, pair))?;
+    }
+    Ok(differences)
+}

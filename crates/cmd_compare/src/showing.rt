@@ -1,0 +1,154 @@
+//! What two files' recordings differ in, as it is shown.
+ghost use Rattle.std.specs.Prelude.{◌≡◌, length};
+ghost use Rattle.std.specs.List.{list_any};
+ghost use Rattle.cmd_base.specs.Answers.{Answers};
+ghost use Rattle.cmd_base.specs.Texts.{OfFile, named_of};
+ghost use Rattle.cmd_compare.specs.declared.error.CompareError.TheVariants.{Program};
+ghost use Rattle.cmd_compare.specs.Answers.{compare_said};
+ghost use Rattle.cmd_compare.specs.Comparisons.{has_difference, some_difference, found_in, Compares, ComparesFiles};
+
+use crate::comparison::{LineComparison, Recordings, compared};
+pub use crate::comparison_text::Form;
+use crate::comparison_text::{Recording, write_lines};
+use crate::error::CompareError;
+use crate::naming::counterparts;
+use crate::pairs::Difference;
+use chart::{Chart, Names};
+use cmd_base::{ProgramError, Source, Text, answered, closure_of};
+use std::alloc::Global;
+use texts::Out;
+
+/// What was found.
+#[derive(Clone, Copy)]
+pub(crate) enum Found {
+    /// No two events that both have stand the other way round.
+    Same,
+    /// Some do.
+    Turned,
+}
+
+fn some_difference(differences: &[Difference]) -> bool
+    ensures { result ≡ some_difference differences.now }
+{
+    match differences {
+        [] => false,
+        [_, ..] => true,
+    }
+}
+
+/// Whether there is a pair on some line.
+fn found_on(lines: &[LineComparison]) -> Found
+    ensures { result ≡ found_in (list_any has_difference lines.now) }
+{
+    for line in lines {
+        if some_difference(line.differences.as_slice()) {
+            return Found::Turned;
+        }
+    }
+    Found::Same
+}
+
+/// What is compared, and how it is written.
+#[derive(Clone, Copy)]
+struct Both<'a> {
+    names: &'a Names,
+    chart: &'a Chart,
+    other_names: &'a Names,
+    other_chart: &'a Chart,
+    form: Form,
+}
+
+/// Compares the two charts and writes what they differ in. All memory is taken before the first line is written.
+fn compare_charts<W: Out>(
+    alloc: Global,
+    both: &Both<'_>,
+    out: &mut W,
+) -> Result<Found, CompareError>
+    requires first { length both.now.names.now ≡ length both.now.chart.now }
+    requires second { length both.now.other_names.now ≡ length both.now.other_chart.now }
+    ensures { Compares W.sink out.old out.new both.now.form (both.now.names.now, both.now.chart.now)
+        (both.now.other_names.now, both.now.other_chart.now) result }
+{
+    let others = counterparts(alloc, both.names, both.other_names)?;
+    let back = counterparts(alloc, both.other_names, both.names)?;
+    let here = closure_of(alloc, both.names, both.chart)?;
+    let there = closure_of(alloc, both.other_names, both.other_chart)?;
+    let recordings = Recordings {
+        here: &here,
+        there: &there,
+        others: others.as_slice(),
+        back: back.as_slice(),
+    };
+    let Ok(lines) = compared(alloc, &recordings) else {
+        return Err(CompareError::Program(ProgramError::Memory));
+    };
+    let first = Recording {
+        names: both.names,
+        lines: both.chart.lines(),
+    };
+    let second = Recording {
+        names: both.other_names,
+        lines: both.other_chart.lines(),
+    };
+    match write_lines(both.form, &first, &second, lines.as_slice(), out) {
+        Ok(()) => Ok(found_on(lines.as_slice())),
+        Err(_) => Err(CompareError::Program(ProgramError::Write)),
+    }
+}
+
+/// The same of a recording and what a second file says.
+fn compare_second<W: Out>(
+    alloc: Global,
+    source: &Source<'_>,
+    second: &[u8],
+    form: Form,
+    out: &mut W,
+) -> Result<Found, CompareError>
+    ensures { OfFile Program (λ b found. Compares W.sink out.old out.new form (named_of source.now) (named_of b) found)
+        out.old out.new second.now result }
+{
+    let text = Text::read(alloc, second)?;
+    let other = Source::of(alloc, &text)?;
+    let both = Both {
+        names: source.names(),
+        chart: source.chart(),
+        other_names: other.names(),
+        other_chart: other.chart(),
+        form,
+    };
+    compare_charts(alloc, &both, out)
+}
+
+/// The same of what two files say.
+fn compare_texts<W: Out>(
+    alloc: Global,
+    first: &[u8],
+    second: &[u8],
+    form: Form,
+    out: &mut W,
+) -> Result<Found, CompareError>
+    ensures { ComparesFiles W.sink out.old out.new form first.now second.now result }
+{
+    let text = Text::read(alloc, first)?;
+    let source = Source::of(alloc, &text)?;
+    compare_second(alloc, &source, second, form, out)
+}
+
+/// Compares the charts that the bytes of two files say, or that the schedules come to that they say: writes to `out`
+/// the pairs of events that both have and that stand the other way round, each with what it is in either, and the
+/// events that one of them alone has. Writes the line of a refusal to `err`. Answers the exit status: 0 where there is
+/// no such pair, 1 where there is one, 2 after a refusal. Nothing is written to `out` before a refusal, but where
+/// writing to it failed (F24). A failed write to `err` changes nothing.
+pub fn compare<W: Out, V: Out>(
+    alloc: Global,
+    first: &[u8],
+    second: &[u8],
+    form: Form,
+    out: &mut W,
+    err: &mut V,
+) -> u8
+    ensures { Answers (ComparesFiles W.sink out.old out.new form first.now second.now) compare_said V.sink err.old
+        err.new result }
+{
+    answered(&compare_texts(alloc, first, second, form, out), err)
+}

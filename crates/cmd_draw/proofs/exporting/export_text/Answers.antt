@@ -1,0 +1,21 @@
+use Rattle.std.proofs.lemmas.Result.{err_from_is_err_and}
+use Rattle.cmd_base.proofs.TextLemmas.{not_read, not_replayed, was_done}
+use Rattle.cmd_base.specs.Texts.{named_of}
+use Rattle.cmd_draw.specs.Preparing.{turns_in}
+use Rattle.cmd_base.specs.declared.columns.error.FormatError.TheVariants.{Program}
+use Rattle.cmd_draw.specs.Exporting.{Exports}
+use Rattle.cmd_draw.proofs.exporting.export_text.Goals as goal
+
+pub returns-in_err-text : goal.returns-in_err-text
+returns-in_err-text g c =
+    let p = err_from_is_err_and c.from_residual.result c.from_residual.ensures.1 in
+    rw (p.1, p.2) (not_read Program (λ source done. Exports g.W.Out.sink c.args.out.now c.args.out.now done c.args.target (turns_in source) (named_of source)) c.args.out.now c.args.bytes.now c.in_err-text.field-0.0 c.in_err-text.ensures)
+
+pub returns-in_err-source : goal.returns-in_err-source
+returns-in_err-source g c =
+    let p = err_from_is_err_and c.from_residual-in_err-source.result c.from_residual-in_err-source.ensures.1 in
+    rw (p.1, p.2) (not_replayed Program (λ source done. Exports g.W.Out.sink c.args.out.now c.args.out.now done c.args.target (turns_in source) (named_of source)) c.args.out.now c.args.bytes.now c.in_err-source.field-0.0 c.in_err-source.ensures.memory)
+
+pub returns : goal.returns
+returns g c =
+    was_done Program (λ source done. Exports g.W.Out.sink c.args.out.now c.export_source.new.out done c.args.target (turns_in source) (named_of source)) c.args.out.now c.args.bytes.now c.export_source.new.out c.in_ok-text.text c.in_ok-source.source c.export_source.result c.in_ok-text.ensures c.in_ok-source.ensures.source c.export_source.ensures

@@ -1,0 +1,107 @@
+-- What is exported of a file.
+use Rattle.std.specs.Prelude.{◌≡◌, ℕ, Bool, false, ◌||◌, ◌++◌, List, [], length, nat_lt, codes, Option, None, Some, Result, Ok, Err, if◌then◌else◌}
+use Rattle.std.specs.List.{list_any}
+use Rattle.chart.specs.declared.instance.EventNo.{EventNo}
+use Rattle.chart.specs.Charts.{LineView, chart_lines, IsPossible}
+use Rattle.chart.specs.Events.{greatest_region}
+use Rattle.chart.specs.Reports.{ReportView, AreReports}
+use Rattle.diagram_tool.specs.declared.Tool.{Tool}
+use Rattle.diagram_tool.specs.declared.Tool.TheVariants.{PlantUml}
+use Rattle.diagram_export.specs.Clocks.{log_of}
+use Rattle.diagram_export.specs.Exports.{ExportView}
+use Rattle.diagram_export.specs.ExportText.{export_text}
+use Rattle.diagram_export.specs.LogText.{log_text}
+use Rattle.diagram_export.specs.Preparing.{IsExportOf}
+use Rattle.diagram_export.specs.Sayings.{has_parted}
+use Rattle.chart_layout.specs.declared.row.Row.{Row}
+use Rattle.texts.specs.Outs.{Sink}
+use Rattle.texts.specs.Writing.{Puts, Breaks}
+use Rattle.cmd_base.specs.declared.error.ProgramError.TheVariants as errors
+use Rattle.cmd_base.specs.Answers.{Said, said_of}
+use Rattle.cmd_base.specs.Texts.{OfFile, named_of}
+use Rattle.cmd_base.specs.Files.{Named, IsRefused}
+use Rattle.cmd_base.specs.declared.columns.error.FormatError.{FormatError}
+use Rattle.cmd_base.specs.declared.columns.error.FormatError.TheVariants.{Program, NoSuchName}
+use Rattle.cmd_draw.specs.declared.exporting.Told.{Told}
+use Rattle.cmd_draw.specs.declared.target.Target.{Target}
+use Rattle.cmd_draw.specs.declared.target.Target.TheVariants.{Diagram, ShiViz}
+use Rattle.cmd_base.specs.Columns.Answers.{error_said}
+use Rattle.cmd_draw.specs.Preparing.{turns_in, IsPrepared}
+
+-- the tool that an export is for; a log is the same for each
+abbrev pub tool_of : Target → Tool
+tool_of (Diagram tool) = tool
+tool_of ShiViz = PlantUml
+
+-- the text of an export
+abbrev pub text_of : Target → ExportView → List ℕ
+text_of (Diagram tool) v = export_text v
+text_of ShiViz v = log_text v (log_of v)
+
+-- a line has a coregion
+abbrev pub has_region : LineView → Bool
+has_region line = nat_lt 0 (greatest_region line.events)
+
+-- a message whose ends are two notes; a log has none
+abbrev pub has_parted_in : Target → ExportView → Bool
+has_parted_in (Diagram tool) v = has_parted v
+has_parted_in ShiViz v = false
+
+-- what is to be told beside the text
+abbrev pub told_of : Target → ExportView → Told
+told_of target v = record { parted = has_parted_in target v; regions = list_any has_region v.lines }
+
+-- what is said of it
+unfoldable pub parted_text : Bool → List ℕ
+parted_text parted = if parted then codes "a message that isn't level is two notes\n" else []
+
+unfoldable pub regions_text : Bool → List ℕ
+regions_text regions = if regions then codes "coregions are left out\n" else []
+
+unfoldable pub both_text : Told → List ℕ
+both_text told = parted_text told.parted ++ regions_text told.regions
+
+abbrev pub told_text : Told → Option (List ℕ)
+told_text told = if told.parted || told.regions then Some (both_text told) else None
+
+-- the export is that of the chart, which is possible
+pub record IsExported (target : Target) (turns : List ℕ) (named : Named) (v : ExportView) : Type 0 where
+  pub rows : List Row
+  pub ends : List (List (Option EventNo))
+  pub reports : List ReportView
+  pub possible : IsPossible (length named.1) (chart_lines named.1)
+  pub prepared : IsPrepared named.1 turns rows ends
+  pub races : AreReports named.1 reports
+  pub is : IsExportOf (tool_of target) named.0 named.1 rows reports ends v
+
+module _ {S : Type 0} (sink : S → Sink) where
+  -- a text was written; or a beginning of it, where a put failed; or nothing, where memory ran out
+  abbrev pub Writes : S → S → Result (Unit {0}) FormatError → List ℕ → Type 0
+  Writes old new (Ok done) text = Puts sink old new text
+  Writes old new (Err NoSuchName) text = ⊥
+  Writes old new (Err (Program errors.Memory)) text = new ≡ old
+  Writes old new (Err (Program errors.Write)) text = Breaks sink old new text
+  Writes old new (Err (Program error)) text = ⊥
+
+  -- the text was written; or a beginning of it, where a put failed; or nothing, where the chart is not possible or
+  -- memory ran out
+  abbrev pub Exports : S → S → Result Told FormatError → Target → List ℕ → Named → Type 0
+  Exports old new (Ok told) target turns named = (v : ExportView) × IsExported target turns named v × (told ≡ told_of target v)
+      × Puts sink old new (text_of target v)
+  Exports old new (Err NoSuchName) target turns named = ⊥
+  Exports old new (Err (Program errors.Memory)) target turns named = new ≡ old
+  Exports old new (Err (Program errors.Write)) target turns named = (v : ExportView) × IsExported target turns named v
+      × Breaks sink old new (text_of target v)
+  Exports old new (Err (Program error)) target turns named = IsRefused error named × (new ≡ old)
+
+  -- the same for the chart that the bytes say; or nothing was written, where the bytes have a fault
+  abbrev pub ExportsText : S → S → Target → List ℕ → Result Told FormatError → Type 0
+  ExportsText old new target bytes =
+      OfFile Program (λ source done. Exports old new done target (turns_in source) (named_of source)) old new bytes
+
+-- what is said of what was exported
+abbrev pub told_said : Told → Said
+told_said told = record { status = 0; told = told_text told }
+
+abbrev pub export_said : Result Told FormatError → Said
+export_said = said_of told_said error_said

@@ -1,0 +1,10 @@
+pub mod Answers
+pub mod Drawing
+pub mod Exporting
+pub mod Imports
+pub mod Preparing
+pub mod Spans
+pub mod Targets
+pub mod Titles
+pub mod Windows
+pub mod Witness

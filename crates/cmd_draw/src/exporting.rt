@@ -1,0 +1,228 @@
+//! What `mscview export` does with the bytes of a file.
+ghost use Rattle.std.specs.Prelude.{◌≡◌, length};
+ghost use Rattle.std.specs.List.{list_any};
+ghost use Rattle.chart.specs.Charts.{chart_lines, IsPossible};
+ghost use Rattle.chart.specs.Reports.{AreReports};
+ghost use Rattle.texts.specs.Writing.{Wrote, Adds};
+ghost use Rattle.cmd_base.specs.Answers.{Answers};
+ghost use Rattle.cmd_base.specs.Texts.{named_of, ComesFrom};
+ghost use Rattle.cmd_draw.specs.Exporting.{tool_of, text_of, has_region, has_parted_in, parted_text, regions_text};
+ghost use Rattle.cmd_draw.specs.Preparing.{turns_in};
+ghost use Rattle.cmd_draw.specs.Exporting.{both_text, told_said, export_said, Writes, Exports, ExportsText};
+
+use crate::preparing::{Reports, prepare};
+use crate::target::Target;
+use chart::{Line, Names, Report};
+use closure::Closure;
+use cmd_base::columns::FormatError;
+use cmd_base::{Answer, ProgramError, Source, Text, answered, closure_of};
+use diagram_export::{Drawn, Export, Log, has_parted, write_export, write_log};
+use diagram_tool::Tool;
+use std::alloc::Global;
+use texts::{Out, TextBuffer, WriteError};
+
+/// What is to be told beside a text, since it doesn't say so.
+#[derive(Clone, Copy)]
+struct Told {
+    /// A message of which each end is a note of its own.
+    parted: bool,
+    /// A coregion.
+    regions: bool,
+}
+
+/// The tool that an export is for.
+fn tool_of(target: Target) -> Tool
+    ensures { result ≡ tool_of target }
+{
+    match target {
+        Target::Diagram(tool) => tool,
+        Target::ShiViz => Tool::PlantUml,
+    }
+}
+
+/// Whether there is a message whose ends are two notes.
+fn has_parted_in(target: Target, export: &Export<'_>) -> bool
+    ensures { result ≡ has_parted_in target export.now }
+{
+    match target {
+        Target::Diagram(_) => has_parted(export),
+        Target::ShiViz => false,
+    }
+}
+
+/// Whether a line has a coregion.
+fn have_regions(lines: &[Line]) -> bool
+    ensures { result ≡ list_any has_region lines.now }
+{
+    lines.iter().any(|line| line.greatest_region() > 0)
+}
+
+/// Writes the text of an export. All memory is taken before the first byte is written.
+fn write_text<W: Out>(
+    alloc: Global,
+    target: Target,
+    export: &Export<'_>,
+    out: &mut W,
+) -> Result<(), FormatError>
+    ensures { Writes W.sink out.old out.new result (text_of target export.now) }
+{
+    let written = match target {
+        Target::Diagram(_) => write_export(export, out),
+        Target::ShiViz => {
+            let Ok(log) = Log::of(alloc, export) else {
+                return Err(FormatError::Program(ProgramError::Memory));
+            };
+            write_log(export, &log, out)
+        }
+    };
+    match written {
+        Ok(()) => Ok(()),
+        Err(_) => Err(FormatError::Program(ProgramError::Write)),
+    }
+}
+
+/// Exports a possible chart.
+fn export_closure<W: Out>(
+    alloc: Global,
+    names: &Names,
+    source: &Source<'_>,
+    closure: &Closure<'_>,
+    reports: &[Report],
+    target: Target,
+    out: &mut W,
+) -> Result<Told, FormatError>
+    requires source { ComesFrom source.now }
+    requires reports { AreReports closure.now reports.now }
+    requires possible { IsPossible (length closure.now) (chart_lines closure.now) }
+    ensures { Exports W.sink out.old out.new result target (turns_in source.now) (names.now, closure.now) }
+{
+    let Ok(prepared) = prepare(alloc, source, closure) else {
+        return Err(FormatError::Program(ProgramError::Memory));
+    };
+    let drawn = Drawn {
+        names,
+        closure,
+        layout: &prepared.layout,
+        ends: &prepared.ends,
+        reports,
+    };
+    let Ok(export) = Export::of(alloc, tool_of(target), drawn) else {
+        return Err(FormatError::Program(ProgramError::Memory));
+    };
+    write_text(alloc, target, &export, out)?;
+    Ok(Told {
+        parted: has_parted_in(target, &export),
+        regions: have_regions(closure.lines()),
+    })
+}
+
+/// Exports the chart. F16, F17 or F18 refuses one that isn't possible.
+fn export_source<W: Out>(
+    alloc: Global,
+    source: &Source<'_>,
+    target: Target,
+    out: &mut W,
+) -> Result<Told, FormatError>
+    requires { ComesFrom source.now }
+    ensures { Exports W.sink out.old out.new result target (turns_in source.now) (named_of source.now) }
+{
+    let names = source.names();
+    let closure = closure_of(alloc, names, source.chart())?;
+    let Ok(reports) = Reports::of(source, &closure) else {
+        return Err(FormatError::Program(ProgramError::Memory));
+    };
+    export_closure(
+        alloc,
+        names,
+        source,
+        &closure,
+        reports.as_slice(),
+        target,
+        out,
+    )
+}
+
+/// Exports what the file says.
+fn export_text<W: Out>(
+    alloc: Global,
+    bytes: &[u8],
+    target: Target,
+    out: &mut W,
+) -> Result<Told, FormatError>
+    ensures { ExportsText W.sink out.old out.new target bytes.now result }
+{
+    let text = Text::read(alloc, bytes)?;
+    let source = Source::of(alloc, &text)?;
+    export_source(alloc, &source, target, out)
+}
+
+#[tactic(auto, unfolding(crate::specs::Exporting::parted_text))]
+fn parted_text(parted: bool) -> &'static [u8]
+    ensures { result.now ≡ parted_text parted }
+{
+    if parted {
+        b"a message that isn't level is two notes\n"
+    } else {
+        b""
+    }
+}
+
+#[tactic(auto, unfolding(crate::specs::Exporting::regions_text))]
+fn regions_text(regions: bool) -> &'static [u8]
+    ensures { result.now ≡ regions_text regions }
+{
+    if regions {
+        b"coregions are left out\n"
+    } else {
+        b""
+    }
+}
+
+/// Adds what is to be told.
+#[tactic(auto, using(texts::proofs::Writes::joining), unfolding(crate::specs::Exporting::both_text))]
+fn add_both<V: Out>(text: &mut TextBuffer<'_, V>, told: Told) -> Result<(), WriteError>
+    ensures { Adds V.sink text.old text.new result (both_text told) }
+{
+    text.add(parted_text(told.parted))?;
+    text.add(regions_text(told.regions))
+}
+
+#[tactic(auto, using(texts::proofs::Writes::joining))]
+fn write_both<V: Out>(told: Told, err: &mut V) -> Result<(), WriteError>
+    ensures { Wrote V.sink err.old err.new result (both_text told) }
+{
+    let mut text = TextBuffer::new(err);
+    add_both(&mut text, told)?;
+    text.finish()
+}
+
+/// What the text of a tool doesn't tell.
+impl Answer for Told {
+    ghost said = { told_said };
+
+    fn status(&self) -> u8 {
+        0
+    }
+
+    fn tell<V: Out>(&self, err: &mut V) {
+        if self.parted || self.regions {
+            let _ = write_both(*self, err);
+        }
+    }
+}
+
+/// Writes the text of a tool for the chart that the bytes of a file say, or for what the schedule comes to that they
+/// say. What the text doesn't tell is a line on `err`. Writes the line of a refusal to `err`. Answers the exit status:
+/// 0 where it was written, 2 after a refusal. The text's faults are refused first, then F16, F17 or F18. Nothing is
+/// written to `out` before a refusal, but where writing to it failed (F24). A failed write to `err` changes nothing.
+pub fn export<W: Out, V: Out>(
+    alloc: Global,
+    bytes: &[u8],
+    target: Target,
+    out: &mut W,
+    err: &mut V,
+) -> u8
+    ensures { Answers (ExportsText W.sink out.old out.new target bytes.now) export_said V.sink err.old err.new result }
+{
+    answered(&export_text(alloc, bytes, target, out), err)
+}

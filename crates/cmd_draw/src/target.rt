@@ -1,0 +1,39 @@
+//! Which tools a command line names.
+ghost use Rattle.std.specs.Prelude.{◌≡◌};
+ghost use Rattle.cmd_draw.specs.Targets.{tool_said, target_said};
+
+use diagram_tool::Tool;
+
+/// What a chart is exported to.
+#[derive(Clone, Copy, Debug, PartialEq, Eq)]
+pub enum Target {
+    /// A sequence diagram.
+    Diagram(Tool),
+    /// A log with vector clocks, as ShiViz reads it.
+    ShiViz,
+}
+
+/// The tool that a word of a command line names: `mscgen`, `plantuml` or `mermaid`.
+pub fn tool_in(word: &str) -> Option<Tool>
+    ensures { result ≡ tool_said word.now }
+{
+    match word {
+        "mscgen" => Some(Tool::Mscgen),
+        "plantuml" => Some(Tool::PlantUml),
+        "mermaid" => Some(Tool::Mermaid),
+        _ => None,
+    }
+}
+
+/// What a word of a command line says to export to: a tool, or `shiviz`.
+pub fn target_in(word: &str) -> Option<Target>
+    ensures { result ≡ target_said word.now }
+{
+    if word == "shiviz" {
+        return Some(Target::ShiViz);
+    }
+    match tool_in(word) {
+        Some(tool) => Some(Target::Diagram(tool)),
+        None => None,
+    }
+}

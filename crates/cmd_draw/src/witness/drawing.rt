@@ -1,0 +1,228 @@
+//! A chart and its witness, side by side.
+ghost use Rattle.std.specs.Prelude.{◌≡◌, length, IfOk, IfErr};
+ghost use Rattle.chart.specs.Charts.{chart_lines, IsPossible};
+ghost use Rattle.cmd_base.specs.Answers.{Answers};
+ghost use Rattle.cmd_base.specs.Texts.{named_of, ComesFrom};
+ghost use Rattle.schedule_replay.specs.declared.reordered_runs.showing.Shown.TheVariants.{Replay};
+ghost use Rattle.cmd_explain_race.specs.Finding.{HasShown, origin_of};
+ghost use Rattle.cmd_explain_race.specs.Turning.{IsWitness};
+ghost use Rattle.cmd_draw.specs.Witness.Answers.{picture_said};
+ghost use Rattle.cmd_draw.specs.Witness.Drawing.{other_title, IsSubject, AreStaged, AreDrawn, WritesOne, DrawsSo};
+ghost use Rattle.cmd_draw.specs.Witness.Drawing.{DrawsWitness, DrawsWitnessText};
+
+use crate::witness::beside::{Marked, write_beside};
+use crate::witness::counterparts::counterpart;
+use crate::witness::error::Undrawn;
+use crate::witness::stage::{Stage, picture_of, stage_of, whole};
+use chart::{Chart, InstanceNo};
+use closure::Closure;
+use cmd_base::columns::columns_in;
+use cmd_base::pairs::{Asked, Pair};
+use cmd_base::{ProgramError, Source, Text, answered};
+use cmd_explain_race::{Witnessed, found_in, judged};
+use schedule::Schedule;
+use schedule_replay::reordered_runs::Shown;
+use schedule_replay::replay;
+use std::alloc::Global;
+use texts::Out;
+
+/// What is wanted of both pictures.
+#[derive(Clone, Copy, Debug)]
+pub struct Wanted<'a> {
+    /// What stands above the chart's own: any bytes.
+    pub title: &'a [u8],
+    /// The names of the instances that have a column, joined by commas. Without it all have one.
+    pub only: Option<&'a [u8]>,
+    /// Whether each event has its number beside it.
+    pub numbers: bool,
+}
+
+/// A chart that was read, two events of it, and what is wanted of both pictures.
+#[derive(Clone, Copy)]
+struct Subject<'a> {
+    source: &'a Source<'a>,
+    columns: &'a [InstanceNo],
+    asked: &'a Asked<'a>,
+    wanted: &'a Wanted<'a>,
+    pair: Pair,
+}
+
+/// What stands above the witness's picture. It is lent as long as the chart's own title, since both pictures are held at
+/// once.
+#[tactic(auto, unfolding(crate::specs::Witness::Drawing::other_title))]
+fn other_title<'a>(_wanted: &'a Wanted<'a>) -> &'a [u8]
+    ensures { result.now ≡ other_title }
+{
+    b"another run, with the two events the other way round"
+}
+
+/// Draws two charts beside each other. All memory is taken before the first byte is written.
+fn draw_stages<'a, W: Out>(
+    alloc: Global,
+    subject: &'a Subject<'a>,
+    here: &'a Stage<'a>,
+    there: &'a Stage<'a>,
+    out: &mut W,
+) -> Result<(), ProgramError>
+    ensures { WritesOne W.sink (AreStaged subject.now here.now there.now) out.old out.new result }
+{
+    let (wanted, pair) = (subject.wanted, subject.pair);
+    let chart = whole(wanted.title, wanted.only, wanted.numbers);
+    let title = other_title(wanted);
+    let witness = whole(title, wanted.only, wanted.numbers);
+    let Ok(left) = picture_of(alloc, here, subject.columns, &chart) else {
+        return Err(ProgramError::Memory);
+    };
+    let Ok(right) = picture_of(alloc, there, subject.columns, &witness) else {
+        return Err(ProgramError::Memory);
+    };
+    let marked = Marked {
+        earlier: counterpart(here.lines(), there.lines(), &pair.earlier),
+        receive: counterpart(here.lines(), there.lines(), &pair.receive),
+    };
+    let name = subject.asked.instance;
+    match write_beside(wanted.title, name, &pair, &left, &right, &marked, out) {
+        Ok(()) => Ok(()),
+        Err(_) => Err(ProgramError::Write),
+    }
+}
+
+/// The closure of a chart that is known to be possible. F6: it fails only where there is no memory.
+fn closure_in<'a>(alloc: Global, chart: &'a Chart) -> Result<Closure<'a>, ProgramError>
+    requires { IsPossible (length chart.now) (chart_lines chart.now) }
+    ensures closure { IfOk result (λ closure. closure ≡ chart.now) }
+    ensures memory { IfErr result (λ error. error ≡ ProgramError.Memory) }
+{
+    match Closure::of(alloc, chart) {
+        Ok(closure) => Ok(closure),
+        Err(_) => Err(ProgramError::Memory),
+    }
+}
+
+/// Draws the subject's chart beside another one of the same instances.
+fn draw_sources<W: Out>(
+    alloc: Global,
+    subject: &Subject<'_>,
+    other: &Source<'_>,
+    out: &mut W,
+) -> Result<(), ProgramError>
+    requires subject { IsSubject subject.now }
+    requires comes { ComesFrom other.now }
+    requires names { (named_of other.now).0 ≡ (named_of subject.now.source.now).0 }
+    requires possible { IsPossible (length (named_of other.now).1) (chart_lines (named_of other.now).1) }
+    ensures { WritesOne W.sink (AreDrawn subject.now.asked.now subject.now.wanted.now subject.now.source.now
+        subject.now.pair other.now) out.old out.new result }
+{
+    let closure = closure_in(alloc, subject.source.chart())?;
+    let others = closure_in(alloc, other.chart())?;
+    let Ok(here) = stage_of(alloc, subject.source, &closure) else {
+        return Err(ProgramError::Memory);
+    };
+    let Ok(there) = stage_of(alloc, other, &others) else {
+        return Err(ProgramError::Memory);
+    };
+    draw_stages(alloc, subject, &here, &there, out)
+}
+
+/// Draws the subject's chart beside the one that the schedule of a witness comes to.
+fn draw_replay<W: Out>(
+    alloc: Global,
+    subject: &Subject<'_>,
+    schedule: &Schedule,
+    out: &mut W,
+) -> Result<(), ProgramError>
+    requires subject { IsSubject subject.now }
+    requires witness { IsWitness (named_of subject.now.source.now) (origin_of subject.now.source.now) subject.now.pair
+        schedule.now }
+    ensures { DrawsSo W.sink out.old out.new subject.now.asked.now subject.now.wanted.now subject.now.source.now
+        subject.now.pair (Replay schedule.now) result }
+{
+    let Ok(outcome) = replay(alloc, schedule) else {
+        return Err(ProgramError::Memory);
+    };
+    let other = Source::Run(schedule, outcome);
+    draw_sources(alloc, subject, &other, out)
+}
+
+/// Draws what was found.
+fn draw_shown<W: Out>(
+    alloc: Global,
+    subject: &Subject<'_>,
+    shown: &Shown,
+    out: &mut W,
+) -> Result<(), ProgramError>
+    requires subject { IsSubject subject.now }
+    requires shown { HasShown (named_of subject.now.source.now) (origin_of subject.now.source.now) subject.now.pair
+        shown.now }
+    ensures { DrawsSo W.sink out.old out.new subject.now.asked.now subject.now.wanted.now subject.now.source.now
+        subject.now.pair shown.now result }
+{
+    match shown {
+        Shown::Replay(schedule) => draw_replay(alloc, subject, schedule, out),
+        Shown::Enforced | Shown::TooManySlots(_) => Ok(()),
+    }
+}
+
+/// Draws the source's chart beside its witness. F34: a name of `--only` is none of the chart's, or is there twice. Then
+/// comes what is refused of a witness.
+fn draw_source<'a, W: Out>(
+    alloc: Global,
+    source: &'a Source<'a>,
+    asked: &'a Asked<'a>,
+    wanted: &'a Wanted<'a>,
+    out: &mut W,
+) -> Result<Witnessed, Undrawn>
+    requires { ComesFrom source.now }
+    ensures { DrawsWitness W.sink out.old out.new asked.now wanted.now source.now result }
+{
+    let columns = match columns_in(alloc, source.names(), wanted.only) {
+        Ok(columns) => columns,
+        Err(error) => return Err(Undrawn::Columns(error)),
+    };
+    let found = found_in(alloc, source, asked)?;
+    let witnessed = judged(source, &found)?;
+    let subject = Subject {
+        source,
+        columns: columns.as_slice(),
+        asked,
+        wanted,
+        pair: found.pair,
+    };
+    draw_shown(alloc, &subject, &found.shown, out)?;
+    Ok(witnessed)
+}
+
+/// Draws what the file says.
+fn draw_text<W: Out>(
+    alloc: Global,
+    bytes: &[u8],
+    asked: &Asked<'_>,
+    wanted: &Wanted<'_>,
+    out: &mut W,
+) -> Result<Witnessed, Undrawn>
+    ensures { DrawsWitnessText W.sink out.old out.new asked.now wanted.now bytes.now result }
+{
+    let text = Text::read(alloc, bytes)?;
+    let source = Source::of(alloc, &text)?;
+    draw_source(alloc, &source, asked, wanted, out)
+}
+
+/// Writes a picture, as SVG text, of the chart that the bytes of a file say, or of what the schedule comes to that they
+/// say, and beside it that of a run in which two events stand the other way round. Writes to `err` what
+/// [`cmd_explain_race::witness`] tells of the pair, or the line of a refusal. Answers the exit status, also as that does: 0 where the
+/// pair is enforced, 1 where both were drawn, 2 after a refusal. The text's faults are refused first, then F34, then what
+/// is refused of a witness. Nothing is written to `out` before a refusal, but where writing to it failed (F24). A failed
+/// write to `err` changes nothing.
+pub fn draw_witness<W: Out, V: Out>(
+    alloc: Global,
+    bytes: &[u8],
+    asked: &Asked<'_>,
+    wanted: &Wanted<'_>,
+    out: &mut W,
+    err: &mut V,
+) -> u8
+    ensures { Answers (DrawsWitnessText W.sink out.old out.new asked.now wanted.now bytes.now) picture_said
+        V.sink err.old err.new result }
+{
+    answered(&draw_text(alloc, bytes, asked, wanted, out), err)
+}

@@ -1,0 +1,9 @@
+use Rattle.std.proofs.Common.{take}
+use Rattle.std.specs.List.{flat_map}
+use Rattle.cmd_explain_file.proofs.saying.add_sayings.Given as goal
+use Rattle.cmd_explain_file.specs.Sayings.{saying_text}
+use Rattle.texts.specs.Writing.{Buffers}
+
+-- what came so far was added
+abbrev pub invariant-loop-saying : goal.invariant-loop-saying
+invariant-loop-saying g l = Buffers g.W.Out.sink l.initial.text l.text (flat_map (saying_text l.file) (take l.saying-index l.sayings))

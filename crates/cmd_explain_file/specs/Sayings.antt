@@ -1,0 +1,128 @@
+-- The text of what is told of a file: in the style of a compiler's messages.
+use Rattle.std.specs.Prelude.{ℕ, ◌+◌, ◌-◌, ◌==◌, List, [], ◌∷◌, ◌++◌, length, take, drop, min, codes, decimal, Option, None, Some, if◌then◌else◌}
+use Rattle.std.specs.List.{flat_map}
+use Rattle.cmd_explain_file.specs.Findings.{line_of, note_finding}
+use Rattle.cmd_explain_file.specs.Words.{kind_words, start_of, what_label, what_words, want_words}
+use Rattle.cmd_explain_file.specs.declared.finding.Finding.{Finding}
+use Rattle.cmd_explain_file.specs.declared.finding.What.{What}
+use Rattle.cmd_explain_file.specs.declared.saying.Saying.{Saying}
+use Rattle.cmd_explain_file.specs.declared.saying.Saying.TheVariants.{Kind, Read, Cyclic, Tidy, Log}
+use Rattle.cmd_explain_file.specs.declared.saying.Saying.TheVariants as sayings
+use Rattle.schedule_replay.specs.declared.notes.notes.Noted.{Noted}
+use Rattle.fault_places.specs.ToldCircles.{step_text}
+use Rattle.fault_places.specs.declared.want.Want.{Want}
+use Rattle.cmd_import_diagram.specs.Telling.{left_out_line, overtaking_line}
+use Rattle.texts.specs.Bytes.Classes.{printable}
+
+abbrev pub blank : ℕ → List ℕ
+blank b = 32 ∷ []
+
+-- a byte of the file, as a terminal shows it in one column: a tab as a blank, and `?` for what doesn't print
+abbrev pub shown_byte : ℕ → List ℕ
+shown_byte b = if b == 9 then 32 ∷ [] else printable b ∷ []
+
+-- what is shown of a line before a place: the last 60 bytes
+abbrev pub before : List ℕ → ℕ → List ℕ
+before line place = drop (place - 60) (take place line)
+
+-- what is shown behind it: the first 40
+abbrev pub behind : List ℕ → ℕ → List ℕ
+behind line place = take (min (length (drop place line)) 40) (drop place line)
+
+unfoldable pub bar : List ℕ
+bar = codes " |\n"
+
+unfoldable pub stands : List ℕ
+stands = codes " | "
+
+unfoldable pub caret : List ℕ
+caret = codes "^\n"
+
+unfoldable pub end : List ℕ
+end = codes "\n"
+
+-- what is wrong
+unfoldable pub head_text : What → List ℕ
+head_text what = start_of what ++ (what_label what ++ (codes ": " ++ (what_words what ++ codes "\n")))
+
+unfoldable pub arrow : ℕ → ℕ → List ℕ
+arrow line column = codes "--> line " ++ (decimal line ++ (codes ", column " ++ (decimal column ++ codes "\n")))
+
+-- where it is: the margin is as wide as the line's number
+unfoldable pub at_text : ℕ → ℕ → List ℕ
+at_text line column = flat_map blank (decimal line) ++ arrow line column
+
+unfoldable pub bar_text : ℕ → List ℕ
+bar_text line = flat_map blank (decimal line) ++ bar
+
+-- the line itself
+unfoldable pub quote_text : ℕ → List ℕ → List ℕ → List ℕ
+quote_text line before behind =
+    decimal line ++ (stands ++ (flat_map shown_byte before ++ (flat_map shown_byte behind ++ end)))
+
+-- the caret, below the first byte that is shown behind the place
+unfoldable pub caret_text : ℕ → List ℕ → List ℕ
+caret_text line before = flat_map blank (decimal line) ++ (stands ++ (flat_map blank before ++ caret))
+
+unfoldable pub here : List ℕ
+here = codes " = here may stand: "
+
+unfoldable pub wanted_text : Want → List ℕ
+wanted_text want = here ++ (want_words want ++ end)
+
+-- what may stand at the place, if that is known
+unfoldable pub want_text : ℕ → Option Want → List ℕ
+want_text line None = []
+want_text line (Some want) = flat_map blank (decimal line) ++ wanted_text want
+
+-- a line with a caret under a place of it
+unfoldable pub shown_text : ℕ → List ℕ → ℕ → List ℕ
+shown_text line bytes place = at_text line (place + 1)
+    ++ (bar_text line ++ (quote_text line (before bytes place) (behind bytes place) ++ caret_text line (before bytes place)))
+
+-- what is wrong, with its place, where the line is told by this number
+unfoldable pub numbered_text : List ℕ → ℕ → Finding → List ℕ
+numbered_text file number f = head_text f.what
+    ++ (shown_text number (line_of file f.line) (min f.place (length (line_of file f.line))) ++ want_text number f.want)
+
+-- the same by its own number
+abbrev pub finding_text : List ℕ → Finding → List ℕ
+finding_text file f = numbered_text file f.line f
+
+unfoldable pub sent_text : ℕ → List ℕ
+sent_text line = codes " = the message is sent later, in line " ++ (decimal line ++ codes "\n")
+
+-- the message for a note is sent later, if it is
+unfoldable pub later_text : ℕ → Option ℕ → List ℕ
+later_text line None = []
+later_text line (Some later) = flat_map blank (decimal line) ++ sent_text later
+
+-- a note
+unfoldable pub noted_text : List ℕ → Noted → List ℕ
+noted_text file noted = finding_text file (note_finding noted.note) ++ later_text noted.note.line noted.later
+
+unfoldable pub read_text : List ℕ
+read_text = codes "nothing is wrong with it\n"
+
+unfoldable pub cyclic_text : List ℕ
+cyclic_text = codes "\nerror: F18 Cyclic: events come before each other, in a circle\n"
+
+unfoldable pub tidy_text : List ℕ
+tidy_text = codes "\nhelp: mscview tidy writes the exact text of this file, which has no fault\n"
+
+unfoldable pub log_text : List ℕ
+log_text = codes "\nhelp: of a log, mscview races --from log tells the races: of lines HOST send PEER NAME and HOST recv PEER NAME, or as --pattern reads its lines\n"
+
+-- what is told
+unfoldable pub saying_text : List ℕ → Saying → List ℕ
+saying_text file (Kind kind) = kind_words kind
+saying_text file Read = read_text
+saying_text file (sayings.Finding finding) = finding_text file finding
+saying_text file (sayings.Typed finding number) = numbered_text file number finding
+saying_text file (sayings.Note noted) = noted_text file noted
+saying_text file (sayings.LeftOut left_out) = left_out_line left_out
+saying_text file (sayings.Overtaking message) = overtaking_line message
+saying_text file Cyclic = cyclic_text
+saying_text file (sayings.Step step) = step_text step
+saying_text file Tidy = tidy_text
+saying_text file Log = log_text

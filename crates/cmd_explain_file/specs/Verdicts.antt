@@ -1,0 +1,103 @@
+-- What came of reading a file: the first fault that its readers answer, or that there is none.
+use Rattle.std.specs.Prelude.{◌≡◌, ◌≢◌, ℕ, false, List, [], length, None, Ok, Err}
+use Rattle.chart.specs.Charts.{chart_lines, IsPossible}
+use Rattle.closure.specs.Faults.{Refuses}
+use Rattle.closure.specs.declared.error.ChartError.TheVariants as charts
+use Rattle.diagram_import.specs.Importing.{OptionsView, imported}
+use Rattle.diagram_import.specs.Refusals.{Fails}
+use Rattle.diagram_import.specs.declared.error.ImportError.{ImportError}
+use Rattle.diagram_import.specs.declared.error.ImportError.TheVariants as imports
+use Rattle.cmd_explain_file.specs.declared.kind.Kind.{Kind}
+use Rattle.cmd_explain_file.specs.declared.kind.Kind.TheVariants as kinds
+use Rattle.cmd_explain_file.specs.declared.verdict.Unread.{Unread}
+use Rattle.cmd_explain_file.specs.declared.verdict.Unread.TheVariants as unreads
+use Rattle.cmd_explain_file.specs.declared.verdict.Verdict.{Verdict}
+use Rattle.cmd_explain_file.specs.declared.verdict.Verdict.TheVariants.{Read, Ran, Drawn, NotDrawn, Behind, Refused, NoSend, OtherName, Cyclic}
+use Rattle.cmd_base.specs.Answers.{Said}
+use Rattle.cmd_base.specs.Files.{Named, chart_part}
+use Rattle.cmd_import_diagram.specs.Order.{in_order}
+use Rattle.diagram_join.specs.Drawing.{joined_drawn_view}
+use Rattle.diagram_join.specs.declared.drawing.JoinedDrawn.{JoinedDrawn}
+use Rattle.msc_text.specs.Reader.Reading.{chart_of}
+use Rattle.schedule.specs.Plans.{Plan}
+use Rattle.schedule.specs.Reading.{schedule_of}
+use Rattle.schedule_replay.specs.Notes.Notes.{AreNotesOf}
+use Rattle.fault_places.specs.ToldCircles.{AreStepsOf}
+
+-- the exit status: 1 where a fault is told
+abbrev pub status_of : Verdict → ℕ
+status_of Read = 0
+status_of (Ran notes) = 0
+status_of (Drawn left_out overtaking) = 0
+status_of (NotDrawn unread) = 1
+status_of (Behind fault) = 0
+status_of (Refused fault) = 1
+status_of (NoSend receive) = 1
+status_of (OtherName receive) = 1
+status_of (Cyclic steps) = 1
+
+abbrev pub verdict_said : Verdict → Said
+verdict_said verdict = record { status = status_of verdict; told = None }
+
+-- a schedule's text is read, and its commands leave these notes; or it has this fault
+abbrev pub IsOfSchedule : List ℕ → Verdict → Type 0
+IsOfSchedule text (Ran notes) = (plan : Plan) × (schedule_of text ≡ Ok plan)
+    × AreNotesOf plan notes.items
+IsOfSchedule text (Refused fault) = schedule_of text ≡ Err fault
+IsOfSchedule text _ = ⊥
+
+-- the chart of this text is possible, or is refused so; of one in which events come before each other a shortest circle
+-- is told
+abbrev pub IsOfLines : List ℕ → Named → Verdict → Type 0
+IsOfLines text named Read = IsPossible (length named.1) (chart_lines named.1)
+IsOfLines text named (NoSend receive) = Refuses (chart_lines named.1) (charts.ReceiveWithoutSend receive)
+IsOfLines text named (OtherName receive) = Refuses (chart_lines named.1) (charts.NameMismatch receive)
+IsOfLines text named (Cyclic steps) = Refuses (chart_lines named.1) charts.Cyclic
+    × AreStepsOf text named.0 named.1 steps.items
+IsOfLines text named _ = ⊥
+
+-- the whole text is a chart's, or it has this fault
+abbrev pub IsOfWhole : List ℕ → Verdict → Type 0
+IsOfWhole text Read = (named : Named) × (chart_of text ≡ Ok named)
+IsOfWhole text (Behind fault) = chart_of text ≡ Err fault
+IsOfWhole text _ = ⊥
+
+-- what a text says through the first line that ends a chart is refused, or is a chart that isn't possible; or a possible
+-- one, and then it's a matter of the whole text
+abbrev pub IsOfChart : List ℕ → Verdict → Type 0
+IsOfChart text Read = (named : Named) × (chart_of (chart_part text) ≡ Ok named) × IsOfLines text named Read × IsOfWhole text Read
+IsOfChart text (Behind fault) = (named : Named) × (chart_of (chart_part text) ≡ Ok named) × IsOfLines text named Read
+    × IsOfWhole text (Behind fault)
+IsOfChart text (Refused fault) = chart_of (chart_part text) ≡ Err fault
+IsOfChart text (Ran notes) = ⊥
+IsOfChart text (Drawn left_out overtaking) = ⊥
+IsOfChart text (NotDrawn why) = ⊥
+IsOfChart text verdict = (named : Named) × (chart_of (chart_part text) ≡ Ok named) × IsOfLines text named verdict
+
+-- nothing is skipped or joined, and things may be left out
+abbrev pub no_options : OptionsView
+no_options = record { skipped = []; joins = []; is_strict = false }
+
+-- why a diagram isn't imported, without the words that are there
+abbrev pub unread : ImportError → Unread
+unread imports.Memory = unreads.Unfinished
+unread imports.Usage = unreads.Usage
+unread (imports.NotRead place words) = unreads.NotRead place
+unread imports.Unfinished = unreads.Unfinished
+unread (imports.UnknownInstance line) = unreads.UnknownInstance line
+unread (imports.NoChart error) = unreads.NoChart error
+
+-- a diagram is imported, and its chart doesn't keep these; or it is refused so
+abbrev pub IsOfDiagram : List ℕ → Verdict → Type 0
+IsOfDiagram text (Drawn left_out overtaking) = (drawn : JoinedDrawn)
+    × (imported None text no_options ≡ Ok (joined_drawn_view drawn))
+    × (left_out.items ≡ in_order drawn.drawn.left_out.items) × (overtaking ≡ drawn.overtaking)
+IsOfDiagram text (NotDrawn why) = (error : ImportError) × (error ≢ imports.Memory)
+    × Fails error (imported None text no_options) × (why ≡ unread error)
+IsOfDiagram text _ = ⊥
+
+-- what comes of a text of this kind: it is read as a schedule, imported as a diagram, or read as a chart
+abbrev pub IsVerdict : Kind → List ℕ → Verdict → Type 0
+IsVerdict kinds.Schedule text verdict = IsOfSchedule text verdict
+IsVerdict (kinds.Diagram tool) text verdict = IsOfDiagram text verdict
+IsVerdict _ text verdict = IsOfChart text verdict

@@ -1,0 +1,6 @@
+use Rattle.std.proofs.Common.{◌≡◌, ◌++◌}
+use Rattle.cmd_base.specs.Pairs.Sayings.{befores}
+use Rattle.cmd_explain_race.proofs.explaining.add_befores.Given as goal
+
+abbrev pub invariant-loop-place : goal.invariant-loop-place
+invariant-loop-place l = l.sayings.items ≡ l.initial.sayings.items ++ befores l.counts l.place

@@ -1,0 +1,15 @@
+-- What the program explains of the bytes of a file.
+use Rattle.std.specs.Prelude.{List, ℕ, Result}
+use Rattle.texts.specs.Outs.{Sink}
+use Rattle.cmd_base.specs.Texts.{OfFile, named_of}
+use Rattle.cmd_base.specs.declared.pairs.error.ViewError.{ViewError}
+use Rattle.cmd_base.specs.declared.pairs.error.ViewError.TheVariants.{Program}
+use Rattle.cmd_base.specs.declared.pairs.pair.Asked.{Asked}
+use Rattle.cmd_explain_race.specs.declared.verdict.Verdict.{Verdict}
+use Rattle.cmd_explain_race.specs.Explaining.{Explains}
+
+-- the two events of the chart that the bytes say were explained; or nothing was written, where the bytes have a fault,
+-- or where memory ran out
+abbrev pub Whys : {S : Type 0} → (S → Sink) → S → S → List ℕ → Asked → Result Verdict ViewError → Type 0
+Whys sink old new bytes asked =
+    OfFile Program (λ source done. Explains sink old new done (named_of source) asked) old new bytes

@@ -1,0 +1,57 @@
+-- What `mscview witness` does with the bytes of a file.
+use Rattle.std.specs.Prelude.{◌≡◌, ℕ, List, length, Result, Ok, Err}
+use Rattle.chart.specs.Charts.{chart_lines, IsPossible}
+use Rattle.texts.specs.Outs.{Sink}
+use Rattle.texts.specs.Writing.{Puts, Breaks}
+use Rattle.schedule.specs.ScheduleText.{schedule_text}
+use Rattle.cmd_base.specs.declared.error.ProgramError.TheVariants as errors
+use Rattle.cmd_base.specs.declared.source.Source.{Source}
+use Rattle.cmd_base.specs.Files.{Named, IsRefused}
+use Rattle.cmd_base.specs.Texts.{OfFile, named_of}
+use Rattle.schedule_replay.specs.declared.reordered_runs.showing.Shown.{Shown}
+use Rattle.schedule_replay.specs.declared.reordered_runs.showing.Shown.TheVariants as founds
+use Rattle.cmd_base.specs.declared.pairs.error.ViewError.{ViewError}
+use Rattle.cmd_base.specs.declared.pairs.error.ViewError.TheVariants.{Program, ManySlots}
+use Rattle.cmd_base.specs.declared.pairs.pair.Asked.{Asked}
+use Rattle.cmd_base.specs.declared.pairs.pair.Pair.{Pair}
+use Rattle.cmd_explain_race.specs.declared.verdict.Verdict.{Verdict}
+use Rattle.cmd_explain_race.specs.declared.verdict.Witnessed.{Witnessed}
+use Rattle.cmd_explain_race.specs.Finding.{origin_of, closes_in}
+use Rattle.cmd_base.specs.Pairs.Pairs.{pair_of}
+use Rattle.cmd_explain_race.specs.Turning.{Origin, Shows}
+
+module _ {S : Type 0} (sink : S → Sink) where
+  -- what is written of what there is to show: the text of the schedule, or a beginning of it, where a put failed; and
+  -- nothing where there is none
+  abbrev pub WritesShown : S → S → Shown → Result (Unit {0}) ViewError → Type 0
+  WritesShown old new (founds.Replay plan) (Ok done) = Puts sink old new (schedule_text plan)
+  WritesShown old new (founds.Replay plan) (Err error) = (error ≡ Program errors.Write)
+      × Breaks sink old new (schedule_text plan)
+  WritesShown old new shown result = (result ≡ Ok tt) × (new ≡ old)
+
+  -- what is written for two events of a chart: a witness, or none was found; or nothing, where the chart is not
+  -- possible, where there is no such pair, or where memory ran out
+  abbrev pub Finds : S → S → Result Verdict ViewError → Named → Origin → Asked → Type 0
+  Finds old new (Err (Program errors.Memory)) named origin asked = new ≡ old
+  Finds old new (Err (Program errors.Write)) named origin asked =
+      (pair : Pair) × (pair_of named.0 named.1 asked ≡ Ok pair)
+      × IsPossible (length named.1) (chart_lines named.1) × Shows sink old new
+      (Err (Program errors.Write)) named origin pair
+  Finds old new (Err (Program error)) named origin asked = IsRefused error named × (new ≡ old)
+  Finds old new (Err (ManySlots slots)) named origin asked = (pair : Pair) × (pair_of named.0 named.1 asked ≡ Ok pair)
+      × IsPossible (length named.1) (chart_lines named.1) × Shows sink old new (Err (ManySlots slots)) named origin pair
+  Finds old new (Err error) named origin asked = (pair_of named.0 named.1 asked ≡ Err error) × (new ≡ old)
+  Finds old new (Ok verdict) named origin asked = (pair : Pair) × (pair_of named.0 named.1 asked ≡ Ok pair)
+      × IsPossible (length named.1) (chart_lines named.1) × Shows sink old new (Ok verdict) named origin pair
+
+module _ {S : Type 0} (sink : S → Sink) where
+  -- the same for two events of a file's chart, with what is left out of it
+  abbrev pub FindsIn : S → S → Asked → Source → Result Witnessed ViewError → Type 0
+  FindsIn old new asked source (Ok witnessed) = (witnessed.has_closes ≡ closes_in source)
+      × Finds sink old new (Ok witnessed.verdict) (named_of source) (origin_of source) asked
+  FindsIn old new asked source (Err error) = Finds sink old new (Err error) (named_of source) (origin_of source) asked
+
+  -- a witness was written for two events of the chart that the bytes say, or none was found; or nothing was written,
+  -- where the bytes have a fault, or where memory ran out
+  abbrev pub Witnesses : S → S → List ℕ → Asked → Result Witnessed ViewError → Type 0
+  Witnesses old new bytes asked = OfFile Program (FindsIn old new asked) old new bytes

@@ -1,0 +1,93 @@
+//! What is told on standard error: refusals, and what is told beside an answer.
+ghost use Rattle.std.specs.Prelude.{◌≡◌, ◌++◌};
+ghost use Rattle.texts.specs.Writing.{Wrote, Adds};
+ghost use Rattle.cmd_explain_race.specs.Answers.{enforced_text, closes_text, verdict_said, witnessed_said, told_of_hidden};
+ghost use Rattle.cmd_base.specs.Answers.{Tells};
+
+use crate::verdict::{Verdict, Witnessed};
+use cmd_base::pairs::hidden_text;
+use cmd_base::{Answer, tell};
+use texts::{Out, TextBuffer, WriteError};
+
+#[tactic(auto, unfolding(crate::specs::Answers::closes_text))]
+fn closes_text() -> &'static [u8]
+    ensures { result.now ≡ closes_text }
+{
+    b"closes are left out\n"
+}
+
+#[tactic(auto, unfolding(crate::specs::Answers::enforced_text))]
+fn enforced_text() -> &'static [u8]
+    ensures { result.now ≡ enforced_text }
+{
+    b"enforced: each run has the two in this order\n"
+}
+
+/// What is told beside what explains a pair.
+impl Answer for Verdict {
+    ghost said = { verdict_said };
+
+    fn status(&self) -> u8 {
+        self.code()
+    }
+
+    fn tell<V: Out>(&self, err: &mut V) {
+        match self {
+            Verdict::Enforced | Verdict::Race => {}
+            Verdict::Hidden => tell(hidden_text(), err),
+        }
+    }
+}
+
+#[tactic(auto, using(texts::proofs::Writes::joining))]
+fn add_both<V: Out>(
+    text: &mut TextBuffer<'_, V>,
+    first: &[u8],
+    second: &[u8],
+) -> Result<(), WriteError>
+    ensures { Adds V.sink text.old text.new result (first.now ++ second.now) }
+{
+    text.add(first)?;
+    text.add(second)
+}
+
+#[tactic(auto, using(texts::proofs::Writes::joining))]
+fn write_both<V: Out>(first: &[u8], second: &[u8], err: &mut V) -> Result<(), WriteError>
+    ensures { Wrote V.sink err.old err.new result (first.now ++ second.now) }
+{
+    let mut text = TextBuffer::new(err);
+    add_both(&mut text, first, second)?;
+    text.finish()
+}
+
+/// Writes what is told of a pair that a coregion hides.
+fn tell_hidden<V: Out>(has_closes: bool, err: &mut V)
+    ensures { Tells V.sink err.old err.new (told_of_hidden has_closes) }
+{
+    if has_closes {
+        let _ = write_both(closes_text(), hidden_text(), err);
+    } else {
+        tell(hidden_text(), err);
+    }
+}
+
+/// What is told beside a witness, or in place of one.
+impl Answer for Witnessed {
+    ghost said = { witnessed_said };
+
+    fn status(&self) -> u8 {
+        self.verdict.code()
+    }
+
+    fn tell<V: Out>(&self, err: &mut V) {
+        match self.verdict {
+            Verdict::Enforced => tell(enforced_text(), err),
+            Verdict::Race => {
+                if self.has_closes {
+                    tell(closes_text(), err);
+                }
+            }
+            Verdict::Hidden => tell_hidden(self.has_closes, err),
+        }
+    }
+}

@@ -1,0 +1,45 @@
+//! What a receive and an earlier event of its line are.
+ghost use Rattle.std.specs.Prelude.{◌≡◌};
+ghost use Rattle.cmd_explain_race.specs.Verdicts.{code_of, verdict_in};
+
+/// What a receive and an earlier event of its line are.
+#[derive(Clone, Copy)]
+pub enum Verdict {
+    /// The enforced order puts the event before the receive.
+    Enforced,
+    /// It doesn't: a race that is reported.
+    Race,
+    /// It doesn't, and both are in one coregion, so that no report has them.
+    Hidden,
+}
+
+/// What was found for a pair whose other order was looked for.
+#[derive(Clone, Copy)]
+pub struct Witnessed {
+    pub verdict: Verdict,
+    /// Whether the schedule closes lanes, which no witness does.
+    pub has_closes: bool,
+}
+
+impl Verdict {
+    /// The verdict on a pair that isn't enforced, by whether both are in one coregion.
+    pub(crate) fn of(in_one_coregion: bool) -> Verdict
+        ensures { result ≡ verdict_in in_one_coregion }
+    {
+        if in_one_coregion {
+            Verdict::Hidden
+        } else {
+            Verdict::Race
+        }
+    }
+
+    /// The exit status.
+    pub(crate) fn code(self) -> u8
+        ensures { result ≡ code_of self }
+    {
+        match self {
+            Verdict::Enforced => 0,
+            Verdict::Race | Verdict::Hidden => 1,
+        }
+    }
+}

@@ -1,0 +1,61 @@
+//! What the program explains of the bytes of a file.
+ghost use Rattle.cmd_base.specs.Answers.{Answers};
+ghost use Rattle.cmd_base.specs.Texts.{named_of};
+ghost use Rattle.cmd_explain_race.specs.Answers.{why_said};
+ghost use Rattle.cmd_explain_race.specs.Explaining.{Explains};
+ghost use Rattle.cmd_explain_race.specs.Views.{Whys};
+
+use crate::explained::why_in;
+use crate::verdict::Verdict;
+use cmd_base::pairs::{Asked, ViewError};
+use cmd_base::{Source, Text, answered};
+use std::alloc::Global;
+use texts::Out;
+
+/// Explains two events of what the file says.
+fn why_text<W: Out>(
+    alloc: Global,
+    bytes: &[u8],
+    asked: &Asked<'_>,
+    out: &mut W,
+) -> Result<Verdict, ViewError>
+    ensures { Whys W.sink out.old out.new bytes.now asked.now result }
+{
+    let text = Text::read(alloc, bytes)?;
+    let source = Source::of(alloc, &text)?;
+    why_in(alloc, source.names(), source.chart(), asked, out)
+}
+
+/// Explains two events of a chart that was read: the same as [`why`] does with the bytes of the file that it comes from.
+pub fn why_of_source<W: Out, V: Out>(
+    alloc: Global,
+    source: &Source<'_>,
+    asked: &Asked<'_>,
+    out: &mut W,
+    err: &mut V,
+) -> u8
+    ensures { Answers (λ done. Explains W.sink out.old out.new done (named_of source.now) asked.now) why_said
+        V.sink err.old err.new result }
+{
+    answered(
+        &why_in(alloc, source.names(), source.chart(), asked, out),
+        err,
+    )
+}
+
+/// Explains two events of the chart that the bytes of a file say, or of what the schedule comes to that they say:
+/// writes to `out` the chain that enforces the pair, or what has to come before the receive and how its line may be.
+/// Writes the line of a refusal to `err`, or that a coregion hides the pair. Answers the exit status: 0 where the
+/// pair is enforced, 1 where it isn't, 2 after a refusal. Nothing is written to `out` before a refusal, but where
+/// writing to it failed (F24). A failed write to `err` changes nothing.
+pub fn why<W: Out, V: Out>(
+    alloc: Global,
+    bytes: &[u8],
+    asked: &Asked<'_>,
+    out: &mut W,
+    err: &mut V,
+) -> u8
+    ensures { Answers (Whys W.sink out.old out.new bytes.now asked.now) why_said V.sink err.old err.new result }
+{
+    answered(&why_text(alloc, bytes, asked, out), err)
+}

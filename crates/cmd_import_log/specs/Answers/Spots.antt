@@ -1,0 +1,20 @@
+-- How a line of a log is told: `line 17`, or `FILE:17` where there are several files.
+use Rattle.std.specs.Prelude.{ℕ, List, Option, None, Some, codes, slice_get}
+use Rattle.log_lines.specs.declared.event.Place.{Place}
+use Rattle.cmd_import_log.specs.declared.answers.spot.Spot.{Spot}
+
+pub record SpotView : Type 0 where
+  pub front : List ℕ
+  pub separator : List ℕ
+  pub line : ℕ
+
+abbrev pub spot_view : Spot → SpotView
+spot_view s = record { front = s.front.now; separator = s.separator.now; line = s.line }
+
+abbrev pub spot_at : Option (List ℕ) → ℕ → SpotView
+spot_at None n = record { front = codes "line"; separator = codes " "; line = n }
+spot_at (Some file) n = record { front = file; separator = codes ":"; line = n }
+
+-- the line at this place, where these are the names of several files, or none of one
+abbrev pub spot : List (List ℕ) → Place → SpotView
+spot files place = spot_at (slice_get files place.text) place.line

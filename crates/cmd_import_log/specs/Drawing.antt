@@ -1,0 +1,151 @@
+-- The chart of a log, and what is told of it.
+use Rattle.std.specs.Prelude.{◌≡◌, ℕ, ◌<◌, ◌≤◌, ◌⊎◌, List, [], length, map, None, Some, Result, Ok, Err}
+use Rattle.chart.specs.Charts.{chart_lines, IsPossible}
+use Rattle.diagram_labels.specs.Renaming.{renamed_view, renamed_from}
+use Rattle.diagram_labels.specs.Labels.{Labelling}
+use Rattle.cmd_import_log.specs.declared.answers.overtaking.Overtaking.{Overtaking}
+use Rattle.cmd_import_log.specs.declared.answers.told.Told.{Told}
+use Rattle.log_chart.specs.Charts.ChartLines.{first_full}
+use Rattle.log_chart.specs.Charts.Drawing.{IsDrawn}
+use Rattle.log_chart.specs.declared.charts.drawing.DrawError.{DrawError}
+use Rattle.log_chart.specs.declared.charts.drawing.DrawError.TheVariants as draws
+use Rattle.log_chart.specs.declared.charts.drawing.Drawn.{Drawn}
+use Rattle.log_chart.specs.declared.charts.told.Overtaking.{Overtaking as DrawnOvertaking}
+use Rattle.log_chart.specs.Cycles.Freeing.{Settles}
+use Rattle.log_chart.specs.declared.named.entering.LogError.TheVariants as faults
+use Rattle.log_lines.specs.declared.event.Place.{Place}
+use Rattle.log_lines.specs.Names.Naming.{NamedView, named}
+use Rattle.log_chart.specs.HostLines.{host_lines}
+use Rattle.log_chart.specs.declared.entry.Entry.{Entry}
+use Rattle.log_chart.specs.declared.entry.Place.{Place as EntryPlace}
+use Rattle.texts.specs.Instances.{name_at}
+use Rattle.cmd_import_log.specs.Entries.{entries_in, names_in, fault_in}
+use Rattle.cmd_import_log.specs.Options.{OptionsView}
+use Rattle.cmd_import_log.specs.Reading.{LogView, Says, IsBadForm}
+use Rattle.cmd_import_log.specs.declared.drawing.Beside.{Beside}
+use Rattle.cmd_import_log.specs.declared.drawing.LogDrawing.{LogDrawing}
+use Rattle.cmd_import_log.specs.declared.drawing.Settled.{Settled}
+use Rattle.cmd_import_log.specs.declared.error.LogImportError.{LogImportError}
+use Rattle.cmd_import_log.specs.declared.error.LogImportError.TheVariants as errors
+
+-- a line of a file, as it is told
+abbrev pub told_place : EntryPlace → Place
+told_place p = record { text = p.file; line = p.line }
+
+abbrev pub told_overtaking : DrawnOvertaking → Overtaking
+told_overtaking o = record { line = told_place o.line; overtaken = told_place o.overtaken }
+
+-- the labels whose names have to be told, each with its name
+abbrev pub told_labels : Labelling → List (List ℕ × List ℕ)
+told_labels l = renamed_from [] l.labels l.names
+
+-- what was read of a log beside its events
+abbrev pub beside : LogView → Beside
+beside log = record { lines = log.lines; others = log.read.others; is_captured = log.is_captured; is_timed = log.is_timed }
+
+-- this is told of what was read beside a log's events, of its lines by names, of the names of its instances, and of its
+-- chart
+pub record IsToldOf (b : Beside) (n : NamedView) (called : List (List ℕ)) (drawn : Drawn) (told : Told) : Type 0 where
+  pub lines : told.lines ≡ b.lines
+  pub others : told.others ≡ b.others
+  pub own : told.own ≡ n.own
+  pub captured : told.is_captured ≡ b.is_captured
+  pub timed : told.is_timed ≡ b.is_timed
+  pub lost : told.lost.items ≡ map told_place drawn.lost.items
+  pub overtaking : told.overtaking.items ≡ map told_overtaking drawn.overtaking.items
+  pub freed : told.freed.items ≡ map told_place drawn.freed.items
+  pub names : told.names ≡ called
+  pub invented : told.invented ≡ drawn.invented
+  pub hosts : map renamed_view told.hosts.items ≡ told_labels n.hosts
+  pub messages : map renamed_view told.messages.items ≡ told_labels n.messages
+
+-- the chart is that of the entries of lines by names, whose receives are freed, and what is told is told of it; it is
+-- possible
+pub record IsNamedDrawing (b : Beside) (n : NamedView) (d : LogDrawing) : Type 0 where
+  pub settled : List Entry
+  pub faultless : fault_in n ≡ None
+  pub settles : Settles (entries_in n) settled
+  pub short : first_full 1 (host_lines (length (names_in n)) settled) ≡ None
+  pub drawn : Drawn
+  pub is_drawn : IsDrawn (length (names_in n)) settled drawn
+  pub chart : d.chart ≡ drawn.chart
+  pub possible : IsPossible (length d.chart) (chart_lines d.chart)
+  pub told : IsToldOf b n (names_in n) drawn d.told
+
+-- the chart is that of lines by names, whose entries these are once receives are freed
+abbrev pub IsSettled : Beside → NamedView → Settled → Type 0
+IsSettled b n s = (d : IsNamedDrawing b n s.drawing) × (d.settled ≡ s.entries.items)
+
+-- why lines by names have no chart, where drawing it fails so
+abbrev pub refusal_of : List (List ℕ) → DrawError → LogImportError
+refusal_of names draws.Memory = errors.Memory
+refusal_of names draws.Instances = errors.Instances
+refusal_of names (draws.LineFull p) = errors.LineFull (name_at names p)
+
+-- the instance that is told is among so many
+abbrev pub IsOfAmong : ℕ → DrawError → Type 0
+IsOfAmong n draws.Memory = Unit {0}
+IsOfAmong n draws.Instances = Unit {0}
+IsOfAmong n (draws.LineFull p) = p ≤ n
+
+-- a line has one host too many, or there are too few
+abbrev pub AreUnfit : NamedView → Type 0
+AreUnfit n = (fault_in n ≡ Some faults.Instances) ⊎ (length (names_in n) < 2)
+
+-- of these entries, whose receives are freed, with instances of these names this one is the first with too many events
+pub record IsFull (names : List (List ℕ)) (entries : List Entry) (name : List ℕ) : Type 0 where
+  pub settled : List Entry
+  pub settles : Settles entries settled
+  pub instance : ℕ
+  pub is_first : first_full 1 (host_lines (length names) settled) ≡ Some instance
+  pub named : name ≡ name_at names instance
+
+-- the lines by names have no chart
+abbrev pub IsRefused : NamedView → LogImportError → Type 0
+IsRefused n errors.Memory = Unit {0}
+IsRefused n (errors.BadPattern place) = ⊥
+IsRefused n errors.NotALog = ⊥
+IsRefused n errors.Instances = AreUnfit n
+IsRefused n (errors.ToItself place) = (p : EntryPlace) × (fault_in n ≡ Some (faults.ToItself p)) × (place ≡ told_place p)
+IsRefused n (errors.LineFull name) = IsFull (names_in n) (entries_in n) name
+
+abbrev pub DrawsNamed : Result LogDrawing LogImportError → Beside → NamedView → Type 0
+DrawsNamed (Ok d) b n = IsNamedDrawing b n d
+DrawsNamed (Err e) b n = IsRefused n e
+
+-- the lines of a log by names
+abbrev pub named_in : OptionsView → LogView → NamedView
+named_in o log = named o.hosts o.peers log.read.said
+
+-- the chart is that of what the texts say, and so is what is told
+pub record IsDrawingOf (o : OptionsView) (texts : List (List ℕ)) (d : LogDrawing) : Type 0 where
+  pub log : LogView
+  pub says : Says o.form o.range texts log
+  pub some : log.read.said ≡ [] → ⊥
+  pub drawing : IsNamedDrawing (beside log) (named_in o log) d
+
+-- the texts say a log that has no chart
+pub record IsRefusedLog (o : OptionsView) (texts : List (List ℕ)) (error : LogImportError) : Type 0 where
+  pub log : LogView
+  pub says : Says o.form o.range texts log
+  pub some : log.read.said ≡ [] → ⊥
+  pub refused : IsRefused (named_in o log) error
+
+-- the texts say no message
+pub record IsNoLog (o : OptionsView) (texts : List (List ℕ)) : Type 0 where
+  pub log : LogView
+  pub says : Says o.form o.range texts log
+  pub none : log.read.said ≡ []
+
+-- the texts have no chart, or memory ran out
+abbrev pub IsRefusalOf : OptionsView → List (List ℕ) → LogImportError → Type 0
+IsRefusalOf o texts errors.Memory = Unit {0}
+IsRefusalOf o texts (errors.BadPattern place) = IsBadForm o.form (errors.BadPattern place)
+IsRefusalOf o texts errors.NotALog = IsNoLog o texts
+IsRefusalOf o texts errors.Instances = IsRefusedLog o texts errors.Instances
+IsRefusalOf o texts (errors.ToItself place) = IsRefusedLog o texts (errors.ToItself place)
+IsRefusalOf o texts (errors.LineFull name) = IsRefusedLog o texts (errors.LineFull name)
+
+abbrev pub Draws : Result LogDrawing LogImportError → OptionsView → List (List ℕ) → Type 0
+Draws (Ok d) o texts = IsDrawingOf o texts d
+Draws (Err e) o texts = IsRefusalOf o texts e

@@ -1,0 +1,95 @@
+-- What the texts of a log say, given which lines an expression matches and what its groups are (the regex crate's word).
+use Rattle.std.specs.Prelude.{◌≡◌, ℕ, ◌+◌, ◌==◌, ◌&&◌, ◌≤◌, Bool, true, false, List, [], ◌∷◌, Option, None, Some, length, if◌then◌else◌}
+use Rattle.regex.specs.Bytes.{regex_pattern}
+use Rattle.log_formats.specs.Clocks.Saying.{by_clocks, is_timed}
+use Rattle.log_lines.specs.Events.{SaidView}
+use Rattle.log_lines.specs.PlainReading.{plain_read}
+use Rattle.log_lines.specs.Reading.{ReadView, read_view}
+use Rattle.log_lines.specs.ShiViz.{shiviz_read}
+use Rattle.log_lines.specs.declared.event.Place.{Place}
+use Rattle.log_lines.specs.declared.range.LineRange.{LineRange}
+use Rattle.log_formats.specs.Patterns.Expressions.{IsExpression}
+use Rattle.log_formats.specs.Patterns.PatternReading.{pattern_read}
+use Rattle.log_formats.specs.declared.patterns.expression.Expression.{Expression}
+use Rattle.cmd_import_log.specs.Counting.{lines_read}
+use Rattle.cmd_import_log.specs.Options.{FormView, Plain, Pattern, ShiViz}
+use Rattle.cmd_import_log.specs.declared.error.LogImportError.{LogImportError}
+use Rattle.cmd_import_log.specs.declared.error.LogImportError.TheVariants as errors
+use Rattle.cmd_import_log.specs.declared.reading.ReadLog.{ReadLog}
+
+-- what is read, of how many lines, whether messages were captured, and whether clocks tell of some
+pub record LogView : Type 0 where
+  pub read : ReadView
+  pub lines : ℕ
+  pub is_captured : Bool
+  pub is_timed : Bool
+
+abbrev pub log_view : ReadLog → LogView
+log_view l = record { read = read_view l.read; lines = l.lines; is_captured = l.is_captured; is_timed = l.is_timed }
+
+abbrev pub plain_log : LineRange → List (List ℕ) → LogView
+plain_log range texts = record { read = plain_read range texts; lines = lines_read range texts; is_captured = false; is_timed = false }
+
+abbrev pub clocked_log : LineRange → List (List ℕ) → LogView
+clocked_log range texts = record {
+  read = by_clocks (shiviz_read range texts);
+  lines = lines_read range texts;
+  is_captured = false;
+  is_timed = is_timed (shiviz_read range texts);
+}
+
+-- the event above is said by the line at this place
+abbrev pub is_of_line : Option Place → Place → Bool
+is_of_line None place = false
+is_of_line (Some above) place = above.text == place.text && above.line == place.line
+
+-- a line says two events: the send and the receive of a captured message
+abbrev pub is_captured : Option Place → List SaidView → Bool
+is_captured above [] = false
+is_captured above (s ∷ said) = if is_of_line above s.place then true else is_captured (Some s.place) said
+
+-- what an expression finds
+abbrev pub found : Expression → LineRange → List (List ℕ) → ReadView
+found e range texts = pattern_read e.groups e.more (regex_pattern e.regex) range texts
+
+abbrev pub pattern_log : Expression → LineRange → List (List ℕ) → LogView
+pattern_log e range texts = record {
+  read = by_clocks (found e range texts);
+  lines = lines_read range texts;
+  is_captured = is_captured None (found e range texts).said;
+  is_timed = is_timed (found e range texts);
+}
+
+-- the texts say this in these lines by the expression of a text
+abbrev pub IsReadBy : List ℕ → LineRange → List (List ℕ) → LogView → Type 0
+IsReadBy text range texts log = (e : Expression) × IsExpression text e × (log ≡ pattern_log e range texts)
+
+-- the texts say this in these lines
+abbrev pub Says : FormView → LineRange → List (List ℕ) → LogView → Type 0
+Says Plain range texts log = log ≡ plain_log range texts
+Says (Pattern text) range texts log = IsReadBy text range texts log
+Says ShiViz range texts log = log ≡ clocked_log range texts
+
+-- a text is no expression: this is a place of it, or behind its end; or memory ran out
+abbrev pub IsBadExpression : List ℕ → LogImportError → Type 0
+IsBadExpression text errors.Memory = Unit {0}
+IsBadExpression text (errors.BadPattern place) = (1 ≤ place) × (place ≤ length text + 1)
+IsBadExpression text errors.NotALog = ⊥
+IsBadExpression text errors.Instances = ⊥
+IsBadExpression text (errors.ToItself place) = ⊥
+IsBadExpression text (errors.LineFull name) = ⊥
+
+-- no expression is needed, so only memory may have run out
+abbrev pub IsMemory : LogImportError → Type 0
+IsMemory errors.Memory = Unit {0}
+IsMemory (errors.BadPattern place) = ⊥
+IsMemory errors.NotALog = ⊥
+IsMemory errors.Instances = ⊥
+IsMemory (errors.ToItself place) = ⊥
+IsMemory (errors.LineFull name) = ⊥
+
+-- the texts aren't read
+abbrev pub IsBadForm : FormView → LogImportError → Type 0
+IsBadForm Plain error = IsMemory error
+IsBadForm (Pattern text) error = IsBadExpression text error
+IsBadForm ShiViz error = IsMemory error

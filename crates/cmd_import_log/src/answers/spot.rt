@@ -1,0 +1,31 @@
+//! How a line of a log is told.
+ghost use Rattle.std.specs.Prelude.{◌≡◌, map};
+ghost use Rattle.cmd_import_log.specs.Answers.Spots.{spot_view, spot};
+
+use log_lines::Place;
+
+/// A line as it is told: `line 17`, or `FILE:17` where there are several files.
+#[derive(Clone, Copy, Debug)]
+pub struct Spot<'a> {
+    pub front: &'a [u8],
+    pub separator: &'a [u8],
+    pub line: u64,
+}
+
+/// How the line is told, where these are the names of several files, or none of one.
+pub(crate) fn spot_of<'a>(files: &[&'a [u8]], place: Place) -> Spot<'a>
+    ensures { spot_view result ≡ spot (map (λ file. file.now) files.now) place }
+{
+    match files.get(place.text) {
+        None => Spot {
+            front: b"line",
+            separator: b" ",
+            line: place.line,
+        },
+        Some(file) => Spot {
+            front: *file,
+            separator: b":",
+            line: place.line,
+        },
+    }
+}

@@ -1,0 +1,164 @@
+//! The chart of a log, and what is told of it.
+ghost use Rattle.std.specs.Prelude.{◌≡◌, ◌≤◌, length, map, All, IfOk, IfErr};
+ghost use Rattle.chart.specs.Charts.{chart_lines, IsPossible};
+ghost use Rattle.log_chart.specs.Charts.Drawing.{IsDrawn, IsRefusalOf};
+ghost use Rattle.log_chart.specs.Cycles.Freeing.{Settles};
+ghost use Rattle.log_lines.specs.Names.Naming.{named_view};
+ghost use Rattle.log_chart.specs.Entries.{HaveStreams};
+ghost use Rattle.log_chart.specs.declared.entry.Entry.{Entry};
+ghost use Rattle.cmd_import_log.specs.Drawing.{refusal_of, IsOfAmong, IsToldOf, IsSettled, IsRefused, DrawsNamed, Draws};
+ghost use Rattle.cmd_import_log.specs.Entries.{entries_in, names_in};
+ghost use Rattle.cmd_import_log.specs.Options.{options_view};
+
+use crate::answers::Told;
+use crate::entries::entries_in;
+use crate::error::LogImportError;
+use crate::options::Options;
+use crate::reading::{ReadLog, read_log};
+use crate::telling::{overtakings_of, places_of, renamed_in};
+use chart::{Chart, Names};
+use log_chart::Entry;
+use log_chart::charts::{DrawError, Drawn, draw};
+use log_chart::named::Log;
+use log_lines::Others;
+use log_lines::names::{NamedLog, named};
+use std::alloc::{AllocError, Global};
+use texts::named as name_of;
+
+/// The chart that a log says, and what is told of it, with a name for each line of the chart.
+#[derive(Debug, Drop)]
+pub struct LogDrawing {
+    pub chart: Chart,
+    pub told: Told,
+}
+
+/// Why a log of hosts of these names has no chart.
+fn refusal(names: &Names, error: DrawError) -> LogImportError
+    requires { IsOfAmong (length names.now) error }
+    ensures { result ≡ refusal_of names.now error }
+{
+    match error {
+        DrawError::Memory => LogImportError::Memory,
+        DrawError::Instances => LogImportError::Instances,
+        DrawError::LineFull(host) => LogImportError::LineFull(name_of(names, host)),
+    }
+}
+
+/// What was read of a log beside its events.
+#[derive(Clone, Copy, Debug)]
+pub(crate) struct Beside {
+    /// Of how many lines it was read.
+    pub lines: u64,
+    pub others: Option<Others>,
+    pub is_captured: bool,
+    pub is_timed: bool,
+}
+
+/// The chart, with what is told of it.
+fn with_told(
+    alloc: Global,
+    beside: Beside,
+    named: &NamedLog,
+    names: Names,
+    drawn: Drawn,
+) -> Result<LogDrawing, AllocError>
+    ensures told { IfOk result (λ d. IsToldOf beside (named_view named.now) names drawn d.told) }
+    ensures chart { IfOk result (λ d. d.chart ≡ drawn.chart) }
+{
+    let Drawn {
+        chart,
+        lost,
+        overtaking,
+        invented,
+        freed,
+    } = drawn;
+    Ok(LogDrawing {
+        chart,
+        told: Told {
+            lines: beside.lines,
+            others: beside.others,
+            own: named.own,
+            is_captured: beside.is_captured,
+            is_timed: beside.is_timed,
+            lost: places_of(alloc, &lost)?,
+            overtaking: overtakings_of(alloc, &overtaking)?,
+            freed: places_of(alloc, &freed)?,
+            names,
+            invented,
+            hosts: renamed_in(alloc, &named.hosts)?,
+            messages: renamed_in(alloc, &named.messages)?,
+        },
+    })
+}
+
+/// The chart of a log, with what is told of it, and the log's entries, receives of which are freed.
+#[derive(Drop)]
+pub(crate) struct Settled {
+    pub drawing: LogDrawing,
+    pub entries: Vec<Entry>,
+}
+
+/// The chart of the lines by names, and their entries.
+pub(crate) fn settled_of(
+    alloc: Global,
+    beside: Beside,
+    named: &NamedLog,
+) -> Result<Settled, LogImportError>
+    ensures settled { IfOk result (IsSettled beside (named_view named.now)) }
+    ensures refused { IfErr result (IsRefused (named_view named.now)) }
+    ensures streams { IfOk result (λ s. HaveStreams s.entries.items) }
+    ensures named { IfOk result (λ s. length s.drawing.told.names ≡ length s.drawing.chart) }
+    ensures invented { IfOk result (λ s. All (λ e. e.instance ≤ length s.drawing.told.names) s.drawing.told.invented.items) }
+{
+    let Log { names, mut entries } = entries_in(alloc, named)?;
+    let drawn = match draw(alloc, names.len(), &mut entries) {
+        Ok(drawn) => drawn,
+        Err(error) => return Err(refusal(&names, error)),
+    };
+    let drawing = with_told(alloc, beside, named, names, drawn)?;
+    Ok(Settled { drawing, entries })
+}
+
+/// The chart of the lines by names.
+fn drawing_of(alloc: Global, beside: Beside, named: &NamedLog) -> Result<LogDrawing, LogImportError>
+    ensures draws { DrawsNamed result beside (named_view named.now) }
+    ensures named { IfOk result (λ d. length d.told.names ≡ length d.chart) }
+    ensures invented { IfOk result (λ d. All (λ e. e.instance ≤ length d.told.names) d.told.invented.items) }
+{
+    match settled_of(alloc, beside, named) {
+        Ok(settled) => Ok(settled.drawing),
+        Err(error) => Err(error),
+    }
+}
+
+/// The chart that the texts of a log say. It is possible.
+///
+/// F39 refuses an expression that is none, F38 texts in which no line says a message, then F8, F13 and F7 a log
+/// without a chart. F6 may come at any point.
+pub fn drawing_in(
+    alloc: Global,
+    options: Options<'_>,
+    texts: &[&[u8]],
+) -> Result<LogDrawing, LogImportError>
+    ensures draws { Draws result (options_view options.entry) (map (λ text. text.now) texts.now) }
+    ensures named { IfOk result (λ d. length d.told.names ≡ length d.chart) }
+    ensures invented { IfOk result (λ d. All (λ e. e.instance ≤ length d.told.names) d.told.invented.items) }
+{
+    let ReadLog {
+        read,
+        lines,
+        is_captured,
+        is_timed,
+    } = read_log(alloc, options.form, options.range, texts)?;
+    if read.said.as_slice().is_empty() {
+        return Err(LogImportError::NotALog);
+    }
+    let named = named(alloc, options.hosts, options.peers, &read.said)?;
+    let beside = Beside {
+        lines,
+        others: read.others,
+        is_captured,
+        is_timed,
+    };
+    drawing_of(alloc, beside, &named)
+}

@@ -1,0 +1,182 @@
+//! The recording of a log: its chart, and what it tells beside it.
+ghost use Rattle.std.specs.Prelude.{◌≡◌, ◌≤◌, length, vec_len, map, All, AllPairs, IfOk};
+ghost use Rattle.log_lines.specs.Events.{said_view};
+ghost use Rattle.log_lines.specs.Names.Naming.{named_view};
+ghost use Rattle.log_lines.specs.Takes.Telling.{told_view};
+ghost use Rattle.log_chart.specs.Entries.{HaveStreams};
+ghost use Rattle.race_verdicts.specs.Recordings.{recording_view};
+ghost use Rattle.cmd_import_log.specs.Options.{form_view, options_view};
+ghost use Rattle.cmd_import_log.specs.Recording.{lent_of, is_known, told_of, arrivals_of, IsRecorded, RecordsNamed, Records};
+
+use crate::drawing::{Beside, LogDrawing, Settled, settled_of};
+use crate::error::LogImportError;
+use crate::options::{Form, Options};
+use crate::reading::{ReadLog, read_log};
+use log_chart::{Entry, HostLine, HostLines, LogLine, host_lines};
+use log_lines::Said;
+use log_lines::names::{NamedLog, named};
+use log_lines::takes::{Arrived, Told, arrivals_in, keys_in, read_told, words_in};
+use race_verdicts::{Arrival, LineWords, Recording, Taken};
+use std::alloc::{AllocError, Global};
+
+/// The chart that a log says, with what is told of it, and what the log tells beside it.
+#[derive(Drop)]
+pub struct LogRecording<'a> {
+    pub drawing: LogDrawing,
+    /// The log's lines, each receive with the send that it takes.
+    pub lines: Vec<LogLine>,
+    /// The events of each host, as the chart has them.
+    pub hosts: Vec<HostLine>,
+    /// The words of each line.
+    pub words: Vec<LineWords<'a>>,
+    /// What receives would have taken, in the order of their lines.
+    pub taken: Vec<Taken<'a>>,
+    /// What arrived, in the order of the log.
+    pub arrivals: Vec<Arrival>,
+    /// Whether its lines are events in the order in which their hosts had them, so that luck is known of its races.
+    pub is_known: bool,
+}
+
+impl<'a> LogRecording<'a> {
+    /// The recording.
+    pub fn recording(&self) -> Recording<'_>
+        ensures { recording_view result ≡ lent_of self.now }
+    {
+        Recording {
+            lines: &self.lines,
+            hosts: &self.hosts,
+            words: &self.words,
+            taken: &self.taken,
+            arrivals: &self.arrivals,
+        }
+    }
+}
+
+/// What the texts tell beside messages: only those in plain words do.
+fn told_of<'a>(
+    alloc: Global,
+    options: &Options<'a>,
+    texts: &[&'a [u8]],
+) -> Result<Told<'a>, AllocError>
+    ensures { IfOk result (λ told. told_view told
+        ≡ told_of (options_view options.now).form (options_view options.now) (map (λ text. text.now) texts.now)) }
+{
+    match options.form {
+        Form::Plain => read_told(alloc, options.peers, options.range, texts),
+        Form::Pattern(_) | Form::ShiViz => Ok(Told::new(alloc)),
+    }
+}
+
+/// Whether luck is known of the races of a log of this form, beside whose events this was read.
+fn is_known(form: Form<'_>, beside: Beside) -> bool
+    ensures { result ≡ is_known (form_view form.entry) beside }
+{
+    match form {
+        Form::Plain | Form::Pattern(_) => !beside.is_captured && !beside.is_timed,
+        Form::ShiViz => false,
+    }
+}
+
+/// The arrivals that are told of a log with these events and entries.
+fn arrivals_of<'a>(
+    alloc: Global,
+    options: &Options<'a>,
+    said: &[Said<'a>],
+    entries: &[Entry],
+    told: &Told<'a>,
+) -> Result<Vec<Arrival>, AllocError>
+    ensures { IfOk result (λ arrivals. arrivals.items
+        ≡ arrivals_of (options_view options.now) (map said_view said.now) entries.now (told_view told.now)) }
+{
+    let keys = keys_in(alloc, options.peers, said)?;
+    arrivals_in(alloc, &keys, entries, &told.arrived)
+}
+
+/// The recording of a log with these events, whose entries are settled.
+fn recorded<'a>(
+    alloc: Global,
+    options: &Options<'a>,
+    said: &[Said<'a>],
+    settled: Settled,
+    told: Told<'a>,
+    is_known: bool,
+) -> Result<LogRecording<'a>, AllocError>
+    requires streams { HaveStreams settled.entries.items }
+    ensures drawing { IfOk result (λ r. r.drawing ≡ settled.drawing) }
+    ensures recorded { IfOk result (IsRecorded (options_view options.now) (map said_view said.now) settled.entries.items (told_view told.entry)) }
+    ensures known { IfOk result (λ r. r.is_known ≡ is_known) }
+{
+    let Settled { drawing, entries } = settled;
+    let arrivals = arrivals_of(alloc, options, said, &entries, &told)?;
+    let words = words_in(alloc, options.peers, said)?;
+    let HostLines {
+        matched,
+        fates,
+        given,
+        lines,
+    } = host_lines(alloc, drawing.told.names.len(), &entries)?;
+    Ok(LogRecording {
+        drawing,
+        lines: matched,
+        hosts: lines,
+        words,
+        taken: told.taken,
+        arrivals,
+        is_known,
+    })
+}
+
+/// The recording of the lines by names, with these events.
+fn recording_of<'a>(
+    alloc: Global,
+    options: &Options<'a>,
+    beside: Beside,
+    said: &[Said<'a>],
+    named: &NamedLog,
+    texts: &[&'a [u8]],
+) -> Result<LogRecording<'a>, LogImportError>
+    ensures records { RecordsNamed result beside (named_view named.now) (options_view options.now) (map said_view said.now)
+        (told_of (options_view options.now).form (options_view options.now) (map (λ text. text.now) texts.now)) }
+    ensures named { IfOk result (λ r. length r.drawing.told.names ≡ length r.drawing.chart) }
+    ensures invented { IfOk result (λ r. All (λ e. e.instance ≤ length r.drawing.told.names) r.drawing.told.invented.items) }
+{
+    let settled = settled_of(alloc, beside, named)?;
+    let told = told_of(alloc, options, texts)?;
+    let is_known = is_known(options.form, beside);
+    Ok(recorded(alloc, options, said, settled, told, is_known)?)
+}
+
+/// The recording that the texts of a log say: its chart is the one of [`drawing_in`](crate::drawing_in), and there is none
+/// exactly where that has none.
+///
+/// F39 refuses an expression that is none, F38 texts in which no line says a message, then F8, F13 and F7 a log
+/// without a chart. F6 may come at any point.
+pub fn recording_in<'a>(
+    alloc: Global,
+    options: Options<'a>,
+    texts: &[&'a [u8]],
+) -> Result<LogRecording<'a>, LogImportError>
+    ensures records { Records result (options_view options.entry) (map (λ text. text.now) texts.now) }
+    ensures named { IfOk result (λ r. length r.drawing.told.names ≡ length r.drawing.chart) }
+    ensures invented { IfOk result (λ r. All (λ e. e.instance ≤ length r.drawing.told.names) r.drawing.told.invented.items) }
+    ensures words { IfOk result (λ r. vec_len r.words ≡ vec_len r.lines) }
+    ensures taken { IfOk result (λ r. AllPairs (λ a b. a.line ≤ b.line) (lent_of r).taken) }
+{
+    let ReadLog {
+        read,
+        lines,
+        is_captured,
+        is_timed,
+    } = read_log(alloc, options.form, options.range, texts)?;
+    if read.said.as_slice().is_empty() {
+        return Err(LogImportError::NotALog);
+    }
+    let named = named(alloc, options.hosts, options.peers, &read.said)?;
+    let beside = Beside {
+        lines,
+        others: read.others,
+        is_captured,
+        is_timed,
+    };
+    recording_of(alloc, &options, beside, &read.said, &named, texts)
+}

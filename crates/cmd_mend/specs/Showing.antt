@@ -1,0 +1,115 @@
+-- What is written of a pair of a chart, and of all its races; and of a file.
+use Rattle.std.specs.Prelude.{◌≡◌, ℕ, ◌≤◌, List, length, Option, option_map, Result, Ok, Err}
+use Rattle.chart.specs.Charts.{chart_lines, IsPossible}
+use Rattle.closure.specs.Faults.{place_of}
+use Rattle.cmd_base.specs.declared.error.ProgramError.{ProgramError}
+use Rattle.cmd_base.specs.declared.error.ProgramError.TheVariants as errors
+use Rattle.cmd_base.specs.Texts.{OfFile, named_of}
+use Rattle.cmd_base.specs.Files.{Named, IsRefused}
+use Rattle.repair.specs.Best.{IsMendedChart}
+use Rattle.repair.specs.declared.adding.MendedChart.{MendedChart}
+use Rattle.repair.specs.declared.error.MendError.{MendError}
+use Rattle.repair.specs.declared.error.MendError.TheVariants as fulls
+use Rattle.repair.specs.declared.mending.Mending.{Mending}
+use Rattle.repair.specs.declared.mending.Mending.TheVariants as mendings
+use Rattle.repair.specs.Mends.{Mends, IsFull}
+use Rattle.msc_text.specs.ChartText.{chart_text}
+use Rattle.texts.specs.Instances.{name_at}
+use Rattle.texts.specs.Outs.{Sink}
+use Rattle.texts.specs.Writing.{Puts, Breaks}
+use Rattle.cmd_base.specs.declared.pairs.error.ViewError.TheVariants.{Program, ManySlots}
+use Rattle.cmd_base.specs.declared.pairs.pair.Pair.{Pair}
+use Rattle.cmd_base.specs.Pairs.Pairs.{pair_of}
+use Rattle.cmd_mend.specs.Answers.{by_program}
+use Rattle.cmd_mend.specs.declared.answering.Outcome.{Outcome}
+use Rattle.cmd_mend.specs.declared.error.MendRefusal.{MendRefusal}
+use Rattle.cmd_mend.specs.declared.error.MendRefusal.TheVariants.{View, LineFull}
+use Rattle.cmd_mend.specs.declared.showing.Wanted.{Wanted}
+use Rattle.cmd_mend.specs.Naming.{IsMessageName}
+use Rattle.cmd_mend.specs.Telling.{IsTold, IsToldAll}
+
+-- the bytes of the name that is asked for, if there are some
+abbrev pub name_asked : Wanted → Option (List ℕ)
+name_asked wanted = option_map (λ bytes. bytes.now) wanted.name
+
+-- the refusal of a message: memory, or the name of the instance whose line is full, one of so many
+abbrev pub refused_so : List (List ℕ) → MendError → MendRefusal
+refused_so names (fulls.LineFull p) = LineFull (name_at names p)
+refused_so names fulls.Memory = by_program errors.Memory
+
+abbrev pub IsNamedFor : ℕ → MendError → Type 0
+IsNamedFor n (fulls.LineFull p) = p ≤ n
+IsNamedFor n fulls.Memory = Unit {0}
+
+-- the pair is the one that is asked about, of a possible chart, and this becomes of it with a message so called
+pub record AreMended (named : Named) (wanted : Wanted) (pair : Pair) (name : List ℕ) (mending : Mending) : Type 0 where
+  pub asked : pair_of named.0 named.1 wanted.asked ≡ Ok pair
+  pub possible : IsPossible (length named.1) (chart_lines named.1)
+  pub called : IsMessageName named.1 (name_asked wanted) name
+  pub mends : Mends (length named.1) (chart_lines named.1) (place_of pair.earlier) (place_of pair.receive) name mending
+
+module _ {S : Type 0} (sink : S → Sink) where
+  -- the chart was written, or nothing, where there is none
+  abbrev pub WritesIt : S → S → List (List ℕ) → Mending → Type 0
+  WritesIt old new names (mendings.Enforced links) = new ≡ old
+  WritesIt old new names mendings.Hidden = new ≡ old
+  WritesIt old new names (mendings.Crossed x) = new ≡ old
+  WritesIt old new names (mendings.OnItsWay x) = new ≡ old
+  WritesIt old new names (mendings.Mended m chart reports) = Puts sink old new (chart_text names chart)
+
+  -- a beginning of its text was, where a put failed
+  abbrev pub BreaksOff : S → S → List (List ℕ) → Mending → Type 0
+  BreaksOff old new names (mendings.Enforced links) = ⊥
+  BreaksOff old new names mendings.Hidden = ⊥
+  BreaksOff old new names (mendings.Crossed x) = ⊥
+  BreaksOff old new names (mendings.OnItsWay x) = ⊥
+  BreaksOff old new names (mendings.Mended m chart reports) = Breaks sink old new (chart_text names chart)
+
+  -- what became of a pair that is asked about was written, and is told
+  abbrev pub Writes : S → S → Named → Pair → Mending → Result Outcome MendRefusal → Type 0
+  Writes old new named pair mending (Ok outcome) = WritesIt old new named.0 mending × IsTold named pair mending outcome
+  Writes old new named pair mending (Err (View (Program errors.Memory))) = new ≡ old
+  Writes old new named pair mending (Err (View (Program errors.Write))) = BreaksOff old new named.0 mending
+  Writes old new named pair mending (Err error) = ⊥
+
+  -- of the pair that is asked about
+  abbrev pub Came : S → S → Result Outcome MendRefusal → Wanted → Named → Type 0
+  Came old new done wanted named = (pair : Pair) × (name : List ℕ) × (mending : Mending)
+      × AreMended named wanted pair name mending × Writes old new named pair mending done
+
+  -- that, or nothing, where the chart is not possible, where there is no such pair, where the name isn't one or is
+  -- taken, where a line is full, or where memory ran out
+  abbrev pub Shows : S → S → Result Outcome MendRefusal → Wanted → Named → Type 0
+  Shows old new (Ok outcome) wanted named = Came old new (Ok outcome) wanted named
+  Shows old new (Err (View (Program errors.Memory))) wanted named = new ≡ old
+  Shows old new (Err (View (Program errors.Write))) wanted named = Came old new (Err (by_program errors.Write)) wanted named
+  Shows old new (Err (View (Program errors.Usage))) wanted named =
+      ((name : List ℕ) → IsMessageName named.1 (name_asked wanted) name → ⊥) × (new ≡ old)
+  Shows old new (Err (View (Program error))) wanted named = IsRefused error named × (new ≡ old)
+  Shows old new (Err (View (ManySlots slots))) wanted named = ⊥
+  Shows old new (Err (View error)) wanted named = (pair_of named.0 named.1 wanted.asked ≡ Err error)
+      × IsPossible (length named.1) (chart_lines named.1) × (new ≡ old)
+  Shows old new (Err (LineFull full)) wanted named = (pair : Pair) × (p : ℕ)
+      × (pair_of named.0 named.1 wanted.asked ≡ Ok pair) × (full ≡ name_at named.0 p)
+      × IsFull (chart_lines named.1) (place_of pair.earlier) (place_of pair.receive) p × (new ≡ old)
+
+  -- the same for the chart that the bytes say; or nothing was written, where the bytes have a fault
+  abbrev pub ShowsText : S → S → Wanted → List ℕ → Result Outcome MendRefusal → Type 0
+  ShowsText old new wanted bytes =
+      OfFile by_program (λ source done. Shows old new done wanted (named_of source)) old new bytes
+
+  -- the messages were added to a possible chart that leave the fewest races, the chart was written, and they are told;
+  -- or a beginning of its text, where a put failed; or nothing, where the chart is not possible, or where memory ran
+  -- out
+  abbrev pub ShowsAll : S → S → Result Outcome ProgramError → Named → Type 0
+  ShowsAll old new (Ok outcome) named = (m : MendedChart) × IsPossible (length named.1) (chart_lines named.1)
+      × IsMendedChart named.1 m × Puts sink old new (chart_text named.0 m.chart) × IsToldAll named.0 m outcome
+  ShowsAll old new (Err errors.Memory) named = new ≡ old
+  ShowsAll old new (Err errors.Write) named = (m : MendedChart) × IsPossible (length named.1) (chart_lines named.1)
+      × IsMendedChart named.1 m × Breaks sink old new (chart_text named.0 m.chart)
+  ShowsAll old new (Err error) named = IsRefused error named × (new ≡ old)
+
+  -- the same for the chart that the bytes say; or nothing was written, where the bytes have a fault
+  abbrev pub ShowsAllText : S → S → List ℕ → Result Outcome ProgramError → Type 0
+  ShowsAllText old new bytes =
+      OfFile (λ error. error) (λ source done. ShowsAll old new done (named_of source)) old new bytes

@@ -1,0 +1,57 @@
+//! The chart in which as many races of a file are gone as can be, by one message after another.
+ghost use Rattle.std.specs.Prelude.{◌≡◌, length};
+ghost use Rattle.cmd_base.specs.Answers.{Answers};
+ghost use Rattle.cmd_base.specs.Texts.{named_of};
+ghost use Rattle.cmd_mend.specs.Answers.{mend_all_said};
+ghost use Rattle.cmd_mend.specs.Showing.{ShowsAll, ShowsAllText};
+
+use crate::answering::Outcome;
+use crate::told::told_additions;
+use chart::{Chart, Names};
+use cmd_base::{ProgramError, Source, Text, answered, closure_of};
+use msc_text::write;
+use std::alloc::Global;
+use texts::Out;
+
+/// Mends the races of the chart. All memory is taken before the first byte is written.
+fn mend_all_in<W: Out>(
+    alloc: Global,
+    names: &Names,
+    chart: &Chart,
+    out: &mut W,
+) -> Result<Outcome, ProgramError>
+    requires { length names.now ≡ length chart.now }
+    ensures { ShowsAll W.sink out.old out.new result (names.now, chart.now) }
+{
+    let _closure = closure_of(alloc, names, chart)?;
+    let Ok(mended) = repair::mend_all(alloc, chart) else {
+        return Err(ProgramError::Memory);
+    };
+    let Ok(outcome) = told_additions(alloc, names, &mended) else {
+        return Err(ProgramError::Memory);
+    };
+    match write(names, &mended.chart, out) {
+        Ok(()) => Ok(outcome),
+        Err(_) => Err(ProgramError::Write),
+    }
+}
+
+/// Mends the races of what the file says.
+fn mend_all_text<W: Out>(alloc: Global, bytes: &[u8], out: &mut W) -> Result<Outcome, ProgramError>
+    ensures { ShowsAllText W.sink out.old out.new bytes.now result }
+{
+    let text = Text::read(alloc, bytes)?;
+    let source = Source::of(alloc, &text)?;
+    mend_all_in(alloc, source.names(), source.chart(), out)
+}
+
+/// Adds messages to the chart that the bytes of a file say, or that their schedule comes to, one after another, as long
+/// as one leaves fewer race pairs: each time the one that leaves the fewest. Writes the chart to `out`, and to `err` a
+/// line for each message, with the race pair that it mends; or the line of a refusal. Answers the exit status: 0 where
+/// no race is left, 1 where one is, 2 after a refusal. Nothing is written to `out` before a refusal, but where writing
+/// to it failed (F24). A failed write to `err` changes nothing.
+pub fn mend_all<W: Out, V: Out>(alloc: Global, bytes: &[u8], out: &mut W, err: &mut V) -> u8
+    ensures { Answers (ShowsAllText W.sink out.old out.new bytes.now) mend_all_said V.sink err.old err.new result }
+{
+    answered(&mend_all_text(alloc, bytes, out), err)
+}

@@ -1,0 +1,3 @@
+pub mod MarksLemmas
+pub mod RaceLemmas
+pub mod TextLemmas

@@ -1,0 +1,94 @@
+-- The page of a file.
+use Rattle.std.specs.Prelude.{◌≡◌, ℕ, ◌-◌, ◌^◌, false, List, [], length, Option, None, Some, option_map, Result, Ok, Err}
+use Rattle.chart.specs.Charts.{chart_lines, IsPossible}
+use Rattle.chart.specs.Reports.{ReportView, AreReports}
+use Rattle.cmd_base.specs.Answers.{Said, said_of, program_said}
+use Rattle.cmd_base.specs.Files.{Named, IsRefused}
+use Rattle.cmd_base.specs.Texts.{OfFile, named_of}
+use Rattle.cmd_base.specs.declared.error.ProgramError.{ProgramError}
+use Rattle.cmd_base.specs.declared.error.ProgramError.TheVariants as errors
+use Rattle.cmd_draw.specs.Drawing.{Draws, DrawsText}
+use Rattle.cmd_draw.specs.declared.drawing.Wanted.{Wanted}
+use Rattle.cmd_draw.specs.declared.windows.Rows.TheVariants.{Between}
+use Rattle.texts.specs.Outs.{Sink, Stored}
+use Rattle.texts.specs.Writing.{Puts, Breaks}
+use Rattle.cmd_page.specs.Text.PageText.{page_text}
+use Rattle.cmd_page.specs.declared.text.page.Page.{Page}
+use Rattle.cmd_page.specs.Answers.Leaving.{memory, none}
+use Rattle.cmd_page.specs.Marks.Pairing.{pairs_of, told_of}
+use Rattle.cmd_page.specs.Races.{AreRaces}
+use Rattle.cmd_page.specs.declared.showing.Heading.{Heading}
+
+-- what is asked of a page: its title, and whose turn it is in its picture, one event after another, where the text doesn't
+-- tell it
+pub record HeadingView : Type 0 where
+  pub title : List ℕ
+  pub turns : Option (List ℕ)
+
+abbrev pub heading_view : Heading → HeadingView
+heading_view heading = record { title = heading.title.now; turns = option_map (λ turns. turns.now) heading.turns }
+
+-- a title alone: the rows are those of the text
+abbrev pub titled : List ℕ → HeadingView
+titled title = record { title = title; turns = None }
+
+-- what is asked for: the picture with this title, with all columns, events and rows, and without numbers
+pub record IsAskedOf (file : List ℕ) (wanted : Wanted) : Type 0 where
+  pub name : wanted.title.now ≡ file
+  pub only : wanted.only ≡ None
+  pub first : wanted.events.first ≡ 1
+  pub last : wanted.events.last ≡ 2 ^ 32 - 1
+  pub rows : wanted.rows ≡ Between (record { first = 1; last = 2 ^ 32 - 1 })
+  pub numbers : wanted.numbers ≡ false
+
+-- the picture is what `draw` writes of the bytes
+pub record IsDrawn (bytes file picture : List ℕ) : Type 0 where
+  pub wanted : Wanted
+  pub asked : IsAskedOf file wanted
+  pub out : Stored
+  pub done : DrawsText memory none out wanted bytes (Ok tt)
+  pub text : picture ≡ out.bytes
+
+-- the picture is what `draw` writes of the chart by whose turn it is, with no note beside it
+pub record IsDrawnBy (turns file : List ℕ) (named : Named) (picture : List ℕ) : Type 0 where
+  pub wanted : Wanted
+  pub asked : IsAskedOf file wanted
+  pub out : Stored
+  pub done : Draws memory none out (Ok tt) wanted turns [] named
+  pub text : picture ≡ out.bytes
+
+-- the picture is that of the bytes, or of the chart by turns
+abbrev pub HasPicture : Option (List ℕ) → List ℕ → List ℕ → Named → List ℕ → Type 0
+HasPicture None bytes file named picture = IsDrawn bytes file picture
+HasPicture (Some turns) bytes file named picture = IsDrawnBy turns file named picture
+
+-- the page of a possible chart that the bytes say
+pub record IsPageOf (bytes : List ℕ) (heading : HeadingView) (named : Named) (page : Page) : Type 0 where
+  pub possible : IsPossible (length named.1) (chart_lines named.1)
+  pub reports : List ReportView
+  pub are : AreReports named.1 reports
+  pub title : page.title.now ≡ heading.title
+  pub picture : HasPicture heading.turns bytes heading.title named page.picture.now
+  pub told : page.told ≡ told_of (length bytes) (length (pairs_of reports))
+  pub races : AreRaces bytes named page.told (pairs_of reports) page.races.now
+
+module _ {S : Type 0} (sink : S → Sink) where
+  -- the page was written; or a beginning of it, where a put failed; or nothing, where the chart is not possible, or where
+  -- memory ran out
+  abbrev pub Shows : S → S → Result (Unit {0}) ProgramError → List ℕ → HeadingView → Named → Type 0
+  Shows old new (Ok done) bytes heading named = (page : Page) × IsPageOf bytes heading named page
+      × Puts sink old new (page_text page)
+  Shows old new (Err errors.Memory) bytes heading named = new ≡ old
+  Shows old new (Err errors.Write) bytes heading named = (page : Page) × IsPageOf bytes heading named page
+      × Breaks sink old new (page_text page)
+  Shows old new (Err error) bytes heading named = IsRefused error named × (new ≡ old)
+
+  -- The same for the chart that the bytes say; or nothing was written, where the bytes have a fault. It stays folded, so that
+  -- what stands above it is short.
+  unfoldable pub ShowsText : S → S → HeadingView → List ℕ → Result (Unit {0}) ProgramError → Type 0
+  ShowsText old new heading bytes done =
+      OfFile (λ error. error) (λ source done. Shows old new done bytes heading (named_of source)) old new bytes done
+
+-- what is said of a page that was written: nothing
+abbrev pub page_said : Result (Unit {0}) ProgramError → Said
+page_said = said_of (λ done. record { status = 0; told = None }) program_said

@@ -1,0 +1,54 @@
+-- A page as text (this project's profile; the elements are those of HTML).
+use Rattle.std.specs.Prelude.{ℕ, List, [], ◌++◌, ◌==◌, length, decimal, nat_lt, if◌then◌else◌}
+use Rattle.std.specs.List.{flat_map}
+use Rattle.texts.specs.Pieces.Pieces.{escaped}
+use Rattle.cmd_page.specs.declared.text.fixed.TheConstants.{POLICY, STYLE, CONTROLS, SCRIPT}
+use Rattle.cmd_page.specs.declared.text.page.Page.{Page}
+use Rattle.cmd_page.specs.declared.text.word.Word.{Word}
+use Rattle.cmd_page.specs.declared.text.word.Word.TheVariants as words
+use Rattle.cmd_page.specs.Text.RaceText.{race_text}
+use Rattle.cmd_page.specs.Text.Words.{word_text}
+
+-- what the page may do
+unfoldable pub policy : List ℕ
+policy = POLICY.now
+
+unfoldable pub style : List ℕ
+style = STYLE.now
+
+unfoldable pub controls : List ℕ
+controls = CONTROLS.now
+
+unfoldable pub script : List ℕ
+script = SCRIPT.now
+
+-- what stands before the body
+unfoldable pub head_text : List ℕ → List ℕ
+head_text title = word_text words.PageStart ++ (policy ++ (escaped title ++ (word_text words.StyleStart ++ style)))
+
+-- the word for so many races
+abbrev pub race_word : ℕ → Word
+race_word n = if n == 1 then words.OneRace else words.Races
+
+-- how many of them are told in full
+unfoldable pub some_told : ℕ → List ℕ
+some_told told = word_text words.ToldStart ++ (decimal told ++ word_text words.ToldEnd)
+
+-- the same where not all are
+abbrev pub told_text : ℕ → ℕ → List ℕ
+told_text races told = if nat_lt told races then some_told told else []
+
+-- how many races there are, and where not all are told in full, how many are
+unfoldable pub counts_text : ℕ → ℕ → List ℕ
+counts_text races told = word_text words.CountStart ++ (decimal races ++ (word_text (race_word races)
+    ++ (told_text races told ++ controls)))
+
+-- the title, and the picture
+unfoldable pub top_text : Page → List ℕ
+top_text page = word_text words.HeadStart ++ (escaped page.title.now ++ (counts_text (length page.races.now) page.told
+    ++ (word_text words.PictureStart ++ (page.picture.now ++ word_text words.RacesStart))))
+
+-- all of it
+unfoldable pub page_text : Page → List ℕ
+page_text page = head_text page.title.now ++ (top_text page ++ (flat_map race_text page.races.now
+    ++ (word_text words.ScriptStart ++ (script ++ word_text words.PageEnd))))

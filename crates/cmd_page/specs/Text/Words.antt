@@ -1,0 +1,38 @@
+-- What stands between the parts of a page (this project's profile; the elements are those of HTML).
+use Rattle.std.specs.Prelude.{ℕ, List, codes}
+use Rattle.cmd_page.specs.declared.text.word.Word.{Word}
+use Rattle.cmd_page.specs.declared.text.word.Word.TheVariants as words
+
+unfoldable pub word_text : Word → List ℕ
+word_text words.LineStart = codes ""
+word_text words.EarlierStart = codes "<mark class=\"earlier\">"
+word_text words.ReceiveStart = codes "<mark class=\"receive\">"
+word_text words.LineEnd = codes "\n"
+word_text words.EventEnd = codes "</mark>\n"
+word_text words.Gap = codes "<i>..</i>\n"
+word_text words.RaceStart = codes "<li id=\"r"
+word_text words.Dash = codes "-"
+word_text words.Last = codes "\" data-last=\""
+word_text words.Before = codes "\" data-before=\""
+word_text words.Also = codes "\" data-also=\""
+word_text words.NumbersEnd = codes "\">\n"
+word_text words.Space = codes " "
+word_text words.SummaryStart = codes "<details><summary>"
+word_text words.Why = codes "</summary>\n<h2>Why</h2>\n<pre>"
+word_text words.Witness = codes "</pre>\n<h2>Another order</h2>\n<pre>"
+word_text words.Mend = codes "</pre>\n<h2>A message by which it goes</h2>\n<pre>"
+word_text words.SummaryEnd = codes "</pre>\n</details></li>\n"
+word_text words.ShortStart = codes "<p>"
+word_text words.ShortEnd = codes "</p></li>\n"
+word_text words.PageStart = codes "<!DOCTYPE html>\n<html lang=\"en\">\n<head>\n<meta charset=\"utf-8\">\n"
+word_text words.StyleStart = codes "</title>\n<style>\n"
+word_text words.HeadStart = codes "</style>\n</head>\n<body>\n<header>\n<h1>"
+word_text words.CountStart = codes "</h1>\n<p>"
+word_text words.OneRace = codes " race"
+word_text words.Races = codes " races"
+word_text words.ToldStart = codes ", "
+word_text words.ToldEnd = codes " of them told in full"
+word_text words.PictureStart = codes "</header>\n<main id=\"picture\">\n"
+word_text words.RacesStart = codes "</main>\n<section id=\"list\">\n<ol id=\"races\">\n"
+word_text words.ScriptStart = codes "</ol>\n</section>\n<script>\n"
+word_text words.PageEnd = codes "</script>\n</body>\n</html>\n"

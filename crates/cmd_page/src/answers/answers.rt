@@ -1,0 +1,121 @@
+//! What a page tells of a race: why it is one, another order, and a message by which it goes.
+ghost use Rattle.std.specs.Prelude.{◌≡◌, ◌++◌, IfOk};
+ghost use Rattle.cmd_base.specs.Texts.{IsSaid};
+ghost use Rattle.cmd_page.specs.Answers.Answering.{plus, texts, IsWhyExcerpt, IsWitnessExcerpt, IsMendExcerpt, AreAnswers};
+
+use crate::answers::left::{Left, mend_left, why_left, witness_left};
+use crate::answers::rows::row_in;
+use crate::text::{Answers, Excerpt};
+use chart::{Event, InstanceNo, Names};
+use cmd_base::Source;
+use cmd_base::pairs::Asked;
+use std::alloc::{AllocError, Global};
+
+/// Of what the answers are: a race of a file's chart.
+#[derive(Clone, Copy)]
+pub struct Subject<'a> {
+    /// The file's.
+    pub bytes: &'a [u8],
+    /// Where its chart comes from.
+    pub source: &'a Source<'a>,
+    pub names: &'a Names,
+    pub instance: InstanceNo,
+    /// The events of the instance's line.
+    pub events: &'a [Event],
+    pub asked: Asked<'a>,
+    pub earlier: u32,
+    pub receive: u32,
+    /// How many lines stand above the rows of the line in what says why it is a race.
+    pub above: u64,
+}
+
+/// What was left on standard output, and behind it what was told.
+fn texts(left: Left) -> Result<Vec<u8>, AllocError>
+    ensures { IfOk result (λ text. text.items ≡ texts left) }
+{
+    let Left {
+        out,
+        err,
+        status: _,
+    } = left;
+    let mut text = out.into_bytes();
+    text.extend_from_slice(err.as_bytes())?;
+    Ok(text)
+}
+
+/// Of why it is a race: what has to come before the receive, and the line's rows round the two events.
+fn why_of(alloc: Global, subject: &Subject<'_>) -> Result<Excerpt, AllocError>
+    requires { IsSaid subject.now.bytes.now subject.now.source.now }
+    ensures { IfOk result (IsWhyExcerpt subject.now) }
+{
+    let left = why_left(alloc, subject.source, &subject.asked)?;
+    let text = texts(left)?;
+    Ok(Excerpt {
+        text,
+        head: subject.above,
+        earlier: subject.above.saturating_add(u64::from(subject.earlier)),
+        receive: subject.above.saturating_add(u64::from(subject.receive)),
+    })
+}
+
+/// Of the other order: the instances, the capacity, and the commands round the two events.
+fn witness_of(alloc: Global, subject: &Subject<'_>) -> Result<Excerpt, AllocError>
+    requires { IsSaid subject.now.bytes.now subject.now.source.now }
+    ensures { IfOk result (IsWitnessExcerpt subject.now) }
+{
+    let left = witness_left(alloc, subject.source, &subject.asked)?;
+    let text = texts(left)?;
+    let earlier = row_in(
+        alloc,
+        subject.names,
+        subject.instance,
+        subject.events,
+        subject.earlier,
+        text.as_slice(),
+    )?;
+    let receive = row_in(
+        alloc,
+        subject.names,
+        subject.instance,
+        subject.events,
+        subject.receive,
+        text.as_slice(),
+    )?;
+    Ok(Excerpt {
+        text,
+        head: 2,
+        earlier,
+        receive,
+    })
+}
+
+/// Of the message by which it goes: the first lines of what is told.
+fn mend_of(alloc: Global, subject: &Subject<'_>) -> Result<Excerpt, AllocError>
+    requires { IsSaid subject.now.bytes.now subject.now.source.now }
+    ensures { IfOk result (IsMendExcerpt subject.now) }
+{
+    let left = mend_left(alloc, subject.source, &subject.asked)?;
+    let Left {
+        out: _,
+        err,
+        status: _,
+    } = left;
+    Ok(Excerpt {
+        text: err.into_bytes(),
+        head: 24,
+        earlier: 0,
+        receive: 0,
+    })
+}
+
+/// All of it. The file is read once for all of its races: the source is what its bytes say.
+pub fn answers_of(alloc: Global, subject: &Subject<'_>) -> Result<Answers, AllocError>
+    requires { IsSaid subject.now.bytes.now subject.now.source.now }
+    ensures { IfOk result (AreAnswers subject.now) }
+{
+    Ok(Answers {
+        why: why_of(alloc, subject)?,
+        witness: witness_of(alloc, subject)?,
+        mend: mend_of(alloc, subject)?,
+    })
+}

@@ -1,0 +1,88 @@
+//! What the commands leave of two events: their output, what they tell, and their status.
+ghost use Rattle.std.specs.Prelude.{ℕ, List, IfOk, IsTrue};
+ghost use Rattle.cmd_base.specs.Texts.{ComesFrom, IsSaid};
+ghost use Rattle.cmd_page.specs.Answers.Leaving.{IsWhole, IsWhy, IsWitness, IsMend};
+
+use crate::answers::collected::Collected;
+use cmd_base::Source;
+use cmd_base::pairs::Asked;
+use cmd_explain_race::{why_of_source, witness_of_source};
+use cmd_mend::mend_of_source;
+use std::alloc::{AllocError, Global};
+
+/// What a command left: on standard output, on standard error, and its exit status.
+#[derive(Drop)]
+pub struct Left {
+    pub out: Collected,
+    pub err: Collected,
+    pub status: u8,
+}
+
+/// What is told where memory ran out.
+const OUT_OF_MEMORY: &[u8] = b"refused: F6 Memory\n";
+
+/// Whether it is all that was left: no put failed, and memory didn't run out otherwise.
+fn is_all(left: &Left) -> bool
+    ensures { IsTrue result → IsWhole left.now }
+{
+    left.out.is_whole() && left.err.is_whole() && left.err.as_bytes() != OUT_OF_MEMORY
+}
+
+/// What `why` leaves of the file that a chart comes from.
+pub(crate) fn why_left(
+    alloc: Global,
+    source: &Source<'_>,
+    asked: &Asked<'_>,
+) -> Result<Left, AllocError>
+    ensures { IfOk result (λ left. (bytes : List ℕ) → IsSaid bytes source.now → IsWhy bytes asked.now left) }
+{
+    let mut out = Collected::new(alloc);
+    let mut err = Collected::new(alloc);
+    let status = why_of_source(alloc, source, asked, &mut out, &mut err);
+    let left = Left { out, err, status };
+    if !is_all(&left) {
+        return Err(AllocError);
+    }
+    Ok(left)
+}
+
+/// What `witness` leaves of the file that a chart comes from.
+pub(crate) fn witness_left(
+    alloc: Global,
+    source: &Source<'_>,
+    asked: &Asked<'_>,
+) -> Result<Left, AllocError>
+    requires { ComesFrom source.now }
+    ensures { IfOk result (λ left. (bytes : List ℕ) → IsSaid bytes source.now → IsWitness bytes asked.now left) }
+{
+    let mut out = Collected::new(alloc);
+    let mut err = Collected::new(alloc);
+    let status = witness_of_source(alloc, source, asked, &mut out, &mut err);
+    let left = Left { out, err, status };
+    if !is_all(&left) {
+        return Err(AllocError);
+    }
+    Ok(left)
+}
+
+/// What `mend` leaves of the file that a chart comes from, where it names the message itself.
+pub(crate) fn mend_left(
+    alloc: Global,
+    source: &Source<'_>,
+    asked: &Asked<'_>,
+) -> Result<Left, AllocError>
+    ensures { IfOk result (λ left. (bytes : List ℕ) → IsSaid bytes source.now → IsMend bytes asked.now left) }
+{
+    let wanted = cmd_mend::Wanted {
+        asked: *asked,
+        name: None,
+    };
+    let mut out = Collected::new(alloc);
+    let mut err = Collected::new(alloc);
+    let status = mend_of_source(alloc, source, &wanted, &mut out, &mut err);
+    let left = Left { out, err, status };
+    if !is_all(&left) {
+        return Err(AllocError);
+    }
+    Ok(left)
+}

@@ -1,0 +1,215 @@
+//! The races of a page.
+ghost use Rattle.std.specs.Prelude.{◌≡◌, length, All, IfOk};
+ghost use Rattle.chart.specs.Ranges.{IsRange};
+ghost use Rattle.cmd_base.specs.Texts.{IsSaid};
+ghost use Rattle.texts.specs.Instances.{name_at};
+ghost use Rattle.texts.specs.Writing.{Wrote, Adds};
+ghost use Rattle.cmd_page.specs.Answers.Answering.{plus};
+ghost use Rattle.cmd_page.specs.Marks.Pairing.{HasRange};
+ghost use Rattle.cmd_page.specs.Races.{title_text, IsAnswered, HasAnswers, IsRace, AreRaces};
+
+use crate::answers::{Subject, answers_of, name_bytes};
+use crate::marks::{Marks, RaceRange, line_of, marks_of};
+use crate::text::{Answers, Race};
+use chart::{Event, Names};
+use closure::Closure;
+use cmd_base::Source;
+use cmd_base::pairs::Asked;
+use races_text::named::{Word, add_event_at, add_name, add_range, add_word, event_at, last_of};
+use std::alloc::{AllocError, Global};
+use texts::{MemoryOut, Out, TextBuffer, WriteError};
+
+/// A file that was read: its bytes, and where the chart comes from that they say.
+#[derive(Clone, Copy)]
+pub(crate) struct ReadFile<'a> {
+    pub bytes: &'a [u8],
+    pub source: &'a Source<'a>,
+}
+
+/// Adds a race by the names of its messages.
+#[tactic(auto, using(texts::proofs::Writes::joining), unfolding(crate::specs::Races::title_text))]
+fn add_title<W: Out>(
+    text: &mut TextBuffer<'_, W>,
+    names: &Names,
+    events: &[Event],
+    race: &RaceRange,
+) -> Result<(), WriteError>
+    requires { IsRange race.now.earlier }
+    ensures { Adds W.sink text.old text.new result (title_text names.now events.now race.now) }
+{
+    let index = race.receive.index;
+    add_name(text, names, race.receive.instance)?;
+    add_word(text, Word::Colon)?;
+    add_event_at(text, names, index, &event_at(events, index as usize))?;
+    add_word(text, Word::MayCome)?;
+    add_range(text, names, events, &race.earlier)
+}
+
+#[tactic(auto, using(texts::proofs::Writes::joining))]
+fn write_title<W: Out>(
+    names: &Names,
+    events: &[Event],
+    race: &RaceRange,
+    out: &mut W,
+) -> Result<(), WriteError>
+    requires { IsRange race.now.earlier }
+    ensures { Wrote W.sink out.old out.new result (title_text names.now events.now race.now) }
+{
+    let mut text = TextBuffer::new(out);
+    add_title(&mut text, names, events, race)?;
+    text.finish()
+}
+
+/// A race by the names of its messages, as `mscview races` tells it.
+fn title_of(
+    alloc: Global,
+    names: &Names,
+    events: &[Event],
+    race: &RaceRange,
+) -> Result<Vec<u8>, AllocError>
+    requires { IsRange race.now.earlier }
+    ensures { IfOk result (λ bytes. bytes.items ≡ title_text names.now events.now race.now) }
+{
+    let mut out = MemoryOut::new(alloc);
+    match write_title(names, events, race, &mut out) {
+        Ok(()) => Ok(out.into_bytes()),
+        Err(_) => Err(AllocError),
+    }
+}
+
+/// What is told of a race in full, of an instance of this name.
+fn named_answers<'a>(
+    alloc: Global,
+    file: ReadFile<'a>,
+    names: &'a Names,
+    events: &'a [Event],
+    name: &'a [u8],
+    race: &RaceRange,
+    above: u64,
+) -> Result<Answers, AllocError>
+    requires said { IsSaid file.bytes.now file.source.now }
+    requires name { name.now ≡ name_at names.now race.now.receive.instance }
+    ensures { IfOk result (IsAnswered file.entry.bytes.now names.now events.now race.now above) }
+{
+    let earlier = race.earlier.first.index;
+    let receive = race.receive.index;
+    let subject = Subject {
+        bytes: file.bytes,
+        source: file.source,
+        names,
+        instance: race.receive.instance,
+        events,
+        asked: Asked {
+            instance: name,
+            earlier: earlier as u64,
+            receive: receive as u64,
+        },
+        earlier,
+        receive,
+        above,
+    };
+    let answers = answers_of(alloc, &subject)?;
+    Ok(answers)
+}
+
+/// How many lines stand above the rows of what says why it is a race.
+fn above_rows(marks: &Marks) -> u64
+    ensures { result ≡ plus (length marks.now.before.items) (length marks.now.also.items) }
+{
+    (marks.before.len() as u64).saturating_add(marks.also.len() as u64)
+}
+
+/// What is told of a race in full.
+fn full_answers(
+    alloc: Global,
+    file: ReadFile<'_>,
+    names: &Names,
+    events: &[Event],
+    race: &RaceRange,
+    above: u64,
+) -> Result<Answers, AllocError>
+    requires { IsSaid file.bytes.now file.source.now }
+    ensures { IfOk result (IsAnswered file.entry.bytes.now names.now events.now race.now above) }
+{
+    let name = name_bytes(alloc, names, race.receive.instance)?;
+    named_answers(alloc, file, names, events, name.as_slice(), race, above)
+}
+
+/// What is told of a race, if it is told in full.
+fn answers_if(
+    alloc: Global,
+    file: ReadFile<'_>,
+    names: &Names,
+    events: &[Event],
+    race: &RaceRange,
+    above: u64,
+    is_told: bool,
+) -> Result<Option<Answers>, AllocError>
+    requires { IsSaid file.bytes.now file.source.now }
+    ensures { IfOk result (HasAnswers is_told file.entry.bytes.now names.now events.now race.now above) }
+{
+    if is_told {
+        let answers = full_answers(alloc, file, names, events, race, above)?;
+        Ok(Some(answers))
+    } else {
+        Ok(None)
+    }
+}
+
+/// A race of a page.
+fn race_of(
+    alloc: Global,
+    file: ReadFile<'_>,
+    names: &Names,
+    closure: &Closure<'_>,
+    race: &RaceRange,
+    is_told: bool,
+) -> Result<Race, AllocError>
+    requires said { IsSaid file.bytes.now file.source.now }
+    requires range { IsRange race.now.earlier }
+    ensures { IfOk result (IsRace is_told file.entry.bytes.now (names.now, closure.now) race.now) }
+{
+    let events = line_of(closure, race.receive.instance);
+    let marks = marks_of(alloc, closure, &race.receive)?;
+    let line = title_of(alloc, names, events, race)?;
+    let above = above_rows(&marks);
+    let answers = answers_if(alloc, file, names, events, race, above, is_told)?;
+    let Marks { before, also } = marks;
+    Ok(Race {
+        receive: race.receive,
+        first: race.earlier.first.index as u64,
+        last: last_of(&race.earlier) as u64,
+        before,
+        also,
+        line,
+        answers,
+    })
+}
+
+/// The races of a page, of which so many are told in full.
+pub(crate) fn races_of(
+    alloc: Global,
+    file: ReadFile<'_>,
+    names: &Names,
+    closure: &Closure<'_>,
+    pairs: &[RaceRange],
+    told: u64,
+) -> Result<Vec<Race>, AllocError>
+    requires said { IsSaid file.bytes.now file.source.now }
+    requires ranges { All HasRange pairs.now }
+    ensures { IfOk result (λ races. AreRaces file.entry.bytes.now (names.now, closure.now) told pairs.now races.items) }
+{
+    let mut races = Vec::new(alloc);
+    for place in 0..pairs.len() {
+        let race = race_of(
+            alloc,
+            file,
+            names,
+            closure,
+            &pairs[place],
+            (place as u64) < told,
+        )?;
+        races.push(race)?;
+    }
+    Ok(races)
+}

@@ -1,0 +1,155 @@
+//! A page, as HTML text.
+ghost use Rattle.std.specs.Prelude.{◌≡◌};
+ghost use Rattle.std.specs.List.{flat_map};
+ghost use Rattle.texts.specs.Writing.{Adds, Wrote};
+ghost use Rattle.cmd_page.specs.Text.PageText.{policy, style, controls, script, head_text, race_word, some_told, told_text};
+ghost use Rattle.cmd_page.specs.Text.PageText.{counts_text, top_text, page_text};
+ghost use Rattle.cmd_page.specs.Text.RaceText.{race_text};
+
+use crate::text::excerpt::add_any;
+use crate::text::fixed::{CONTROLS, POLICY, SCRIPT, STYLE};
+use crate::text::race::{Race, add_race};
+use crate::text::word::{Word, add_word};
+use texts::{Out, TextBuffer, WriteError};
+
+/// What a page is of.
+#[derive(Clone, Copy)]
+pub struct Page<'a> {
+    /// Any bytes.
+    pub title: &'a [u8],
+    /// An SVG text, which the page has as it is.
+    pub picture: &'a [u8],
+    pub races: &'a [Race],
+    /// How many of the races are told in full.
+    pub told: u64,
+}
+
+/// Adds what the page may do: show itself, and run its own script.
+#[tactic(auto, unfolding(crate::specs::Text::PageText::policy))]
+fn add_policy<W: Out>(text: &mut TextBuffer<'_, W>) -> Result<(), WriteError>
+    ensures { Adds W.sink text.old text.new result policy }
+{
+    text.add(POLICY)
+}
+
+#[tactic(auto, unfolding(crate::specs::Text::PageText::style))]
+fn add_style<W: Out>(text: &mut TextBuffer<'_, W>) -> Result<(), WriteError>
+    ensures { Adds W.sink text.old text.new result style }
+{
+    text.add(STYLE)
+}
+
+#[tactic(auto, unfolding(crate::specs::Text::PageText::controls))]
+fn add_controls<W: Out>(text: &mut TextBuffer<'_, W>) -> Result<(), WriteError>
+    ensures { Adds W.sink text.old text.new result controls }
+{
+    text.add(CONTROLS)
+}
+
+#[tactic(auto, unfolding(crate::specs::Text::PageText::script))]
+fn add_script<W: Out>(text: &mut TextBuffer<'_, W>) -> Result<(), WriteError>
+    ensures { Adds W.sink text.old text.new result script }
+{
+    text.add(SCRIPT)
+}
+
+/// Adds what stands before the body.
+#[tactic(auto, using(texts::proofs::Writes::joining), unfolding(crate::specs::Text::PageText::head_text))]
+fn add_head<W: Out>(text: &mut TextBuffer<'_, W>, title: &[u8]) -> Result<(), WriteError>
+    ensures { Adds W.sink text.old text.new result (head_text title.now) }
+{
+    add_word(text, Word::PageStart)?;
+    add_policy(text)?;
+    add_any(text, title)?;
+    add_word(text, Word::StyleStart)?;
+    add_style(text)
+}
+
+/// The word for so many races.
+fn race_word(races: u64) -> Word
+    ensures { result ≡ race_word races }
+{
+    if races == 1 {
+        Word::OneRace
+    } else {
+        Word::Races
+    }
+}
+
+/// Adds how many races are told in full.
+#[tactic(auto, using(texts::proofs::Writes::joining), unfolding(crate::specs::Text::PageText::some_told))]
+fn add_some_told<W: Out>(text: &mut TextBuffer<'_, W>, told: u64) -> Result<(), WriteError>
+    ensures { Adds W.sink text.old text.new result (some_told told) }
+{
+    add_word(text, Word::ToldStart)?;
+    text.add_number(told)?;
+    add_word(text, Word::ToldEnd)
+}
+
+/// Adds the same, where not all are.
+fn add_told<W: Out>(text: &mut TextBuffer<'_, W>, races: u64, told: u64) -> Result<(), WriteError>
+    ensures { Adds W.sink text.old text.new result (told_text races told) }
+{
+    if told < races {
+        add_some_told(text, told)
+    } else {
+        text.add(b"")
+    }
+}
+
+/// Adds how many races the page has, and where not all of them are told in full, how many are.
+#[tactic(auto, using(texts::proofs::Writes::joining), unfolding(crate::specs::Text::PageText::counts_text))]
+fn add_counts<W: Out>(text: &mut TextBuffer<'_, W>, races: u64, told: u64) -> Result<(), WriteError>
+    ensures { Adds W.sink text.old text.new result (counts_text races told) }
+{
+    add_word(text, Word::CountStart)?;
+    text.add_number(races)?;
+    add_word(text, race_word(races))?;
+    add_told(text, races, told)?;
+    add_controls(text)
+}
+
+/// Adds the head of the page.
+#[tactic(auto, using(texts::proofs::Writes::joining), unfolding(crate::specs::Text::PageText::top_text))]
+fn add_top<W: Out>(text: &mut TextBuffer<'_, W>, page: &Page<'_>) -> Result<(), WriteError>
+    ensures { Adds W.sink text.old text.new result (top_text page.now) }
+{
+    add_word(text, Word::HeadStart)?;
+    add_any(text, page.title)?;
+    add_counts(text, page.races.len() as u64, page.told)?;
+    add_word(text, Word::PictureStart)?;
+    text.add(page.picture)?;
+    add_word(text, Word::RacesStart)
+}
+
+fn add_races<W: Out>(text: &mut TextBuffer<'_, W>, races: &[Race]) -> Result<(), WriteError>
+    ensures { Adds W.sink text.old text.new result (flat_map race_text races.now) }
+{
+    for race in races {
+        add_race(text, race)?;
+    }
+    Ok(())
+}
+
+#[tactic(auto, using(texts::proofs::Writes::joining), unfolding(crate::specs::Text::PageText::page_text))]
+fn add_page<W: Out>(text: &mut TextBuffer<'_, W>, page: &Page<'_>) -> Result<(), WriteError>
+    ensures { Adds W.sink text.old text.new result (page_text page.now) }
+{
+    add_head(text, page.title)?;
+    add_top(text, page)?;
+    add_races(text, page.races)?;
+    add_word(text, Word::ScriptStart)?;
+    add_script(text)?;
+    add_word(text, Word::PageEnd)
+}
+
+/// Writes a page. It takes no memory. Where a put fails (F24), a beginning of the text was written, and no other put is
+/// tried.
+#[tactic(auto, using(texts::proofs::Writes::joining))]
+pub fn write_page<W: Out>(page: &Page<'_>, out: &mut W) -> Result<(), WriteError>
+    ensures { Wrote W.sink out.old out.new result (page_text page.now) }
+{
+    let mut text = TextBuffer::new(out);
+    add_page(&mut text, page)?;
+    text.finish()
+}

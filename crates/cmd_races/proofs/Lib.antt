@@ -1,0 +1,4 @@
+pub mod JudgedLemmas
+pub mod LogsLemmas
+pub mod RefusedLemmas
+pub mod SchedulesLemmas

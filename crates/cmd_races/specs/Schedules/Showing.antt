@@ -1,0 +1,50 @@
+-- Which races of a schedule are shown where luck alone is asked for.
+use Rattle.std.specs.Prelude.{◌≡◌, ℕ, Bool, true, false, List, Result, Err}
+use Rattle.chart.specs.declared.instance.EventNo.{EventNo}
+use Rattle.closure.specs.Faults.{place_of}
+use Rattle.cmd_base.specs.Files.{is_schedule}
+use Rattle.cmd_base.specs.Texts.{OfFile}
+use Rattle.cmd_base.specs.declared.error.ProgramError.TheVariants as errors
+use Rattle.cmd_base.specs.declared.source.Source.{Source}
+use Rattle.cmd_base.specs.declared.source.Source.TheVariants.{Run, Drawn}
+use Rattle.cmd_base.specs.declared.columns.error.FormatError.{FormatError}
+use Rattle.cmd_base.specs.declared.columns.error.FormatError.TheVariants.{Program}
+use Rattle.texts.specs.Outs.{Sink}
+use Rattle.schedule.specs.Outcomes.Outcomes.{OutcomeView}
+use Rattle.cmd_races.specs.Judging.{ShowsJudged}
+use Rattle.cmd_races.specs.declared.judging.LuckWanted.{LuckWanted}
+use Rattle.cmd_races.specs.declared.showing.Wanted.{Wanted}
+use Rattle.cmd_base.specs.declared.status.Status.{Status}
+use Rattle.race_verdicts.specs.declared.verdict.Verdict.{Verdict}
+use Rattle.schedule.specs.Plans.{Plan}
+use Rattle.cmd_races.specs.Schedules.Makers.{RunView}
+use Rattle.cmd_races.specs.Schedules.Verdicts.{IsVerdict}
+
+-- what a plan came to
+abbrev pub run_of : Plan → OutcomeView → RunView
+run_of plan o = record { commands = plan.commands; notes = o.notes; lines = o.chart }
+
+-- this is the verdict of a race of its chart
+abbrev pub verdict_in : RunView → EventNo → EventNo → Verdict → Type 0
+verdict_in run r e verdict = IsVerdict run (place_of r) (place_of e) verdict
+
+-- of the races those that were luck
+abbrev pub luck_alone : Wanted → LuckWanted
+luck_alone wanted = record { races = wanted; luck = true }
+
+module _ {S : Type 0} (sink : S → Sink) where
+  -- the races of the run that were luck were shown, or refused; of a chart nothing is known of luck
+  abbrev pub ShowsRun : S → S → Result Status FormatError → Wanted → Source → Type 0
+  ShowsRun old new done wanted (Run schedule outcome) =
+      ShowsJudged sink (verdict_in (run_of schedule.now outcome)) old new done (luck_alone wanted) (outcome.names, outcome.chart)
+  ShowsRun old new done wanted (Drawn named) = (done ≡ Err (Program errors.Usage)) × (new ≡ old)
+
+  -- by whether the file is a schedule: of any other luck is refused, whatever it says
+  abbrev pub ShowsBy : Bool → S → S → Wanted → List ℕ → Result Status FormatError → Type 0
+  ShowsBy true old new wanted bytes done = OfFile Program (λ source done. ShowsRun old new done wanted source) old new bytes done
+  ShowsBy false old new wanted bytes done = (done ≡ Err (Program errors.Usage)) × (new ≡ old)
+
+  -- the races of the schedule that were luck were shown; or nothing was written, where the bytes are no schedule's or have a
+  -- fault
+  abbrev pub ShowsLuck : S → S → Wanted → List ℕ → Result Status FormatError → Type 0
+  ShowsLuck old new wanted bytes done = ShowsBy (is_schedule bytes) old new wanted bytes done

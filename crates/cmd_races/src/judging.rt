@@ -1,0 +1,125 @@
+//! The races of a chart with the words of their verdicts, and those of a chart of which luck isn't known.
+ghost use Rattle.std.specs.Prelude.{◌≡◌, length, IfSome};
+ghost use Rattle.chart.specs.declared.instance.EventNo.{EventNo};
+ghost use Rattle.chart.specs.Charts.{chart_lines, IsPossible};
+ghost use Rattle.cmd_base.specs.Columns.Columns.{AreColumns, only_of};
+ghost use Rattle.races_text.specs.Judged.Telling.{IsRaceIn};
+ghost use Rattle.races_text.specs.Named.Telling.{is_there};
+ghost use Rattle.cmd_races.specs.Judging.{ShowsJudged, IsLuckRefused, ShowsUnknown};
+
+use crate::showing::{Wanted, show_chart};
+use chart::{Chart, InstanceNo, Names};
+use closure::Closure;
+use cmd_base::columns::{FormatError, columns_in};
+use cmd_base::{ProgramError, Status};
+use races_text::judged::{ToldLuck, Verdicts, write_luck};
+use races_text::named::Told;
+use reordering::completion::Completion;
+use std::alloc::Global;
+use texts::Out;
+
+/// Which races of a recording are shown, and in which form.
+#[derive(Clone, Copy, Debug)]
+pub struct LuckWanted<'a> {
+    pub races: Wanted<'a>,
+    /// Whether those that were luck alone are shown.
+    pub luck: bool,
+}
+
+/// Writes the races of these instances of a possible chart with the words of their verdicts, where there is a completion of
+/// those that are left. All memory is taken before the first byte is written.
+fn show_told<W: Out, V: Verdicts>(
+    names: &Names,
+    closure: &Closure<'_>,
+    instances: &[InstanceNo],
+    wanted: &LuckWanted<'_>,
+    completion: Option<&Completion<'_>>,
+    verdicts: &V,
+    out: &mut W,
+) -> Result<Status, FormatError>
+    requires instances { AreColumns names.now (only_of wanted.now.races.only) instances.now }
+    requires possible { IsPossible (length closure.now) (chart_lines closure.now) }
+    requires lines { IfSome completion (λ completion. completion.now ≡ closure.now) }
+    requires asked { is_there completion ≡ wanted.now.races.run_to_completion }
+    requires races { (r e : EventNo) → IsRaceIn closure.now r e → V.is_race verdicts.now r e }
+    ensures { ShowsJudged W.sink (V.is_verdict verdicts.now) out.old out.new result wanted.now (names.now, closure.now) }
+{
+    let Ok(reporter) = closure.reporter() else {
+        return Err(FormatError::Program(ProgramError::Memory));
+    };
+    let told = ToldLuck {
+        told: Told {
+            names,
+            lines: closure.lines(),
+            only: instances,
+            receives: wanted.races.receives,
+            completion,
+            form: wanted.races.form,
+        },
+        verdicts,
+        luck: wanted.luck,
+    };
+    match write_luck(&told, reporter, out) {
+        Ok(shown) => Ok(Status::of(shown)),
+        Err(_) => Err(FormatError::Program(ProgramError::Write)),
+    }
+}
+
+/// Writes the races of these instances of a possible chart that are wanted, with the words of their verdicts.
+pub fn show_judged<W: Out, V: Verdicts>(
+    alloc: Global,
+    names: &Names,
+    closure: &Closure<'_>,
+    instances: &[InstanceNo],
+    wanted: &LuckWanted<'_>,
+    verdicts: &V,
+    out: &mut W,
+) -> Result<Status, FormatError>
+    requires instances { AreColumns names.now (only_of wanted.now.races.only) instances.now }
+    requires possible { IsPossible (length closure.now) (chart_lines closure.now) }
+    requires races { (r e : EventNo) → IsRaceIn closure.now r e → V.is_race verdicts.now r e }
+    ensures { ShowsJudged W.sink (V.is_verdict verdicts.now) out.old out.new result wanted.now (names.now, closure.now) }
+{
+    if !wanted.races.run_to_completion {
+        return show_told(names, closure, instances, wanted, None, verdicts, out);
+    }
+    let Ok(completion) = Completion::of(alloc, closure) else {
+        return Err(FormatError::Program(ProgramError::Memory));
+    };
+    show_told(
+        names,
+        closure,
+        instances,
+        wanted,
+        Some(&completion),
+        verdicts,
+        out,
+    )
+}
+
+/// Refuses luck where it isn't known. F34: a name of `only` is none of the chart's, or is there twice. Else G1. F6 may come
+/// before.
+fn refuse_luck(alloc: Global, names: &Names, wanted: &Wanted<'_>) -> Result<Status, FormatError>
+    ensures { IsLuckRefused names.now (only_of wanted.now.only) result }
+{
+    let _columns = columns_in(alloc, names, wanted.only)?;
+    Err(FormatError::Program(ProgramError::Usage))
+}
+
+/// Writes the races that are wanted of a chart of which luck isn't known. Luck alone is refused.
+pub fn show_unknown<W: Out>(
+    alloc: Global,
+    names: &Names,
+    chart: &Chart,
+    wanted: &LuckWanted<'_>,
+    out: &mut W,
+) -> Result<Status, FormatError>
+    requires { length names.now ≡ length chart.now }
+    ensures { ShowsUnknown W.sink wanted.now.luck out.old out.new result wanted.now (names.now, chart.now) }
+{
+    if wanted.luck {
+        refuse_luck(alloc, names, &wanted.races)
+    } else {
+        show_chart(alloc, names, chart, &wanted.races, out)
+    }
+}

@@ -1,0 +1,108 @@
+//! The races of a log's recording.
+ghost use Rattle.std.specs.Prelude.{◌≡◌, length, IfOk, IfErr};
+ghost use Rattle.chart.specs.Charts.{IsNumbered};
+ghost use Rattle.cmd_import_log.specs.Recording.{lent_of};
+ghost use Rattle.race_verdicts.specs.Luck.Recorded.{IsRecording};
+ghost use Rattle.cmd_races.specs.Judging.{ShowsJudged};
+ghost use Rattle.cmd_races.specs.Logs.Showing.{verdict_in, ShowsRecording};
+
+use crate::{LuckWanted, show_judged, show_unknown};
+use chart::EventNo;
+use closure::Closure;
+use cmd_base::columns::{FormatError, columns_in};
+use cmd_base::{ProgramError, Status, closure_of};
+use cmd_import_log::LogRecording;
+use race_verdicts::Verdict;
+use race_verdicts::luck::Judge;
+use races_text::judged::Verdicts;
+use std::alloc::Global;
+use texts::Out;
+
+/// What is said of the races of a recording.
+#[derive(Drop)]
+struct Judged<'a> {
+    judge: Judge<'a>,
+}
+
+impl Verdicts for Judged<'_> {
+    ghost use Rattle.std.specs.Prelude.{ℕ};
+    ghost use Rattle.race_verdicts.specs.Luck.Verdicts.{IsVerdict};
+    ghost use Rattle.chart.specs.Charts.{chart_lines, IsReceiveFrom};
+    ghost use Rattle.chart.specs.Places.{IsEvent};
+    ghost use Rattle.closure.specs.Faults.{place_of};
+
+    ghost is_race = { λ j r e. ((q : ℕ) × IsReceiveFrom (chart_lines j.judge.lines) q (place_of r))
+        × IsEvent (chart_lines j.judge.lines) (place_of e) };
+
+    ghost is_verdict = { λ j r e verdict. IsVerdict j.judge.lines j.judge.recording (place_of r) (place_of e)
+        verdict };
+
+    fn verdict(&self, receive: &EventNo, earlier: &EventNo) -> Verdict {
+        self.judge.verdict(*receive, *earlier)
+    }
+}
+
+/// The judge of a recording, with the closure of its chart.
+fn judge_of<'a>(
+    alloc: Global,
+    recording: &'a LogRecording<'_>,
+    closure: &'a Closure<'a>,
+) -> Result<Judged<'a>, FormatError>
+    requires { IsRecording closure.now (lent_of recording.now) }
+    ensures judge { IfOk result (λ judged. judged.judge
+        ≡ record { lines = closure.now; recording = lent_of recording.now }) }
+    ensures memory { IfErr result (λ error. error ≡ FormatError.Program ProgramError.Memory) }
+{
+    match Judge::of(alloc, recording.recording(), closure) {
+        Ok(judge) => Ok(Judged { judge }),
+        Err(_) => Err(FormatError::Program(ProgramError::Memory)),
+    }
+}
+
+/// Writes the races that are wanted of a recording of which luck is known, with the words of their verdicts.
+fn show_known<W: Out>(
+    alloc: Global,
+    recording: &LogRecording<'_>,
+    wanted: &LuckWanted<'_>,
+    out: &mut W,
+) -> Result<Status, FormatError>
+    requires names { length recording.now.drawing.told.names ≡ length recording.now.drawing.chart }
+    requires keeps { IsRecording recording.now.drawing.chart (lent_of recording.now) }
+    requires numbered { IsNumbered recording.now.drawing.chart }
+    ensures { ShowsJudged W.sink (verdict_in recording.now.drawing.chart (lent_of recording.now)) out.old out.new result
+        wanted.now (recording.now.drawing.told.names, recording.now.drawing.chart) }
+{
+    let names = &recording.drawing.told.names;
+    let instances = columns_in(alloc, names, wanted.races.only)?;
+    let closure = closure_of(alloc, names, &recording.drawing.chart)?;
+    let judge = judge_of(alloc, recording, &closure)?;
+    show_judged(
+        alloc,
+        names,
+        &closure,
+        instances.as_slice(),
+        wanted,
+        &judge,
+        out,
+    )
+}
+
+/// Writes the races that are wanted of a recording: where luck is known of it, with the words of their verdicts.
+pub(crate) fn show_recording<W: Out>(
+    alloc: Global,
+    recording: &LogRecording<'_>,
+    wanted: &LuckWanted<'_>,
+    out: &mut W,
+) -> Result<Status, FormatError>
+    requires names { length recording.now.drawing.told.names ≡ length recording.now.drawing.chart }
+    requires keeps { IsRecording recording.now.drawing.chart (lent_of recording.now) }
+    requires numbered { IsNumbered recording.now.drawing.chart }
+    ensures { ShowsRecording W.sink out.old out.new result wanted.now recording.now }
+{
+    if recording.is_known {
+        show_known(alloc, recording, wanted, out)
+    } else {
+        let drawing = &recording.drawing;
+        show_unknown(alloc, &drawing.told.names, &drawing.chart, wanted, out)
+    }
+}

@@ -1,0 +1,65 @@
+-- What the program shows of a run of a schedule on threads.
+use Rattle.std.specs.Prelude.{◌≡◌, ℕ, List, None, Result, Ok, Err}
+use Rattle.instances.specs.declared.outcome.Run.{Run}
+use Rattle.instances.specs.declared.outcome.RunError.{RunError}
+use Rattle.instances.specs.declared.outcome.RunError.TheVariants as causes
+use Rattle.texts.specs.Outs.{Sink}
+use Rattle.texts.specs.declared.fault.Fault.{Fault}
+use Rattle.texts.specs.Writing.{Puts, Breaks}
+use Rattle.schedule_threads.specs.OwnScripts.{AreScriptRuns, IsNoTurns}
+use Rattle.schedule_threads.specs.RunOutcomes.{RunView, IsRunOutcome}
+use Rattle.schedule_threads.specs.RunText.{run_text}
+use Rattle.schedule.specs.Plans.{Plan}
+use Rattle.schedule.specs.Reading.{schedule_of}
+use Rattle.cmd_base.specs.declared.error.ProgramError.{ProgramError}
+use Rattle.cmd_base.specs.declared.error.ProgramError.TheVariants as errors
+use Rattle.cmd_base.specs.declared.status.Status.{Status}
+use Rattle.cmd_base.specs.Answers.{Said, program_said, said_of}
+use Rattle.cmd_base.specs.Statuses.{status_said}
+use Rattle.cmd_run.specs.declared.showing.Unshown.{Unshown}
+use Rattle.cmd_run.specs.declared.showing.Unshown.TheVariants.{Program, Unfit}
+use Rattle.cmd_run.specs.Tasks.{status_of}
+
+module _ {S : Type 0} (sink : S → Sink) where
+  -- the text of what the run comes to was written; or a beginning of it, where a put failed; or nothing, where memory
+  -- ran out, as it did where the run lacked memory
+  abbrev pub Shows : Plan → Run → S → S → Result Status ProgramError → Type 0
+  Shows plan run old new (Ok status) = (o : RunView) × IsRunOutcome plan run o
+      × (status ≡ status_of o.outcome.reports) × Puts sink old new (run_text o)
+  Shows plan run old new (Err errors.Memory) = new ≡ old
+  Shows plan run old new (Err errors.Write) = (o : RunView) × IsRunOutcome plan run o
+      × Breaks sink old new (run_text o)
+  Shows plan run old new (Err _) = ⊥
+
+  -- What is written of a run that a schedule's own scripts came to, each instance doing its own commands in their order;
+  -- or nothing, where the text says no schedule, where no run has so many turns, or where memory ran out.
+  abbrev pub RunsScripts : ℕ → S → S → Result Status ProgramError → Result Plan Fault → Type 0
+  RunsScripts turns old new (Ok status) said = (plan : Plan) × (run : Run) × (said ≡ Ok plan)
+      × AreScriptRuns plan turns run × Shows plan run old new (Ok status)
+  RunsScripts turns old new (Err errors.Memory) said = new ≡ old
+  RunsScripts turns old new (Err (errors.Text fault)) said = (said ≡ Err fault) × (new ≡ old)
+  RunsScripts turns old new (Err errors.Usage) said = IsNoTurns turns × (new ≡ old)
+  RunsScripts turns old new (Err errors.Write) said = (plan : Plan) × (run : Run) × (said ≡ Ok plan)
+      × AreScriptRuns plan turns run × Shows plan run old new (Err errors.Write)
+  RunsScripts turns old new (Err _) said = ⊥
+
+  -- what is done with the bytes of a schedule whose instances run on threads
+  abbrev pub DoesOnThreads : S → S → ℕ → List ℕ → Result Status ProgramError → Type 0
+  DoesOnThreads old new turns bytes done = RunsScripts turns old new done (schedule_of bytes)
+
+  -- What is written of a run. Of one that memory kept from being made, and of one that had no fit posts, behaviours or
+  -- turns, nothing is.
+  abbrev pub ShowsRun : {P B : Type 0} → S → S → Plan → Result Run (RunError P B) → Result Status Unshown → Type 0
+  ShowsRun old new plan (Ok run) (Ok status) = Shows plan run old new (Ok status)
+  ShowsRun old new plan (Ok run) (Err (Program error)) = Shows plan run old new (Err error)
+  ShowsRun old new plan (Err causes.Memory) (Err (Program errors.Memory)) = new ≡ old
+  ShowsRun old new plan (Err (causes.Unfit posts behaviours)) (Err Unfit) = new ≡ old
+  ShowsRun old new plan ran shown = ⊥
+
+-- what is said of a run that isn't shown: F25 is never printed
+abbrev pub unshown_said : Unshown → Said
+unshown_said (Program error) = program_said error
+unshown_said Unfit = record { status = 2; told = None }
+
+abbrev pub shown_said : Result Status Unshown → Said
+shown_said = said_of status_said unshown_said

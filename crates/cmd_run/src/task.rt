@@ -1,0 +1,51 @@
+//! What the program does with the bytes of a file.
+ghost use Rattle.cmd_base.specs.Answers.{Answers};
+ghost use Rattle.cmd_run.specs.Tasks.{Does, task_said};
+
+use crate::checking::check;
+use crate::replaying::{replay_drawn, replay_text};
+use cmd_base::{ProgramError, Status, answered};
+use std::alloc::Global;
+use texts::Out;
+
+/// What the program is asked to do with a file.
+#[derive(Clone, Copy, Debug, PartialEq, Eq)]
+pub enum Task {
+    /// Replay the schedule that it is.
+    Replay,
+    /// Replay it in the order that the seed draws.
+    Random { seed: u64 },
+    /// Check the chart that it is.
+    Check,
+}
+
+/// Does the task, and answers what it came to.
+fn do_task<W: Out>(
+    alloc: Global,
+    task: &Task,
+    text: &[u8],
+    out: &mut W,
+) -> Result<Status, ProgramError>
+    ensures { Does W.sink out.old out.new task.now text.now result }
+{
+    match task {
+        Task::Replay => replay_text(alloc, text, out),
+        Task::Random { seed } => replay_drawn(alloc, *seed, text, out),
+        Task::Check => check(alloc, text, out),
+    }
+}
+
+/// Does the task with the bytes of the file: writes its output to `out`, or the line of a refusal to `err`, and
+/// answers the exit status: 0, 1 where there are races, or 2 after a refusal. Nothing is written to `out` before a
+/// refusal, but where writing to it failed (F24). A failed write to `err` changes nothing.
+pub fn perform<W: Out, V: Out>(
+    alloc: Global,
+    task: &Task,
+    text: &[u8],
+    out: &mut W,
+    err: &mut V,
+) -> u8
+    ensures { Answers (Does W.sink out.old out.new task.now text.now) task_said V.sink err.old err.new result }
+{
+    answered(&do_task(alloc, task, text, out), err)
+}

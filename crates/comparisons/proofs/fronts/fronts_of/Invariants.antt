@@ -1,6 +1,0 @@
-use Rattle.chart.specs.Charts.{chart_lines}
-use Rattle.comparisons.specs.Verdicts.{AreFronts}
-use Rattle.comparisons.proofs.fronts.fronts_of.Given as goal
-
-abbrev pub invariant-loop-place : goal.invariant-loop-place
-invariant-loop-place l = AreFronts (chart_lines l.closure) l.instance l.place l.fronts.items

@@ -1,6 +1,0 @@
-use Rattle.std.proofs.Common.{◌≡◌}
-use Rattle.comparisons.specs.Pairs.{unmatched_to}
-use Rattle.comparisons.proofs.pairs.unmatched.Given as goal
-
-abbrev pub invariant-loop-place : goal.invariant-loop-place
-invariant-loop-place l = l.numbers.items ≡ unmatched_to l.found l.place

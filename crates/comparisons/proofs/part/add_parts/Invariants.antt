@@ -1,9 +1,0 @@
-use Rattle.std.proofs.Common.{take}
-use Rattle.std.specs.List.{flat_map}
-use Rattle.msc_text.specs.Writing.{Buffers}
-use Rattle.comparisons.specs.Words.{part_text}
-use Rattle.comparisons.proofs.part.add_parts.Given as goal
-
--- what came so far was added
-abbrev pub invariant-loop-part : goal.invariant-loop-part
-invariant-loop-part g l = Buffers g.W.Out.sink l.initial.text l.text (flat_map (part_text) (take l.part-index l.parts))

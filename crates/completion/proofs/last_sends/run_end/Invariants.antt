@@ -1,7 +1,0 @@
-use Rattle.std.proofs.Common.{ℕ, ◌<◌, ◌≤◌}
-use Rattle.completion.specs.Handling.{IsSendAt}
-use Rattle.completion.proofs.last_sends.run_end.Given as goal
-
--- all that were passed are sends
-abbrev pub invariant-loop-place : goal.invariant-loop-place
-invariant-loop-place l = (j : ℕ) → l.first < j → j ≤ l.place → IsSendAt l.line.line.events j

@@ -1,0 +1,9 @@
+use Rattle.std.proofs.Common.{take}
+use Rattle.std.specs.List.{flat_map}
+use Rattle.texts.specs.Writing.{Buffers}
+use Rattle.diagram_export.specs.Earlier.{next_named}
+use Rattle.diagram_export.proofs.earlier.add_next_ranges.Given as goal
+
+-- what came so far was added
+abbrev pub invariant-loop-range : goal.invariant-loop-range
+invariant-loop-range g l = Buffers g.W.Out.sink l.initial.text l.text (flat_map (next_named l.export) (take l.range-index l.ranges))

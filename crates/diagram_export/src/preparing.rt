@@ -1,0 +1,93 @@
+//! What an export needs to know of a chart before it is written.
+ghost use Rattle.std.specs.Prelude.{◌≡◌, length, replicate, None, Some, slice_set, IfOk};
+ghost use Rattle.diagram_export.specs.Preparing.{put_in, put_report, notes_of, height, below, starts_from, IsExportOf};
+
+use crate::drawn::Drawn;
+use crate::export::Export;
+use chart::Report;
+use chart_layout::Layout;
+use diagram_tool::Tool;
+use std::alloc::{AllocError, Global};
+
+/// Puts the note of the report at this place into a row.
+fn put(notes: &mut [Option<usize>], place: usize, row: Option<usize>)
+    ensures { notes.new ≡ put_in notes.old place row }
+{
+    if let Some(row) = row {
+        if row < notes.len() {
+            notes[row] = Some(place);
+        }
+    }
+}
+
+/// Puts the note of the report at this place into the row of its receive, if it has races.
+fn put_report(notes: &mut [Option<usize>], layout: &Layout, place: usize, report: &Report)
+    ensures { notes.new ≡ put_report layout.now notes.old place report.now }
+{
+    if report.earlier().is_empty() {
+        return;
+    }
+    put(notes, place, layout.row_of(&report.receive()));
+}
+
+/// For each row, the place among the reports of that of its receive, if it has races.
+fn notes_of(
+    alloc: Global,
+    layout: &Layout,
+    reports: &[Report],
+) -> Result<Vec<Option<usize>>, AllocError>
+    ensures { IfOk result (λ notes. notes.items ≡ notes_of layout.now reports.now) }
+{
+    let mut notes = vec![in alloc; None; layout.rows().len()]?;
+    for place in 0..reports.len() {
+        put_report(notes.as_mut_slice(), layout, place, &reports[place]);
+    }
+    Ok(notes)
+}
+
+/// How many rows of the tool's a row has.
+fn height(note: &Option<usize>) -> u32
+    ensures { result ≡ height note.now }
+{
+    match note {
+        None => 1,
+        Some(_) => 2,
+    }
+}
+
+/// For each row how many of the tool's stand above it.
+fn starts_of(alloc: Global, notes: &[Option<usize>]) -> Result<Vec<u32>, AllocError>
+    ensures { IfOk result (λ starts. starts.items ≡ starts_from 0 notes.now) }
+{
+    let mut starts = Vec::with_capacity(alloc, notes.len())?;
+    let mut above = 0u32;
+    for note in notes {
+        starts.push(above)?;
+        above = above.saturating_add(height(note));
+    }
+    Ok(starts)
+}
+
+impl<'a> Export<'a> {
+    /// The export of a chart to a tool.
+    ///
+    /// F6: it fails only where there is no memory.
+    pub fn of(alloc: Global, tool: Tool, drawn: Drawn<'a>) -> Result<Export<'a>, AllocError>
+        ensures { IfOk result (IsExportOf tool drawn.entry.names.now drawn.entry.closure.now
+            drawn.entry.layout.now drawn.entry.reports.now drawn.entry.ends.now) }
+    {
+        prove!(drawn.closure.len() >= 2);
+        let notes = notes_of(alloc, drawn.layout, drawn.reports)?;
+        let starts = starts_of(alloc, notes.as_slice())?;
+        Ok(Export {
+            tool,
+            names: drawn.names,
+            lines: drawn.closure.lines(),
+            reports: drawn.reports,
+            layout: drawn.layout,
+            ends: drawn.ends,
+            notes,
+            starts,
+        })
+    }
+}

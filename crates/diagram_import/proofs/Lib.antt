@@ -1,0 +1,2 @@
+pub mod MarginLemmas
+pub mod TextLemmas

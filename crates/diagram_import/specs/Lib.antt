@@ -1,0 +1,10 @@
+pub mod Importing
+pub mod Margin
+pub mod Readers
+pub mod Reading
+pub mod Refusals
+pub mod Shown
+pub mod Skipping
+pub use Rattle.diagrams.specs.Diagrams
+pub use Rattle.diagrams.specs.Drawing
+pub use Rattle.diagrams.specs.LeftOuts

@@ -1,0 +1,45 @@
+//! The diagram of a text, whatever chart it comes to.
+ghost use Rattle.diagrams.specs.Diagrams.{diagram_view};
+ghost use Rattle.diagram_import.specs.Importing.{options_view};
+ghost use Rattle.diagram_import.specs.Reading.{diagram_from, diagram_of_text};
+ghost use Rattle.diagram_import.specs.Refusals.{Gives};
+
+use crate::error::ImportError;
+use crate::importing::{Options, behind_mark};
+use crate::reading::{diagram_in, tool_in};
+use crate::skipping::{blanked, count_of_lines, is_beyond};
+use diagram_tool::Tool;
+use diagrams::Diagram;
+use std::alloc::Global;
+
+/// The diagram of a text without skipped lines and without a byte order mark.
+#[tactic(auto, unfolding(crate::specs::Reading::diagram_from))]
+fn diagram_from(alloc: Global, tool: Option<Tool>, text: &[u8]) -> Result<Diagram, ImportError>
+    ensures { Gives diagram_view result (diagram_from tool text.now) }
+{
+    let tool = tool_in(alloc, tool, text)?;
+    diagram_in(alloc, tool, text)
+}
+
+/// The diagram that a text says which was drawn for another tool, or the first of its refusals. It takes time and memory
+/// in proportion to the text.
+///
+/// The tool is the one that is named, or that the text tells. G1 refuses lines to be skipped that aren't there. Then
+/// F35 and F21 refuse what can't be read, and F23 an arc of mscgen with an entity that there isn't. F6 may come at any
+/// point. Whether a chart can be drawn isn't asked.
+#[tactic(auto, unfolding(crate::specs::Reading::diagram_of_text))]
+pub fn diagram_of_text(
+    alloc: Global,
+    tool: Option<Tool>,
+    text: &[u8],
+    options: &Options<'_>,
+) -> Result<Diagram, ImportError>
+    ensures { Gives diagram_view result (diagram_of_text tool text.now (options_view options.now)) }
+{
+    let count = count_of_lines(text)?;
+    if is_beyond(options.skipped, count) {
+        return Err(ImportError::Usage);
+    }
+    let bytes = blanked(alloc, options.skipped, text)?;
+    diagram_from(alloc, tool, behind_mark(&bytes))
+}

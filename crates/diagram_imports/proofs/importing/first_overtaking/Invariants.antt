@@ -1,6 +1,0 @@
-use Rattle.std.proofs.Common.{◌≡◌, drop}
-use Rattle.diagram_imports.specs.Importing.{first_overtaking}
-use Rattle.diagram_imports.proofs.importing.first_overtaking.Given as goal
-
-abbrev pub invariant-loop-message : goal.invariant-loop-message
-invariant-loop-message l = first_overtaking l.first (drop l.message-index l.overtaking) ≡ first_overtaking l.fn.so_far l.overtaking

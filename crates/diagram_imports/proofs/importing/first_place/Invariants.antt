@@ -1,6 +1,0 @@
-use Rattle.std.proofs.Common.{◌≡◌, None, drop}
-use Rattle.diagram_imports.specs.Importing.{first_place}
-use Rattle.diagram_imports.proofs.importing.first_place.Given as goal
-
-abbrev pub invariant-loop-kind : goal.invariant-loop-kind
-invariant-loop-kind l = first_place l.first (drop l.kind-index l.left_out) ≡ first_place None l.left_out

@@ -1,6 +1,0 @@
-use Rattle.std.proofs.Common.{◌≡◌, ◌-◌}
-use Rattle.diagram_imports.specs.Shown.{without_lines}
-use Rattle.diagram_imports.proofs.places.without_lines.Given as goal
-
-abbrev pub invariant-loop-line : goal.invariant-loop-line
-invariant-loop-line l = without_lines (l.count - l.line) l.rest ≡ without_lines l.count l.text

@@ -1,6 +1,0 @@
-use Rattle.std.proofs.Common.{◌≡◌, ◌++◌, drop}
-use Rattle.diagram_imports.specs.Skipping.{blanked_from}
-use Rattle.diagram_imports.proofs.skipping.blanked.Given as goal
-
-abbrev pub invariant-loop-byte : goal.invariant-loop-byte
-invariant-loop-byte l = l.bytes.items ++ blanked_from l.skips l.line (drop l.byte-index l.text) ≡ blanked_from l.skips 1 l.text

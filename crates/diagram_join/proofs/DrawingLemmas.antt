@@ -1,0 +1,75 @@
+-- The chart of a diagram whose lines are joined, of its parts and step by step.
+use Rattle.std.proofs.Common.{◌≡◌, ℕ, ◌<◌, ◌≤◌, List, [], ◌∷◌, Result, Ok, false, length, map, refl, sym, ap, arith}
+use Rattle.chart.specs.Charts.{LineView}
+use Rattle.diagram_labels.specs.Labels.{none}
+use Rattle.diagrams.specs.Messages.Lines.{lines_from}
+use Rattle.diagrams.specs.Messages.Turns.{all_ends}
+use Rattle.diagrams.proofs.MessagesLemmas.LinesLemmas.{length-lines}
+use Rattle.diagrams.specs.Collecting.{CollectedView, collected}
+use Rattle.diagrams.specs.Diagrams.{ParticipantView, ItemView, DiagramView, participant_view}
+use Rattle.diagrams.specs.Drawing.{◌>>=◌, has_no_chart, drawn}
+use Rattle.diagram_labels.specs.Renaming.{renamed_from}
+use Rattle.diagrams.specs.Naming.{names_from, labels_from, named_from}
+use Rattle.diagrams.specs.declared.diagram.Participant.{Participant}
+use Rattle.diagrams.proofs.DrawnLemmas.{labels_seen}
+use Rattle.diagram_join.specs.Coregions.{cut_from}
+use Rattle.diagram_join.specs.Drawing.{JoinedDrawnView, alone, checked, joined_drawn_of, joined_by, lines_joined, drawn_joined}
+use Rattle.diagram_join.specs.Joined.{JoinedView, joined, Fails}
+use Rattle.diagram_join.specs.Joins.{JoinView}
+use Rattle.diagram_join.specs.declared.error.JoinError.{JoinError}
+use Rattle.diagram_join.specs.declared.error.JoinError.TheVariants.{Memory, NoSuchLine, Taken, Instances, NotPossible, LineFull}
+
+-- a chart and what is told, of their parts
+pub drawn_parts : (participants : List Participant) (items : List ItemView) (lines : List (List ℕ)) (j : JoinedView) (chart : List LineView) (told : List (List ℕ × List ℕ))
+    → chart ≡ lines_from (all_ends (named_from none items (cut_from j.messages 0 j.messages))) 1 (length j.names)
+    → told ≡ renamed_from (renamed_from [] (map (λ (p : Participant). p.label.items) participants) lines)
+    (labels_from none items (cut_from j.messages 0 j.messages)).labels (labels_from none items (cut_from j.messages 0 j.messages)).names
+    → record { drawn = record { names = j.names; lines = chart; left_out = j.left_out; renamed = told }; overtaking = j.overtaking } ≡ joined_drawn_of (map participant_view participants) items lines j
+unfolding joined_drawn_of
+drawn_parts participants items lines j chart told e f = rw (e, f, labels_seen participants) refl
+
+-- each line has a name
+pub as_many_names : (v : JoinedDrawnView) (participants : List ParticipantView) (items : List ItemView) (lines : List (List ℕ)) (j : JoinedView)
+    → v ≡ joined_drawn_of participants items lines j → length v.drawn.names ≡ length v.drawn.lines
+unfolding joined_drawn_of
+as_many_names v participants items lines j is = rw is (sym (length-lines (all_ends (named_from none items (cut_from j.messages 0 j.messages))) 1 (length j.names)))
+
+-- a step that failed decides
+fails_first : {A B : Type 0} (error : JoinError) (r : Result A JoinError) (f : A → Result B JoinError) → Fails error r → Fails error (r >>= f)
+fails_first Memory r f h = tt
+fails_first NoSuchLine r f h = ap (λ s. s >>= f) h
+fails_first (Taken line) r f h = ap (λ s. s >>= f) h
+fails_first Instances r f h = ap (λ s. s >>= f) h
+fails_first (NotPossible line) r f h = ap (λ s. s >>= f) h
+fails_first (LineFull line) r f h = ap (λ s. s >>= f) h
+
+-- the chart, step by step
+pub draw_steps : (d : DiagramView) (joins : List JoinView) (lines : List (List ℕ)) (c : CollectedView) (j : JoinedView)
+    → has_no_chart (length d.participants) ≡ false → lines ≡ names_from [] d.participants → c ≡ collected lines d.items d.left_out
+    → joined d.participants lines joins c.messages c.left_out ≡ Ok j → checked c.fault c.messages j ≡ Ok j
+    → lines_joined d joins ≡ Ok (joined_drawn_of d.participants d.items lines j)
+unfolding lines_joined joined_by
+draw_steps d joins lines c j several e f g h = rw (several, sym e, sym f, g, h) refl
+
+pub join_refused : (error : JoinError) (d : DiagramView) (joins : List JoinView) (lines : List (List ℕ)) (c : CollectedView)
+    → has_no_chart (length d.participants) ≡ false → lines ≡ names_from [] d.participants → c ≡ collected lines d.items d.left_out
+    → Fails error (joined d.participants lines joins c.messages c.left_out) → Fails error (lines_joined d joins)
+unfolding lines_joined joined_by
+join_refused error d joins lines c several e f g = rw (several, sym e, sym f) (fails_first error (joined d.participants lines joins c.messages c.left_out) _ g)
+
+pub check_refused : (error : JoinError) (d : DiagramView) (joins : List JoinView) (lines : List (List ℕ)) (c : CollectedView) (j : JoinedView)
+    → has_no_chart (length d.participants) ≡ false → lines ≡ names_from [] d.participants → c ≡ collected lines d.items d.left_out
+    → joined d.participants lines joins c.messages c.left_out ≡ Ok j → Fails error (checked c.fault c.messages j) → Fails error (lines_joined d joins)
+unfolding lines_joined joined_by
+check_refused error d joins lines c j several e f g h = rw (several, sym e, sym f, g) (fails_first error (checked c.fault c.messages j) _ h)
+
+-- with or without joins
+pub without_joins : {A : Type 0} (f : A → JoinView) (d : DiagramView) (joins : List A) → length joins < 1 → drawn_joined d (map f joins) ≡ alone (drawn d)
+unfolding drawn_joined
+without_joins f d [] few = refl
+without_joins f d (j ∷ joins) few = absurd (omega (arith, few))
+
+pub with_joins : {A : Type 0} (f : A → JoinView) (d : DiagramView) (joins : List A) → 1 ≤ length joins → drawn_joined d (map f joins) ≡ lines_joined d (map f joins)
+unfolding drawn_joined
+with_joins f d [] some = absurd (omega (arith, some))
+with_joins f d (j ∷ joins) some = refl

@@ -1,0 +1,8 @@
+pub mod CoregionLemmas
+pub mod CutLemmas
+pub mod DrawingLemmas
+pub mod InstanceLemmas
+pub mod MoveLemmas
+pub mod PossibleLemmas
+pub mod StayingLemmas
+pub mod TurnsLemmas

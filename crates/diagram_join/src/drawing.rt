@@ -1,0 +1,154 @@
+//! The chart of a diagram whose lines are joined.
+ghost use Rattle.std.specs.Prelude.{◌≡◌, ◌≤◌, length, map, IfOk};
+ghost use Rattle.chart.specs.Charts.{chart_lines, IsPossible};
+ghost use Rattle.diagrams.specs.Diagrams.{diagram_view, participant_view, item_view};
+ghost use Rattle.diagrams.specs.Drawing.{drawn};
+ghost use Rattle.diagrams.specs.Naming.{named_from};
+ghost use Rattle.diagram_join.specs.Coregions.{cut_from};
+ghost use Rattle.diagram_join.specs.Drawing.{joined_drawn_view, alone, checked, joined_drawn_of, lines_joined, drawn_joined};
+ghost use Rattle.diagram_join.specs.Joined.{Gives, joined_view};
+ghost use Rattle.diagram_join.specs.Joins.{join_view};
+ghost use Rattle.diagram_labels.specs.Labels.{none};
+ghost use Rattle.diagrams.specs.Messages.Following.{AreDrawn};
+
+use crate::error::{JoinError, join_error};
+use crate::join::Join;
+use crate::joined::{Joined, join_lines};
+use crate::moves::Overtaking;
+use crate::rows::cut_rows;
+use chart::Names;
+use diagram_labels::LabelNames;
+use diagrams::messages::chart_of;
+use diagrams::{
+    Diagram, Drawn, Item, Message, Participant, collect, draw, first_fault, first_full,
+    has_no_chart, name_messages, names_of, told_names,
+};
+use std::alloc::{AllocError, Global};
+
+/// A chart that was drawn for another tool, of which lines may be joined.
+#[derive(Debug, Drop)]
+pub struct JoinedDrawn {
+    pub drawn: Drawn,
+    /// Messages that are left out, since they overtake another one.
+    pub overtaking: Vec<Overtaking>,
+}
+
+/// Without joins.
+fn draw_alone(alloc: Global, diagram: Diagram) -> Result<JoinedDrawn, JoinError>
+    ensures drawn { Gives joined_drawn_view result (alone (drawn (diagram_view diagram))) }
+    ensures possible { IfOk result (λ d. IsPossible (length d.drawn.chart) (chart_lines d.drawn.chart)) }
+    ensures named { IfOk result (λ d. length d.drawn.names ≡ length d.drawn.chart) }
+{
+    match draw(alloc, diagram) {
+        Ok(drawn) => Ok(JoinedDrawn {
+            drawn,
+            overtaking: Vec::new(alloc),
+        }),
+        Err(error) => Err(join_error(error)),
+    }
+}
+
+/// Refuses messages that cross, instances with too many events, and a single instance.
+#[tactic(auto, unfolding(crate::specs::Drawing::checked))]
+fn check(
+    alloc: Global,
+    fault: Option<u64>,
+    messages: &[Message],
+    joined: &Joined,
+) -> Result<(), JoinError>
+    ensures { Gives (λ _. joined_view joined.now) result (checked fault messages.now (joined_view joined.now)) }
+{
+    if let Some(line) = first_fault(alloc, fault, messages)? {
+        return Err(JoinError::NotPossible(line));
+    }
+    if let Some(line) = first_full(alloc, &joined.messages)? {
+        return Err(JoinError::LineFull(line));
+    }
+    if joined.names.len() < 2 {
+        return Err(JoinError::Instances);
+    }
+    Ok(())
+}
+
+/// The chart of the messages that stay, and what is told of names.
+#[tactic(auto, unfolding(crate::specs::Drawing::joined_drawn_of))]
+fn joined_drawn_of(
+    alloc: Global,
+    participants: &[Participant],
+    items: &[Item],
+    lines: &Names,
+    joined: Joined,
+) -> Result<JoinedDrawn, AllocError>
+    requires several { 2 ≤ length joined.names }
+    requires drawn { AreDrawn (length joined.names) (named_from none (map item_view items.now)
+        (cut_from joined.messages.items 0 joined.messages.items)) }
+    ensures drawn { IfOk result (λ d. joined_drawn_view d ≡ joined_drawn_of (map participant_view participants.now)
+        (map item_view items.now) lines.now (joined_view joined)) }
+    ensures possible { IfOk result (λ d. IsPossible (length d.drawn.chart) (chart_lines d.drawn.chart)) }
+{
+    let Joined {
+        names,
+        messages,
+        left_out,
+        overtaking,
+    } = joined;
+    let rows = cut_rows(alloc, &messages)?;
+    let mut labels = LabelNames::new(alloc);
+    let named = name_messages(alloc, items, &rows, &mut labels)?;
+    let chart = chart_of(alloc, &named, names.len())?;
+    let renamed = told_names(alloc, participants, lines, &labels)?;
+    Ok(JoinedDrawn {
+        drawn: Drawn {
+            names,
+            chart,
+            left_out,
+            renamed,
+        },
+        overtaking,
+    })
+}
+
+/// With joins.
+#[tactic(auto, unfolding(crate::specs::Drawing::lines_joined, crate::specs::Drawing::joined_by))]
+fn draw_with(alloc: Global, diagram: Diagram, joins: &[Join<'_>]) -> Result<JoinedDrawn, JoinError>
+    ensures drawn { Gives joined_drawn_view result (lines_joined (diagram_view diagram) (map join_view joins.now)) }
+    ensures possible { IfOk result (λ d. IsPossible (length d.drawn.chart) (chart_lines d.drawn.chart)) }
+    ensures named { IfOk result (λ d. length d.drawn.names ≡ length d.drawn.chart) }
+{
+    let Diagram {
+        participants,
+        items,
+        left_out,
+    } = diagram;
+    if has_no_chart(participants.len()) {
+        return Err(JoinError::Instances);
+    }
+    let lines = names_of(alloc, &participants)?;
+    let (messages, left_out, fault) = collect(alloc, &lines, &items, left_out)?.into_parts();
+    let joined = join_lines(alloc, &participants, &lines, joins, &messages, left_out)?;
+    check(alloc, fault, &messages, &joined)?;
+    let drawn = joined_drawn_of(alloc, &participants, &items, &lines, joined)?;
+    Ok(drawn)
+}
+
+/// The chart of a diagram whose lines are joined, or why it has none: without joins as [`draw`] has it, and else the first
+/// of F8, F34, F22, F37, F7 and again F8, of the instances, that applies. F6 may come at any point. It takes time in
+/// proportion to n log n for n items.
+///
+/// The lines of a join are one instance, in the order of the rows. Messages within it are left out, and so are those that
+/// would overtake an earlier one of their lane, which is told of each. A coregion stays where nothing comes between its
+/// receives. No chart is drawn of a diagram that has none without joins because of messages that cross.
+pub fn draw_joined(
+    alloc: Global,
+    diagram: Diagram,
+    joins: &[Join<'_>],
+) -> Result<JoinedDrawn, JoinError>
+    ensures drawn { Gives joined_drawn_view result (drawn_joined (diagram_view diagram) (map join_view joins.now)) }
+    ensures possible { IfOk result (λ d. IsPossible (length d.drawn.chart) (chart_lines d.drawn.chart)) }
+    ensures named { IfOk result (λ d. length d.drawn.names ≡ length d.drawn.chart) }
+{
+    match joins {
+        [] => draw_alone(alloc, diagram),
+        _ => draw_with(alloc, diagram, joins),
+    }
+}

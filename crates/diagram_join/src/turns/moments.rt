@@ -1,0 +1,107 @@
+//! The events of messages by their moments.
+ghost use Rattle.std.specs.Prelude.{◌≡◌, ◌+◌, ◌*◌, ◌++◌, List, IfOk, OnOk};
+ghost use Rattle.std.specs.List.{flat_map};
+ghost use Rattle.diagrams.specs.declared.message.Message.{Message};
+ghost use Rattle.diagram_join.specs.Turns.Sends.{AreSends};
+ghost use Rattle.diagram_join.specs.Turns.Turns.{sent, received, moments_of, in_turn, turns_of};
+
+use crate::turns::sends::Sends;
+use chart::InstanceNo;
+use diagrams::Message;
+use std::alloc::{AllocError, Global};
+
+/// When an event comes, and whose it is.
+#[derive(Clone, Copy, Debug)]
+pub(crate) struct Moment {
+    /// Twice its row, and one more for a receive that comes behind all sends of the row.
+    pub turn: u64,
+    pub instance: InstanceNo,
+}
+
+/// Twice a row. Where it would not fit, the answer is F6.
+fn doubled(row: u64) -> Result<u64, AllocError>
+    ensures { IfOk result (λ turn. turn ≡ 2 * row) }
+{
+    match row.checked_mul(2) {
+        Some(turn) => Ok(turn),
+        None => Err(AllocError),
+    }
+}
+
+/// When and by whom a message is sent.
+fn sent(message: &Message) -> Result<Moment, AllocError>
+    ensures { IfOk result (λ moment. moment ≡ sent message.now) }
+{
+    let turn = doubled(message.begins)?;
+    Ok(Moment {
+        turn,
+        instance: message.sender,
+    })
+}
+
+/// When and by whom it is received.
+fn received(sends: &Sends, message: &Message) -> Result<Moment, AllocError>
+    ensures { (all : List Message) → AreSends sends.now.spots.entries all
+        → IfOk result (λ moment. moment ≡ received all message.now) }
+{
+    let row = doubled(message.ends)?;
+    let behind = if sends.has(message.ends, message.receiver) {
+        1
+    } else {
+        0
+    };
+    let Some(turn) = row.checked_add(behind) else {
+        return Err(AllocError);
+    };
+    Ok(Moment {
+        turn,
+        instance: message.receiver,
+    })
+}
+
+/// The events of a message go behind the others.
+fn add_moments(
+    moments: &mut Vec<Moment>,
+    sends: &Sends,
+    message: &Message,
+) -> Result<(), AllocError>
+    ensures { (all : List Message) → AreSends sends.now.spots.entries all
+        → OnOk result (moments.new.items ≡ moments.old.items ++ moments_of all message.now) }
+{
+    moments.push(sent(message)?)?;
+    if !message.is_lost {
+        moments.push(received(sends, message)?)?;
+    }
+    Ok(())
+}
+
+/// The events of these messages, in the order of the text.
+fn all_moments(alloc: Global, messages: &[Message]) -> Result<Vec<Moment>, AllocError>
+    ensures { IfOk result (λ moments. moments.items ≡ flat_map (moments_of messages.now) messages.now) }
+{
+    let sends = Sends::of(alloc, messages)?;
+    let mut moments = Vec::new(alloc);
+    for message in messages {
+        add_moments(&mut moments, &sends, message)?;
+    }
+    Ok(moments)
+}
+
+/// The events by their moments.
+fn put_in_turn(moments: &mut Vec<Moment>) -> Result<(), AllocError>
+    ensures { OnOk result (moments.new.items ≡ in_turn moments.old.items) }
+{
+    moments.sort_by_key(|moment| moment.turn)?;
+    Ok(())
+}
+
+/// Whose events these messages are, from the top on. F6: it fails only where there is no memory. It takes time in
+/// proportion to n log n for n messages.
+#[tactic(auto, unfolding(crate::specs::Turns::Turns::turns_of))]
+pub fn turns_of(alloc: Global, messages: &[Message]) -> Result<Vec<InstanceNo>, AllocError>
+    ensures { IfOk result (λ turns. turns.items ≡ turns_of messages.now) }
+{
+    let mut moments = all_moments(alloc, messages)?;
+    put_in_turn(&mut moments)?;
+    moments.iter().map(|moment| moment.instance).collect(alloc)
+}

@@ -1,0 +1,12 @@
+pub mod Bytes
+pub mod Called
+pub mod Free
+pub mod Joins
+pub mod Kept
+pub mod Labelled
+pub mod Labellings
+pub mod Numbered
+pub mod RenamingLemmas
+pub mod Reserved
+pub mod Spellings
+pub mod Tables

@@ -1,0 +1,46 @@
+-- Labels with their names.
+use Rattle.std.specs.Prelude.{ℕ, ◌==◌, Bool, not, List, [], ◌∷◌, ◌++◌, map, filter, fold, get_or, zip, bytes_eq, if◌then◌else◌}
+use Rattle.std.specs.List.{list_any, position_or_len}
+use Rattle.diagram_labels.specs.Spelling.{spelled}
+use Rattle.diagram_labels.specs.Giving.{called}
+
+-- labels that differ, in the order in which they came, and the name of each
+pub record Labelling : Type 0 where
+  pub labels : List (List ℕ)
+  pub names : List (List ℕ)
+
+-- no labels
+abbrev pub none : Labelling
+none = record { labels = []; names = [] }
+
+-- the label came before
+abbrev pub has_label : List (List ℕ) → List ℕ → Bool
+has_label labels label = list_any (bytes_eq label) labels
+
+-- the labels and a new one, with the name that it is called
+abbrev pub with_new : Labelling → List ℕ → Labelling
+with_new l label = record { labels = l.labels ++ label ∷ []; names = l.names ++ called l.names (spelled label) ∷ [] }
+
+-- the labels and this one, which changes nothing where it came before
+unfoldable pub with_label : Labelling → List ℕ → Labelling
+with_label l label = if has_label l.labels label then l else with_new l label
+
+-- the name of a label that came
+unfoldable pub name_of : Labelling → List ℕ → List ℕ
+name_of l label = get_or l.names (position_or_len (bytes_eq label) l.labels) []
+
+-- the labels that came, from the first on
+abbrev pub labelled : List (List ℕ) → Labelling
+labelled labels = fold with_label none labels
+
+-- a _ for a blank
+abbrev pub line_for_blank : ℕ → ℕ
+line_for_blank b = if b == 32 then 95 else b
+
+-- the name isn't the label with one _ for each blank, so it has to be told
+abbrev pub is_told : List ℕ → List ℕ → Bool
+is_told label name = not (bytes_eq (map line_for_blank label) name)
+
+-- the labels whose names have to be told, each with its name, in the order in which they came
+abbrev pub told : Labelling → List (List ℕ × List ℕ)
+told l = filter (λ p. is_told p.0 p.1) (zip l.labels l.names)

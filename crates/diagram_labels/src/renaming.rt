@@ -1,0 +1,57 @@
+//! Names that aren't their labels' words.
+ghost use Rattle.std.specs.Prelude.{◌≡◌, map, slice_get, OnOk};
+ghost use Rattle.diagram_labels.specs.Renaming.{renamed_view, with_renamed, renamed_from};
+
+use crate::labels::is_told;
+use chart::Name;
+use std::alloc::{AllocError, Global};
+
+/// A label, and the name that stands for it.
+#[derive(Debug, Drop)]
+pub struct Renamed {
+    /// It has a line feed where it goes on in a new line.
+    pub label: Vec<u8>,
+    pub name: Name,
+}
+
+/// Tells a label and its name, unless the name is the label with one `_` for each blank.
+pub fn tell_label(
+    alloc: Global,
+    told: &mut Vec<Renamed>,
+    label: &[u8],
+    name: Name,
+) -> Result<(), AllocError>
+    ensures { OnOk result (map renamed_view told.new.items ≡ with_renamed (map renamed_view told.old.items) label.now name) }
+{
+    if is_told(label, &name) {
+        let label = Vec::from_slice(alloc, label)?;
+        told.push(Renamed { label, name })?;
+    }
+    Ok(())
+}
+
+/// The name at this place, from 0.
+fn name_in(names: &[Name], place: usize) -> Option<Name>
+    ensures { result ≡ slice_get names.now place }
+{
+    names.get(place).copied()
+}
+
+/// Tells labels and their names, one after the other.
+pub fn tell_labels(
+    alloc: Global,
+    told: &mut Vec<Renamed>,
+    labels: &[Vec<u8>],
+    names: &[Name],
+) -> Result<(), AllocError>
+    ensures { OnOk result (map renamed_view told.new.items ≡ renamed_from (map renamed_view told.old.items)
+        (map (λ label. label.items) labels.now) names.now) }
+{
+    for (place, label) in labels.iter().enumerate() {
+        let Some(name) = name_in(names, place) else {
+            return Ok(());
+        };
+        tell_label(alloc, told, label.as_slice(), name)?;
+    }
+    Ok(())
+}

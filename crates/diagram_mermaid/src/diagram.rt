@@ -1,0 +1,94 @@
+//! Texts, read whole.
+ghost use Rattle.std.specs.Prelude.{◌≡◌, ◌<◌, ◌+◌, map, IfOk};
+ghost use Rattle.diagram_statements.specs.Readings.{read_view};
+ghost use Rattle.diagram_statements.specs.Statements.{line_view};
+ghost use Rattle.diagram_mermaid.specs.Diagrams.{pieces_in, pieces_view, statements_of, is_open, last_fault, diagram_of};
+ghost use Rattle.diagram_mermaid.specs.declared.piece.Standing.TheVariants.{Above};
+ghost use Rattle.diagram_statements.specs.Lines.{lines_of, first_line};
+
+use crate::piece::{Standing, add_line};
+use crate::said::add_said;
+use diagram_statements::{Fault, Line, ReadText, behind_line, first_line};
+use std::alloc::{AllocError, Global};
+
+/// The statements of a text, in pieces, and where its reader stands in the end.
+#[derive(Debug, Drop)]
+struct Pieces<'a> {
+    pieces: Vec<Line<'a>>,
+    standing: Standing,
+}
+
+/// The statements of a text, in pieces.
+fn pieces_of(alloc: Global, text: &[u8]) -> Result<Pieces<'_>, AllocError>
+    ensures { IfOk result (λ pieces. pieces_view pieces ≡ pieces_in Above (lines_of text.now)) }
+{
+    let mut pieces = Vec::new(alloc);
+    let mut standing = Standing::Above;
+    let mut number = 1;
+    let mut rest = text;
+    'lines: while let [_, ..] = rest {
+        standing = add_line(standing, first_line(number, rest), &mut pieces)?;
+        number += 1;
+        rest = behind_line(rest);
+    }
+    Ok(Pieces { pieces, standing })
+}
+
+/// What these statements say, up to the first one that can't be read.
+fn statements_of<'a>(alloc: Global, pieces: &[Line<'a>]) -> Result<ReadText<'a>, AllocError>
+    ensures { IfOk result (λ read. read_view read ≡ statements_of (map line_view pieces.now)) }
+{
+    let mut statements = Vec::new(alloc);
+    for piece in pieces {
+        if !add_said(piece.place(), piece.words, &mut statements)? {
+            return Ok(ReadText {
+                statements,
+                fault: Some(Fault::NotRead(piece.place())),
+            });
+        }
+    }
+    Ok(ReadText {
+        statements,
+        fault: None,
+    })
+}
+
+/// Whether a title block or another block is open.
+fn is_open(standing: Standing) -> bool
+    ensures { result ≡ is_open standing }
+{
+    match standing {
+        Standing::Above | Standing::Body => false,
+        Standing::Title | Standing::Inside(_) => true,
+    }
+}
+
+/// The fault of a text, by the first one of its statements and where its reader stands in the end.
+#[tactic(auto, unfolding(crate::specs::Diagrams::last_fault))]
+fn last_fault(fault: Option<Fault>, standing: Standing) -> Option<Fault>
+    ensures { result ≡ last_fault fault standing }
+{
+    match fault {
+        Some(fault) => Some(fault),
+        None => {
+            if is_open(standing) {
+                Some(Fault::Unfinished)
+            } else {
+                None
+            }
+        }
+    }
+}
+
+/// What a text says, without its byte order mark: its statements from the top, up to its first fault.
+#[tactic(auto, unfolding(crate::specs::Diagrams::diagram_of))]
+pub fn read(alloc: Global, text: &[u8]) -> Result<ReadText<'_>, AllocError>
+    ensures { IfOk result (λ read. read_view read ≡ diagram_of text.now) }
+{
+    let pieces = pieces_of(alloc, text)?;
+    let read = statements_of(alloc, &pieces.pieces)?;
+    Ok(ReadText {
+        statements: read.statements,
+        fault: last_fault(read.fault, pieces.standing),
+    })
+}

@@ -1,6 +1,0 @@
-use Rattle.std.proofs.Common.{◌≡◌, ◌++◌, false, drop}
-use Rattle.diagram_notes.specs.Plain.{plain_from}
-use Rattle.diagram_notes.proofs.plain.plain_text.Given as goal
-
-abbrev pub invariant-loop-byte : goal.invariant-loop-byte
-invariant-loop-byte l = l.said.items ++ plain_from l.escaped (drop l.byte-index l.raw) ≡ plain_from false l.raw

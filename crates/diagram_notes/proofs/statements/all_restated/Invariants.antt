@@ -1,8 +1,0 @@
-use Rattle.std.proofs.Common.{◌≡◌, take}
-use Rattle.std.specs.Prelude.{map}
-use Rattle.line_statements.specs.Statements.{statement_view}
-use Rattle.diagram_notes.specs.Statements.{restated}
-use Rattle.diagram_notes.proofs.statements.all_restated.Given as goal
-
-abbrev pub invariant-loop-statement : goal.invariant-loop-statement
-invariant-loop-statement l = map statement_view l.all.items ≡ map (restated l.divides l.text) (map statement_view (take l.statement-index l.statements))

@@ -1,0 +1,5 @@
+pub mod Lines
+pub mod Options
+pub mod Readings
+pub mod Statements
+pub mod ToDiagram

@@ -1,0 +1,183 @@
+//! Groups and boxes that are open, and which branches are taken.
+ghost use Rattle.std.specs.Prelude.{◌≡◌, ◌∷◌, ◌++◌, [], option_map};
+ghost use Rattle.diagram_statements.specs.ToDiagram.Acts.{act_view, act_of};
+ghost use Rattle.diagram_statements.specs.ToDiagram.Frames.{top_frame, is_taken, is_parallel, is_break, begun_kind, if_taken, branched, ended, framed};
+ghost use Rattle.diagram_statements.specs.ToDiagram.Frames.{Frames};
+ghost use Rattle.diagram_statements.specs.Statements.{statement_view, said_view};
+
+use crate::to_diagram::act::{Act, Drawn};
+use crate::{Fault, Group, Place, ReadError, Said, Statement};
+use diagrams::Kind;
+
+/// What an open group or box is.
+#[derive(Clone, Copy, Debug)]
+pub(crate) enum FrameKind {
+    Box,
+    Group(Group),
+}
+
+/// A group or a box that is open.
+#[derive(Clone, Copy, Debug)]
+pub(crate) struct Frame {
+    pub kind: FrameKind,
+    /// Whether the statements of its present branch are taken: those around it are too.
+    pub is_taken: bool,
+}
+
+/// The innermost frame.
+fn top_frame(frames: &[Frame]) -> Option<Frame>
+    ensures { result ≡ top_frame frames.now }
+{
+    match frames {
+        [] => None,
+        [.., last] => Some(*last),
+    }
+}
+
+/// Whether a statement is taken within these frames.
+#[tactic(auto, unfolding(crate::specs::ToDiagram::Frames::is_taken))]
+fn is_taken(frames: &[Frame]) -> bool
+    ensures { result ≡ is_taken frames.now }
+{
+    match top_frame(frames) {
+        Some(frame) => frame.is_taken,
+        None => true,
+    }
+}
+
+/// Whether the branches of a group are parallel.
+fn is_parallel(group: Group) -> bool
+    ensures { result ≡ is_parallel group }
+{
+    match group {
+        Group::Parallel => true,
+        Group::Break | Group::Choice => false,
+    }
+}
+
+fn is_break(group: Group) -> bool
+    ensures { result ≡ is_break group }
+{
+    match group {
+        Group::Break => true,
+        Group::Parallel | Group::Choice => false,
+    }
+}
+
+/// What is left out of a group that begins.
+fn begun_kind(group: Group) -> Kind
+    ensures { result ≡ begun_kind group }
+{
+    if is_break(group) {
+        Kind::Branch
+    } else {
+        Kind::Frame
+    }
+}
+
+/// An act, where it is taken.
+fn if_taken(taken: bool, act: Act<'_>) -> Option<Act<'_>>
+    ensures { option_map act_view result ≡ if_taken taken (act_view act.entry) }
+{
+    if taken { Some(act) } else { None }
+}
+
+/// What a statement does, whose frames stay as they are.
+fn act_of(said: Said<'_>) -> Option<Act<'_>>
+    ensures { option_map act_view result ≡ act_of (said_view said.entry) }
+{
+    match said {
+        Said::Named(end) => Some(Act::Draw(Drawn::Name(end))),
+        Said::Renamed(end) => Some(Act::Draw(Drawn::Rename(end))),
+        Said::Arrow(arrow) => Some(Act::Draw(Drawn::Arrow(arrow))),
+        Said::Note { at, text } => Some(Act::Draw(Drawn::Note(at, text))),
+        Said::Activate => Some(Act::Activate),
+        Said::Deactivate => Some(Act::Deactivate),
+        Said::Return { label, is_beside } => Some(Act::Return(label, is_beside)),
+        Said::ArrowsActivate(they_do) => Some(Act::ArrowsActivate(they_do)),
+        Said::Box => Some(Act::Draw(Drawn::LeaveOut(Kind::Box))),
+        Said::Divider => Some(Act::Draw(Drawn::PassBy(Kind::Divider))),
+        Said::Delay => Some(Act::Draw(Drawn::PassBy(Kind::Delay))),
+        Said::Reference => Some(Act::Draw(Drawn::PassBy(Kind::Reference))),
+        Said::Begin(_) | Said::Branch | Said::End | Said::BeginBox => None,
+        Said::Preprocessor | Said::OtherDiagram => None,
+    }
+}
+
+/// A group or a box begins.
+fn begin<'a>(
+    frames: &mut Vec<Frame>,
+    kind: FrameKind,
+    is_taken: bool,
+    act: Option<Act<'a>>,
+) -> Result<Option<Act<'a>>, ReadError>
+    ensures { Frames result frames.new.items
+        (Ok (frames.old.items ++ record { kind = kind; is_taken = is_taken } ∷ [], option_map act_view act.entry)) }
+{
+    frames.push(Frame { kind, is_taken })?;
+    Ok(act)
+}
+
+/// Another branch of the innermost group.
+#[tactic(auto, unfolding(crate::specs::ToDiagram::Frames::branched, crate::specs::ToDiagram::Frames::is_taken))]
+fn branch<'a>(frames: &mut Vec<Frame>, place: Place) -> Result<Option<Act<'a>>, ReadError>
+    ensures { Frames result frames.new.items (branched place frames.old.items) }
+{
+    let Some(frame) = frames.pop() else {
+        return Err(ReadError::Fault(Fault::NotRead(place)));
+    };
+    let FrameKind::Group(group) = frame.kind else {
+        return Err(ReadError::Fault(Fault::NotRead(place)));
+    };
+    let around = is_taken(frames);
+    let parallel = is_parallel(group);
+    let drawn = if parallel {
+        Drawn::CloseRow
+    } else {
+        Drawn::PassBy(Kind::Branch)
+    };
+    let act = if_taken(around, Act::Draw(drawn));
+    begin(frames, frame.kind, around && parallel, act)
+}
+
+/// The innermost group or box ends.
+#[tactic(auto, unfolding(crate::specs::ToDiagram::Frames::ended, crate::specs::ToDiagram::Frames::is_taken))]
+fn end<'a>(frames: &mut Vec<Frame>, place: Place) -> Result<Option<Act<'a>>, ReadError>
+    ensures { Frames result frames.new.items (ended place frames.old.items) }
+{
+    let Some(_) = frames.pop() else {
+        return Err(ReadError::Fault(Fault::NotRead(place)));
+    };
+    Ok(if_taken(is_taken(frames), Act::EndGroup))
+}
+
+/// What a statement does within these frames, if it does anything, and the frames behind it.
+#[tactic(auto, unfolding(crate::specs::ToDiagram::Frames::framed))]
+pub(crate) fn framed<'a>(
+    frames: &mut Vec<Frame>,
+    statement: &Statement<'a>,
+) -> Result<Option<Act<'a>>, ReadError>
+    ensures { Frames result frames.new.items (framed frames.old.items (statement_view statement.now)) }
+{
+    let taken = is_taken(frames);
+    match statement.said {
+        Said::Begin(group) => {
+            let act = if_taken(taken, Act::Draw(Drawn::PassBy(begun_kind(group))));
+            begin(
+                frames,
+                FrameKind::Group(group),
+                taken && !is_break(group),
+                act,
+            )
+        }
+        Said::BeginBox => {
+            let act = if_taken(taken, Act::Draw(Drawn::LeaveOut(Kind::Box)));
+            begin(frames, FrameKind::Box, taken, act)
+        }
+        Said::Branch => branch(frames, statement.place),
+        Said::End => end(frames, statement.place),
+        Said::Preprocessor => Ok(Some(Act::Draw(Drawn::LeaveOut(Kind::Preprocessor)))),
+        Said::OtherDiagram => Ok(Some(Act::Draw(Drawn::LeaveOut(Kind::Diagram)))),
+        said => { if taken { Ok(act_of(said)) } else { Ok(None) } }
+    }
+}

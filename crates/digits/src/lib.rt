@@ -1,9 +1,0 @@
-//! Numbers in decimal digits.
-//!
-//! What is promised ([`number_in`], `specs/Numbers`): the number is a function of the bytes, and bytes that say none of 32
-//! bits give none.
-#![tactic(auto)]
-
-mod numbers;
-
-pub use numbers::number_in;

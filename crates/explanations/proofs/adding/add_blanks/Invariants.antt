@@ -1,9 +1,0 @@
-use Rattle.std.proofs.Common.{take}
-use Rattle.std.specs.List.{flat_map}
-use Rattle.explanations.proofs.adding.add_blanks.Given as goal
-use Rattle.explanations.specs.Sayings.{blank}
-use Rattle.msc_text.specs.Writing.{Buffers}
-
--- what came so far was added
-abbrev pub invariant-loop-byte : goal.invariant-loop-byte
-invariant-loop-byte g l = Buffers g.W.Out.sink l.initial.text l.text (flat_map blank (take l.byte-index l.bytes))

@@ -1,9 +1,0 @@
-use Rattle.std.proofs.Common.{take}
-use Rattle.std.specs.List.{flat_map}
-use Rattle.explanations.proofs.adding.add_shown.Given as goal
-use Rattle.explanations.specs.Sayings.{shown_byte}
-use Rattle.msc_text.specs.Writing.{Buffers}
-
--- what came so far was added
-abbrev pub invariant-loop-byte : goal.invariant-loop-byte
-invariant-loop-byte g l = Buffers g.W.Out.sink l.initial.text l.text (flat_map shown_byte (take l.byte-index l.bytes))

@@ -1,6 +1,0 @@
-use Rattle.std.proofs.Common.{◌≡◌, ◌++◌, map, take}
-use Rattle.explanations.proofs.explaining.add_notes.Given as goal
-use Rattle.explanations.specs.declared.saying.Saying.TheVariants as sayings
-
-abbrev pub invariant-loop-noted : goal.invariant-loop-noted
-invariant-loop-noted l = l.sayings.items ≡ l.initial.sayings.items ++ map sayings.Note (take l.noted-index l.notes)

@@ -1,7 +1,0 @@
-use Rattle.std.proofs.Common.{refl, ap, ◌∙◌}
-use Rattle.explanations.proofs.judging.judge_diagram.Goals as goal
-use Rattle.import_answers.specs.Order.{in_order}
-
-pub returns-in-Ok-in_order-clause-verdict : goal.returns-in-Ok-in_order-clause-verdict
-returns-in-Ok-in_order-clause-verdict c =
-    (c.in-Ok.drawn, c.in-Ok.ensures, c.in-Ok-in_order.ensures ∙ ap in_order c.deref.ensures.value, refl)

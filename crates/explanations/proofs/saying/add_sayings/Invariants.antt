@@ -1,9 +1,0 @@
-use Rattle.std.proofs.Common.{take}
-use Rattle.std.specs.List.{flat_map}
-use Rattle.explanations.proofs.saying.add_sayings.Given as goal
-use Rattle.explanations.specs.Sayings.{saying_text}
-use Rattle.msc_text.specs.Writing.{Buffers}
-
--- what came so far was added
-abbrev pub invariant-loop-saying : goal.invariant-loop-saying
-invariant-loop-saying g l = Buffers g.W.Out.sink l.initial.text l.text (flat_map (saying_text l.file) (take l.saying-index l.sayings))

@@ -1,9 +1,0 @@
-use Rattle.std.proofs.Common.{take}
-use Rattle.std.specs.List.{flat_map}
-use Rattle.msc_text.specs.Writing.{Buffers}
-use Rattle.exports.specs.Earlier.{next_named}
-use Rattle.exports.proofs.earlier.add_next_ranges.Given as goal
-
--- what came so far was added
-abbrev pub invariant-loop-range : goal.invariant-loop-range
-invariant-loop-range g l = Buffers g.W.Out.sink l.initial.text l.text (flat_map (next_named l.export) (take l.range-index l.ranges))

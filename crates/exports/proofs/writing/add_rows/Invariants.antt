@@ -1,9 +1,0 @@
-use Rattle.std.proofs.Common.{take}
-use Rattle.std.specs.List.{flat_map}
-use Rattle.msc_text.specs.Writing.{Buffers}
-use Rattle.exports.specs.ExportText.{row_text}
-use Rattle.exports.proofs.writing.add_rows.Given as goal
-
--- what came so far was added
-abbrev pub invariant-loop-row : goal.invariant-loop-row
-invariant-loop-row g l = Buffers g.W.Out.sink l.initial.text l.text (flat_map (row_text l.export) (take l.row-index l.rows))

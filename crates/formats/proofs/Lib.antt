@@ -1,3 +1,0 @@
-pub mod RefusedLemmas
-pub mod SpanLemmas
-pub mod WindowLemmas

@@ -1,5 +1,0 @@
-use Rattle.board.specs.Meeting.{AreOfOneBoard}
-use Rattle.hostile_tests.proofs.gathering.make_all.Given as goal
-
-abbrev pub invariant-loop-by : goal.invariant-loop-by
-invariant-loop-by g l = AreOfOneBoard l.posts

@@ -1,5 +1,0 @@
-use Rattle.board.proofs.OneBoard.{one_board-met}
-use Rattle.hostile_tests.proofs.moving_partners.meet_again.Goals as goal
-
-pub returns : goal.returns
-returns c = one_board-met c.args.posts.now c.meet.new.posts c.meet.ensures.met c.requires

@@ -1,5 +1,0 @@
-use Rattle.board.specs.Meeting.{AreOfOneBoard}
-use Rattle.hostile_tests.proofs.moving_partners.stay_long.Given as goal
-
-abbrev pub invariant-loop : goal.invariant-loop
-invariant-loop g l = AreOfOneBoard l.posts

@@ -1,4 +1,0 @@
-use Rattle.import_answers.proofs.importing.import.Goals as goal
-
-pub returns : goal.returns
-returns g c = record { result = c.translate.result; done = c.translate.ensures; exits = c.answered.ensures.status; tells = c.answered.ensures.told }

@@ -1,9 +1,0 @@
-use Rattle.std.proofs.Common.{◌≡◌, ◌++◌, length}
-use Rattle.import_answers.specs.Order.{put_in}
-use Rattle.import_answers.proofs.order.put_in.Given as goal
-
-abbrev pub invariant-kinds : goal.invariant-kinds
-invariant-kinds l = l.more.items ++ put_in l.kind l.rest ≡ put_in l.kind l.ordered
-
-abbrev pub decreases-kinds : goal.decreases-kinds
-decreases-kinds l = length l.rest

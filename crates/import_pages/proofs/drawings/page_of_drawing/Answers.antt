@@ -1,4 +1,0 @@
-use Rattle.import_pages.proofs.drawings.page_of_drawing.Goals as goal
-
-pub returns : goal.returns
-returns g c = record { result = c.show.result; done = c.show.ensures; exits = c.answered.ensures.status; tells = c.answered.ensures.told }

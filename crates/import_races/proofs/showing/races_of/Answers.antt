@@ -1,4 +1,0 @@
-use Rattle.import_races.proofs.showing.races_of.Goals as goal
-
-pub returns : goal.returns
-returns g c = record { result = c.show.result; done = c.show.ensures; exits = c.answered.ensures.status; tells = c.answered.ensures.told }

@@ -1,6 +1,0 @@
-use Rattle.std.proofs.Common.{◌≡◌, ◌++◌, drop}
-use Rattle.joined_diagrams.specs.Coregions.{cut_from}
-use Rattle.joined_diagrams.proofs.rows.cut_rows.Given as goal
-
-abbrev pub invariant-loop-place : goal.invariant-loop-place
-invariant-loop-place l = l.rows.items ++ cut_from l.messages l.place (drop l.place l.messages) ≡ cut_from l.messages 0 l.messages

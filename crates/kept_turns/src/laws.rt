@@ -1,7 +1,0 @@
-//! What holds of the layout of every chart.
-ghost use Rattle.kept_turns.specs.Runs.{KeptTurnsLaw};
-
-/// The rows of a layout have the events in the order of the turns, where these are those of a run of the chart.
-pub fn kept_turns_law()
-    ensures { KeptTurnsLaw }
-{}

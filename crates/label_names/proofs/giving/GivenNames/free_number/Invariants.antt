@@ -1,5 +1,0 @@
-use Rattle.label_names.specs.Hints.{AreTaken}
-use Rattle.label_names.proofs.giving.GivenNames.free_number.Given as goal
-
-abbrev pub invariant-loop-number : goal.invariant-loop-number
-invariant-loop-number l = AreTaken l.self l.word l.number

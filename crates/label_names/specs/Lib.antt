@@ -1,6 +1,0 @@
-pub mod Giving
-pub mod Hints
-pub mod Labels
-pub mod Laws
-pub mod Renaming
-pub mod Spelling

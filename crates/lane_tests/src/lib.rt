@@ -1,7 +1,0 @@
-//! Tests of a lane's two ends, by what is public of them.
-//!
-//! They are in a crate of their own, since a crate with tests is proved twice.
-#![tactic(auto)]
-
-#[cfg(test)]
-mod ends;

@@ -1,5 +1,0 @@
-use Rattle.layout.proofs.OneLayout.{one_layout}
-use Rattle.layout.proofs.drawing.one_layout_law.Goals as goal
-
-pub returns : goal.returns
-returns c = one_layout

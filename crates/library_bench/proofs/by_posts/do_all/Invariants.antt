@@ -1,5 +1,0 @@
-use Rattle.std.proofs.Common.{◌≡◌}
-use Rattle.library_bench.proofs.by_posts.do_all.Given as goal
-
-abbrev pub invariant-loop-act : goal.invariant-loop-act
-invariant-loop-act l = l.post.board ≡ l.fn.post.board

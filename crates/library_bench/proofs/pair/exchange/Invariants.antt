@@ -1,6 +1,0 @@
-use Rattle.std.proofs.Common.{◌≤◌}
-use Rattle.library_bench.specs.Partners.{ArePartners}
-use Rattle.library_bench.proofs.pair.exchange.Given as goal
-
-abbrev pub invariant-loop-message : goal.invariant-loop-message
-invariant-loop-message l = ArePartners l.first l.second × (l.races ≤ l.message)

@@ -1,8 +1,0 @@
-//! The events of a chart's lines, by the numbers of instances and of events.
-//!
-//! What is promised: each function answers what the chart has there. Nothing here takes memory.
-#![tactic(auto)]
-
-mod reading;
-
-pub use reading::{event_at, events_at, events_of, len_of, line_of};

@@ -1,5 +1,0 @@
-pub mod Lines
-pub mod Options
-pub mod Readings
-pub mod Statements
-pub mod Words

@@ -1,0 +1,83 @@
+-- Entries of logs: their streams are among the lines, and each is of two hosts that are among the names.
+use Rattle.std.proofs.Common.{◌≡◌, ℕ, suc, ◌+◌, ◌<◌, ◌≤◌, List, [], ◌∷◌, ◌++◌, None, length, take, take_all, drop, get_or, refl, sym, ap, ◌∙◌, arith, append_assoc}
+use Rattle.std.specs.Prelude.{bytes_eq, fold, All}
+use Rattle.chart.specs.Histories.{AreTwo}
+use Rattle.std.proofs.lemmas.List.{drop_all, append-nil}
+use Rattle.std.proofs.lemmas.List.Elements.{All-nil, All-cons}
+use Rattle.std.proofs.lemmas.List.Sums.{fold_more}
+use Rattle.log_chart.proofs.MatchingLemmas.{from_here}
+use Rattle.log_chart.specs.Entries.{HaveStreams}
+use Rattle.log_chart.specs.declared.entry.Entry.{Entry}
+use Rattle.log_chart.specs.Named.Entering.{Before, with_word, same_stream, stream_in, entry_in, with_line, entries_from, hosts_from}
+use Rattle.log_chart.specs.Cycles.Freeing.{AreAmong}
+use Rattle.log_chart.specs.Named.Logs.{begun}
+use Rattle.log_chart.specs.declared.named.said.Said.{Said}
+use Rattle.log_chart.specs.declared.named.stream.Stream.{Stream}
+use Rattle.log_chart.specs.Named.Faults.{fault_in, first_fault}
+use Rattle.log_chart.proofs.NamedLemmas.FaultLemmas.{hosts_up, sooner_none, two_hosts}
+use Rattle.log_chart.proofs.NamedLemmas.WordLemmas.{position_up, put_within, put_longer, put_by_one}
+
+-- one line more, and the last
+module _ (lines : List Said) (n : ℕ) (x : Said) (within : n < length lines) (is : x ≡ get_or lines n x) (b after : Before) (next : after ≡ with_line b x) where
+  pub entries_more : (entries more : List Entry) → more ≡ entries ++ entry_in b x ∷ [] → more ++ entries_from after (drop (n + 1) lines) ≡ entries ++ entries_from b (drop n lines)
+  unfolding entries_from
+  entries_more entries more grown = rw (grown, from_here lines n x within is, next) (append_assoc entries _ _)
+
+  pub hosts_more : hosts_from after (drop (n + 1) lines) ≡ hosts_from b (drop n lines)
+  unfolding hosts_from
+  hosts_more = rw (from_here lines n x within is, next) refl
+
+pub entries_end : (b : Before) (entries : List Entry) (lines : List Said) (n : ℕ) → length lines ≤ n → entries ++ entries_from b (drop n lines) ≡ entries
+unfolding entries_from
+entries_end b entries lines n past = rw (drop_all n lines past) (append-nil entries)
+
+pub hosts_end : (b : Before) (lines : List Said) (n : ℕ) → length lines ≤ n → hosts_from b (drop n lines) ≡ b.hosts
+unfolding hosts_from
+hosts_end b lines n past = rw (drop_all n lines past) refl
+
+-- there are no more streams than lines
+pub entries_whole : (b : Before) (said : List Said) → length (entries_from b said) ≡ length said
+unfolding entries_from
+entries_whole b [] = refl
+entries_whole b (s ∷ said) = ap suc (entries_whole (with_line b s) said)
+
+streams_from : (b : Before) (said : List Said) (k n : ℕ) → length b.streams ≤ k → k + length said ≤ n → All (λ e. e.stream < n) (entries_from b said)
+unfolding entries_from
+streams_from b [] k n few all = All-nil (λ (e : Entry). e.stream < n)
+streams_from b (s ∷ said) k n few all =
+    let up = position_up (same_stream (stream_in b s)) b.streams in
+    let one = put_by_one (same_stream (stream_in b s)) b.streams (stream_in b s) in
+    All-cons (λ (e : Entry). e.stream < n) (entry_in b s) (entries_from (with_line b s) said) (omega (arith, up, few, all)) (streams_from (with_line b s) said (k + 1) n (omega (arith, one, few)) (omega (arith, all)))
+
+pub have_streams : (hosts : List (List ℕ)) (said : List Said) → HaveStreams (entries_from (begun hosts) said)
+have_streams hosts said =
+    let whole = entries_whole (begun hosts) said in
+    streams_from (begun hosts) said 0 (length (entries_from (begun hosts) said)) (omega arith) (omega (arith, whole))
+
+-- each line is of two of the names
+among_from : (b : Before) (said : List Said) (n : ℕ) → first_fault b said ≡ None → length (hosts_from b said) ≤ n → AreAmong n (entries_from b said)
+unfolding first_fault entries_from hosts_from
+among_from b [] n none all = All-nil (λ (e : Entry). AreTwo n e.host e.peer)
+among_from b (s ∷ said) n none all =
+    let inside = put_within (bytes_eq s.host) b.hosts s.host in
+    let two = put_longer (bytes_eq s.peer) (with_word b.hosts s.host) s.peer in
+    let peer = put_within (bytes_eq s.peer) (with_word b.hosts s.host) s.peer in
+    let rest = hosts_up (with_line b s) said in
+    let first = sooner_none (fault_in b s) (first_fault (with_line b s) said) none in
+    All-cons (λ (e : Entry). AreTwo n e.host e.peer) (entry_in b s) (entries_from (with_line b s) said)
+    (omega arith, omega (arith, inside, two, rest, all), omega arith, omega (arith, peer, rest, all), two_hosts b s first.0) (among_from (with_line b s) said n first.1 all)
+
+pub are_among : (hosts : List (List ℕ)) (said : List Said) → first_fault (begun hosts) said ≡ None → AreAmong (length (hosts_from (begun hosts) said)) (entries_from (begun hosts) said)
+are_among hosts said none = among_from (begun hosts) said (length (hosts_from (begun hosts) said)) none (omega arith)
+
+-- hosts that come first, one by one
+abbrev before : List (List ℕ) → List (List ℕ) → List Stream → Before
+before hosts names streams = record { hosts = hosts; names = names; streams = streams }
+
+pub words_more : (hosts : List (List ℕ)) (n : ℕ) (w : List ℕ) → n < length hosts → w ≡ get_or hosts n w
+    → with_word (fold with_word [] (take n hosts)) w ≡ fold with_word [] (take (n + 1) hosts)
+words_more hosts n w within is = ap (with_word (fold with_word [] (take n hosts))) is ∙ sym (fold_more with_word [] hosts n w within)
+
+pub begun_is : (given hosts : List (List ℕ)) (n : ℕ) (names : List (List ℕ)) (streams : List Stream) → given ≡ fold with_word [] (take n hosts) → length hosts ≤ n → names ≡ [] → streams ≡ []
+    → before given names streams ≡ begun hosts
+begun_is given hosts n names streams is past none empty = rw (is, take_all n hosts past, none, empty) refl

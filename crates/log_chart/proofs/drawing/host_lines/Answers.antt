@@ -1,0 +1,27 @@
+use Rattle.std.proofs.Common.{◌≡◌, length, ap, sym, ◌∙◌, subst}
+use Rattle.log_chart.specs.Begun.{begun}
+use Rattle.log_chart.specs.BegunTables.{AreGiven, AreNumberedBelow}
+use Rattle.log_chart.specs.Fates.{staying}
+use Rattle.log_chart.specs.FateTables.{AreWithin, AreNumbered}
+use Rattle.log_chart.specs.HostLines.{kept}
+use Rattle.log_chart.proofs.OrderLemmas.{are_within, are_numbered, are_given, kept_numbered}
+use Rattle.log_chart.proofs.drawing.host_lines.Goals as goal
+
+pub sift-requires-clause-sends : goal.sift-requires-clause-sends
+sift-requires-clause-sends c = subst AreWithin (sym (c.deref.ensures.value ∙ c.in_ok-matched.ensures)) (are_within c.args.log.now)
+
+pub sift-requires-clause-numbers : goal.sift-requires-clause-numbers
+sift-requires-clause-numbers c = subst AreNumbered (sym (c.deref.ensures.value ∙ c.in_ok-matched.ensures)) (are_numbered c.args.log.now)
+
+pub behind_of-requires : goal.behind_of-requires
+behind_of-requires c =
+    let lines = c.deref.ensures.value ∙ c.in_ok-matched.ensures in
+    let stay : c.deref-2.result.now ≡ kept c.args.log.now = c.deref-2.ensures.value ∙ c.in_ok-sifted.ensures.staying ∙ ap staying lines in
+    subst (AreGiven (length c.args.log.now)) (sym (c.deref-3.ensures.value ∙ c.in_ok-given.ensures ∙ ap begun stay)) (are_given c.args.log.now)
+
+pub lines_of-requires-clause-within : goal.lines_of-requires-clause-within
+lines_of-requires-clause-within c =
+    let lines = c.deref.ensures.value ∙ c.in_ok-matched.ensures in
+    let stay : c.deref-4.result.now ≡ kept c.args.log.now = c.deref-4.ensures.value ∙ c.in_ok-sifted.ensures.staying ∙ ap staying lines in
+    subst (AreNumberedBelow (length c.in_ok-behind_sends.behind_sends.first.items)) (sym stay)
+    (subst (λ n. AreNumberedBelow n (kept c.args.log.now)) (sym c.in_ok-behind_sends.ensures.lists) (kept_numbered c.args.log.now))

@@ -1,0 +1,32 @@
+-- What a log comes to.
+use Rattle.std.specs.Prelude.{◌≡◌, ℕ, ◌<◌, List, Some}
+use Rattle.log_chart.specs.Fates.{fates}
+use Rattle.log_chart.specs.HostLines.{host_lines}
+use Rattle.log_chart.specs.Matching.{matched}
+use Rattle.log_chart.specs.declared.entry.Entry.{Entry}
+use Rattle.log_chart.specs.Cycles.Freeing.{Settles}
+use Rattle.log_chart.specs.Charts.ChartLines.{chart_from, first_full}
+use Rattle.log_chart.specs.Charts.Told.{freed_places, lost_of, overtakings_of, all_invented}
+use Rattle.log_chart.specs.declared.charts.drawing.DrawError.{DrawError}
+use Rattle.log_chart.specs.declared.charts.drawing.DrawError.TheVariants.{Memory, Instances, LineFull}
+use Rattle.log_chart.specs.declared.charts.drawing.Drawn.{Drawn}
+
+-- the chart of so many hosts' lines of a log whose receives are freed, and what is told of it
+pub record IsDrawn (hosts : ℕ) (log : List Entry) (d : Drawn) : Type 0 where
+  pub chart : d.chart ≡ chart_from log 1 (host_lines hosts log)
+  pub lost : d.lost.items ≡ lost_of (matched log) (fates (matched log))
+  pub overtaking : d.overtaking.items ≡ overtakings_of log (matched log) (fates (matched log))
+  pub invented : d.invented.items ≡ all_invented 1 (host_lines hosts log)
+  pub freed : d.freed.items ≡ freed_places log
+
+-- why there is no chart of a log whose receives are freed
+abbrev pub IsSettledRefusal : ℕ → List Entry → DrawError → Type 0
+IsSettledRefusal hosts log Memory = Unit {0}
+IsSettledRefusal hosts log Instances = ⊥
+IsSettledRefusal hosts log (LineFull p) = first_full 1 (host_lines hosts log) ≡ Some p
+
+-- why there is none of a log, which is left as it is where its receives are freed
+abbrev pub IsRefusalOf : ℕ → List Entry → List Entry → DrawError → Type 0
+IsRefusalOf hosts log out Memory = Unit {0}
+IsRefusalOf hosts log out Instances = hosts < 2
+IsRefusalOf hosts log out (LineFull p) = Settles log out × IsSettledRefusal hosts out (LineFull p)

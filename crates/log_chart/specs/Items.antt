@@ -1,0 +1,48 @@
+-- The events of each host: those of its lines that stay, in their order, and the sends that are invented.
+use Rattle.std.specs.Prelude.{ℕ, zero, suc, ◌==◌, true, List, [], ◌∷◌, ◌++◌, map, Option, None, Some, if◌then◌else◌}
+use Rattle.std.specs.List.{flat_map}
+use Rattle.log_chart.specs.Begun.{behind, heads, heads_to}
+use Rattle.log_chart.specs.Entries.{is_send}
+use Rattle.log_chart.specs.declared.begun.Begun.{Begun}
+use Rattle.log_chart.specs.declared.item.Item.{Item}
+use Rattle.log_chart.specs.declared.item.MessageNo.{MessageNo}
+use Rattle.log_chart.specs.declared.item.MessageNo.TheVariants as messages
+use Rattle.log_chart.specs.declared.matching.LogLine.{LogLine}
+
+-- a message is known by the line that sends it or, where its send is invented, by the one that receives it
+abbrev pub received_message : ℕ → Option ℕ → MessageNo
+received_message n (Some s) = messages.Sent s
+received_message n None = messages.Begun n
+
+abbrev pub message_of : LogLine → MessageNo
+message_of x = if is_send x.entry.kind then messages.Sent x.number else received_message x.number x.send
+
+-- the line by which a message is known, which tells its name
+abbrev pub naming_line : MessageNo → ℕ
+naming_line (messages.Sent n) = n
+naming_line (messages.Begun n) = n
+
+-- the event of a line
+abbrev pub item_of : LogLine → Item
+item_of x = record { sends = is_send x.entry.kind; partner = x.entry.peer; message = message_of x; line = Some x.number }
+
+-- a send to p that is invented for the receive of this line
+abbrev pub invented : ℕ → ℕ → Item
+invented p r = record { sends = true; partner = p; message = messages.Begun r; line = None }
+
+-- those directly behind the event of a line
+abbrev pub invented_behind : List Begun → LogLine → List Item
+invented_behind given x = if is_send x.entry.kind then map (invented x.entry.peer) (behind given x.number) else []
+
+-- what q's line gets by a line of the log
+abbrev pub items_by : List Begun → ℕ → LogLine → List Item
+items_by given q x = if x.entry.host == q then item_of x ∷ invented_behind given x else []
+
+-- the sends that are invented at the head of a line, to so many instances, the first of which is p
+unfoldable pub heads_from : List Begun → ℕ → ℕ → List Item
+heads_from given p zero = []
+heads_from given p (suc n) = map (invented p) (heads_to given p) ++ heads_from given (suc p) n
+
+-- q's line, of n
+unfoldable pub items_of : ℕ → List LogLine → List Begun → ℕ → List Item
+items_of n lines given q = heads_from (heads given q) 1 n ++ flat_map (items_by given q) lines

@@ -1,0 +1,15 @@
+pub mod Begun
+pub mod BegunTables
+pub mod Chains
+pub mod Charts
+pub mod Cursors
+pub mod Cycles
+pub mod Entries
+pub mod FateTables
+pub mod Fates
+pub mod HostLines
+pub mod Items
+pub mod LaneTables
+pub mod Laws
+pub mod Matching
+pub mod Named

@@ -1,0 +1,127 @@
+//! The chart of a log.
+ghost use Rattle.std.specs.Prelude.{◌≡◌, ◌<◌, ◌≤◌, ◌↔◌, Err, None, length, All, IfOk, OnOk, IfErr};
+ghost use Rattle.chart.specs.Charts.{chart_lines, IsChart, IsPossible};
+ghost use Rattle.chart.specs.declared.instance.TheConstants.{MAX_INSTANCES};
+ghost use Rattle.log_chart.specs.Entries.{HaveStreams};
+ghost use Rattle.log_chart.specs.HostLines.{kept, host_lines};
+ghost use Rattle.log_chart.specs.Cycles.Freeing.{HasNone, Settles, AreAmong, HaveLanes};
+ghost use Rattle.log_chart.specs.Charts.ChartLines.{chart_from, first_full, AreNamed};
+ghost use Rattle.log_chart.specs.Charts.Drawing.{IsDrawn, IsSettledRefusal, IsRefusalOf};
+ghost use Rattle.log_chart.specs.declared.charts.drawing.DrawError.TheVariants.{Memory};
+
+use crate::charts::chart_lines::{first_full, lines_of};
+use crate::charts::told::{Overtaking, freed_places, invented_sends, lost_places, overtakings};
+use crate::cycles::settle;
+use crate::{Entry, HostLine, Place, host_lines};
+use chart::{Chart, EventNo, InstanceNo};
+use std::alloc::{AllocError, AllocFailed, Global};
+use thiserror::Error;
+
+/// Why a log has no chart.
+#[derive(Clone, Copy, Debug, PartialEq, Eq, Error)]
+pub enum DrawError {
+    /// F6: a growth was refused.
+    #[error("there is no memory left")]
+    Memory,
+    /// F8: there are fewer than two instances.
+    #[error("there are too few instances")]
+    Instances,
+    /// F7: this instance has more events than a line holds.
+    #[error("an instance has too many events")]
+    LineFull(InstanceNo),
+}
+
+impl From<AllocError> for DrawError {
+    ghost from_gives = { λ _ e. e ≡ Memory };
+
+    fn from(_e: AllocError) -> DrawError {
+        DrawError::Memory
+    }
+}
+
+impl<T: Drop> From<AllocFailed<T>> for DrawError {
+    ghost from_gives = { λ _ e. e ≡ Memory };
+
+    fn from(_e: AllocFailed<T>) -> DrawError {
+        DrawError::Memory
+    }
+}
+
+/// What a log comes to.
+#[derive(Debug, Drop)]
+pub struct Drawn {
+    pub chart: Chart,
+    /// The lines of messages that are lost, in the order of the log.
+    pub lost: Vec<Place>,
+    /// The messages that overtake, in the order of the log.
+    pub overtaking: Vec<Overtaking>,
+    /// The sends that are invented, by instance and number.
+    pub invented: Vec<EventNo>,
+    /// The lines of receives that are freed, in the order of the log.
+    pub freed: Vec<Place>,
+}
+
+/// The chart of these lines, which are those of one. It fails only where there is no memory.
+fn chart_of(alloc: Global, log: &[Entry], lines: &[HostLine]) -> Result<Chart, AllocError>
+    requires named { All (AreNamed (length log.now)) lines.now }
+    requires count { length lines.now ≤ MAX_INSTANCES }
+    requires chart { IsChart (chart_from log.now 1 lines.now) }
+    ensures { IfOk result (λ chart. chart ≡ chart_from log.now 1 lines.now) }
+{
+    match Chart::new(lines_of(alloc, log, lines)?) {
+        Ok(chart) => Ok(chart),
+        Err(_) => unreachable!(),
+    }
+}
+
+/// The chart of a log of so many hosts none of whose lines comes before itself, and what is told of it.
+fn draw_settled(alloc: Global, hosts: usize, log: &[Entry]) -> Result<Drawn, DrawError>
+    requires several { 2 ≤ hosts }
+    requires hosts { hosts ≤ MAX_INSTANCES }
+    requires streams { HaveStreams log.now }
+    requires lanes { HaveLanes log.now }
+    requires among { AreAmong hosts log.now }
+    requires settled { HasNone (kept log.now) }
+    ensures drawn { IfOk result (IsDrawn hosts log.now) }
+    ensures possible { IfOk result (λ d. IsPossible (length d.chart) (chart_lines d.chart)) }
+    ensures short { OnOk result (first_full 1 (host_lines hosts log.now) ≡ None) }
+    ensures refused { IfErr result (IsSettledRefusal hosts log.now) }
+{
+    let drawn = host_lines(alloc, hosts, log)?;
+    let lines = drawn.lines.as_slice();
+    if let Some(host) = first_full(lines) {
+        return Err(DrawError::LineFull(host));
+    }
+    Ok(Drawn {
+        chart: chart_of(alloc, log, lines)?,
+        lost: lost_places(alloc, &drawn.matched, &drawn.fates)?,
+        overtaking: overtakings(alloc, log, &drawn.matched, &drawn.fates)?,
+        invented: invented_sends(alloc, lines)?,
+        freed: freed_places(alloc, log)?,
+    })
+}
+
+/// The chart of a log of so many hosts. It always comes out, but for F8, where there are fewer than two, and F7, where
+/// an instance has more events than a line holds: the first such one. F6 may come at any point. Receives of the log are
+/// freed as [`settle`] says.
+///
+/// Each line of a host is an event of its instance, in their order, but for lost messages and those that overtake, which
+/// are left out, and sends that are invented; each of these is told.
+pub fn draw(alloc: Global, hosts: usize, log: &mut [Entry]) -> Result<Drawn, DrawError>
+    requires hosts { hosts ≤ MAX_INSTANCES }
+    requires streams { HaveStreams log.old }
+    requires lanes { HaveLanes log.old }
+    requires among { AreAmong hosts log.old }
+    ensures settled { OnOk result (Settles log.old log.new) }
+    ensures drawn { IfOk result (IsDrawn hosts log.new) }
+    ensures possible { IfOk result (λ d. IsPossible (length d.chart) (chart_lines d.chart)) }
+    ensures short { OnOk result (first_full 1 (host_lines hosts log.new) ≡ None) }
+    ensures instances { (result ≡ Err DrawError.Instances) ↔ (hosts < 2) }
+    ensures refused { IfErr result (IsRefusalOf hosts log.old log.new) }
+{
+    if hosts < 2 {
+        return Err(DrawError::Instances);
+    }
+    settle(alloc, hosts, log)?;
+    draw_settled(alloc, hosts, log)
+}

@@ -1,0 +1,51 @@
+//! Receives are freed until no line comes before itself.
+ghost use Rattle.std.specs.Prelude.{◌≡◌, ◌<◌, ◌≤◌, length, IfOk, OnOk, MatchOption};
+ghost use Rattle.chart.specs.declared.instance.TheConstants.{MAX_INSTANCES};
+ghost use Rattle.log_chart.specs.Entries.{HaveStreams};
+ghost use Rattle.log_chart.specs.HostLines.{kept};
+ghost use Rattle.log_chart.specs.Cycles.Freeing.{IsFirst, HasNone, freed, Settles, AreAmong};
+
+use crate::cycles::first::first_on_circle;
+use crate::{Entry, Kind, kept_lines};
+use std::alloc::{AllocError, Global};
+
+/// The receive that is to be freed next, if there is one.
+fn next_freed(alloc: Global, hosts: usize, log: &[Entry]) -> Result<Option<usize>, AllocError>
+    requires hosts { hosts ≤ MAX_INSTANCES }
+    requires streams { HaveStreams log.now }
+    requires among { AreAmong hosts log.now }
+    ensures { IfOk result (λ found. MatchOption found (HasNone (kept log.now)) (IsFirst (kept log.now))) }
+{
+    let lines = kept_lines(alloc, log)?;
+    first_on_circle(alloc, log.len(), hosts, &lines)
+}
+
+/// Frees a receive.
+fn free(log: &mut [Entry], number: usize)
+    requires { number < length log.old }
+    ensures { log.new ≡ freed number log.old }
+{
+    let entry = log[number];
+    log[number] = Entry {
+        kind: Kind::Freed,
+        ..entry
+    };
+}
+
+/// Frees receives of a log, with so many hosts, until no line comes before itself.
+///
+/// Of the receives that take a send of the log and come before themselves, the one that stands first in the files is
+/// freed: it takes no logged send, now or later. Then pairing begins anew.
+///
+/// F6: it fails only where there is no memory. The log is then in between.
+pub fn settle(alloc: Global, hosts: usize, log: &mut [Entry]) -> Result<(), AllocError>
+    requires hosts { hosts ≤ MAX_INSTANCES }
+    requires streams { HaveStreams log.old }
+    requires among { AreAmong hosts log.old }
+    ensures { OnOk result (Settles log.old log.new) }
+{
+    'turns: while let Some(number) = next_freed(alloc, hosts, log)? {
+        free(log, number);
+    }
+    Ok(())
+}

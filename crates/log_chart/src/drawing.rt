@@ -1,0 +1,123 @@
+//! The lines of the hosts of a log.
+ghost use Rattle.std.specs.Prelude.{◌≡◌, ◌≤◌, length, IfOk};
+ghost use Rattle.chart.specs.declared.instance.TheConstants.{MAX_INSTANCES};
+ghost use Rattle.log_chart.specs.Begun.{begun, behind};
+ghost use Rattle.log_chart.specs.BegunTables.{HoldsRising, AreNumberedBelow};
+ghost use Rattle.log_chart.specs.Chains.{AreChains};
+ghost use Rattle.log_chart.specs.Entries.{HaveStreams};
+ghost use Rattle.log_chart.specs.Fates.{fates};
+ghost use Rattle.log_chart.specs.HostLines.{lines_from, kept, host_lines};
+ghost use Rattle.log_chart.specs.Matching.{matched};
+
+use crate::begun::{Begun, begun_sends};
+use crate::chains::Chains;
+use crate::entry::Entry;
+use crate::fate::Fate;
+use crate::host_line::{behind_of, items_of};
+use crate::item::Item;
+use crate::losing::sift;
+use crate::matching::{LogLine, matched};
+use chart::InstanceNo;
+use std::alloc::{AllocError, Global};
+use std::marker::Model;
+
+/// The events of a host. A contract sees their list.
+#[derive(Drop)]
+pub struct HostLine {
+    items: Vec<Item>,
+}
+
+impl Model for HostLine {
+    ghost use Rattle.std.specs.Prelude.{List};
+    ghost use Rattle.log_chart.specs.declared.item.Item.{Item};
+
+    ghost Value = { List Item };
+
+    ghost view = { λ l. l.items.items };
+}
+
+impl HostLine {
+    /// The events, in their order.
+    pub fn as_slice(&self) -> &[Item]
+        ensures { result.now ≡ self.now }
+    {
+        self.items.as_slice()
+    }
+}
+
+/// The lines of the hosts of a log, and what was done to come to them.
+#[derive(Drop)]
+pub struct HostLines {
+    /// Each line of the log, with the send that it takes.
+    pub matched: Vec<LogLine>,
+    /// What becomes of each of these.
+    pub fates: Vec<Fate>,
+    /// The sends that are invented.
+    pub given: Vec<Begun>,
+    /// The events of each host, by its number.
+    pub lines: Vec<HostLine>,
+}
+
+/// The lines of so many hosts.
+fn lines_of(
+    alloc: Global,
+    count: usize,
+    lines: &[LogLine],
+    given: &[Begun],
+    behind_sends: &Chains,
+) -> Result<Vec<HostLine>, AllocError>
+    requires count { count ≤ MAX_INSTANCES }
+    requires behind { AreChains behind_sends.now.first.items behind_sends.now.next.items (behind given.now) }
+    requires rising { HoldsRising behind_sends.now }
+    requires within { AreNumberedBelow (length behind_sends.now.first.items) lines.now }
+    ensures { IfOk result (λ made. made.items ≡ lines_from count lines.now given.now 1 count) }
+{
+    let mut made = Vec::new(alloc);
+    for place in 0..count {
+        let host = InstanceNo::at_place(place);
+        made.push(HostLine {
+            items: items_of(alloc, count, lines, given, behind_sends, host)?,
+        })?;
+    }
+    Ok(made)
+}
+
+/// The lines of a log that stay, each receive with the send that it takes.
+///
+/// F6: it fails only where there is no memory.
+pub fn kept_lines(alloc: Global, log: &[Entry]) -> Result<Vec<LogLine>, AllocError>
+    requires { HaveStreams log.now }
+    ensures { IfOk result (λ lines. lines.items ≡ kept log.now) }
+{
+    let matched = matched(alloc, log)?;
+    let sifted = sift(alloc, &matched)?;
+    Ok(sifted.staying)
+}
+
+/// The lines of the hosts of a log, of so many.
+///
+/// Each receive takes the first send of its stream that none before it took. Lost messages and those that overtake are
+/// left out. A receive without a send gives its peer one, directly behind the send of the last message before it on its
+/// lane that is left, or at the head of the peer's line.
+///
+/// F6: it fails only where there is no memory.
+pub fn host_lines(alloc: Global, count: usize, log: &[Entry]) -> Result<HostLines, AllocError>
+    requires count { count ≤ MAX_INSTANCES }
+    requires streams { HaveStreams log.now }
+    ensures matched { IfOk result (λ drawn. drawn.matched.items ≡ matched log.now) }
+    ensures fates { IfOk result (λ drawn. drawn.fates.items ≡ fates (matched log.now)) }
+    ensures given { IfOk result (λ drawn. drawn.given.items ≡ begun (kept log.now)) }
+    ensures lines { IfOk result (λ drawn. drawn.lines.items ≡ host_lines count log.now) }
+{
+    let matched = matched(alloc, log)?;
+    let sifted = sift(alloc, &matched)?;
+    let given = begun_sends(alloc, &sifted.staying)?;
+    let behind_sends = behind_of(alloc, log.len(), &given)?;
+    let lines = lines_of(alloc, count, &sifted.staying, &given, &behind_sends)?;
+    Ok(HostLines {
+        matched,
+        fates: sifted.fates,
+        given,
+        lines,
+    })
+}

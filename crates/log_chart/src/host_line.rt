@@ -1,0 +1,131 @@
+//! The events of each host.
+ghost use Rattle.std.specs.Prelude.{◌≡◌, ◌<◌, ◌≤◌, ◌++◌, ℕ, List, length, map, IfOk, OnOk};
+ghost use Rattle.chart.specs.declared.instance.TheConstants.{MAX_INSTANCES};
+ghost use Rattle.log_chart.specs.Begun.{behind as behind_numbers, heads, heads_to};
+ghost use Rattle.log_chart.specs.BegunTables.{AreGiven, HoldsRising, AreNumberedBelow};
+ghost use Rattle.log_chart.specs.Chains.{AreChains};
+ghost use Rattle.log_chart.specs.Items.{invented, items_by, heads_from, items_of};
+
+use crate::begun::Begun;
+use crate::chains::Chains;
+use crate::item::{Item, invented, item_of};
+use crate::matching::{LogLine, is_send};
+use chart::InstanceNo;
+use std::alloc::{AllocError, Global};
+
+/// The receives for which a send is invented behind another, by the number of this one's line.
+pub(crate) fn behind_of(alloc: Global, count: usize, given: &[Begun]) -> Result<Chains, AllocError>
+    requires { AreGiven count given.now }
+    ensures chains { IfOk result (λ chains. AreChains chains.first.items chains.next.items (behind_numbers given.now)) }
+    ensures rising { IfOk result HoldsRising }
+    ensures lists { IfOk result (λ chains. length chains.first.items ≡ count) }
+{
+    let mut chains = Chains::new(alloc, count)?;
+    let mut left = given.len();
+    'given: while left > 0 {
+        left -= 1;
+        let begun = given[left];
+        if let Some(send) = begun.behind {
+            chains.put_first(send, begun.receive);
+        }
+    }
+    Ok(chains)
+}
+
+/// The sends that are invented at the head of a host's line.
+fn heads(alloc: Global, given: &[Begun], host: InstanceNo) -> Result<Vec<Begun>, AllocError>
+    ensures { IfOk result (λ found. found.items ≡ heads given.now host) }
+{
+    given
+        .iter()
+        .copied()
+        .filter(|begun| begun.behind.is_none() && begun.sender == host)
+        .collect(alloc)
+}
+
+/// Those to one receiver.
+fn push_heads_to(
+    items: &mut Vec<Item>,
+    heads: &[Begun],
+    receiver: InstanceNo,
+) -> Result<(), AllocError>
+    ensures { OnOk result (items.new.items ≡ items.old.items ++ map (invented receiver) (heads_to heads.now receiver)) }
+{
+    for begun in heads {
+        if begun.receiver == receiver {
+            items.push(invented(receiver, begun.receive))?;
+        }
+    }
+    Ok(())
+}
+
+/// All of them, by their receivers.
+fn push_heads(items: &mut Vec<Item>, heads: &[Begun], count: usize) -> Result<(), AllocError>
+    requires { count ≤ MAX_INSTANCES }
+    ensures { OnOk result (items.new.items ≡ items.old.items ++ heads_from heads.now 1 count) }
+{
+    for place in 0..count {
+        push_heads_to(items, heads, InstanceNo::at_place(place))?;
+    }
+    Ok(())
+}
+
+/// The sends that are invented behind that of a line.
+fn push_behind(items: &mut Vec<Item>, behind: &Chains, line: &LogLine) -> Result<(), AllocError>
+    requires rising { HoldsRising behind.now }
+    requires within { line.now.number < length behind.now.first.items }
+    ensures { (lists : ℕ → List ℕ) → AreChains behind.now.first.items behind.now.next.items lists
+        → OnOk result (items.new.items ≡ items.old.items ++ map (invented line.now.entry.peer) (lists line.now.number)) }
+{
+    let mut next = behind.first_of(line.number);
+    'numbers: while let Some(number) = next {
+        items.push(invented(line.entry.peer, number))?;
+        next = behind.next_of(number);
+    }
+    Ok(())
+}
+
+/// What a host's line gets by a line of the log.
+fn push_items(
+    items: &mut Vec<Item>,
+    behind: &Chains,
+    line: &LogLine,
+    host: InstanceNo,
+) -> Result<(), AllocError>
+    requires rising { HoldsRising behind.now }
+    requires within { line.now.number < length behind.now.first.items }
+    ensures { (given : List Begun) → AreChains behind.now.first.items behind.now.next.items (behind_numbers given)
+        → OnOk result (items.new.items ≡ items.old.items ++ items_by given host line.now) }
+{
+    if line.entry.host != host {
+        return Ok(());
+    }
+    items.push(item_of(line))?;
+    if is_send(line.entry.kind) {
+        push_behind(items, behind, line)?;
+    }
+    Ok(())
+}
+
+/// The events of a host, of so many: those of its lines that stay, and the sends that are invented.
+pub(crate) fn items_of(
+    alloc: Global,
+    count: usize,
+    lines: &[LogLine],
+    given: &[Begun],
+    behind: &Chains,
+    host: InstanceNo,
+) -> Result<Vec<Item>, AllocError>
+    requires count { count ≤ MAX_INSTANCES }
+    requires behind { AreChains behind.now.first.items behind.now.next.items (behind_numbers given.now) }
+    requires rising { HoldsRising behind.now }
+    requires within { AreNumberedBelow (length behind.now.first.items) lines.now }
+    ensures { IfOk result (λ items. items.items ≡ items_of count lines.now given.now host) }
+{
+    let mut items = Vec::new(alloc);
+    push_heads(&mut items, &heads(alloc, given, host)?, count)?;
+    for line in lines {
+        push_items(&mut items, behind, line, host)?;
+    }
+    Ok(items)
+}

@@ -1,0 +1,154 @@
+//! The entries of a log.
+ghost use Rattle.std.specs.Prelude.{◌≡◌, ◌≤◌, ◌++◌, ◌∷◌, [], suc, length, None, IfOk, OnOk, IfErr};
+ghost use Rattle.chart.specs.declared.instance.TheConstants.{MAX_INSTANCES};
+ghost use Rattle.log_chart.specs.Entries.{HaveStreams};
+ghost use Rattle.log_chart.specs.Named.Entering.{place_in, with_word, kind_of, entry_in, with_line, entries_from, hosts_from};
+ghost use Rattle.log_chart.specs.Cycles.Freeing.{AreAmong, HaveLanes};
+ghost use Rattle.log_chart.specs.Named.Faults.{fault_in, fault_of, IsRefusal, IsHostRefusal};
+ghost use Rattle.log_chart.specs.Named.Logs.{before_of, begun, IsRefusalOf};
+ghost use Rattle.log_chart.specs.declared.named.entering.LogError.TheVariants.{Memory};
+
+use crate::named::hosts::instance_in;
+use crate::named::said::Said;
+use crate::named::stream::{Stream, number_in, number_of, stream_between};
+use crate::{Entry, Kind, Place};
+use chart::{InstanceNo, Name, Names, NamesError};
+use indexmap::IndexSet;
+use std::alloc::{AllocError, AllocFailed, Global};
+use thiserror::Error;
+
+/// Why lines are no log.
+#[derive(Clone, Copy, Debug, PartialEq, Eq, Error)]
+pub enum LogError {
+    /// F6: a growth was refused.
+    #[error("there is no memory left")]
+    Memory,
+    /// F8: there are more than 32 hosts.
+    #[error("there are too many instances")]
+    Instances,
+    /// F13: in this line a host sends a message to itself, or receives one from itself.
+    #[error("an instance sends no message to itself")]
+    ToItself(Place),
+}
+
+impl From<AllocError> for LogError {
+    ghost from_gives = { λ _ e. e ≡ Memory };
+
+    fn from(_e: AllocError) -> LogError {
+        LogError::Memory
+    }
+}
+
+impl<T: Drop> From<AllocFailed<T>> for LogError {
+    ghost from_gives = { λ _ e. e ≡ Memory };
+
+    fn from(_e: AllocFailed<T>) -> LogError {
+        LogError::Memory
+    }
+}
+
+/// What came so far.
+#[derive(Drop)]
+struct Reading {
+    hosts: Names,
+    /// The names of messages without ids.
+    names: IndexSet<Name>,
+    streams: IndexSet<Stream>,
+    entries: Vec<Entry>,
+}
+
+/// The instance of a host.
+fn host_in(hosts: &mut Names, name: Name) -> Result<InstanceNo, LogError>
+    requires few { length hosts.old ≤ MAX_INSTANCES }
+    ensures instance { IfOk result (λ p. p ≡ suc (place_in hosts.old name)) }
+    ensures kept { OnOk result (hosts.new ≡ with_word hosts.old name) }
+    ensures few { OnOk result (length hosts.new ≤ MAX_INSTANCES) }
+    ensures refused { IfErr result (IsHostRefusal hosts.old name) }
+{
+    match instance_in(hosts, name) {
+        Ok(instance) => Ok(instance),
+        Err(NamesError::Instances) => Err(LogError::Instances),
+        Err(NamesError::Memory) => Err(LogError::Memory),
+        Err(NamesError::Duplicate) => unreachable!(),
+    }
+}
+
+fn kind_of(said: &Said) -> Kind
+    ensures { result ≡ kind_of said.now }
+{
+    if said.sends {
+        Kind::Send
+    } else {
+        Kind::Receive
+    }
+}
+
+impl Reading {
+    /// One line more.
+    fn add(&mut self, said: &Said) -> Result<(), LogError>
+        requires few { length self.old.hosts ≤ MAX_INSTANCES }
+        ensures before { OnOk result (before_of self.new ≡ with_line (before_of self.old) said.now) }
+        ensures entry { OnOk result (self.new.entries.items
+            ≡ self.old.entries.items ++ entry_in (before_of self.old) said.now ∷ []) }
+        ensures few { OnOk result (length self.new.hosts ≤ MAX_INSTANCES) }
+        ensures faultless { OnOk result (fault_in (before_of self.old) said.now ≡ None) }
+        ensures refused { IfErr result (IsRefusal (fault_in (before_of self.old) said.now)) }
+    {
+        let host = host_in(&mut self.hosts, said.host)?;
+        let peer = host_in(&mut self.hosts, said.peer)?;
+        if host == peer {
+            return Err(LogError::ToItself(said.place));
+        }
+        let number = number_in(&mut self.names, said.id, said.name)?;
+        let stream = number_of(&mut self.streams, stream_between(host, peer, said, number))?;
+        self.entries.push(Entry {
+            host,
+            kind: kind_of(said),
+            peer,
+            name: said.name,
+            stream,
+            place: said.place,
+        })?;
+        Ok(())
+    }
+}
+
+/// The entries of a log, and the names of its hosts.
+#[derive(Debug, Drop)]
+pub struct Log {
+    pub names: Names,
+    pub entries: Vec<Entry>,
+}
+
+/// The entries of these lines, in their order: these hosts come first, and then those of the lines, each line's host before
+/// its peer. Along a lane messages are of one stream where they have one id or, where neither has one, one name.
+///
+/// F8 exactly where there is a 33rd host, F13 exactly where a host is its own peer: the first line decides, and of one
+/// line F8. F6 may come at any point.
+pub fn entries_of(alloc: Global, hosts: &[Name], lines: &[Said]) -> Result<Log, LogError>
+    ensures names { IfOk result (λ log. log.names ≡ hosts_from (begun hosts.now) lines.now) }
+    ensures entries { IfOk result (λ log. log.entries.items ≡ entries_from (begun hosts.now) lines.now) }
+    ensures streams { IfOk result (λ log. HaveStreams log.entries.items) }
+    ensures lanes { IfOk result (λ log. HaveLanes log.entries.items) }
+    ensures among { IfOk result (λ log. AreAmong (length log.names) log.entries.items) }
+    ensures faultless { OnOk result (fault_of hosts.now lines.now ≡ None) }
+    ensures first { IfErr result (IsRefusal (fault_of hosts.now lines.now)) }
+    ensures refused { IfErr result (IsRefusalOf hosts.now lines.now) }
+{
+    let mut reading = Reading {
+        hosts: Names::new(alloc),
+        names: IndexSet::new(alloc),
+        streams: IndexSet::new(alloc),
+        entries: Vec::new(alloc),
+    };
+    for host in hosts {
+        host_in(&mut reading.hosts, *host)?;
+    }
+    for line in lines {
+        reading.add(line)?;
+    }
+    Ok(Log {
+        names: reading.hosts,
+        entries: reading.entries,
+    })
+}

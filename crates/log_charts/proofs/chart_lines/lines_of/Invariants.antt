@@ -1,6 +1,0 @@
-use Rattle.std.proofs.Common.{◌≡◌, ◌++◌, suc, drop}
-use Rattle.log_charts.specs.ChartLines.{chart_from}
-use Rattle.log_charts.proofs.chart_lines.lines_of.Given as goal
-
-abbrev pub invariant-loop-place : goal.invariant-loop-place
-invariant-loop-place l = l.made.items ++ chart_from l.log (suc l.place) (drop l.place l.lines) ≡ chart_from l.log 1 l.lines

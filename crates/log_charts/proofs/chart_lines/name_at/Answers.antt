@@ -1,5 +1,0 @@
-use Rattle.log_charts.proofs.WalkLemmas.{name_here}
-use Rattle.log_charts.proofs.chart_lines.name_at.Goals as goal
-
-pub returns : goal.returns
-returns c = name_here c.args.log.now c.args.number _ c.requires

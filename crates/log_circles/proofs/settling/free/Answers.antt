@@ -1,5 +1,0 @@
-use Rattle.log_circles.proofs.SettleLemmas.{freed_set}
-use Rattle.log_circles.proofs.settling.free.Goals as goal
-
-pub returns : goal.returns
-returns c = freed_set c.args.number c.args.log.now c.index-log-number.result c.requires c.index-log-number.is

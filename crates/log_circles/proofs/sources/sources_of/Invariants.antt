@@ -1,5 +1,0 @@
-use Rattle.log_circles.proofs.SourceLemmas.{AreFilled}
-use Rattle.log_circles.proofs.sources.sources_of.Given as goal
-
-abbrev pub invariant-loop-line : goal.invariant-loop-line
-invariant-loop-line l = AreFilled l.lines l.count l.line-index l.above.items l.sends.items l.last.items

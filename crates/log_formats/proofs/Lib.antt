@@ -1,0 +1,2 @@
+pub mod ClocksLemmas
+pub mod PatternsLemmas

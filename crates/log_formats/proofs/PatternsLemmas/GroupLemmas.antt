@@ -1,0 +1,37 @@
+-- The groups of an expression, and what a match says by them.
+use Rattle.std.proofs.Common.{◌≡◌, ℕ, ◌+◌, ◌≤◌, ◌<◌, Bool, not, cond, List, [], ◌∷◌, Option, None, Some, length, map, drop, option_map, refl, sym, ap, arith, position, string_bytes, String}
+use Rattle.std.specs.List.{position_or_len}
+use Rattle.std.proofs.lemmas.List.{length-map}
+use Rattle.log_formats.specs.Patterns.Found.{located, id_of, found_by}
+use Rattle.log_formats.specs.Patterns.Groups.{is_named, named_at, group_in, AreAmong, IsAmongIfThere}
+use Rattle.log_formats.specs.declared.patterns.groups.Groups.{Groups}
+use Rattle.log_formats.specs.declared.patterns.groups.Groups.TheVariants.{Event, Capture, Clock}
+
+module _ {X Y : Type 0} (f : X → Y) (p : Y → Bool) where
+  prefix_mapped : (xs : List X) → position_or_len p (map f xs) ≡ position_or_len (λ x. p (f x)) xs
+  prefix_mapped [] = refl
+  prefix_mapped (x ∷ xs) = ap (λ n. cond (not (p (f x))) (1 + n) 0) (prefix_mapped xs)
+
+  -- the first of the values that passes
+  pub position_mapped : (xs : List X) → position p (map f xs) ≡ position (λ x. p (f x)) xs
+  position_mapped xs = rw (prefix_mapped xs, length-map xs f) refl
+
+-- the number of a group, by its place among those behind the match itself
+pub group_placed : {A : Type 0} (name : List ℕ) (groups : List (Option (String A))) → 1 ≤ length groups
+    → option_map (λ n. n + 1) (named_at name (drop 1 groups)) ≡ group_in (map (option_map string_bytes) groups) name
+unfolding group_in
+group_placed name [] h = absurd (omega arith)
+group_placed name (g ∷ groups) h = ap (option_map (λ n. n + 1)) (sym (position_mapped (option_map string_bytes) (is_named name) groups))
+
+module _ (window : List ℕ) (f g : ℕ → Option (ℕ × ℕ)) (count : ℕ) (same : (n : ℕ) → 1 ≤ n → n < count → f n ≡ g n) where
+  id_same : (n : Option ℕ) → IsAmongIfThere count n → id_of (located window f) n ≡ id_of (located window g) n
+  id_same None a = refl
+  id_same (Some n) a = rw (same n a.0 a.1) refl
+
+  -- a match says the same where its groups span the same
+  pub found_same : (groups : Groups) → AreAmong count groups → found_by (located window f) groups ≡ found_by (located window g) groups
+  unfolding found_by
+  found_same (Event e) a =
+      rw (same e.host a.0.0 a.0.1, same e.direction a.1.0 a.1.1, same e.peer a.2.0 a.2.1, same e.name a.3.0 a.3.1, id_same e.id a.4) refl
+  found_same (Capture e) a = rw (same e.source a.0.0 a.0.1, same e.destination a.1.0 a.1.1, same e.name a.2.0 a.2.1, id_same e.id a.3) refl
+  found_same (Clock e) a = rw (same e.host a.0.0 a.0.1, same e.clock a.1.0 a.1.1, same e.event a.2.0 a.2.1) refl

@@ -1,0 +1,71 @@
+-- Events with their vector time.
+use Rattle.std.specs.Prelude.{ℕ, ◌+◌, ◌==◌, ◌&&◌, Bool, true, false, nat_lt, List, [], ◌∷◌, ◌++◌, map, Option, None, Some, is_some, bytes_eq, if◌then◌else◌}
+use Rattle.log_lines.specs.ByWords.{by_words}
+use Rattle.log_lines.specs.Events.{ClockedView, clocked_view, ClockedAtView}
+use Rattle.log_lines.specs.Reading.{ReadView, read_view}
+use Rattle.log_lines.specs.declared.event.Place.{Place}
+use Rattle.log_formats.specs.Clocks.Stamps.{StampView, stamp_view, stamps_in, count_of}
+use Rattle.log_formats.specs.declared.clocks.moment.Moment.{Moment}
+
+-- an event, what is read of its words alone, the entries of its clock, and which of its host's events it is by its clock, from 1 on,
+-- or 0 where the clock doesn't say so
+pub record MomentView : Type 0 where
+  pub clocked : ClockedView
+  pub place : Place
+  pub worded : ReadView
+  pub stamps : List StampView
+  pub own : ℕ
+
+abbrev pub moment_view : Moment → MomentView
+moment_view m = record {
+  clocked = clocked_view m.clocked;
+  place = m.place;
+  worded = read_view m.worded;
+  stamps = map stamp_view m.stamps.items;
+  own = m.own;
+}
+
+-- what is read of an event's words
+abbrev pub worded : ClockedAtView → ReadView
+worded c = by_words (record { said = []; clocked = c ∷ []; others = None })
+
+abbrev pub moment_of : ClockedAtView → MomentView
+moment_of c = record {
+  clocked = c.clocked;
+  place = c.place;
+  worded = worded c;
+  stamps = stamps_in c.clocked.clock;
+  own = count_of (stamps_in c.clocked.clock) c.clocked.host;
+}
+
+-- moments with those of these events
+abbrev pub with_moments : List MomentView → List ClockedAtView → List MomentView
+with_moments moments [] = moments
+with_moments moments (c ∷ events) = with_moments (moments ++ moment_of c ∷ []) events
+
+-- it says in no words what it is, and its clock tells
+abbrev pub is_by_clock : MomentView → Bool
+is_by_clock m = is_some m.worded.others && nat_lt 0 m.own
+
+-- it is this host's, and its clock tells which
+abbrev pub is_of : List ℕ → MomentView → Bool
+is_of host m = nat_lt 0 m.own && bytes_eq m.clocked.host host
+
+-- what the last of these knows that is this host's
+abbrev pub last_stamps : List StampView → List ℕ → List MomentView → List StampView
+last_stamps so_far host [] = so_far
+last_stamps so_far host (m ∷ moments) = last_stamps (if is_of host m then m.stamps else so_far) host moments
+
+-- it is this event of this host
+abbrev pub is_at : StampView → MomentView → Bool
+is_at s m = m.own == s.count && bytes_eq m.clocked.host s.host
+
+-- the place of the first that is, where the first of these has this place
+abbrev pub place_from : ℕ → StampView → List MomentView → Option ℕ
+place_from n s [] = None
+place_from n s (m ∷ moments) = if is_at s m then Some n else place_from (n + 1) s moments
+
+-- one of them is told by its clock
+abbrev pub any_by_clock : List MomentView → Bool
+any_by_clock [] = false
+any_by_clock (m ∷ moments) = if is_by_clock m then true else any_by_clock moments

@@ -1,0 +1,163 @@
+//! What events have heard of, by their clocks.
+ghost use Rattle.std.specs.Prelude.{◌≡◌, ◌≤◌, [], length, map, option_map, IfOk, OnOk};
+ghost use Rattle.log_formats.specs.Clocks.Hearing.{heard_view, grew, heard_of, with_grown, grown, knows_of, implies, is_implied, with_direct, with_heard, all_heard};
+ghost use Rattle.log_formats.specs.Clocks.Moments.{moment_view};
+ghost use Rattle.log_formats.specs.Clocks.Stamps.{stamp_view};
+
+use crate::clocks::moment::{Moment, is_by_clock, last_stamps, place_of};
+use crate::clocks::stamp::{Stamp, count_of};
+use std::alloc::{AllocError, Global};
+
+/// An entry of an event's clock that grew.
+#[derive(Clone, Copy, Debug)]
+pub(crate) struct Heard<'a> {
+    pub stamp: Stamp<'a>,
+    /// The event of this host with this entry, by its place, if the log has it.
+    pub source: Option<usize>,
+    /// The event that has heard of it, by its place, and its host.
+    pub at: usize,
+    pub host: &'a [u8],
+}
+
+/// Whether the entry of another host grew.
+fn grew(host: &[u8], before: &[Stamp<'_>], stamp: &Stamp<'_>) -> bool
+    ensures { result ≡ grew host.now (map stamp_view before.now) (stamp_view stamp.now) }
+{
+    stamp.host != host && count_of(before, stamp.host) < stamp.count
+}
+
+/// What an event hears of by this entry of its clock.
+fn heard_of<'a>(
+    moments: &[Moment<'a>],
+    at: usize,
+    moment: &Moment<'a>,
+    stamp: Stamp<'a>,
+) -> Heard<'a>
+    ensures { heard_view result ≡ heard_of (map moment_view moments.now) at (moment_view moment.now) (stamp_view stamp.entry) }
+{
+    Heard {
+        stamp,
+        source: place_of(moments, &stamp),
+        at,
+        host: moment.clocked.host,
+    }
+}
+
+/// The entries of an event's clock that grew since these.
+fn grown_since<'a>(
+    alloc: Global,
+    moments: &[Moment<'a>],
+    at: usize,
+    moment: &Moment<'a>,
+    before: &[Stamp<'a>],
+) -> Result<Vec<Heard<'a>>, AllocError>
+    ensures { IfOk result (λ found. map heard_view found.items
+        ≡ with_grown (map moment_view moments.now) at (moment_view moment.now) (map stamp_view before.now) [] (moment_view moment.now).stamps) }
+{
+    let mut found = Vec::new(alloc);
+    for stamp in &moment.stamps {
+        if grew(moment.clocked.host, before, stamp) {
+            found.push(heard_of(moments, at, moment, *stamp))?;
+        }
+    }
+    Ok(found)
+}
+
+/// The entries of an event's clock that grew since its host's last event.
+fn grown<'a>(
+    alloc: Global,
+    moments: &[Moment<'a>],
+    at: usize,
+    moment: &Moment<'a>,
+) -> Result<Vec<Heard<'a>>, AllocError>
+    requires { at ≤ length moments.now }
+    ensures { IfOk result (λ found. map heard_view found.items ≡ grown (map moment_view moments.now) at (moment_view moment.now)) }
+{
+    let before = last_stamps(&moments[..at], moment.clocked.host);
+    grown_since(alloc, moments, at, moment, before)
+}
+
+/// Whether an event of another host, if there is one, knows of what was heard.
+fn knows_of(by: &Heard<'_>, heard: &Heard<'_>, moment: Option<&Moment<'_>>) -> bool
+    ensures { result ≡ knows_of (heard_view by.now) (heard_view heard.now) (option_map (λ m. moment_view m.now) moment.entry) }
+{
+    match moment {
+        None => false,
+        Some(moment) => {
+            by.stamp.host != heard.stamp.host
+                && heard.stamp.count <= count_of(&moment.stamps, heard.stamp.host)
+        }
+    }
+}
+
+/// Whether an entry tells of another one that grew: the event behind it knows of this.
+fn implies(moments: &[Moment<'_>], by: &Heard<'_>, heard: &Heard<'_>) -> bool
+    ensures { result ≡ implies (map moment_view moments.now) (heard_view by.now) (heard_view heard.now) }
+{
+    match by.source {
+        None => false,
+        Some(place) => knows_of(by, heard, moments.get(place)),
+    }
+}
+
+/// Whether one of the entries that grew tells of this one.
+fn is_implied(moments: &[Moment<'_>], found: &[Heard<'_>], heard: &Heard<'_>) -> bool
+    ensures { result ≡ is_implied (map moment_view moments.now) (map heard_view found.now) (heard_view heard.now) }
+{
+    for by in found {
+        if implies(moments, by, heard) {
+            return true;
+        }
+    }
+    false
+}
+
+/// Adds those of the entries that grew of which no other tells.
+fn add_direct<'a>(
+    moments: &[Moment<'a>],
+    found: &[Heard<'a>],
+    all: &mut Vec<Heard<'a>>,
+) -> Result<(), AllocError>
+    ensures { OnOk result (map heard_view all.new.items
+        ≡ with_direct (map moment_view moments.now) (map heard_view found.now) (map heard_view all.old.items) (map heard_view found.now)) }
+{
+    for heard in found {
+        if !is_implied(moments, found, heard) {
+            all.push(*heard)?;
+        }
+    }
+    Ok(())
+}
+
+/// Adds what an event has heard of directly.
+fn add_heard<'a>(
+    alloc: Global,
+    moments: &[Moment<'a>],
+    at: usize,
+    moment: &Moment<'a>,
+    all: &mut Vec<Heard<'a>>,
+) -> Result<(), AllocError>
+    requires { at ≤ length moments.now }
+    ensures { OnOk result (map heard_view all.new.items
+        ≡ with_heard (map moment_view moments.now) at (map heard_view all.old.items) (moment_view moment.now)) }
+{
+    let found = grown(alloc, moments, at, moment)?;
+    add_direct(moments, &found, all)
+}
+
+/// What events have heard of directly, of those of which their clocks tell what they are.
+#[tactic(auto, unfolding(crate::specs::Clocks::Hearing::all_heard))]
+pub(crate) fn all_heard<'a>(
+    alloc: Global,
+    moments: &[Moment<'a>],
+) -> Result<Vec<Heard<'a>>, AllocError>
+    ensures { IfOk result (λ all. map heard_view all.items ≡ all_heard (map moment_view moments.now)) }
+{
+    let mut all = Vec::new(alloc);
+    for (at, moment) in moments.iter().enumerate() {
+        if is_by_clock(moment) {
+            add_heard(alloc, moments, at, moment, &mut all)?;
+        }
+    }
+    Ok(all)
+}

@@ -1,0 +1,119 @@
+//! Events with their vector time, read.
+ghost use Rattle.std.specs.Prelude.{◌≡◌, [], map, IfOk};
+ghost use Rattle.log_lines.specs.Events.{clocked_at_view};
+ghost use Rattle.log_lines.specs.Reading.{read_view};
+ghost use Rattle.log_formats.specs.Clocks.Moments.{moment_view, worded, moment_of, with_moments, is_by_clock, is_of, last_stamps, is_at, place_from, any_by_clock};
+ghost use Rattle.log_formats.specs.Clocks.Stamps.{stamp_view};
+
+use crate::clocks::stamp::{Stamp, count_of, stamps_in};
+use log_lines::{Clocked, ClockedAt, Place, Read, by_words};
+use std::alloc::{AllocError, Global};
+
+/// An event with its vector time.
+#[derive(Drop)]
+pub(crate) struct Moment<'a> {
+    pub clocked: Clocked<'a>,
+    pub place: Place,
+    /// What is read of its words alone.
+    pub worded: Read<'a>,
+    pub stamps: Vec<Stamp<'a>>,
+    /// Which event of its host it is, by its clock: the first is 1. It is 0 where the clock doesn't say so.
+    pub own: u32,
+}
+
+/// What is read of an event's words.
+fn worded<'a>(alloc: Global, event: ClockedAt<'a>) -> Result<Read<'a>, AllocError>
+    ensures { IfOk result (λ read. read_view read ≡ worded (clocked_at_view event.entry)) }
+{
+    let mut read = Read::new(alloc);
+    read.clocked.push(event)?;
+    by_words(alloc, read)
+}
+
+/// The event, read.
+fn moment_of<'a>(alloc: Global, event: ClockedAt<'a>) -> Result<Moment<'a>, AllocError>
+    ensures { IfOk result (λ m. moment_view m ≡ moment_of (clocked_at_view event.entry)) }
+{
+    let clocked = event.clocked;
+    let stamps = stamps_in(alloc, clocked.clock)?;
+    let own = count_of(&stamps, clocked.host);
+    Ok(Moment {
+        clocked,
+        place: event.place,
+        worded: worded(alloc, event)?,
+        stamps,
+        own,
+    })
+}
+
+/// The events, read.
+pub(crate) fn moments_of<'a>(
+    alloc: Global,
+    events: &[ClockedAt<'a>],
+) -> Result<Vec<Moment<'a>>, AllocError>
+    ensures { IfOk result (λ moments. map moment_view moments.items ≡ with_moments [] (map clocked_at_view events.now)) }
+{
+    let mut moments = Vec::new(alloc);
+    for event in events {
+        moments.push(moment_of(alloc, *event)?)?;
+    }
+    Ok(moments)
+}
+
+/// Whether the event says in no words what it is, and its clock tells.
+pub(crate) fn is_by_clock(moment: &Moment<'_>) -> bool
+    ensures { result ≡ is_by_clock (moment_view moment.now) }
+{
+    moment.worded.others.is_some() && 0 < moment.own
+}
+
+/// Whether the event is this host's, and its clock tells which.
+fn is_of(host: &[u8], moment: &Moment<'_>) -> bool
+    ensures { result ≡ is_of host.now (moment_view moment.now) }
+{
+    0 < moment.own && moment.clocked.host == host
+}
+
+/// What the last of these knows that is the host's.
+pub(crate) fn last_stamps<'m, 'a>(moments: &'m [Moment<'a>], host: &[u8]) -> &'m [Stamp<'a>]
+    ensures { map stamp_view result.now ≡ last_stamps [] host.now (map moment_view moments.now) }
+{
+    let mut stamps: &[Stamp<'a>] = &[];
+    for moment in moments {
+        if is_of(host, moment) {
+            stamps = &moment.stamps;
+        }
+    }
+    stamps
+}
+
+/// Whether the event is this one of this host.
+fn is_at(stamp: &Stamp<'_>, moment: &Moment<'_>) -> bool
+    ensures { result ≡ is_at (stamp_view stamp.now) (moment_view moment.now) }
+{
+    moment.own == stamp.count && moment.clocked.host == stamp.host
+}
+
+/// The place of the first event that is.
+pub(crate) fn place_of(moments: &[Moment<'_>], stamp: &Stamp<'_>) -> Option<usize>
+    ensures { result ≡ place_from 0 (stamp_view stamp.now) (map moment_view moments.now) }
+{
+    for (place, moment) in moments.iter().enumerate() {
+        if is_at(stamp, moment) {
+            return Some(place);
+        }
+    }
+    None
+}
+
+/// Whether one of the events is told by its clock.
+pub(crate) fn any_by_clock(moments: &[Moment<'_>]) -> bool
+    ensures { result ≡ any_by_clock (map moment_view moments.now) }
+{
+    for moment in moments {
+        if is_by_clock(moment) {
+            return true;
+        }
+    }
+    false
+}

@@ -1,0 +1,156 @@
+//! What a match of an expression says.
+ghost use Rattle.std.specs.Prelude.{◌≡◌, option_map};
+ghost use Rattle.regex.specs.Locations.{location};
+ghost use Rattle.log_lines.specs.Events.{line_view, event_view};
+ghost use Rattle.log_formats.specs.Patterns.Found.{span_bytes, located, id_of, by_direction, event_found, captured_found, clocked_found, found_in, found_by};
+
+use crate::patterns::groups::{CaptureGroups, ClockGroups, EventGroups, Groups};
+use log_lines::{Act, Clocked, Direction, Event, LineSays, direction_of};
+use regex::CaptureLocations;
+
+/// The bytes of this span, if it is one.
+#[tactic(auto, unfolding(crate::specs::Patterns::Found::span_bytes))]
+fn span_bytes(window: &[u8], start: usize, end: usize) -> Option<&[u8]>
+    ensures { option_map (λ b. b.now) result ≡ span_bytes window.now (start, end) }
+{
+    if start <= end && end <= window.len() {
+        Some(&window[start..end])
+    } else {
+        None
+    }
+}
+
+/// The bytes of a group, if it took part.
+fn group_bytes<'a>(locations: &CaptureLocations, window: &'a [u8], group: usize) -> Option<&'a [u8]>
+    ensures { option_map (λ b. b.now) result ≡ located window.now (location locations.now) group }
+{
+    match locations.get(group) {
+        Some((start, end)) => span_bytes(window, start, end),
+        None => None,
+    }
+}
+
+/// The id, if the expression has a group for it, and it isn't empty.
+fn id_of<'a>(
+    locations: &CaptureLocations,
+    window: &'a [u8],
+    group: Option<usize>,
+) -> Option<&'a [u8]>
+    ensures { option_map (λ b. b.now) result ≡ id_of (located window.now (location locations.now)) group }
+{
+    match group {
+        None => None,
+        Some(group) => match group_bytes(locations, window, group) {
+            None => None,
+            Some([]) => None,
+            Some(id) => Some(id),
+        },
+    }
+}
+
+/// What a line says of this event, where the word for its direction tells this.
+fn by_direction<'a>(direction: Direction, event: Event<'a>) -> LineSays<'a>
+    ensures { line_view result ≡ by_direction direction (event_view event.entry) }
+{
+    match direction {
+        Direction::Sends => LineSays::Event(Event {
+            host: event.host,
+            act: Act::Send,
+            peer: event.peer,
+            name: event.name,
+            id: event.id,
+        }),
+        Direction::Receives => LineSays::Event(Event {
+            host: event.host,
+            act: Act::Receive,
+            peer: event.peer,
+            name: event.name,
+            id: event.id,
+        }),
+        Direction::Arrives => LineSays::Nothing,
+        Direction::Unknown => LineSays::Other,
+    }
+}
+
+fn event_found<'a>(
+    locations: &CaptureLocations,
+    window: &'a [u8],
+    groups: EventGroups,
+) -> Option<LineSays<'a>>
+    ensures { option_map line_view result ≡ event_found (located window.now (location locations.now)) groups }
+{
+    let host = group_bytes(locations, window, groups.host)?;
+    let direction = group_bytes(locations, window, groups.direction)?;
+    let peer = group_bytes(locations, window, groups.peer)?;
+    let name = group_bytes(locations, window, groups.name)?;
+    let event = Event {
+        host,
+        act: Act::Send,
+        peer,
+        name,
+        id: id_of(locations, window, groups.id),
+    };
+    Some(by_direction(direction_of(direction), event))
+}
+
+fn captured_found<'a>(
+    locations: &CaptureLocations,
+    window: &'a [u8],
+    groups: CaptureGroups,
+) -> Option<LineSays<'a>>
+    ensures { option_map line_view result ≡ captured_found (located window.now (location locations.now)) groups }
+{
+    let host = group_bytes(locations, window, groups.source)?;
+    let peer = group_bytes(locations, window, groups.destination)?;
+    let name = group_bytes(locations, window, groups.name)?;
+    Some(LineSays::Message(Event {
+        host,
+        act: Act::Send,
+        peer,
+        name,
+        id: id_of(locations, window, groups.id),
+    }))
+}
+
+fn clocked_found<'a>(
+    locations: &CaptureLocations,
+    window: &'a [u8],
+    groups: ClockGroups,
+) -> Option<LineSays<'a>>
+    ensures { option_map line_view result ≡ clocked_found (located window.now (location locations.now)) groups }
+{
+    let host = group_bytes(locations, window, groups.host)?;
+    let clock = group_bytes(locations, window, groups.clock)?;
+    let event = group_bytes(locations, window, groups.event)?;
+    Some(LineSays::Clocked(Clocked { host, clock, event }))
+}
+
+/// What a match says, if each group took part.
+fn found_in<'a>(
+    locations: &CaptureLocations,
+    window: &'a [u8],
+    groups: Groups,
+) -> Option<LineSays<'a>>
+    ensures { option_map line_view result ≡ found_in (located window.now (location locations.now)) groups }
+{
+    match groups {
+        Groups::Event(groups) => event_found(locations, window, groups),
+        Groups::Capture(groups) => captured_found(locations, window, groups),
+        Groups::Clock(groups) => clocked_found(locations, window, groups),
+    }
+}
+
+/// What a match says, by its groups. A match in which one of them took no part says nothing that is read.
+#[tactic(auto, unfolding(crate::specs::Patterns::Found::found_by))]
+pub(crate) fn found_by<'a>(
+    locations: &CaptureLocations,
+    window: &'a [u8],
+    groups: Groups,
+) -> LineSays<'a>
+    ensures { line_view result ≡ found_by (located window.now (location locations.now)) groups }
+{
+    match found_in(locations, window, groups) {
+        Some(says) => says,
+        None => LineSays::Other,
+    }
+}

@@ -1,0 +1,15 @@
+use Rattle.std.proofs.Common.{◌≡◌, ◌+◌, ◌≤◌, length, map}
+use Rattle.log_lines.specs.Reading.{all_lines}
+use Rattle.log_lines.specs.Names.Hosts.{peer_view}
+use Rattle.log_lines.specs.Takes.Telling.{told_view, with_lines}
+use Rattle.log_lines.proofs.takes.reading.add_text.Given as goal
+
+abbrev pub invariant-lines : goal.invariant-lines
+invariant-lines l = record {
+  told : with_lines (map peer_view l.peers) l.range l.number (all_lines l.rest) (told_view l.told)
+      ≡ with_lines (map peer_view l.peers) l.range 1 (all_lines l.text) (told_view l.initial.told);
+  number : l.number + length l.rest ≤ 1 + length l.text;
+}
+
+abbrev pub decreases-lines : goal.decreases-lines
+decreases-lines l = length l.rest

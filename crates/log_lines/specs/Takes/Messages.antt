@@ -1,0 +1,49 @@
+-- The lines of a log that tell of messages from one host to another, in words of the log, where hosts have other words.
+use Rattle.std.specs.Prelude.{ℕ, Bool, not, List, Option, map, filter, is_some, unwrap_or, bytes_eq}
+use Rattle.log_lines.specs.Events.{SaidView}
+use Rattle.log_lines.specs.declared.event.Act.{Act}
+use Rattle.log_lines.specs.declared.event.Act.TheVariants.{Send, Receive}
+use Rattle.log_lines.specs.Names.Hosts.{PeerView, host_of}
+use Rattle.race_verdicts.specs.Recordings.{WordsView}
+use Rattle.log_lines.specs.declared.takes.key.Key.{Key}
+
+-- the line's message isn't one of a host to itself
+abbrev pub is_between : List PeerView → SaidView → Bool
+is_between peers s = not (bytes_eq (host_of peers s.event.host) (host_of peers s.event.peer))
+
+-- the lines of messages from one host to another
+abbrev pub between : List PeerView → List SaidView → List SaidView
+between peers said = filter (is_between peers) said
+
+-- the words of a line
+abbrev pub line_words : List PeerView → SaidView → WordsView
+line_words peers s = record { host = host_of peers s.event.host; peer = host_of peers s.event.peer; name = s.event.name }
+
+-- the words of all
+unfoldable pub words_in : List PeerView → List SaidView → List WordsView
+words_in peers said = map (line_words peers) (between peers said)
+
+-- what the lines of a message have in common: its lane, and its id or, where it has none, its name
+pub record KeyView : Type 0 where
+  pub sender : List ℕ
+  pub receiver : List ℕ
+  pub has_id : Bool
+  pub word : List ℕ
+
+abbrev pub key_view : Key → KeyView
+key_view k = record { sender = k.sender.now; receiver = k.receiver.now; has_id = k.has_id; word = k.word.now }
+
+abbrev pub key_of : List ℕ → List ℕ → List ℕ → Option (List ℕ) → KeyView
+key_of sender receiver name id = record { sender = sender; receiver = receiver; has_id = is_some id; word = unwrap_or id name }
+
+abbrev pub key_by : Act → List ℕ → List ℕ → List ℕ → Option (List ℕ) → KeyView
+key_by Send host peer name id = key_of host peer name id
+key_by Receive host peer name id = key_of peer host name id
+
+-- that of a line
+abbrev pub line_key : List PeerView → SaidView → KeyView
+line_key peers s = key_by s.event.act (host_of peers s.event.host) (host_of peers s.event.peer) s.event.name s.event.id
+
+-- those of all
+unfoldable pub keys_in : List PeerView → List SaidView → List KeyView
+keys_in peers said = map (line_key peers) (between peers said)

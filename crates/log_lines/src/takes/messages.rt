@@ -1,0 +1,103 @@
+//! The lines of a log that tell of messages from one host to another.
+ghost use Rattle.std.specs.Prelude.{◌≡◌, map, option_map, IfOk};
+ghost use Rattle.log_lines.specs.Events.{said_view};
+ghost use Rattle.log_lines.specs.Names.Hosts.{peer_view};
+ghost use Rattle.race_verdicts.specs.Recordings.{words_view};
+ghost use Rattle.log_lines.specs.Takes.Messages.{line_words, words_in, key_view, key_of, key_by, line_key, keys_in, is_between};
+
+use crate::names::{Peer, host_of};
+use crate::takes::key::Key;
+use crate::{Act, Said};
+use race_verdicts::LineWords;
+use std::alloc::{AllocError, Global};
+
+/// Whether the line's message isn't one of a host to itself.
+fn is_between(peers: &[Peer<'_>], said: &Said<'_>) -> bool
+    ensures { result ≡ is_between (map peer_view peers.now) (said_view said.now) }
+{
+    host_of(peers, said.event.host) != host_of(peers, said.event.peer)
+}
+
+/// The words of a line.
+fn line_words<'a>(peers: &[Peer<'a>], said: &Said<'a>) -> LineWords<'a>
+    ensures { words_view result ≡ line_words (map peer_view peers.now) (said_view said.now) }
+{
+    LineWords {
+        host: host_of(peers, said.event.host),
+        peer: host_of(peers, said.event.peer),
+        name: said.event.name,
+    }
+}
+
+/// The words of each line that tells of a message from one host to another, where hosts have other words.
+#[tactic(auto, unfolding(crate::specs::Takes::Messages::words_in))]
+pub fn words_in<'a>(
+    alloc: Global,
+    peers: &[Peer<'a>],
+    said: &[Said<'a>],
+) -> Result<Vec<LineWords<'a>>, AllocError>
+    ensures { IfOk result (λ words. map words_view words.items ≡ words_in (map peer_view peers.now) (map said_view said.now)) }
+{
+    let mut words = Vec::new(alloc);
+    for line in said {
+        if is_between(peers, line) {
+            words.push(line_words(peers, line))?;
+        }
+    }
+    Ok(words)
+}
+
+/// What a message of this name and id has in common with others of the lane.
+pub(crate) fn key_of<'a>(
+    sender: &'a [u8],
+    receiver: &'a [u8],
+    name: &'a [u8],
+    id: Option<&'a [u8]>,
+) -> Key<'a>
+    ensures { key_view result ≡ key_of sender.now receiver.now name.now (option_map (λ w. w.now) id.entry) }
+{
+    match id {
+        Some(word) => Key {
+            sender,
+            receiver,
+            has_id: true,
+            word,
+        },
+        None => Key {
+            sender,
+            receiver,
+            has_id: false,
+            word: name,
+        },
+    }
+}
+
+/// The key of a line.
+fn line_key<'a>(peers: &[Peer<'a>], said: &Said<'a>) -> Key<'a>
+    ensures { key_view result ≡ line_key (map peer_view peers.now) (said_view said.now) }
+{
+    let host = host_of(peers, said.event.host);
+    let peer = host_of(peers, said.event.peer);
+    match said.event.act {
+        Act::Send => key_of(host, peer, said.event.name, said.event.id),
+        Act::Receive => key_of(peer, host, said.event.name, said.event.id),
+    }
+}
+
+/// The key of each line that tells of a message from one host to another, where hosts have other words.
+#[tactic(auto, unfolding(crate::specs::Takes::Messages::keys_in))]
+pub fn keys_in<'a>(
+    alloc: Global,
+    peers: &[Peer<'a>],
+    said: &[Said<'a>],
+) -> Result<Vec<Key<'a>>, AllocError>
+    ensures { IfOk result (λ keys. map key_view keys.items ≡ keys_in (map peer_view peers.now) (map said_view said.now)) }
+{
+    let mut keys = Vec::new(alloc);
+    for line in said {
+        if is_between(peers, line) {
+            keys.push(line_key(peers, line))?;
+        }
+    }
+    Ok(keys)
+}

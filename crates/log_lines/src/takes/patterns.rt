@@ -1,0 +1,48 @@
+//! What a receive would have taken, by words of its line.
+ghost use Rattle.std.specs.Prelude.{◌≡◌, ◌<◌, length, map, option_map};
+ghost use Rattle.log_lines.specs.Names.Hosts.{peer_view};
+ghost use Rattle.race_verdicts.specs.Recordings.{pattern_view};
+ghost use Rattle.log_lines.specs.Takes.Patterns.{sender_of, parted, pattern_of};
+
+use crate::begins_rest;
+use crate::names::{Peer, host_of};
+use race_verdicts::Pattern;
+use texts::first_place;
+
+/// Whom the word for a sender stands for.
+fn sender_of<'a>(peers: &[Peer<'a>], word: &'a [u8]) -> &'a [u8]
+    ensures { result.now ≡ sender_of (map peer_view peers.now) word.now }
+{
+    if word == b"*".as_slice() {
+        word
+    } else {
+        host_of(peers, word)
+    }
+}
+
+/// PEER and NAMES, where a colon stands here between them.
+fn parted<'a>(peers: &[Peer<'a>], text: &'a [u8], colon: usize) -> Option<Pattern<'a>>
+    requires { colon < length text.now }
+    ensures { option_map pattern_view result ≡ parted (map peer_view peers.now) text.now colon }
+{
+    if colon == 0 || text.len() == colon + 1 {
+        return None;
+    }
+    Some(Pattern {
+        peer: sender_of(peers, &text[..colon]),
+        names: &text[colon + 1..],
+    })
+}
+
+/// What a word `takes=PEER:NAMES` tells. One that is spelled otherwise tells nothing.
+#[tactic(auto, unfolding(crate::specs::Takes::Patterns::pattern_of))]
+pub(crate) fn pattern_of<'a>(peers: &[Peer<'a>], word: &'a [u8]) -> Option<Pattern<'a>>
+    ensures { option_map pattern_view result ≡ pattern_of (map peer_view peers.now) word.now }
+{
+    if !begins_rest(word) {
+        return None;
+    }
+    let text = &word[6..];
+    let colon = first_place(b':', text)?;
+    parted(peers, text, colon)
+}

@@ -1,6 +1,0 @@
-use Rattle.std.proofs.Common.{◌≡◌, map, drop}
-use Rattle.log_names.specs.Hosts.{peer_view, host_of}
-use Rattle.log_names.proofs.hosts.host_of.Given as goal
-
-abbrev pub invariant-loop-peer : goal.invariant-loop-peer
-invariant-loop-peer l = host_of (map peer_view (drop l.peer-index l.peers)) l.word ≡ host_of (map peer_view l.peers) l.word

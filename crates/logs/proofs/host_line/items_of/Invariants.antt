@@ -1,7 +1,0 @@
-use Rattle.std.proofs.Common.{◌≡◌, ◌++◌, drop}
-use Rattle.std.specs.List.{flat_map}
-use Rattle.logs.specs.Items.{items_by, items_of}
-use Rattle.logs.proofs.host_line.items_of.Given as goal
-
-abbrev pub invariant-loop-line : goal.invariant-loop-line
-invariant-loop-line l = l.items.items ++ flat_map (items_by l.given l.host) (drop l.line-index l.lines) ≡ items_of l.count l.lines l.given l.host

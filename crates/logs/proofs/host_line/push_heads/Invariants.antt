@@ -1,6 +1,0 @@
-use Rattle.std.proofs.Common.{◌≡◌, ◌++◌, ◌-◌, suc}
-use Rattle.logs.specs.Items.{heads_from}
-use Rattle.logs.proofs.host_line.push_heads.Given as goal
-
-abbrev pub invariant-loop-place : goal.invariant-loop-place
-invariant-loop-place l = l.items.items ++ heads_from l.heads (suc l.place) (l.count - l.place) ≡ l.fn.items.items ++ heads_from l.heads 1 l.count

@@ -1,5 +1,0 @@
-use Rattle.logs.proofs.LawLemmas.{lane_in_order}
-use Rattle.logs.proofs.laws.lane_law.Goals as goal
-
-pub returns : goal.returns
-returns c = λ n from to log lanes q p low high. lane_in_order n from to log lanes q p low high

@@ -1,7 +1,0 @@
-//! What holds of the lines of hosts.
-ghost use Rattle.logs.specs.Laws.{LaneLaw};
-
-/// Lanes are first in, first out: the n-th message that is received on a lane is the n-th that is sent on it.
-pub fn lane_law()
-    ensures { LaneLaw }
-{}

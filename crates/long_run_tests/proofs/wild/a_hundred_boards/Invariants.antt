@@ -1,7 +1,0 @@
-use Rattle.std.proofs.Common.{map}
-use Rattle.board.specs.Gathering.{left_view, closed_view}
-use Rattle.long_runs.specs.CarriedHistories.{WereLeft}
-use Rattle.long_run_tests.proofs.wild.a_hundred_boards.Given as goal
-
-abbrev pub invariant-loop : goal.invariant-loop
-invariant-loop g l = WereLeft 4 2 (map left_view l.left.items) (map closed_view l.closed.items)

@@ -1,7 +1,0 @@
-use Rattle.std.proofs.Common.{◌≡◌, map, take}
-use Rattle.board.specs.Gathering.{left_view}
-use Rattle.long_runs.specs.CarriedHistories.{sent_again_by}
-use Rattle.long_runs.proofs.carrying.count_sends.Given as goal
-
-abbrev pub invariant-loop-lane : goal.invariant-loop-lane
-invariant-loop-lane l = l.sends ≡ sent_again_by l.sender (map left_view (take l.lane-index l.left))

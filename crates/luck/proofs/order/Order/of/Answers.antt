@@ -1,5 +1,0 @@
-use Rattle.luck.proofs.MarkLemmas.{are_lines}
-use Rattle.luck.proofs.order.Order.of.Goals as goal
-
-pub sources_of-requires : goal.sources_of-requires
-sources_of-requires c = are_lines c.args.lines.now c.requires.log

@@ -1,9 +1,0 @@
-use Rattle.std.proofs.Common.{◌≡◌, ℕ, suc, ◌<◌, [], length, get_or}
-use Rattle.luck.specs.Marking.{AreFirsts}
-use Rattle.luck.proofs.order.firsts_of_all.Given as goal
-
-abbrev pub invariant-loop-place : goal.invariant-loop-place
-invariant-loop-place l = record {
-  whole : length l.tables.items ≡ l.place;
-  each : (p : ℕ) → p < l.place → AreFirsts l.lines (suc p) (get_or l.tables.items p []);
-}

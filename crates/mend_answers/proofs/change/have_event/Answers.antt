@@ -1,8 +1,0 @@
-use Rattle.std.proofs.Common.{◌∙◌, sym}
-use Rattle.chart.specs.Ranges.{events_of}
-use Rattle.mending.proofs.NameLemmas.{any_flat}
-use Rattle.mend_answers.specs.Changes.{is_at}
-use Rattle.mend_answers.proofs.change.have_event.Goals as goal
-
-pub returns : goal.returns
-returns c = c.one_has_event.ensures ∙ sym (any_flat (is_at c.args.instance c.args.index) events_of c.args.ranges.now)

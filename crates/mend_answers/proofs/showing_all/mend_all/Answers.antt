@@ -1,4 +1,0 @@
-use Rattle.mend_answers.proofs.showing_all.mend_all.Goals as goal
-
-pub returns : goal.returns
-returns g c = record { result = c.mend_all_text.result; done = c.mend_all_text.ensures; exits = c.answered.ensures.status; tells = c.answered.ensures.told }

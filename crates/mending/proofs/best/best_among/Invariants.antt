@@ -1,5 +1,0 @@
-use Rattle.mending.specs.Best.{IsBestSo}
-use Rattle.mending.proofs.best.best_among.Given as goal
-
-abbrev pub invariant-loop-pair : goal.invariant-loop-pair
-invariant-loop-pair l = IsBestSo l.closure l.name l.pairs l.pair-index l.best

@@ -1,6 +1,0 @@
-use Rattle.std.proofs.Common.{◌≡◌, take}
-use Rattle.mending.specs.Repairs.{pairs_of}
-use Rattle.mending.proofs.pairs.race_pairs.Given as goal
-
-abbrev pub invariant-loop-report : goal.invariant-loop-report
-invariant-loop-report l = l.pairs.items ≡ pairs_of (take l.report-index l.reports)

@@ -1,9 +1,0 @@
-use Rattle.std.proofs.Common.{◌≡◌, length}
-use Rattle.mermaid_text.specs.Participants.{kind_tail}
-use Rattle.mermaid_text.proofs.participant.kind_tail.Given as goal
-
-abbrev pub invariant-bytes : goal.invariant-bytes
-invariant-bytes l = kind_tail l.rest ≡ kind_tail l.fn.bytes
-
-abbrev pub decreases-bytes : goal.decreases-bytes
-decreases-bytes l = length l.rest

@@ -1,7 +1,0 @@
-use Rattle.std.proofs.Common.{arith}
-use Rattle.line_statements.specs.Statements.{line_view}
-use Rattle.mermaid_text.proofs.PieceLoops.{first_block}
-use Rattle.mermaid_text.proofs.piece.behind_blocks.Goals as goal
-
-pub openings-init : goal.openings-init
-openings-init c = record { same = first_block (line_view c.args.line); room = omega arith }

@@ -1,7 +1,0 @@
-use Rattle.msc_reader.proofs.EventLines.{out_line}
-use Rattle.msc_reader.proofs.event_line.send_words.Goals as goal
-
-pub returns : goal.returns
-returns c =
-    let words = rw c.in-Some.is at c.next_word.ensures.words in
-    out_line _ _ _ _ _ _ c.in_ok-rest.ensures words c.in_ok-word.ensures c.in_ok-partner.ensures

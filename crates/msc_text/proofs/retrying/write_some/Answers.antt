@@ -1,5 +1,0 @@
-use Rattle.msc_text.proofs.Writes.{kept_then}
-use Rattle.msc_text.proofs.retrying.write_some.Goals as goal
-
-pub returns-in-Ok-clause-bytes : goal.returns-in-Ok-clause-bytes
-returns-in-Ok-clause-bytes g c = kept_then _ _ _ _ c.loop.invariant c.in-Ok.ensures.bytes

@@ -1,6 +1,0 @@
-use Rattle.std.specs.Io.KnownBytes.{Keeps}
-use Rattle.msc_text.proofs.retrying.write_some.Given as goal
-
--- the writes that were interrupted took nothing
-abbrev pub invariant-loop : goal.invariant-loop
-invariant-loop g l = Keeps (g.W.Write.contents l.initial.writer) (g.W.Write.contents l.writer)

@@ -1,0 +1,14 @@
+pub use Rattle.chart.specs.Charts
+pub use Rattle.chart.specs.Events
+pub use Rattle.chart.specs.Names
+pub use Rattle.chart.specs.NameSets
+pub use Rattle.texts.specs.Faults
+pub use Rattle.texts.specs.Lines
+pub mod Ahead
+pub mod Builders
+pub mod EventLines
+pub mod HasText
+pub mod LastWords
+pub mod OneLook
+pub mod Reading
+pub mod Steps

@@ -1,9 +1,0 @@
-use Rattle.std.proofs.Common.{◌≡◌, ◌-◌}
-use Rattle.mscgen_text.specs.Arcs.{arc_view}
-use Rattle.mscgen_diagrams.specs.Arcs.{with_others}
-use Rattle.mscgen_diagrams.proofs.arcs.Rows.add_others.Given as goal
-
-abbrev pub invariant-loop-receiver : goal.invariant-loop-receiver
-invariant-loop-receiver l =
-    with_others l.way.last l.way.is_lost l.way.sender (arc_view l.arc) l.receiver (l.count - l.receiver) l.self
-    ≡ with_others l.way.last l.way.is_lost l.way.sender (arc_view l.arc) 0 l.count l.initial.self

@@ -1,0 +1,9 @@
+pub mod FileBytes
+pub mod Files
+pub mod Given
+pub mod Lines
+pub mod Opening
+pub mod Readings
+pub mod Views
+pub mod Wanted
+pub mod Words

@@ -1,0 +1,34 @@
+//! How many files a command line reads.
+ghost use Rattle.std.specs.Prelude.{◌≡◌, length};
+ghost use Rattle.mscview_requests.specs.Files.{at_least_one, files_read};
+
+use cli::view::{ImportLog, Request};
+
+/// How many files a log is read of: standard input where none is named.
+fn many_logs(log: &ImportLog<'_>) -> usize
+    ensures { result ≡ at_least_one (length log.now.files.items) }
+{
+    log.files.len().max(1)
+}
+
+/// How many files a request reads, with standard input for one.
+pub fn many_files(request: &Request<'_>) -> usize
+    ensures { result ≡ files_read request.now }
+{
+    match request {
+        Request::Compare(_) => 2,
+        Request::ImportLog(log) | Request::LogPage(log) => many_logs(log),
+        Request::LogRaces(asked) => many_logs(&asked.log),
+        Request::Pair(_)
+        | Request::Draw(_)
+        | Request::DrawWitness(_)
+        | Request::Page(_)
+        | Request::ToolPage(_)
+        | Request::Export(_)
+        | Request::Import(_)
+        | Request::Races(_)
+        | Request::Mend(_)
+        | Request::Tidy(_)
+        | Request::Explain(_) => 1,
+    }
+}

@@ -1,0 +1,53 @@
+//! What gives the bytes of the files that a command line names.
+ghost use Rattle.std.specs.Prelude.{◌≡◌, ℕ, List, Option, Result, option_map};
+ghost use Rattle.cmd_base.specs.declared.error.ProgramError.{ProgramError};
+ghost use Rattle.mscview_requests.specs.Given.{named_so, file_said, given_in};
+
+use crate::file_bytes::FileBytes;
+use cmd_base::ProgramError;
+use std::alloc::Global;
+
+/// What gives the bytes of the files that a command line names: the system, or whoever has them in memory.
+pub trait Giver {
+    /// What may be given of the file that is read at a place of the command line, from 0, and has this name; without a
+    /// name it is standard input.
+    ghost gives: { Self → ℕ → Option (List ℕ) → Result (List ℕ) ProgramError → Type 0 };
+
+    /// The bytes of the file that is read at this place of the command line, from 0, and has this name; without a name it
+    /// is standard input.
+    fn bytes_in(
+        &self,
+        alloc: Global,
+        place: usize,
+        file: Option<&str>,
+    ) -> Result<FileBytes<'_>, ProgramError>
+        ensures { gives self.now place (option_map (λ w. w.now) file.entry) (given_in result) };
+}
+
+/// The name of the file that a word names: of standard input, `-`, none.
+fn named_so(word: &str) -> Option<&str>
+    ensures { option_map (λ w. w.now) result ≡ named_so word.now }
+{
+    if word == "-" { None } else { Some(word) }
+}
+
+/// The same where there may be no word: then standard input is read.
+fn file_said(word: Option<&str>) -> Option<&str>
+    ensures { option_map (λ w. w.now) result ≡ file_said (option_map (λ w. w.now) word.entry) }
+{
+    match word {
+        None => None,
+        Some(word) => named_so(word),
+    }
+}
+
+/// The bytes of the first file of a command line, or of standard input where no word names one, or where it is `-`.
+pub(crate) fn first_in<'a, G: Giver>(
+    alloc: Global,
+    giver: &'a G,
+    word: Option<&str>,
+) -> Result<FileBytes<'a>, ProgramError>
+    ensures { G.gives giver.now 0 (file_said (option_map (λ w. w.now) word.entry)) (given_in result) }
+{
+    giver.bytes_in(alloc, 0, file_said(word))
+}

@@ -1,0 +1,83 @@
+//! Races by name.
+ghost use Rattle.std.specs.Prelude.{◌≡◌, option_map};
+ghost use Rattle.mscview_requests.specs.Views.{DoesRaces, ViewsRaces, ViewsFileRaces};
+ghost use Rattle.mscview_requests.specs.Wanted.{races_form, AreRaces};
+
+use crate::giving::{Giver, first_in};
+use crate::importing::view_races_of;
+use cli::view::{Races, Showing};
+use cmd_base::ProgramError;
+use cmd_races::schedules::lucky_races;
+use cmd_races::{Wanted, races};
+use races_text::named::Form;
+use std::alloc::Global;
+use texts::Out;
+
+fn form_of(json: bool) -> Form
+    ensures { result ≡ races_form json }
+{
+    if json { Form::Json } else { Form::Plain }
+}
+
+/// Which races are to be shown, and how.
+pub(crate) fn wanted_by<'a>(showing: &Showing<'a>) -> Wanted<'a>
+    ensures { AreRaces showing.now result }
+{
+    Wanted {
+        only: showing.only.map(|names| names.as_bytes()),
+        receives: showing.receives,
+        run_to_completion: showing.run_to_completion,
+        form: form_of(showing.json),
+    }
+}
+
+/// Shows the races of a chart or of a schedule: where luck is asked for, those that were luck. G1: luck is asked for of a
+/// chart, which tells nothing of it.
+fn answer_races<W: Out, V: Out>(
+    alloc: Global,
+    luck: bool,
+    bytes: &[u8],
+    wanted: &Wanted<'_>,
+    out: &mut W,
+    err: &mut V,
+) -> u8
+    ensures { DoesRaces W.sink out.old out.new V.sink err.old err.new luck wanted.now bytes.now result }
+{
+    if luck {
+        lucky_races(alloc, bytes, wanted, out, err)
+    } else {
+        races(alloc, bytes, wanted, out, err)
+    }
+}
+
+/// Shows the races of a chart or of a schedule.
+fn view_file_races<G: Giver, W: Out, V: Out>(
+    alloc: Global,
+    asked: &Races<'_>,
+    giver: &G,
+    out: &mut W,
+    err: &mut V,
+) -> Result<u8, ProgramError>
+    ensures { ViewsFileRaces (G.gives giver.now) W.sink out.old out.new V.sink err.old err.new asked.now result }
+{
+    let bytes = first_in(alloc, giver, asked.file)?;
+    let wanted = wanted_by(&asked.showing);
+    let luck = asked.showing.luck;
+    Ok(answer_races(alloc, luck, bytes.as_slice(), &wanted, out, err))
+}
+
+/// Shows the races of a file by name, which may be another tool's text.
+pub(crate) fn view_races<G: Giver, W: Out, V: Out>(
+    alloc: Global,
+    asked: &Races<'_>,
+    giver: &G,
+    out: &mut W,
+    err: &mut V,
+) -> Result<u8, ProgramError>
+    ensures { ViewsRaces (G.gives giver.now) W.sink out.old out.new V.sink err.old err.new asked.now result }
+{
+    match &asked.reading {
+        Some(reading) => view_races_of(alloc, asked, reading, giver, out, err),
+        None => view_file_races(alloc, asked, giver, out, err),
+    }
+}

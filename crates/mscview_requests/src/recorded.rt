@@ -1,0 +1,208 @@
+//! Logs: the charts that they say, and the races and pages of these.
+ghost use Rattle.std.specs.Prelude.{◌≡◌, ◌∷◌, [], map, option_map, IfOk, Some};
+ghost use Rattle.mscview_requests.specs.FileBytes.{bytes_of};
+ghost use Rattle.mscview_requests.specs.Given.{file_said, files_said, told_files, AreAnswered};
+ghost use Rattle.mscview_requests.specs.Opening.{OpensLog};
+ghost use Rattle.mscview_requests.specs.Views.{ViewsLog, ViewsLogPage, ViewsLogRaces};
+ghost use Rattle.mscview_requests.specs.Wanted.{AreJudged, IsNameOf, first_path, titled_path};
+
+use crate::drawing::file_title;
+use crate::file_bytes::FileBytes;
+use crate::giving::{Giver, first_in};
+use crate::log_words::{LogWords, log_words, options_of, peers_by};
+use crate::racing::wanted_by;
+use cli::view::{ImportLog, LogRaces, Showing};
+use cmd_base::ProgramError;
+use cmd_import_log::import;
+use cmd_page::logs::page_of_log;
+use cmd_races::LuckWanted;
+use cmd_races::logs::races_of_log;
+use std::alloc::{AllocError, Global};
+use texts::Out;
+
+/// The bytes of several files, one after another.
+fn all_in<'a, G: Giver>(
+    alloc: Global,
+    giver: &'a G,
+    files: &[&str],
+) -> Result<Vec<FileBytes<'a>>, ProgramError>
+    ensures { AreAnswered (G.gives giver.now) (map (λ w. Some w.now) files.now) result }
+{
+    let mut texts = Vec::new(alloc);
+    for place in 0..files.len() {
+        let text = giver.bytes_in(alloc, place, Some(files[place]))?;
+        let Ok(()) = texts.push(text) else {
+            return Err(ProgramError::Memory);
+        };
+    }
+    Ok(texts)
+}
+
+/// The bytes of one file, or of standard input where there is none or it is `-`.
+fn one_in<'a, G: Giver>(
+    alloc: Global,
+    giver: &'a G,
+    file: Option<&str>,
+) -> Result<Vec<FileBytes<'a>>, ProgramError>
+    ensures { AreAnswered (G.gives giver.now) (file_said (option_map (λ w. w.now) file.entry) ∷ []) result }
+{
+    let mut texts = Vec::new(alloc);
+    let text = first_in(alloc, giver, file)?;
+    let Ok(()) = texts.push(text) else {
+        return Err(ProgramError::Memory);
+    };
+    Ok(texts)
+}
+
+/// The bytes of the files: of one, or of standard input where there is none or it is `-`, or of several.
+fn texts_in<'a, G: Giver>(
+    alloc: Global,
+    giver: &'a G,
+    files: &[&str],
+) -> Result<Vec<FileBytes<'a>>, ProgramError>
+    ensures { AreAnswered (G.gives giver.now) (files_said (map (λ w. w.now) files.now)) result }
+{
+    if files.len() > 1 {
+        return all_in(alloc, giver, files);
+    }
+    match files.first() {
+        None => one_in(alloc, giver, None),
+        Some(file) => one_in(alloc, giver, Some(*file)),
+    }
+}
+
+/// The names of several files, by which their lines are told; of one none.
+fn told_files<'a>(alloc: Global, files: &[&'a str]) -> Result<Vec<&'a [u8]>, AllocError>
+    ensures { IfOk result (λ names. map (λ w. w.now) names.items ≡ told_files (map (λ w. w.now) files.now)) }
+{
+    if files.len() < 2 {
+        return Ok(Vec::new(alloc));
+    }
+    files.iter().map(|file| file.as_bytes()).collect(alloc)
+}
+
+/// The bytes of texts.
+fn slices_of<'a>(alloc: Global, texts: &'a [FileBytes<'_>]) -> Result<Vec<&'a [u8]>, AllocError>
+    ensures { IfOk result (λ slices. map (λ w. w.now) slices.items ≡ map bytes_of texts.now) }
+{
+    texts.iter().map(|text| text.as_slice()).collect(alloc)
+}
+
+/// A log that was opened: what the words say of how it is read, the bytes of its files, and the names by which the lines of
+/// several files are told.
+struct OpenLog<'a> {
+    words: LogWords<'a>,
+    texts: Vec<FileBytes<'a>>,
+    names: Vec<&'a [u8]>,
+}
+
+// (by hand, so that each exit of a function that holds one calls this, and has no proof of its own for what lies within)
+impl Drop for OpenLog<'_> {
+    #[inline(never)]
+    fn drop(self) {
+        let OpenLog {
+            words: _,
+            texts: _,
+            names: _,
+        } = self;
+    }
+}
+
+/// Opens a log: reads the words first, and then the files.
+fn open_log<'a, G: Giver>(
+    alloc: Global,
+    log: &ImportLog<'a>,
+    giver: &'a G,
+) -> Result<OpenLog<'a>, ProgramError>
+    ensures { OpensLog (G.gives giver.now) log.now result }
+{
+    let words = log_words(alloc, log)?;
+    let texts = texts_in(alloc, giver, &log.files)?;
+    let Ok(names) = told_files(alloc, &log.files) else {
+        return Err(ProgramError::Memory);
+    };
+    Ok(OpenLog {
+        words,
+        texts,
+        names,
+    })
+}
+
+/// Writes the chart of a log.
+pub(crate) fn view_log<G: Giver, W: Out, V: Out>(
+    alloc: Global,
+    imported: &ImportLog<'_>,
+    giver: &G,
+    out: &mut W,
+    err: &mut V,
+) -> Result<u8, ProgramError>
+    ensures { ViewsLog (G.gives giver.now) W.sink out.old out.new V.sink err.old err.new imported.now result }
+{
+    let log = open_log(alloc, imported, giver)?;
+    let peers = peers_by(alloc, &log.words)?;
+    let Ok(slices) = slices_of(alloc, &log.texts) else {
+        return Err(ProgramError::Memory);
+    };
+    let options = options_of(&log.words, &peers);
+    Ok(import(alloc, options, &slices, &log.names, out, err))
+}
+
+/// The title that a log gives: the name of its first file alone, and of standard input none.
+fn log_title<'a>(files: &[&'a str]) -> &'a [u8]
+    ensures { IsNameOf (titled_path (first_path (map (λ w. w.now) files.now))) result.now }
+{
+    match files.first() {
+        None => file_title(None),
+        Some(file) => file_title(Some(*file)),
+    }
+}
+
+/// Writes the page of a log, called as a picture of its first file is.
+pub(crate) fn view_log_page<G: Giver, W: Out, V: Out>(
+    alloc: Global,
+    wanted: &ImportLog<'_>,
+    giver: &G,
+    out: &mut W,
+    err: &mut V,
+) -> Result<u8, ProgramError>
+    ensures { ViewsLogPage (G.gives giver.now) W.sink out.old out.new V.sink err.old err.new wanted.now result }
+{
+    let log = open_log(alloc, wanted, giver)?;
+    let peers = peers_by(alloc, &log.words)?;
+    let Ok(slices) = slices_of(alloc, &log.texts) else {
+        return Err(ProgramError::Memory);
+    };
+    let options = options_of(&log.words, &peers);
+    let title = log_title(&wanted.files);
+    Ok(page_of_log(alloc, options, &slices, &log.names, title, out, err))
+}
+
+/// Which races of a log are to be shown, and how.
+fn judged_by<'a>(showing: &Showing<'a>) -> LuckWanted<'a>
+    ensures { AreJudged showing.now result }
+{
+    LuckWanted {
+        races: wanted_by(showing),
+        luck: showing.luck,
+    }
+}
+
+/// Shows the races of a log by name.
+pub(crate) fn view_log_races<G: Giver, W: Out, V: Out>(
+    alloc: Global,
+    asked: &LogRaces<'_>,
+    giver: &G,
+    out: &mut W,
+    err: &mut V,
+) -> Result<u8, ProgramError>
+    ensures { ViewsLogRaces (G.gives giver.now) W.sink out.old out.new V.sink err.old err.new asked.now result }
+{
+    let log = open_log(alloc, &asked.log, giver)?;
+    let peers = peers_by(alloc, &log.words)?;
+    let Ok(slices) = slices_of(alloc, &log.texts) else {
+        return Err(ProgramError::Memory);
+    };
+    let options = options_of(&log.words, &peers);
+    let wanted = judged_by(&asked.showing);
+    Ok(races_of_log(alloc, options, &slices, &log.names, &wanted, out, err))
+}

@@ -1,0 +1,106 @@
+//! The words of `--hosts` and of `--peer`.
+ghost use Rattle.std.specs.Prelude.{◌≡◌, map, option_map, IfOk};
+ghost use Rattle.std.specs.List.{list_any};
+ghost use Rattle.log_lines.specs.Names.Hosts.{peer_view};
+ghost use Rattle.mscview_requests.specs.Words.Hosts.{is_empty, AreHosts, AreFirst, IsPeer, peer_word_view};
+ghost use Rattle.mscview_requests.specs.Words.Words.{AreSaid, Reads};
+
+use crate::words::parts::{comma_parts, round_equals};
+use cmd_base::ProgramError;
+use log_lines::names::Peer;
+use std::alloc::{AllocError, Global};
+
+/// What a word of `--peer` says: a host, and words by which the log calls it.
+#[derive(Drop)]
+pub struct PeerWord<'a> {
+    pub name: &'a [u8],
+    pub words: Vec<&'a [u8]>,
+}
+
+fn is_empty(word: &[u8]) -> bool
+    ensures { result ≡ is_empty word.now }
+{
+    word.is_empty()
+}
+
+/// Whether one of these words is empty.
+fn has_empty(words: &[&[u8]]) -> bool
+    ensures { result ≡ list_any is_empty (map (λ w. w.now) words.now) }
+{
+    for word in words {
+        if is_empty(*word) {
+            return true;
+        }
+    }
+    false
+}
+
+/// The words in a word, which commas join. G1: one of them is empty.
+fn words_by<'a>(alloc: Global, word: &'a [u8]) -> Result<Vec<&'a [u8]>, ProgramError>
+    ensures { Reads result (λ words. map (λ w. w.now) words.items) (AreHosts word.now) }
+{
+    let Ok(words) = comma_parts(alloc, word) else {
+        return Err(ProgramError::Memory);
+    };
+    if has_empty(words.as_slice()) {
+        return Err(ProgramError::Usage);
+    }
+    Ok(words)
+}
+
+/// The hosts that come first: none without a word. G1: one of them is empty.
+pub fn hosts_by<'a>(alloc: Global, word: Option<&'a str>) -> Result<Vec<&'a [u8]>, ProgramError>
+    ensures { Reads result (λ hosts. map (λ w. w.now) hosts.items) (AreFirst (option_map (λ w. w.now) word.entry)) }
+{
+    match word {
+        None => Ok(Vec::new(alloc)),
+        Some(word) => words_by(alloc, word.as_bytes()),
+    }
+}
+
+/// What a word says of a host. G1: it isn't `NAME=NAME,NAME..`.
+fn peer_by<'a>(alloc: Global, word: &'a [u8]) -> Result<PeerWord<'a>, ProgramError>
+    ensures { Reads result peer_word_view (IsPeer word.now) }
+{
+    let Some((name, words)) = round_equals(word) else {
+        return Err(ProgramError::Usage);
+    };
+    if is_empty(name) {
+        return Err(ProgramError::Usage);
+    }
+    Ok(PeerWord {
+        name,
+        words: words_by(alloc, words)?,
+    })
+}
+
+/// What all words of `--peer` say. G1: one of them isn't `NAME=NAME,NAME..`.
+pub fn peer_words<'a>(alloc: Global, words: &[&'a str]) -> Result<Vec<PeerWord<'a>>, ProgramError>
+    ensures { Reads result (λ peers. map peer_word_view peers.items) (AreSaid IsPeer (map (λ w. w.now) words.now)) }
+{
+    let mut peers = Vec::new(alloc);
+    for word in words {
+        let peer = peer_by(alloc, word.as_bytes())?;
+        let Ok(()) = peers.push(peer) else {
+            return Err(ProgramError::Memory);
+        };
+    }
+    Ok(peers)
+}
+
+/// What a word says of a host.
+fn peer_of<'a>(word: &'a PeerWord<'_>) -> Peer<'a>
+    ensures { peer_view result ≡ peer_word_view word.now }
+{
+    Peer {
+        name: word.name,
+        words: word.words.as_slice(),
+    }
+}
+
+/// The hosts that words say.
+pub fn peers_of<'a>(alloc: Global, words: &'a [PeerWord<'_>]) -> Result<Vec<Peer<'a>>, AllocError>
+    ensures { IfOk result (λ peers. map peer_view peers.items ≡ map peer_word_view words.now) }
+{
+    words.iter().map(|word| peer_of(word)).collect(alloc)
+}

@@ -1,0 +1,96 @@
+//! The words of `--join`.
+ghost use Rattle.std.specs.Prelude.{◌≡◌, map, IfOk};
+ghost use Rattle.diagram_join.specs.Joins.{join_view};
+ghost use Rattle.mscview_requests.specs.Words.Joins.{IsName, AreNames, IsJoin, join_word_view};
+ghost use Rattle.mscview_requests.specs.Words.Words.{AreSaid, Says, Reads};
+
+use crate::words::parts::{comma_parts, round_equals};
+use chart::Name;
+use cmd_base::ProgramError;
+use diagram_join::Join;
+use std::alloc::{AllocError, Global};
+
+/// What a word of `--join` says: the name of an instance, and those of its lines.
+#[derive(Drop)]
+pub struct JoinWord {
+    pub name: Name,
+    pub parts: Vec<Name>,
+}
+
+/// The name that a word is. G1: it is none.
+fn name_by(word: &[u8]) -> Result<Name, ProgramError>
+    ensures { Says (IsName word.now) result }
+{
+    match Name::new(word) {
+        Ok(name) => Ok(name),
+        Err(_) => Err(ProgramError::Usage),
+    }
+}
+
+/// The names that these words are. G1: one of them is none.
+fn names_in(alloc: Global, words: &[&[u8]]) -> Result<Vec<Name>, ProgramError>
+    ensures { Reads result (λ names. names.items) (AreSaid IsName (map (λ w. w.now) words.now)) }
+{
+    let mut names = Vec::new(alloc);
+    for word in words {
+        let name = name_by(*word)?;
+        let Ok(()) = names.push(name) else {
+            return Err(ProgramError::Memory);
+        };
+    }
+    Ok(names)
+}
+
+/// The names in a word, which commas join. G1: one of them is none.
+fn names_by(alloc: Global, word: &[u8]) -> Result<Vec<Name>, ProgramError>
+    ensures { Reads result (λ names. names.items) (AreNames word.now) }
+{
+    match comma_parts(alloc, word) {
+        Ok(words) => names_in(alloc, words.as_slice()),
+        Err(_) => Err(ProgramError::Memory),
+    }
+}
+
+/// What a word says. G1: it isn't `NAME=NAME,NAME..`.
+fn join_by(alloc: Global, word: &[u8]) -> Result<JoinWord, ProgramError>
+    ensures { Reads result join_word_view (IsJoin word.now) }
+{
+    let Some((name, parts)) = round_equals(word) else {
+        return Err(ProgramError::Usage);
+    };
+    Ok(JoinWord {
+        name: name_by(name)?,
+        parts: names_by(alloc, parts)?,
+    })
+}
+
+/// What all words of `--join` say. G1: one of them isn't `NAME=NAME,NAME..`.
+pub fn join_words(alloc: Global, words: &[&str]) -> Result<Vec<JoinWord>, ProgramError>
+    ensures { Reads result (λ joins. map join_word_view joins.items) (AreSaid IsJoin (map (λ w. w.now) words.now)) }
+{
+    let mut joins = Vec::new(alloc);
+    for word in words {
+        let join = join_by(alloc, word.as_bytes())?;
+        let Ok(()) = joins.push(join) else {
+            return Err(ProgramError::Memory);
+        };
+    }
+    Ok(joins)
+}
+
+/// The join that a word says.
+fn join_of<'a>(word: &'a JoinWord) -> Join<'a>
+    ensures { join_view result ≡ join_word_view word.now }
+{
+    Join {
+        name: word.name,
+        parts: word.parts.as_slice(),
+    }
+}
+
+/// The joins that words say.
+pub fn joins_of<'a>(alloc: Global, words: &'a [JoinWord]) -> Result<Vec<Join<'a>>, AllocError>
+    ensures { IfOk result (λ joins. map join_view joins.items ≡ map join_word_view words.now) }
+{
+    words.iter().map(|word| join_of(word)).collect(alloc)
+}

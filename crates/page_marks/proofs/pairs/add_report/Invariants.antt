@@ -1,7 +1,0 @@
-use Rattle.std.proofs.Common.{◌≡◌, ◌++◌, take, map}
-use Rattle.std.specs.Prelude.{All}
-use Rattle.page_marks.specs.Pairing.{HasRange, pair_of}
-use Rattle.page_marks.proofs.pairs.add_report.Given as goal
-
-abbrev pub invariant-loop-range : goal.invariant-loop-range
-invariant-loop-range l = (l.pairs.items ≡ l.initial.pairs.items ++ map (pair_of l.report.receive) (take l.range-index l.ranges)) × All HasRange l.pairs.items

@@ -1,9 +1,0 @@
-use Rattle.std.proofs.Common.{take}
-use Rattle.std.specs.List.{flat_map}
-use Rattle.msc_text.specs.Writing.{Buffers}
-use Rattle.page_text.specs.RaceText.{behind_space}
-use Rattle.page_text.proofs.race.add_numbers.Given as goal
-
--- what came so far was added
-abbrev pub invariant-loop-number : goal.invariant-loop-number
-invariant-loop-number g l = Buffers g.W.Out.sink l.initial.text l.text (flat_map (behind_space) (take l.number-index l.numbers))

@@ -1,7 +1,0 @@
-use Rattle.std.proofs.Common.{◌≡◌, [], drop}
-use Rattle.picture_columns.specs.Placing.{columns_from}
-use Rattle.picture_columns.proofs.placing.columns_for.Given as goal
-
--- the columns so far were placed, and with those that are left it is all of them
-abbrev pub invariant-loop-instance : goal.invariant-loop-instance
-invariant-loop-instance l = columns_from l.plan l.columns.items (drop l.instance-index l.drawn) ≡ columns_from l.plan [] l.drawn

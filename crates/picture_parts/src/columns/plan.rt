@@ -1,0 +1,44 @@
+//! What columns are placed by.
+ghost use Rattle.std.specs.Prelude.{◌≡◌};
+ghost use Rattle.chart.specs.Charts.{chart_lines};
+
+use chart::{Event, InstanceNo, Line, Names, Report};
+use std::marker::Model;
+
+/// What columns are placed by: a chart with its names and reports, and what of it is drawn.
+#[derive(Drop)]
+pub struct Plan<'a> {
+    pub names: &'a Names,
+    pub lines: &'a [Line],
+    pub reports: &'a [Report],
+    /// The instances that have a column, the leftmost first.
+    pub drawn: &'a [InstanceNo],
+    /// Whether events have their numbers beside them.
+    pub numbers: bool,
+}
+
+impl<'a> Model for Plan<'a> {
+    ghost use Rattle.picture_parts.specs.Columns.Placing.{PlanView};
+
+    ghost Value = { PlanView };
+
+    ghost view = { λ p. record {
+      names = p.names.now;
+      lines = p.lines.now;
+      reports = p.reports.now;
+      drawn = p.drawn.now;
+      numbers = p.numbers;
+    } };
+}
+
+impl<'a> Plan<'a> {
+    /// The events of an instance's line.
+    pub(crate) fn events_of(&self, instance: InstanceNo) -> &[Event]
+        ensures { result.now ≡ chart_lines self.now.lines instance }
+    {
+        match self.lines.get(instance.place()) {
+            Some(line) => line.events(),
+            None => &[],
+        }
+    }
+}

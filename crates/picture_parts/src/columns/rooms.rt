@@ -1,0 +1,100 @@
+//! What is kept free beside a line.
+ghost use Rattle.std.specs.Prelude.{◌≡◌, ◌≤◌};
+ghost use Rattle.picture_parts.specs.Columns.Rooms.{plus, has_races_on, has_column, events_with, is_turned, bracket_room};
+ghost use Rattle.picture_parts.specs.Columns.Rooms.{number_room, room_of};
+
+use crate::columns::column::{Column, Room};
+use chart::{Event, InstanceNo, Report};
+
+/// More pixels. What is more than 32 bits hold isn't counted.
+pub(crate) fn plus(pixels: u32, more: u32) -> u32
+    ensures { result ≡ plus pixels more }
+{
+    pixels.saturating_add(more)
+}
+
+/// Whether a receive of the instance may come before earlier events.
+pub(crate) fn has_races_on(reports: &[Report], instance: InstanceNo) -> bool
+    ensures { result ≡ has_races_on instance reports.now }
+{
+    reports.iter().any(|report| report.receive().instance == instance
+        && !report.earlier().is_empty())
+}
+
+/// Whether the instance has one of these columns.
+fn has_column(columns: &[Column], instance: InstanceNo) -> bool
+    ensures { result ≡ has_column instance columns.now }
+{
+    columns.iter().any(|column| column.instance == instance)
+}
+
+/// How many of the events are with an instance of one of these columns.
+fn events_with(columns: &[Column], events: &[Event]) -> u32
+    ensures { result ≡ events_with columns.now events.now }
+{
+    events.iter().fold(0u32, |count, event| {
+        if has_column(columns, event.partner()) {
+            plus(count, 1)
+        } else {
+            count
+        }
+    })
+}
+
+/// Whether brackets stand on the right of a line with these events, which is on the right of these columns.
+pub(crate) fn is_turned(columns: &[Column], events: &[Event]) -> bool
+    ensures { result ≡ is_turned columns.now events.now }
+{
+    (events.len() as u64) < 2 * u64::from(events_with(columns, events))
+}
+
+/// The room that brackets need.
+fn bracket_room(width: u32) -> u32
+    requires { width ≤ 22 }
+    ensures { result ≡ bracket_room width }
+{
+    3 * width + 24
+}
+
+/// The room that a number needs.
+fn number_room(width: u32) -> u32
+    requires { width ≤ 22 }
+    ensures { result ≡ number_room width }
+{
+    width + 10
+}
+
+/// The room of a line whose greatest number has this width.
+#[tactic(auto, unfolding(crate::specs::Columns::Rooms::room_of))]
+pub(crate) fn room_of(races: bool, numbers: bool, turned: bool, width: u32) -> Room
+    requires { width ≤ 22 }
+    ensures { result ≡ room_of races numbers turned width }
+{
+    let brackets = bracket_room(width);
+    let number = number_room(width);
+    let step = width / 2 + 2;
+    if !races {
+        let right = if numbers { number } else { 7 };
+        return Room {
+            left: 7,
+            right,
+            step,
+            turned: false,
+        };
+    }
+    if turned {
+        Room {
+            left: number,
+            right: brackets,
+            step,
+            turned,
+        }
+    } else {
+        Room {
+            left: brackets,
+            right: number,
+            step,
+            turned,
+        }
+    }
+}

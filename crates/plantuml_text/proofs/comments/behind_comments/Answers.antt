@@ -1,7 +1,0 @@
-use Rattle.std.proofs.Common.{arith}
-use Rattle.line_statements.specs.Statements.{line_view}
-use Rattle.plantuml_text.proofs.CommentLoops.{first_comment}
-use Rattle.plantuml_text.proofs.comments.behind_comments.Goals as goal
-
-pub comments-init : goal.comments-init
-comments-init c = record { same = first_comment (line_view c.args.line); room = omega arith }

@@ -1,9 +1,0 @@
-use Rattle.std.proofs.Common.{length}
-use Rattle.plantuml_text.proofs.JointLoops.{PlaceLeft}
-use Rattle.plantuml_text.proofs.joints.place_in.Given as goal
-
-abbrev pub invariant-lines : goal.invariant-lines
-invariant-lines l = PlaceLeft l.source l.number l.column l.line l.before l.rest
-
-abbrev pub decreases-lines : goal.decreases-lines
-decreases-lines l = length l.rest

@@ -1,0 +1,2 @@
+pub mod Luck
+pub mod Recordings

@@ -1,0 +1,42 @@
+//! The races of a receive with their words, in words.
+ghost use Rattle.std.specs.Prelude.{◌≡◌};
+ghost use Rattle.chart.specs.Ranges.{IsRange};
+ghost use Rattle.texts.specs.Writing.{Adds};
+ghost use Rattle.races_text.specs.Judged.PlainText.{why_text, line_text};
+
+use crate::judged::part::Part;
+use crate::judged::verdicts::word_of;
+use crate::named::{Word, add_event_at, add_name, add_range, add_word, event_at};
+use chart::{Event, EventNo, Names};
+use race_verdicts::Verdict;
+use texts::{Out, TextBuffer, WriteError};
+
+/// `; WORD` at a line's end.
+#[tactic(auto, unfolding(crate::specs::Judged::PlainText::why_text))]
+fn add_why<W: Out>(text: &mut TextBuffer<'_, W>, verdict: &Verdict) -> Result<(), WriteError>
+    ensures { Adds W.sink text.old text.new result (why_text verdict.now) }
+{
+    text.add_all(&[b"; ", word_of(verdict), b"\n"])
+}
+
+/// Adds a line for a range of a receive's races, `INSTANCE: RECEIVE may come before RANGE; WORD`, of the line with these
+/// events.
+#[tactic(auto, using(texts::proofs::Writes::joining), unfolding(crate::specs::Judged::PlainText::line_text))]
+pub(crate) fn add_line<W: Out>(
+    text: &mut TextBuffer<'_, W>,
+    names: &Names,
+    events: &[Event],
+    receive: &EventNo,
+    part: &Part,
+) -> Result<(), WriteError>
+    requires { IsRange part.now.range }
+    ensures { Adds W.sink text.old text.new result (line_text names.now events.now receive.now part.now) }
+{
+    let index = receive.index;
+    add_name(text, names, receive.instance)?;
+    add_word(text, Word::Colon)?;
+    add_event_at(text, names, index, &event_at(events, index as usize))?;
+    add_word(text, Word::MayCome)?;
+    add_range(text, names, events, &part.range)?;
+    add_why(text, &part.verdict)
+}

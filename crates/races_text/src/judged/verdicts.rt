@@ -1,0 +1,45 @@
+//! What is said of a race, and in which words.
+ghost use Rattle.std.specs.Prelude.{◌≡◌};
+ghost use Rattle.chart.specs.declared.instance.EventNo.{EventNo};
+ghost use Rattle.race_verdicts.specs.declared.verdict.Verdict.{Verdict};
+ghost use Rattle.races_text.specs.Judged.Words.{verdict_text, is_luck};
+
+use chart::EventNo;
+use race_verdicts::Verdict;
+
+/// What tells of each race whether it was luck.
+pub trait Verdicts {
+    /// A receive and an earlier event of its line are a race.
+    ghost is_race: { Self → EventNo → EventNo → Type 0 };
+
+    /// This is its verdict.
+    ghost is_verdict: { Self → EventNo → EventNo → Verdict → Type 0 };
+
+    /// The verdict of the race of the receive and this earlier event. It takes no memory.
+    fn verdict(&self, receive: &EventNo, earlier: &EventNo) -> Verdict
+        requires { is_race self.now receive.now earlier.now }
+        ensures { is_verdict self.now receive.now earlier.now result };
+}
+
+/// The word of a verdict.
+#[tactic(auto, unfolding(crate::specs::Judged::Words::verdict_text))]
+pub(crate) fn word_of(verdict: &Verdict) -> &[u8]
+    ensures { result.now ≡ verdict_text verdict.now }
+{
+    match verdict {
+        Verdict::Luck => b"luck",
+        Verdict::EarlierIsSend => b"the earlier is a send",
+        Verdict::BegunInTheMiddle => b"begun in the middle",
+        Verdict::OrderedByLeftOut => b"ordered by what is left out",
+        Verdict::WouldNotTake => b"it would not take it",
+        Verdict::PassedOver => b"passed over",
+        Verdict::BehindAnother => b"behind another",
+    }
+}
+
+/// Whether it is luck.
+pub(crate) fn is_luck(verdict: Verdict) -> bool
+    ensures { result ≡ is_luck verdict }
+{
+    matches!(verdict, Verdict::Luck)
+}

@@ -1,0 +1,234 @@
+//! The earlier events of a receive that are shown, as the fewest ranges.
+ghost use Rattle.std.specs.Prelude.{◌≡◌, ◌∷◌, [], length, filter, drop, All, IfSome, MatchOption};
+ghost use Rattle.chart.specs.Events.{ith};
+ghost use Rattle.chart.specs.Ranges.{IsRange, events_in, is_followed_by, ranges_of, range_before};
+ghost use Rattle.races_text.specs.Named.Kept.{is_kept_after, kept_after, kept_events, kept_ranges, later_than, receives};
+
+use chart::{Event, EventNo, EventRange};
+use std::marker::Model;
+
+/// The event of this number of a line, from 1, if it has one.
+pub fn event_at(events: &[Event], index: usize) -> Option<Event>
+    ensures { result ≡ ith events.now index }
+{
+    if index == 0 {
+        return None;
+    }
+    events.get(index - 1).copied()
+}
+
+/// Whether there is a receive.
+fn receives(event: Option<Event>) -> bool
+    ensures { result ≡ receives event }
+{
+    matches!(event, Some(Event::Receive { .. }))
+}
+
+/// Whether an earlier event of the line is shown, where those up to a number aren't: each, or receives alone.
+fn is_kept(events: &[Event], only: bool, passed: u32, event: &EventNo) -> bool
+    ensures { result ≡ is_kept_after events.now only passed event.now }
+{
+    if event.index <= passed {
+        false
+    } else if only {
+        receives(event_at(events, event.index as usize))
+    } else {
+        true
+    }
+}
+
+/// The events of ranges that are still to come. A contract sees them one by one.
+#[derive(Drop)]
+struct Coming<'a> {
+    /// The first one is that of the next event.
+    ranges: &'a [EventRange],
+    /// So many events of the first one have come.
+    passed: usize,
+}
+
+impl<'a> Model for Coming<'a> {
+    ghost use Rattle.std.specs.Prelude.{List, All, drop, filter};
+    ghost use Rattle.chart.specs.declared.instance.EventNo.{EventNo};
+    ghost use Rattle.chart.specs.Ranges.{IsRange, IsWithinFirst, events_in};
+
+    ghost Value = { List EventNo };
+
+    ghost view = { λ c. drop c.passed (events_in c.ranges.now) };
+
+    ghost invariant = { λ c. All IsRange c.ranges.now × IsWithinFirst c.passed c.ranges.now };
+}
+
+impl<'a> Coming<'a> {
+    fn of(ranges: &'a [EventRange]) -> Coming<'a>
+        requires { All IsRange ranges.now }
+        ensures { result ≡ events_in ranges.now }
+    {
+        Coming { ranges, passed: 0 }
+    }
+
+    /// The next event.
+    fn first(&self) -> Option<EventNo>
+        ensures { MatchOption result (self.now ≡ []) (λ event. self.now ≡ event ∷ drop 1 self.now) }
+    {
+        let (range, _) = self.ranges.split_first()?;
+        Some(range.event(self.passed))
+    }
+
+    /// Passes the next event.
+    fn pass(&mut self)
+        ensures { self.new ≡ drop 1 self.old }
+    {
+        let Some((range, others)) = self.ranges.split_first() else {
+            return;
+        };
+        if self.passed + 1 < range.count {
+            self.passed += 1;
+        } else {
+            self.ranges = others;
+            self.passed = 0;
+        }
+    }
+}
+
+/// Passes events up to the first that is shown, and passes that one too.
+fn next_kept(events: &[Event], only: bool, passed: u32, coming: &mut Coming<'_>) -> Option<EventNo>
+    ensures { MatchOption result (filter (is_kept_after events.now only passed) coming.old ≡ [])
+        (λ event. filter (is_kept_after events.now only passed) coming.old
+        ≡ event ∷ filter (is_kept_after events.now only passed) coming.new) }
+{
+    while let Some(event) = coming.first() {
+        coming.pass();
+        if is_kept(events, only, passed, &event) {
+            return Some(event);
+        }
+    }
+    None
+}
+
+/// Whether the event stands right behind the range.
+pub fn goes_on(range: &EventRange, event: EventNo) -> bool
+    requires { IsRange range.now }
+    ensures { result ≡ is_followed_by range.now (record { first = event; count = 1 }) }
+{
+    range.first.instance == event.instance
+        && range.first.index as usize + range.count == event.index as usize
+}
+
+/// The range that this event begins, as long as it can be: the events that are shown are passed as far as they go on
+/// with it.
+fn joined(
+    events: &[Event],
+    only: bool,
+    passed: u32,
+    first: EventNo,
+    coming: &mut Coming<'_>,
+) -> EventRange
+    ensures ranges { range_before (record { first = first; count = 1 }) (kept_after events.now only passed coming.old)
+        ≡ result ∷ kept_after events.now only passed coming.new }
+    ensures is { IsRange result }
+{
+    let mut range = EventRange::of(first);
+    while let Some(event) = coming.first() {
+        if is_kept(events, only, passed, &event) {
+            if !goes_on(&range, event) {
+                break;
+            }
+            range.count += 1;
+        }
+        coming.pass();
+    }
+    range
+}
+
+/// The earlier events of a receive that are shown, as the fewest ranges. A contract sees those still to come.
+#[derive(Drop)]
+pub(crate) struct KeptRanges<'a> {
+    events: &'a [Event],
+    only: bool,
+    passed: u32,
+    coming: Coming<'a>,
+}
+
+impl<'a> Model for KeptRanges<'a> {
+    ghost use Rattle.chart.specs.declared.ranges.EventRange.{EventRange};
+    ghost use Rattle.races_text.specs.Named.Kept.{kept_after, is_kept_after};
+
+    ghost Value = { List EventRange };
+
+    ghost view = { λ k. kept_after k.events.now k.only k.passed k.coming };
+}
+
+impl<'a> KeptRanges<'a> {
+    /// Those of the events of these ranges that are later than so many first ones, of the line with these events: all,
+    /// or receives alone.
+    #[tactic(auto, using(crate::proofs::NamedLemmas::LaterRaces::kept_later))]
+    pub fn of(
+        events: &'a [Event],
+        only: bool,
+        passed: u32,
+        earlier: &'a [EventRange],
+    ) -> KeptRanges<'a>
+        requires { All IsRange earlier.now }
+        ensures { result ≡ kept_ranges events.now only (later_than passed (events_in earlier.now)) }
+    {
+        KeptRanges {
+            events,
+            only,
+            passed,
+            coming: Coming::of(earlier),
+        }
+    }
+
+    /// The next one.
+    pub fn next_range(&mut self) -> Option<EventRange>
+        ensures ranges { MatchOption result (self.old ≡ []) (λ range. self.old ≡ range ∷ self.new) }
+        ensures is { IfSome result IsRange }
+    {
+        let first = next_kept(self.events, self.only, self.passed, &mut self.coming)?;
+        Some(joined(self.events, self.only, self.passed, first, &mut self.coming))
+    }
+}
+
+/// The earlier events of a receive that are shown. A contract sees those still to come.
+#[derive(Drop)]
+pub struct KeptEvents<'a> {
+    events: &'a [Event],
+    only: bool,
+    passed: u32,
+    coming: Coming<'a>,
+}
+
+impl<'a> Model for KeptEvents<'a> {
+    ghost Value = { List EventNo };
+
+    ghost view = { λ k. filter (is_kept_after k.events.now k.only k.passed) k.coming };
+}
+
+impl<'a> KeptEvents<'a> {
+    /// Those of the events of these ranges that are later than so many first ones, of the line with these events: all,
+    /// or receives alone.
+    #[tactic(auto, using(crate::proofs::NamedLemmas::LaterRaces::kept_events_later))]
+    pub fn of(
+        events: &'a [Event],
+        only: bool,
+        passed: u32,
+        earlier: &'a [EventRange],
+    ) -> KeptEvents<'a>
+        requires { All IsRange earlier.now }
+        ensures { result ≡ kept_events events.now only (later_than passed (events_in earlier.now)) }
+    {
+        KeptEvents {
+            events,
+            only,
+            passed,
+            coming: Coming::of(earlier),
+        }
+    }
+
+    /// The next one.
+    pub fn next_event(&mut self) -> Option<EventNo>
+        ensures { MatchOption result (self.old ≡ []) (λ event. self.old ≡ event ∷ self.new) }
+    {
+        next_kept(self.events, self.only, self.passed, &mut self.coming)
+    }
+}

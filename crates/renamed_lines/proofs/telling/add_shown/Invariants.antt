@@ -1,9 +1,0 @@
-use Rattle.std.proofs.Common.{take}
-use Rattle.std.specs.List.{flat_map}
-use Rattle.msc_text.specs.Writing.{Buffers}
-use Rattle.renamed_lines.specs.Telling.{shown_byte}
-use Rattle.renamed_lines.proofs.telling.add_shown.Given as goal
-
--- what came so far was added
-abbrev pub invariant-loop-byte : goal.invariant-loop-byte
-invariant-loop-byte g l = Buffers g.V.Out.sink l.initial.text l.text (flat_map shown_byte (take l.byte-index l.label))

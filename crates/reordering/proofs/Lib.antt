@@ -1,0 +1,3 @@
+pub mod CompletionLemmas
+pub mod OtherRunsLemmas
+pub mod WitnessLemmas

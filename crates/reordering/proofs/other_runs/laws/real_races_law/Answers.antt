@@ -1,0 +1,11 @@
+use Rattle.reordering.proofs.OtherRunsLemmas.Witnesses.{turned, report_is, one_run}
+use Rattle.reordering.proofs.other_runs.laws.real_races_law.Goals as goal
+
+pub returns-clause-turned : goal.returns-clause-turned
+returns-clause-turned c = turned
+
+pub returns-clause-report : goal.returns-clause-report
+returns-clause-report c = report_is
+
+pub returns-clause-one_run : goal.returns-clause-one_run
+returns-clause-one_run c = one_run

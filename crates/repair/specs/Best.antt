@@ -1,0 +1,48 @@
+-- What mending a race pair came to, and the best so far, as the code holds them (this project's own).
+use Rattle.std.specs.Prelude.{◌≡◌, ℕ, List, length, Option, None, Some, nat_lt, if◌then◌else◌}
+use Rattle.chart.specs.Charts.{LineView, chart_lines, IsPossible}
+use Rattle.repair.specs.Growing.{message_of}
+use Rattle.repair.specs.declared.adding.MendedChart.{MendedChart}
+use Rattle.repair.specs.declared.best.Tried.{Tried}
+use Rattle.repair.specs.declared.pairs.RacePair.{RacePair}
+use Rattle.repair.specs.Repairs.{ArePairs, Leaves, with_message, IsAdded, IsBestOf, HasNoneOf, IsBest, HasNone, AreAdded}
+
+-- so many race pairs are those of the chart
+abbrev pub HasPairs : List LineView → ℕ → Type 0
+HasPairs lines count = (pairs : List RacePair) × ArePairs lines pairs × (count ≡ length pairs)
+
+-- the pair was mended by this message, in this chart, and in no other way with a message of this name
+pub record IsTried (lines : List LineView) (name : List ℕ) (pair : RacePair) (t : Tried) : Type 0 where
+  pub pair_is : t.addition.pair ≡ pair
+  pub added : IsAdded lines name t.addition t.left
+  pub chart : t.chart ≡ with_message (message_of t.addition.message) lines
+  pub one : (k : ℕ) → Leaves lines name pair k → k ≡ t.left
+
+-- fewer pairs than this are wanted
+abbrev pub limit_of : Option Tried → ℕ → ℕ
+limit_of None most = most
+limit_of (Some t) most = t.left
+
+-- the one of two that leaves fewer, the first where they leave as many
+abbrev pub better : Option Tried → Option Tried → ℕ → Option Tried
+better best None most = best
+better best (Some t) most = if nat_lt t.left (limit_of best most) then Some t else best
+
+-- of the first so many pairs this is the best, if one is
+abbrev pub IsBestSo : List LineView → List ℕ → List RacePair → ℕ → Option Tried → Type 0
+IsBestSo lines name pairs many None = HasNoneOf lines name pairs many
+IsBestSo lines name pairs many (Some t) = IsBestOf lines name pairs many t.addition t.left
+    × (t.chart ≡ with_message (message_of t.addition.message) lines)
+
+-- of all
+abbrev pub IsFound : List LineView → Option Tried → Type 0
+IsFound lines None = HasNone lines
+IsFound lines (Some t) = IsBest lines t.addition t.left
+    × (t.chart ≡ with_message (message_of t.addition.message) lines)
+
+-- what was added to the chart, what it made, and how many race pairs are left
+pub record IsMendedChart (lines : List LineView) (m : MendedChart) : Type 0 where
+  pub added : AreAdded lines m.additions.items m.chart
+  pub possible : IsPossible (length m.chart) (chart_lines m.chart)
+  pub whole : length m.chart ≡ length lines
+  pub left : HasPairs m.chart m.left

@@ -1,0 +1,39 @@
+-- What one message more does to a chart: statements that the functions of `laws` prove (this project's profile).
+use Rattle.std.specs.Prelude.{ℕ, ◌↔◌, List}
+use Rattle.chart.specs.Charts.{Chart, Place, BelongsTo, IsPossible}
+use Rattle.chart.specs.Order.{Before, IsCyclic}
+use Rattle.closure.specs.Faults.{IsFaulty}
+use Rattle.repair.specs.Messages.{NewMessage, IsWith, new_send, new_receive, moved, IsRace, EndsBehind, CanTell, telling, NoMessage}
+
+-- Where the new message's receive is of its send:
+
+-- each old receive keeps its send
+abbrev pub KeptLaw : Type 0
+KeptLaw = (m : NewMessage) (c d : Chart) → IsWith m c d → BelongsTo d (new_send m) (new_receive m) → (s r : Place)
+    → BelongsTo c s r ↔ BelongsTo d (moved m c s) (moved m c r)
+
+-- what was enforced still is
+abbrev pub OrderLaw : Type 0
+OrderLaw = (m : NewMessage) (c d : Chart) → IsWith m c d → BelongsTo d (new_send m) (new_receive m) → (e f : Place)
+    → Before c e f → Before d (moved m c e) (moved m c f)
+
+-- and no two old events become a race
+abbrev pub NoNewRaceLaw : Type 0
+NoNewRaceLaw = (m : NewMessage) (c d : Chart) → IsWith m c d → BelongsTo d (new_send m) (new_receive m) → (e r : Place)
+    → IsRace d (moved m c e) (moved m c r) → IsRace c e r
+
+-- Of a race of a possible chart, whose receive r has the send s, and whose earlier event's coregion ends behind k events:
+
+-- the message that tells of them leaves no receive without its send, makes no cycle, and makes the pair enforced
+abbrev pub TellingLaw : Type 0
+TellingLaw = (n : ℕ) (c d : Chart) (e r s : Place) (k : ℕ) (name : List ℕ) → IsPossible n c → IsRace c e r
+    → BelongsTo c s r → EndsBehind (c e.instance) e.index k → CanTell c e.instance k s
+    → IsWith (telling e.instance k s name) c d
+    → ((x : Place) → IsFaulty d x → ⊥) × (IsCyclic d → ⊥)
+    × BelongsTo d (new_send (telling e.instance k s name)) (new_receive (telling e.instance k s name))
+    × Before d (moved (telling e.instance k s name) c e) (moved (telling e.instance k s name) c r)
+
+-- where it can't be told of them no message from e's line to s's makes the pair enforced
+abbrev pub NoMessageLaw : Type 0
+NoMessageLaw = (n : ℕ) (c : Chart) (e r s : Place) (k : ℕ) → IsPossible n c → IsRace c e r → BelongsTo c s r
+    → EndsBehind (c e.instance) e.index k → (CanTell c e.instance k s → ⊥) → NoMessage n c e.instance s.instance e r

@@ -1,5 +1,0 @@
-pub mod Answers
-pub mod Calls
-pub mod Posts
-pub mod Recordings
-pub mod Scanning

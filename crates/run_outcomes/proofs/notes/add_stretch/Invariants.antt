@@ -1,8 +1,0 @@
-use Rattle.std.proofs.Common.{replicate}
-use Rattle.run_outcomes.specs.Passing.{Passes}
-use Rattle.run_outcomes.proofs.notes.add_stretch.Given as goal
-
--- so many of the turns were gone over
-abbrev pub invariant-loop : goal.invariant-loop
-invariant-loop l =
-    Passes l.lines l.fn.notes.items l.fn.place (replicate l.counter l.stretch.turn) l.notes.items l.next

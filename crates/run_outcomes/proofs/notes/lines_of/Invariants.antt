@@ -1,7 +1,0 @@
-use Rattle.std.proofs.Common.{◌≡◌, take}
-use Rattle.run_outcomes.specs.RunNotes.{lines_of}
-use Rattle.run_outcomes.proofs.notes.lines_of.Given as goal
-
--- the lines so far
-abbrev pub invariant-loop-command : goal.invariant-loop-command
-invariant-loop-command l = l.lines.items ≡ lines_of (take l.command-index l.commands) l.actor

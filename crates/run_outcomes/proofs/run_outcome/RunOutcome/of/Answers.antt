@@ -1,5 +1,0 @@
-use Rattle.std.proofs.Common.{length, ap, sym, ◌∙◌}
-use Rattle.run_outcomes.proofs.run_outcome.RunOutcome.of.Goals as goal
-
-pub new-requires : goal.new-requires
-new-requires c = record { as_many = ap length c.names-names.ensures.value ∙ sym c.requires.lines; exact = c.requires.reports }

@@ -1,6 +1,0 @@
-use Rattle.std.proofs.Common.{◌≡◌, map, take}
-use Rattle.schedule_luck.specs.Tables.{named_lines}
-use Rattle.schedule_luck.proofs.makers.lines_named.Given as goal
-
-abbrev pub invariant-loop-line : goal.invariant-loop-line
-invariant-loop-line l = map (λ table. table.items) l.tables.items ≡ named_lines l.commands l.notes (take l.line-index l.lines)

@@ -1,6 +1,0 @@
-use Rattle.std.proofs.Common.{◌≡◌, ◌++◌, drop}
-use Rattle.schedule_luck.specs.Tables.{named}
-use Rattle.schedule_luck.proofs.makers.named_of.Given as goal
-
-abbrev pub invariant-loop-event : goal.invariant-loop-event
-invariant-loop-event l = l.table.items ++ named l.rest (drop l.event-index l.events) ≡ named l.some l.events

@@ -1,4 +1,0 @@
-use Rattle.schedule_luck.proofs.showing.lucky_races.Goals as goal
-
-pub returns : goal.returns
-returns g c = record { result = c.show_luck.result; done = c.show_luck.ensures; exits = c.answered.ensures.status; tells = c.answered.ensures.told }

@@ -1,0 +1,6 @@
+pub mod Answers
+pub mod Calls
+pub mod Posts
+pub mod Recordings
+pub mod ReorderedRunsLemmas
+pub mod Scanning

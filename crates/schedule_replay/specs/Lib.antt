@@ -1,0 +1,9 @@
+pub mod Agreement
+pub mod Notes
+pub mod Recorded
+pub mod ReorderedRuns
+pub use Rattle.board.specs.Meeting
+pub use Rattle.board.specs.Views
+pub use Rattle.schedule.specs.Meaning
+pub use Rattle.schedule.specs.Outcomes.Outcomes
+pub use Rattle.schedule.specs.Plans

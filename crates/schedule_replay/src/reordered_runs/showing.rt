@@ -1,0 +1,46 @@
+//! What there is to show of a receive and an event that it may overtake.
+ghost use Rattle.std.specs.Prelude.{ℕ, ◌≤◌, length, IfOk};
+ghost use Rattle.chart.specs.Charts.{Chart, Place};
+ghost use Rattle.schedule_replay.specs.ReorderedRuns.Turns.{IsTurned};
+ghost use Rattle.schedule_replay.specs.ReorderedRuns.Showing.{IsShown, HasSteps};
+
+use crate::reordered_runs::scheduling::schedule_of;
+use crate::reordered_runs::turning::Turned;
+use chart::Names;
+use schedule::{Capacity, Schedule};
+use std::alloc::{AllocError, Global};
+
+/// What there is to show.
+#[derive(Debug, Drop)]
+pub enum Shown {
+    /// A schedule that means a run in which the receive overtakes the event.
+    Replay(Schedule),
+    /// No run of the same events and causes has the receive first, whatever the slots.
+    Enforced,
+    /// Such a run needs so many slots, and the lanes of a schedule have fewer.
+    TooManySlots(usize),
+}
+
+/// What there is to show of instances with these names, by what was found: a schedule with the least number of slots,
+/// which has a command for each step of the run, in their order.
+///
+/// F6: it fails only where there is no memory.
+pub fn show(alloc: Global, names: &Names, turned: &Turned) -> Result<Shown, AllocError>
+    requires several { 2 ≤ length names.now }
+    requires turned { (first : ℕ) × (c : Chart) × (e : Place) × (r : Place)
+        × IsTurned (length names.now) first c e r turned.now }
+    ensures steps { IfOk result (HasSteps turned.now) }
+    ensures shown { IfOk result (λ shown. (first : ℕ) (c : Chart) (e r : Place) → 1 ≤ first
+        → IsTurned (length names.now) first c e r turned.now → IsShown names.now first c e r shown) }
+{
+    match turned {
+        Turned::Enforced => Ok(Shown::Enforced),
+        Turned::Run { slots, steps } => match Capacity::new(*slots) {
+            None => Ok(Shown::TooManySlots(*slots)),
+            Some(capacity) => {
+                let schedule = schedule_of(alloc, names, capacity, steps.as_slice())?;
+                Ok(Shown::Replay(schedule))
+            }
+        },
+    }
+}

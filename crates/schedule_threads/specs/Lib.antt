@@ -1,0 +1,11 @@
+pub mod Laws
+pub mod OwnBoards
+pub mod OwnScripts
+pub mod Passing
+pub mod RunNotes
+pub mod RunOutcomes
+pub mod RunText
+pub mod Scripts
+pub use Rattle.schedule.specs.Outcomes.Outcomes
+pub use Rattle.schedule.specs.Plans
+pub use Rattle.texts.specs.Writing

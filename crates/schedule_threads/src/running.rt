@@ -1,0 +1,77 @@
+//! Runs of schedules.
+ghost use Rattle.std.specs.Prelude.{◌≡◌, IfOk, IfErr, length, false};
+ghost use Rattle.board.specs.Boards.{IsNewBoard, AreNewPosts};
+ghost use Rattle.instances.specs.Driving.{meaning};
+ghost use Rattle.instances.specs.Whole.{DrivenBy, IsUnrun};
+ghost use Rattle.schedule_threads.specs.OwnBoards.{AreRunsOf, AreFitFor, AreUnfitFor};
+ghost use Rattle.schedule_threads.specs.RunOutcomes.{IsRunOf};
+
+use behaviour::Behaviour;
+use board::{Board, BoardError, Post, PostsError};
+use instances::{MAX_TURNS, Open, Run, RunError, run};
+use schedule::Schedule;
+use std::alloc::{AllocError, Global};
+use std::thread::Threads;
+
+/// A board for the schedule's instances, with lanes of its capacity: no schedule has a count of instances, or a capacity,
+/// that a board refuses.
+fn board_for(alloc: Global, schedule: &Schedule) -> Result<Board, AllocError>
+    ensures { IfOk result (IsNewBoard (length schedule.now.names) schedule.now.capacity) }
+{
+    let instances = schedule.names().len();
+    match Board::new(alloc, instances, schedule.capacity().slots()) {
+        Ok(board) => Ok(board),
+        Err(BoardError::Memory) => Err(AllocError),
+        Err(BoardError::Instances | BoardError::Capacity) => unreachable!(),
+    }
+}
+
+/// All posts of a board that is new.
+fn posts_of(board: &mut Board) -> Result<Vec<Post<'_>>, AllocError>
+    requires { board.old.asked ≡ false }
+    ensures { IfOk result (λ posts. AreNewPosts board.old.board posts.items) }
+{
+    match board.posts() {
+        Ok(posts) => Ok(posts),
+        Err(PostsError::Memory) => Err(AllocError),
+        Err(PostsError::PostsTaken) => unreachable!(),
+    }
+}
+
+/// Runs a schedule's instances on a board of their own, with lanes of its capacity: each behaviour drives the instance
+/// at its place, each in a thread, or one after the other where no thread can be made, for so many turns at most.
+///
+/// F25: there are more or fewer behaviours than instances, or the turns are none or more than [`instances::MAX_TURNS`].
+/// Nothing was started then, and the behaviours come back. F6: a growth was refused, of the board or of its run.
+#[tactic(auto, using(crate::proofs::Boards::are_of_one_board))]
+pub fn run_schedule<R: Threads + Sync>(
+    rt: &R,
+    alloc: Global,
+    schedule: &Schedule,
+    behaviours: Vec<Box<dyn Behaviour + Send>>,
+    turns: u32,
+) -> Result<Run, RunError<(), Vec<Box<dyn Behaviour + Send>>>>
+    ensures of { IfOk result (IsRunOf schedule.now) }
+    ensures runs { IfOk result (AreRunsOf
+        (DrivenBy (λ b. meaning (Behaviour-box b).act (Behaviour-box b).after) (λ b. b.value) turns behaviours.items)
+        schedule.now) }
+    ensures fit { IfOk result (λ run. AreFitFor schedule.now (length behaviours.items) turns) }
+    ensures err { IfErr result
+        (IsUnrun tt behaviours (AreFitFor schedule.now (length behaviours.items) turns)
+        (AreUnfitFor schedule.now (length behaviours.items) turns)) }
+{
+    if behaviours.len() != schedule.names().len() || turns == 0 || MAX_TURNS < turns {
+        return Err(RunError::Unfit((), behaviours));
+    }
+    let Ok(mut board) = board_for(alloc, schedule) else {
+        return Err(RunError::Memory);
+    };
+    let Ok(posts) = posts_of(&mut board) else {
+        return Err(RunError::Memory);
+    };
+    match run(rt, posts, behaviours, turns, &Open) {
+        Ok(run) => Ok(run),
+        Err(RunError::Unfit(..)) => unreachable!(),
+        Err(RunError::Memory) => Err(RunError::Memory),
+    }
+}

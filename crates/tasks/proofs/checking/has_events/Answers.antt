@@ -1,6 +1,0 @@
-use Rattle.std.proofs.Common.{◌∙◌, not, ap}
-use Rattle.tasks.proofs.FoundRaces.{has_events_is}
-use Rattle.tasks.proofs.checking.has_events.Goals as goal
-
-pub returns : goal.returns
-returns c = ap not c.is_empty.ensures ∙ has_events_is c.args.ranges.now c.requires

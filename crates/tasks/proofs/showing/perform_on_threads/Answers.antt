@@ -1,4 +1,0 @@
-use Rattle.tasks.proofs.showing.perform_on_threads.Goals as goal
-
-pub returns : goal.returns
-returns g c = record { result = c.run_text.result; done = c.run_text.ensures; exits = c.answered.ensures.status; tells = c.answered.ensures.told }

@@ -1,4 +1,0 @@
-use Rattle.tasks.proofs.task.perform.Goals as goal
-
-pub returns : goal.returns
-returns g c = record { result = c.do_task.result; done = c.do_task.ensures; exits = c.answered.ensures.status; tells = c.answered.ensures.told }

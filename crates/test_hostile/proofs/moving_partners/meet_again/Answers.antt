@@ -1,0 +1,5 @@
+use Rattle.board.proofs.OneBoard.{one_board-met}
+use Rattle.test_hostile.proofs.moving_partners.meet_again.Goals as goal
+
+pub returns : goal.returns
+returns c = one_board-met c.args.posts.now c.meet.new.posts c.meet.ensures.met c.requires

@@ -1,0 +1,69 @@
+//! Reports that are not those of their chart.
+use crate::calls::{event, put};
+use chart::{Chart, EventNo, Report};
+use closure::{AuditError, audit};
+use msc_text::reader::read;
+use std::alloc::Global;
+use std::process::Abort;
+
+/// The chart of `any_takes_turns`: two send to b in turns.
+const TURNS: &[u8] =
+    b"msc run;\ninstance a;\nout x to b;\nout z to b;\nendinstance;\ninstance b;\nin x from a;\nin y from c;\nin z from a;\nendinstance;\ninstance c;\nout y to b;\nendinstance;\nendmsc;\n";
+
+/// A report of b, by its receive and the numbers of the earlier events.
+type Races = (u32, &'static [u32]);
+
+static RIGHT: [Races; 3] = [(1, &[]), (2, &[1]), (3, &[2])];
+
+/// Reports that are not those of the turns, and the first receive whose report is wrong: a race is left out, a report is
+/// missing at either end, and there is one too many.
+static WRONG: [(&[Races], u32); 4] = [
+    (&[(1, &[]), (2, &[1]), (3, &[])], 3),
+    (&[(1, &[]), (2, &[1])], 3),
+    (&[(2, &[1]), (3, &[])], 1),
+    (&[(1, &[]), (2, &[1]), (3, &[2]), (2, &[1])], 2),
+];
+
+fn b(rt: &impl Abort, index: u32) -> EventNo {
+    event(rt, 2, index)
+}
+
+/// A report of this receive, with these earlier events.
+fn report(rt: &impl Abort, alloc: Global, receive: u32, earlier: &[u32]) -> Report {
+    let mut events = Vec::new(alloc);
+    for index in earlier {
+        put(rt, &mut events, b(rt, *index));
+    }
+    Report::of(alloc, b(rt, receive), events.as_slice()).expect(rt, "a report")
+}
+
+fn reports_of(rt: &impl Abort, alloc: Global, told: &[Races]) -> Vec<Report> {
+    let mut reports = Vec::new(alloc);
+    for (receive, earlier) in told {
+        put(rt, &mut reports, report(rt, alloc, *receive, earlier));
+    }
+    reports
+}
+
+/// The chart's audit with these reports answers so.
+fn answers(
+    rt: &impl Abort,
+    alloc: Global,
+    chart: &Chart,
+    told: &[Races],
+    answer: Result<(), AuditError>,
+) {
+    let reports = reports_of(rt, alloc, told);
+    assert_eq!(rt; audit(alloc, chart, reports.as_slice()), answer);
+}
+
+#[test]
+fn wrong_reports(rt: HostRuntime) {
+    let alloc = rt.alloc();
+    let (_, chart) = read(alloc, TURNS).expect(&rt, "a chart");
+    for (told, receive) in &WRONG {
+        let wrong = AuditError::WrongReport(b(&rt, *receive));
+        answers(&rt, alloc, &chart, told, Err(wrong));
+    }
+    answers(&rt, alloc, &chart, &RIGHT, Ok(()));
+}

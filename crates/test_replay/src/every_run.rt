@@ -1,0 +1,308 @@
+//! Small schedules, all of whose other runs are tried.
+
+use crate::calls::{holds, put};
+use crate::recorded::{event_no, found, steps_of};
+use crate::runs::{Moved, Told, as_other_run, events_of, is_witness, overtakes};
+use chart::run_steps::Step;
+use chart::{Chart, EventNo, MAX_CAPACITY, Report};
+use closure::Closure;
+use rand_core::SeedableRng;
+use rand_core::utils::NextWord;
+use rand_pcg::Lcg64Xsh32;
+use schedule::Schedule;
+use schedule_replay::replay;
+use std::alloc::Global;
+use std::process::Abort;
+
+/// The most events of a run all of whose orders are tried.
+const MOST: usize = 6;
+
+/// How many orders so many events have.
+fn orders(many: usize) -> usize {
+    let mut orders = 1usize;
+    for number in 0..many {
+        orders = orders.saturating_mul(number + 1);
+    }
+    orders
+}
+
+/// Puts one of the events that are left behind the run, the one that an order's number says. What is left of the number
+/// is answered.
+fn take_one(rt: &impl Abort, left: &mut Vec<Told>, run: &mut Vec<Told>, order: usize) -> usize {
+    let many = left.len();
+    if many == 0 {
+        return order;
+    }
+    put(rt, run, left.remove(order % many));
+    order / many
+}
+
+/// The events in the order of this number.
+fn ordered(rt: &impl Abort, alloc: Global, events: &[Told], order: usize) -> Vec<Told> {
+    let mut left = Vec::new(alloc);
+    left.extend_from_slice(events).expect(rt, "memory");
+    let mut run = Vec::new(alloc);
+    let mut order = order;
+    for _ in events {
+        order = take_one(rt, &mut left, &mut run, order);
+    }
+    run
+}
+
+/// All runs with the same events and causes within so many slots.
+fn other_runs(rt: &impl Abort, alloc: Global, events: &[Told], slots: usize) -> Vec<Vec<Moved>> {
+    let mut runs = Vec::new(alloc);
+    for order in 0..orders(events.len()) {
+        let run = ordered(rt, alloc, events, order);
+        if let Some(all) = as_other_run(rt, alloc, events, run.as_slice(), slots) {
+            put(rt, &mut runs, all);
+        }
+    }
+    runs
+}
+
+fn some_overtakes(runs: &[Vec<Moved>], receive: usize, earlier: usize) -> bool {
+    for run in runs {
+        if overtakes(run.as_slice(), receive, earlier) {
+            return true;
+        }
+    }
+    false
+}
+
+fn has_event(report: &Report, earlier: &EventNo) -> bool {
+    for event in report.earlier().iter() {
+        if event == *earlier {
+            return true;
+        }
+    }
+    false
+}
+
+fn has_race(reports: &[Report], receive: EventNo, earlier: EventNo) -> bool {
+    for report in reports {
+        if report.receive() == receive && has_event(report, &earlier) {
+            return true;
+        }
+    }
+    false
+}
+
+/// Whether both are receives of one coregion.
+fn share_region(step: &Step, other: &Step) -> bool {
+    match (step, other) {
+        (Step::Receive { region, .. }, Step::Receive { region: other, .. }) => {
+            *region > 0 && region == other
+        }
+        _ => false,
+    }
+}
+
+/// Whether a run within so many slots is found, which is then gone over.
+pub fn has_witness(
+    rt: &impl Abort,
+    alloc: Global,
+    steps: &[Step],
+    slots: usize,
+    receive: usize,
+    earlier: usize,
+) -> bool {
+    match found(rt, alloc, steps, slots, receive, earlier) {
+        Some(run) => {
+            let run = run.as_slice();
+            let is_one = is_witness(rt, alloc, steps, run, slots, receive, earlier);
+            holds(rt, "it is a witness", is_one);
+            true
+        }
+        None => false,
+    }
+}
+
+/// Of this receive and another step a run is found within so many slots exactly where one of these has the receive
+/// first. For how many steps one is found is answered.
+fn finds_of_receive(
+    rt: &impl Abort,
+    alloc: Global,
+    steps: &[Step],
+    runs: &[Vec<Moved>],
+    slots: usize,
+    receive: usize,
+) -> usize {
+    let mut many = 0usize;
+    for earlier in 0..steps.len() {
+        let found = has_witness(rt, alloc, steps, slots, receive, earlier);
+        holds(
+            rt,
+            "as runs do",
+            found == some_overtakes(runs, receive, earlier),
+        );
+        many = many.saturating_add(usize::from(found));
+    }
+    many
+}
+
+fn is_receive(steps: &[Step], number: usize) -> bool {
+    matches!(steps.get(number), Some(Step::Receive { .. }))
+}
+
+/// For each receive and other step a run is found within so many slots exactly where one has the receive first.
+fn finds_what_runs_do(rt: &impl Abort, alloc: Global, steps: &[Step], slots: usize) -> usize {
+    let events = events_of(rt, alloc, steps);
+    let runs = other_runs(rt, alloc, events.as_slice(), slots);
+    let runs = runs.as_slice();
+    let mut many = 0usize;
+    for receive in 0..steps.len() {
+        if is_receive(steps, receive) {
+            let found = finds_of_receive(rt, alloc, steps, runs, slots, receive);
+            many = many.saturating_add(found);
+        }
+    }
+    many
+}
+
+/// Of a receive and another step a run is found exactly where the search has no order. Answers whether one is.
+fn is_found_unordered(
+    rt: &impl Abort,
+    alloc: Global,
+    closure: &Closure,
+    steps: &[Step],
+    receive: usize,
+    number: usize,
+) -> bool {
+    let found = found(rt, alloc, steps, MAX_CAPACITY, receive, number).is_some();
+    let earlier = event_no(rt, steps, number);
+    let later = event_no(rt, steps, receive);
+    let before = closure.before(earlier, later).expect(rt, "an order");
+    holds(rt, "found unordered", number == receive || found != before);
+    found
+}
+
+/// Whether the receive's report has the event of the other step.
+fn has_race_of(
+    rt: &impl Abort,
+    reports: &[Report],
+    steps: &[Step],
+    receive: usize,
+    number: usize,
+) -> bool {
+    let earlier = event_no(rt, steps, number);
+    let later = event_no(rt, steps, receive);
+    has_race(reports, later, earlier)
+}
+
+/// Whether the other step's event stands above the receive on its line, and not in its coregion.
+fn may_race(rt: &impl Abort, steps: &[Step], receive: usize, number: usize) -> bool {
+    let earlier = event_no(rt, steps, number);
+    let later = event_no(rt, steps, receive);
+    let on_line = earlier.instance == later.instance && earlier.index < later.index;
+    match (steps.get(receive), steps.get(number)) {
+        (Some(receive), Some(other)) => on_line && !share_region(receive, other),
+        _ => false,
+    }
+}
+
+/// Of this receive and another step a run is found exactly where the search has no order, and the race is reported
+/// exactly where one is found and both may race.
+fn finds_reported(
+    rt: &impl Abort,
+    alloc: Global,
+    closure: &Closure,
+    reports: &[Report],
+    steps: &[Step],
+    receive: usize,
+) {
+    for number in 0..steps.len() {
+        let found = is_found_unordered(rt, alloc, closure, steps, receive, number);
+        let wanted = found && may_race(rt, steps, receive, number);
+        let races = has_race_of(rt, reports, steps, receive, number);
+        holds(rt, "the race is reported", races == wanted);
+    }
+}
+
+/// Where lanes have room, a run is found exactly where the search has no order: of earlier events of the line, these
+/// are the reported races and what a coregion alone hides.
+fn finds_what_is_reported(rt: &impl Abort, alloc: Global, chart: &Chart, steps: &[Step]) {
+    let closure = Closure::of(alloc, chart).expect(rt, "a closure");
+    let reports = closure.races().expect(rt, "the reports");
+    for receive in 0..steps.len() {
+        if is_receive(steps, receive) {
+            finds_reported(rt, alloc, &closure, reports.as_slice(), steps, receive);
+        }
+    }
+}
+
+/// What is found of the steps of a chart's run, whose lanes have so many slots, as `finds_all` says.
+fn finds_in(rt: &impl Abort, alloc: Global, chart: &Chart, steps: &[Step], slots: usize) -> usize {
+    if steps.len() > MOST {
+        return 0;
+    }
+    finds_what_is_reported(rt, alloc, chart, steps);
+    let within = finds_what_runs_do(rt, alloc, steps, slots);
+    let any = finds_what_runs_do(rt, alloc, steps, MAX_CAPACITY);
+    holds(rt, "as many or more", within <= any);
+    any
+}
+
+/// What is found of a schedule's steps, unless they are more than so many. How many pairs are turned round is answered.
+pub fn finds_all(rt: &impl Abort, alloc: Global, schedule: &Schedule) -> usize {
+    let outcome = replay(alloc, schedule).expect(rt, "an outcome");
+    let steps = steps_of(rt, alloc, schedule, &outcome);
+    let slots = schedule.capacity().slots();
+    finds_in(rt, alloc, outcome.chart(), steps.as_slice(), slots)
+}
+
+/// The commands that are drawn from; a command that isn't accepted makes no step.
+static COMMANDS: [&[u8]; 14] = [
+    b"a send b x\n",
+    b"a send c y\n",
+    b"b send a z\n",
+    b"b send c x\n",
+    b"c send a y\n",
+    b"c send b z\n",
+    b"a any\n",
+    b"b any\n",
+    b"c any\n",
+    b"a any\n",
+    b"b any\n",
+    b"c any\n",
+    b"b concurrent\n",
+    b"b endconcurrent\n",
+];
+
+static FRONTS: [&[u8]; 4] = [
+    b"instances a b c\ncapacity 1\n",
+    b"instances a b c\ncapacity 2\n",
+    b"instances a b c\ncapacity 3\n",
+    b"instances a b c\ncapacity 64\n",
+];
+
+/// A piece that the word draws.
+fn piece<'a>(pieces: &'a [&'static [u8]], word: u32) -> &'a [u8] {
+    match pieces.get(word as usize % pieces.len().max(1)) {
+        Some(piece) => piece,
+        None => b"",
+    }
+}
+
+/// The schedule of so many commands that a seed draws.
+pub fn drawn_schedule(rt: &impl Abort, alloc: Global, seed: u64, commands: usize) -> Schedule {
+    let mut generator = Lcg64Xsh32::seed_from_u64(seed);
+    let mut text = Vec::new(alloc);
+    let front = piece(FRONTS.as_slice(), generator.next_word());
+    text.extend_from_slice(front).expect(rt, "a front");
+    for _ in 0..commands {
+        let command = piece(COMMANDS.as_slice(), generator.next_word());
+        text.extend_from_slice(command).expect(rt, "a command");
+    }
+    Schedule::read(alloc, text.as_slice()).expect(rt, "a schedule")
+}
+
+#[test]
+fn drawn_schedules(rt: HostRuntime) {
+    let mut many = 0usize;
+    for seed in 0..200 {
+        let schedule = drawn_schedule(&rt, rt.alloc(), seed, 11);
+        many = many.saturating_add(finds_all(&rt, rt.alloc(), &schedule));
+    }
+    assert!(rt; many > 300, "{many} pairs");
+}

@@ -1,0 +1,2 @@
+pub mod Behaviours
+pub mod LongRuns

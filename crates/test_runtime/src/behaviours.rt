@@ -1,0 +1,18 @@
+//! Tests of behaviours that drive instances, by what is public of them.
+//!
+//! They are in a crate of their own, since a crate with tests is proved twice.
+
+#[cfg(test)]
+mod before_acts;
+#[cfg(test)]
+mod calls;
+#[cfg(test)]
+mod ends;
+#[cfg(test)]
+mod gates;
+#[cfg(test)]
+mod growths;
+#[cfg(test)]
+mod reader;
+#[cfg(test)]
+mod threads;

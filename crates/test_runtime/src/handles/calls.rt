@@ -1,0 +1,97 @@
+//! Calls on handles, as tests make them, and what is asserted of what they answer.
+
+use board::Glance;
+use c_board::{Arrived, Handle, Refusal, Which, open};
+use chart::EventNo;
+use std::alloc::Global;
+use std::process::Abort;
+
+/// What has to be so, is so.
+pub fn holds(rt: &impl Abort, what: &str, fact: bool) {
+    assert!(rt; fact, "not so: {what}");
+}
+
+/// Handles with the two posts of a board whose lanes have so many slots.
+pub fn pair(rt: &impl Abort, alloc: Global, capacity: u32) -> [Handle; 2] {
+    let mut handles = [Handle::empty(), Handle::empty()];
+    holds(
+        rt,
+        "a board is opened",
+        open(alloc, &mut handles, capacity).is_ok(),
+    );
+    handles
+}
+
+/// The post sends a message, as its event of this number.
+pub fn sends(
+    rt: &impl Abort,
+    alloc: Global,
+    post: &mut Handle,
+    to: u32,
+    name: &[u8],
+    body: &[u8],
+    event: u32,
+) {
+    let sent = post.send(alloc, to, name, body);
+    holds(
+        rt,
+        "it is sent",
+        matches!(sent, Ok(EventNo { instance: _, index }) if index == event),
+    );
+}
+
+/// A send is refused by the refusal of this number.
+pub fn is_refused(rt: &impl Abort, sent: Result<EventNo, Refusal>, number: u32) {
+    holds(
+        rt,
+        "the refusal",
+        matches!(sent, Err(refusal) if refusal.number() == number),
+    );
+}
+
+/// What is told before any message came.
+pub fn nothing_told() -> Arrived {
+    Arrived {
+        from: 0,
+        event: 0,
+        name: 0,
+        body: 0,
+        races: 0,
+    }
+}
+
+/// The message that came last has this body and these races.
+fn has_come(rt: &impl Abort, alloc: Global, post: &mut Handle, body: &[u8], races: &[u32]) {
+    let mut bytes = [0; 8];
+    let copied = post.copy_body(alloc, Which::Last, &mut bytes);
+    holds(
+        rt,
+        "the body's length",
+        matches!(copied, Ok(many) if many == body.len()),
+    );
+    holds(rt, "the body", bytes.starts_with(body));
+    let mut events = [0; 4];
+    let copied = post.copy_races(alloc, Which::Last, &mut events);
+    holds(
+        rt,
+        "how many races",
+        matches!(copied, Ok(many) if many == races.len()),
+    );
+    holds(rt, "the races", events.starts_with(races));
+}
+
+/// A receive from this instance gets a message with this body and these races.
+pub fn gets(
+    rt: &impl Abort,
+    alloc: Global,
+    post: &mut Handle,
+    from: u32,
+    body: &[u8],
+    races: &[u32],
+) {
+    let mut told = nothing_told();
+    let found = post.receive(alloc, from, &mut told);
+    holds(rt, "a message", matches!(found, Ok(Glance::Message)));
+    holds(rt, "the sender", told.from == from);
+    has_come(rt, alloc, post, body, races);
+}

@@ -1,0 +1,62 @@
+//! Calls on handles where a growth is refused.
+
+use crate::handles::calls::{gets, holds, pair};
+use c_board::{Handle, Refusal, open};
+use std::alloc::Global;
+use std::process::Abort;
+use std::test::Fail;
+
+/// Whether memory was refused.
+fn is_memory<T>(answer: &Result<T, Refusal>) -> bool {
+    matches!(answer, Err(refusal) if refusal.number() == 6)
+}
+
+/// A board is opened, at the second try where memory was refused.
+fn opens(rt: &impl Abort, alloc: Global, handles: &mut [Handle]) {
+    let opened = open(alloc, handles, 2);
+    if opened.is_err() {
+        holds(rt, "F6", is_memory(&opened));
+        holds(rt, "it is opened", open(alloc, handles, 2).is_ok());
+    }
+}
+
+/// A message is sent, at the second try where memory was refused.
+fn sends_again(rt: &impl Abort, alloc: Global, post: &mut Handle, body: &[u8]) {
+    let sent = post.send(alloc, 2, b"m", body);
+    if sent.is_err() {
+        holds(rt, "F6", is_memory(&sent));
+        holds(rt, "it is sent", post.send(alloc, 2, b"m", body).is_ok());
+    }
+}
+
+/// Room is made, at the second try where memory was refused.
+fn reserves(rt: &impl Abort, alloc: Global, post: &mut Handle) {
+    let reserved = post.reserve(alloc, 4);
+    if reserved.is_err() {
+        holds(rt, "F6", is_memory(&reserved));
+        holds(rt, "room is made", post.reserve(alloc, 4).is_ok());
+    }
+}
+
+/// A last growth, whose refusal tells that each one before it was refused in an earlier run of the test.
+fn every_growth_was_refused(alloc: Global) -> Result<(), Fail> {
+    Vec::<u8>::with_capacity(alloc, 1)
+        .ok()
+        .ok_or("every growth was refused")?;
+    Ok(())
+}
+
+/// Whatever growth is refused, a second call does what the first one would have, and nothing is lost.
+#[test]
+fn refused_growths_over_handles(rt: HostRuntime) -> Result<(), Fail> {
+    let alloc = rt.alloc();
+    let mut handles = [Handle::empty(), Handle::empty()];
+    opens(&rt, alloc, &mut handles);
+    let [mut first, mut second] = handles;
+    reserves(&rt, alloc, &mut second);
+    sends_again(&rt, alloc, &mut first, b"1234");
+    sends_again(&rt, alloc, &mut first, b"");
+    first.end(alloc);
+    second.end(alloc);
+    every_growth_was_refused(alloc)
+}

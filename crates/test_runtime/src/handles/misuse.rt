@@ -1,0 +1,77 @@
+//! Calls on handles that keep no post.
+
+use crate::handles::calls::{holds, nothing_told, pair};
+use c_board::{Handle, Refusal, Which, open};
+use std::alloc::Global;
+use std::process::Abort;
+
+/// Each call is a misuse, and the handle keeps nothing after it.
+fn misuses(rt: &impl Abort, alloc: Global, handle: &mut Handle) {
+    let mut told = nothing_told();
+    let mut bytes = [0; 8];
+    let mut events = [0; 8];
+    holds(
+        rt,
+        "a send",
+        matches!(handle.send(alloc, 2, b"m", b""), Err(Refusal::Misuse)),
+    );
+    holds(
+        rt,
+        "a receive",
+        matches!(handle.receive(alloc, 2, &mut told), Err(Refusal::Misuse)),
+    );
+    holds(rt, "any", matches!(handle.any(alloc), Err(Refusal::Misuse)));
+    holds(
+        rt,
+        "a close",
+        matches!(handle.close(alloc, 2), Err(Refusal::Misuse)),
+    );
+    holds(
+        rt,
+        "room",
+        matches!(handle.reserve(alloc, 1), Err(Refusal::Misuse)),
+    );
+    holds(
+        rt,
+        "an event",
+        matches!(handle.event(alloc, 1, &mut bytes), Err(Refusal::Misuse)),
+    );
+    holds(
+        rt,
+        "races",
+        matches!(
+            handle.copy_races(alloc, Which::Last, &mut events),
+            Err(Refusal::Misuse)
+        ),
+    );
+}
+
+/// A handle that keeps nothing yet, and one whose post was let go of.
+#[test]
+fn handles_without_posts(rt: HostRuntime) {
+    let alloc = rt.alloc();
+    let mut handle = Handle::empty();
+    misuses(&rt, alloc, &mut handle);
+    handle.end(alloc);
+    let [mut first, second] = pair(&rt, alloc, 1);
+    first.free(alloc);
+    misuses(&rt, alloc, &mut first);
+    first.end(alloc);
+    second.end(alloc);
+}
+
+/// A board isn't opened over handles that keep posts, and these stay.
+#[test]
+fn handles_with_posts_are_not_opened(rt: HostRuntime) {
+    let alloc = rt.alloc();
+    let mut handles = pair(&rt, alloc, 1);
+    holds(
+        &rt,
+        "it is a misuse",
+        matches!(open(alloc, &mut handles, 1), Err(Refusal::Misuse)),
+    );
+    let [mut first, second] = handles;
+    holds(&rt, "it sends", first.send(alloc, 2, b"m", b"").is_ok());
+    first.end(alloc);
+    second.end(alloc);
+}

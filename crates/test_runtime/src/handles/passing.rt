@@ -1,0 +1,29 @@
+//! Messages over handles.
+
+use crate::handles::calls::{gets, holds, is_refused, nothing_told, pair, sends};
+use board::Glance;
+use c_board::Found;
+
+/// Messages that cross: each receive has races with what its instance did before, which the message's sender doesn't know
+/// of. The lane is full by its second message, and it ends.
+#[test]
+fn messages_both_ways(rt: HostRuntime) {
+    let alloc = rt.alloc();
+    let [mut first, mut second] = pair(&rt, alloc, 2);
+    sends(&rt, alloc, &mut first, 2, b"ask", b"12345678", 1);
+    sends(&rt, alloc, &mut first, 2, b"ask", b"", 2);
+    is_refused(&rt, first.send(alloc, 2, b"ask", b""), 11);
+    sends(&rt, alloc, &mut second, 1, b"alarm", b"now", 1);
+    gets(&rt, alloc, &mut second, 1, b"12345678", &[1]);
+    gets(&rt, alloc, &mut second, 1, b"", &[1]);
+    gets(&rt, alloc, &mut first, 2, b"now", &[1, 2]);
+    holds(&rt, "it is closed", first.close(alloc, 2).is_ok());
+    let mut told = nothing_told();
+    let found = second.receive(alloc, 1, &mut told);
+    holds(&rt, "it has ended", matches!(found, Ok(Glance::Ended)));
+    holds(&rt, "nothing is told", told.from == 0);
+    let found = second.any(alloc);
+    holds(&rt, "all have ended", matches!(found, Ok(Found::Ended)));
+    first.end(alloc);
+    second.end(alloc);
+}

@@ -1,9 +1,0 @@
-use Rattle.std.proofs.Common.{take}
-use Rattle.std.specs.List.{flat_map}
-use Rattle.msc_text.specs.Writing.{Buffers}
-use Rattle.text_parts.specs.Pieces.{escaped_byte}
-use Rattle.text_parts.proofs.pieces.add_escaped.Given as goal
-
--- what came so far was added
-abbrev pub invariant-loop-byte : goal.invariant-loop-byte
-invariant-loop-byte g l = Buffers g.W.Out.sink l.initial.text l.text (flat_map (escaped_byte) (take l.byte-index l.bytes))

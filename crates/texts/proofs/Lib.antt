@@ -1,0 +1,10 @@
+pub mod ByteLoops
+pub mod BytesLemmas
+pub mod Lookups
+pub mod NewNames
+pub mod Parts
+pub mod PiecesLemmas
+pub mod ReadingLemmas
+pub mod Results
+pub mod Spacing
+pub mod Writes

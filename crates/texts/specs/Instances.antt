@@ -1,0 +1,28 @@
+-- The instances of a text by their names: what becomes of a new name, and the instance that a name has.
+use Rattle.std.specs.Prelude.{ℕ, ◌==◌, List, [], ◌∷◌, ◌++◌, length, Option, None, Some, Result, Ok, Err, bytes_eq, if◌then◌else◌}
+use Rattle.std.specs.List.{list_any}
+use Rattle.chart.specs.Words.{Name}
+use Rattle.chart.specs.Names.{instance_of}
+use Rattle.chart.specs.declared.instance.TheConstants.{MAX_INSTANCES}
+use Rattle.texts.specs.declared.fault.Cause.{Cause}
+use Rattle.texts.specs.declared.fault.Cause.TheVariants.{Instances, Duplicate, UnknownInstance}
+
+-- a new name goes behind the names before it
+abbrev pub with_name : List Name → Name → Result (List Name) Cause
+with_name names name =
+    if list_any (bytes_eq name) names then Err Duplicate else (
+    if length names == MAX_INSTANCES then Err Instances else Ok (names ++ name ∷ []))
+
+-- an instance that a look-up found
+abbrev pub known : Option ℕ → Result ℕ Cause
+known None = Err UnknownInstance
+known (Some p) = Ok p
+
+-- the instance of the name
+unfoldable pub known_of : List Name → Name → Result ℕ Cause
+known_of names name = known (instance_of names name)
+
+-- the name of an instance, by its number from 1
+abbrev pub name_at : List Name → ℕ → Name
+name_at names zero = []
+name_at names (suc place) = unwrap_or (slice_get names place) []

@@ -1,0 +1,11 @@
+pub mod Bytes
+pub mod Digits
+pub mod Faults
+pub mod Instances
+pub mod Lines
+pub mod Outs
+pub mod Pieces
+pub mod Reading
+pub mod Shapes
+pub mod Words
+pub mod Writing

@@ -1,0 +1,2 @@
+pub use Rattle.chart.specs.Names
+pub mod NamedWords

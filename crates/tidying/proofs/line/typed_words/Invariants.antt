@@ -1,6 +1,0 @@
-use Rattle.std.proofs.Common.{◌≡◌, map, filter}
-use Rattle.msc_text.specs.Lines.{is_word}
-use Rattle.tidying.proofs.line.typed_words.Given as goal
-
-abbrev pub invariant-loop-word : goal.invariant-loop-word
-invariant-loop-word l = map (λ w. w.now) l.words.items ≡ filter is_word (map (λ w. w.now) l.yielded)

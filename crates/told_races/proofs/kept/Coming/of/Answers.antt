@@ -1,5 +1,0 @@
-use Rattle.chart.proofs.RangeLists.{none_passed}
-use Rattle.told_races.proofs.kept.Coming.of.Goals as goal
-
-pub invariant_of-result : goal.invariant_of-result
-invariant_of-result c = (c.requires, none_passed c.args.ranges.now c.requires)

@@ -1,9 +1,0 @@
-use Rattle.std.proofs.Common.{◌-◌, length}
-use Rattle.told_tools.proofs.GapLoops.{AreGaps}
-use Rattle.told_tools.proofs.gaps.gaps_length.Given as goal
-
-abbrev pub invariant-gaps : goal.invariant-gaps
-invariant-gaps l = AreGaps l.text l.passed
-
-abbrev pub decreases-gaps : goal.decreases-gaps
-decreases-gaps l = length l.text - l.passed

@@ -1,5 +1,0 @@
-use Rattle.viewing.proofs.GivenLemmas.{given_as}
-use Rattle.viewing.proofs.beside.view_beside.Goals as goal
-
-pub returns : goal.returns
-returns g c = (c.in_ok-both.both, c.as_slice.result.now, c.in_ok-both.ensures, given_as (g.G.Giver.gives c.args.giver.now) 0 _ _ _ c.as_slice.ensures c.in_ok-bytes.ensures, c.draw_witness.ensures)

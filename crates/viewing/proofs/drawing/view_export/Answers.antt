@@ -1,5 +1,0 @@
-use Rattle.viewing.proofs.GivenLemmas.{given_as}
-use Rattle.viewing.proofs.drawing.view_export.Goals as goal
-
-pub returns : goal.returns
-returns g c = (c.in_ok-target.target, c.as_slice.result.now, c.in_ok-target.ensures, given_as (g.G.Giver.gives c.args.giver.now) 0 _ _ _ c.as_slice.ensures c.in_ok-bytes.ensures, c.export.ensures)

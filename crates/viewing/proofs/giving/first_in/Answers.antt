@@ -1,6 +1,0 @@
-use Rattle.std.proofs.Common.{subst}
-use Rattle.viewing.specs.Given.{given_in}
-use Rattle.viewing.proofs.giving.first_in.Goals as goal
-
-pub returns : goal.returns
-returns g c = subst (λ file. g.G.Giver.gives c.args.giver.now 0 file (given_in c.bytes_in.result)) c.file_said.ensures c.bytes_in.ensures

@@ -1,9 +1,0 @@
--- The bytes of a file.
-use Rattle.std.specs.Prelude.{ℕ, List}
-use Rattle.viewing.specs.declared.file_bytes.FileBytes.{FileBytes}
-use Rattle.viewing.specs.declared.file_bytes.FileBytes.TheVariants.{Read, Lent}
-
--- however they are held
-abbrev pub bytes_of : FileBytes → List ℕ
-bytes_of (Read bytes) = bytes.items
-bytes_of (Lent bytes) = bytes.now

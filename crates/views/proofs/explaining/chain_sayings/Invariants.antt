@@ -1,6 +1,0 @@
-use Rattle.std.proofs.Common.{◌≡◌, take}
-use Rattle.asked_pairs.specs.Sayings.{chain_sayings}
-use Rattle.views.proofs.explaining.chain_sayings.Given as goal
-
-abbrev pub invariant-loop-place : goal.invariant-loop-place
-invariant-loop-place l = l.sayings.items ≡ chain_sayings (take l.place l.links)

@@ -1,4 +1,0 @@
-use Rattle.views.proofs.view.why.Goals as goal
-
-pub returns : goal.returns
-returns g c = record { result = c.why_text.result; done = c.why_text.ensures; exits = c.answered.ensures.status; tells = c.answered.ensures.told }

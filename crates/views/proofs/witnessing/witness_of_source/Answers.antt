@@ -1,4 +1,0 @@
-use Rattle.views.proofs.witnessing.witness_of_source.Goals as goal
-
-pub returns : goal.returns
-returns g c = record { result = c.witness_of.result; done = c.witness_of.ensures; exits = c.answered.ensures.status; tells = c.answered.ensures.told }

@@ -1,9 +1,0 @@
-use Rattle.std.proofs.Common.{◌≡◌, ◌-◌, length, take}
-use Rattle.real_races.specs.Walks.{Wanted, wanted}
-use Rattle.witness.specs.Steps.{StandFor}
-use Rattle.run_steps.specs.Steps.{history_of}
-use Rattle.witness.proofs.needs.Needs.complete.Given as goal
-
-abbrev pub invariant-loop-place : goal.invariant-loop-place
-invariant-loop-place l = (w : Wanted) → StandFor l.initial.self.sends l.initial.self.receives l.initial.self.lines w
-    → (v : Wanted) × StandFor l.self.sends l.self.receives l.self.lines v × (wanted l.slots (history_of (take (length l.steps - l.place) l.steps)) v ≡ wanted l.slots (history_of l.steps) w)
