@@ -17,6 +17,8 @@
 //! Messages carry what changed in their sender's clock since the one before on their lane (Singhal and Kshemkalyani
 //! 1992). Each end keeps the number that it loaded last, and looks again only where that leaves too few slots, or too
 //! few messages.
+//!
+//! [`long_runs`] carries what a board left over to the next one.
 #![tactic(auto)]
 
 mod answer;

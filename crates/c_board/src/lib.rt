@@ -7,6 +7,8 @@
 //! `specs/Seats.antt` says what a contract sees of a post in a handle; `Sending` and its neighbours say what each call
 //! answers: what the call of `board` below it does, restated over the handle. `Refusals` has the number of each
 //! refusal.
+//!
+//! [`boards`] copies out what a gathered board has.
 #![tactic(auto)]
 
 mod any;

@@ -14,6 +14,9 @@
 //! - [`laws`] has what holds of the definitions, for any number of instances: a receive's report is read off its line
 //!   and one number (`report_law`), a legal history's chart has a send for each receive and no cycle (`legal_law`), and
 //!   what comes later changes nothing of it (`growth_law`).
+//!
+//! [`line_events`] reads the events of lines by their numbers, [`run_steps`] has the steps of a run, and [`stable_order`]
+//! things by a number that each has.
 #![tactic(auto)]
 
 mod chart;

@@ -13,6 +13,8 @@
 //!   comes first, then a level message, then a send alone.
 //! - Nothing of this leaves a choice: a chart has one layout for its turns ([`one_layout_law`]).
 //! - Of each event it is told which row has it, in constant time ([`Layout::row_of`]).
+//!
+//! [`kept_turns`] has the law that turns are kept, and [`margin`] what stands beside the rows.
 #![tactic(auto)]
 
 mod drawing;

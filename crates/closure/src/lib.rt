@@ -14,6 +14,8 @@
 //!   ([`Closure::reporter`]).
 //! - An audit accepts exactly this list, for a possible chart; else it names the first place where the lists differ
 //!   ([`audit`]).
+//!
+//! [`chain`] tells why an event comes before a receive, and [`cycle`] why a chart is cyclic.
 #![tactic(auto)]
 
 pub mod chain;

@@ -7,6 +7,9 @@
 //! - [`closure_of`] takes exactly the charts that some run has, and refuses any other by its first fault.
 //! - [`refused`] and [`refused_by`] write a refusal's line, or a beginning of it, and answer the exit status 2.
 //! - [`number_in`] reads exactly the words of digits alone whose number has 64 bits.
+//!
+//! [`named`] writes refusals that name an instance, [`columns`] reads which instances are shown, and [`pairs`] which two events
+//! are asked about.
 #![tactic(auto)]
 
 mod answer;

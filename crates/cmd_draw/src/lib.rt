@@ -14,6 +14,8 @@
 //! Of [`export`] the same is promised with the text of the tool in place of the picture; and with status 0 standard
 //! error tells what such a text can't say: a message that isn't level, where the tool has no arrow for it, and
 //! coregions.
+//!
+//! [`witness`] draws a run in which a pair is reordered beside the chart, and [`imports`] draws diagrams of other tools.
 #![tactic(auto)]
 
 mod answering;

@@ -11,6 +11,9 @@
 //!
 //! Of [`show_drawn`] the same is promised with the text of a chart in place of the file's bytes. Where a [`Heading`] tells
 //! whose turn it is, the picture is what `mscview draw` writes of the chart in this order.
+//!
+//! [`marks`] has what a page marks, [`text`] its text, [`answers`] what is said of each race; [`imports`] and [`logs`] make
+//! pages of diagrams and of logs.
 #![tactic(auto)]
 
 pub mod answers;
@@ -22,6 +25,6 @@ mod races;
 mod showing;
 pub mod text;
 
-pub use crate::marks::{MOST_BYTES, MOST_TOLD};
 pub use drawn::show_drawn;
+pub use marks::{MOST_BYTES, MOST_TOLD};
 pub use showing::{Heading, show_text, write_page_of};

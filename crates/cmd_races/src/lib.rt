@@ -11,6 +11,8 @@
 //!
 //! Of [`show_judged`]: the same of a chart's races with the words of their verdicts, whatever tells these, or of luck alone;
 //! and of [`show_unknown`], where luck isn't known: luck alone is refused (G1), behind a name that isn't the chart's (F34).
+//!
+//! [`imports`] answers for diagrams of other tools, [`logs`] for logs, and [`schedules`] with the luck of a schedule.
 #![tactic(auto)]
 
 pub mod imports;

@@ -6,6 +6,8 @@
 //! that would be is refused. What a text says before any chart is drawn is a function of them too ([`diagram_of_text`],
 //! `specs/Reading`). What else reads the text reads it without skipped lines and byte order mark too ([`blanked`],
 //! [`behind_mark`]), and finds a place in it ([`without_lines`], [`from_column`]).
+//!
+//! [`margin`] has the notes and dividers that stand in a picture's margin.
 #![tactic(auto)]
 
 mod error;

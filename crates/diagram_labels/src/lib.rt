@@ -7,6 +7,8 @@
 //!   where another label has that, the spelling with the least number from 2 on that makes it free.
 //! - A name is told where it isn't the label with one `_` for each blank ([`tell_labels`]).
 //! - Memory is taken for spellings and for the names that were given.
+//!
+//! [`renamed`] writes the lines that tell of names that aren't their labels.
 #![tactic(auto)]
 
 mod giving;

@@ -1,4 +1,6 @@
 //! Sequence diagrams that were drawn for other tools, and the charts that they come to.
+//!
+//! [`messages`] has the chart of a list of messages.
 #![tactic(auto)]
 
 mod collecting;

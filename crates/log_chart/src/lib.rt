@@ -7,6 +7,9 @@
 //! - A host's line has its events that stay, in their order. Directly behind a send stand those that are invented there,
 //!   for receives without one, and at its head those that have no message of their lane before them.
 //! - On each lane the n-th message that is received is the n-th that is sent ([`lane_law`]).
+//!
+//! [`cycles`] frees receives until no line comes before itself, [`charts`] draws the chart, and [`named`] makes entries of
+//! lines by names.
 #![tactic(auto)]
 
 mod begun;

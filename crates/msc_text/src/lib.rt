@@ -1,11 +1,12 @@
-//! Texts of charts and schedules: what their readers and writers share.
+//! Texts of charts, written and read (ITU-T Z.120 in this project's profile).
 //!
 //! What is promised:
 //!
 //! - [`write`] writes exactly the chart's text, over any [`Out`]. Where a put fails, a beginning of the text was
 //!   written, exactly one put failed, and none was tried after it.
-//! - Texts are put by a buffer of a fixed size ([`TextBuffer`]), and take no memory.
-//! - A text is cut into the lines and words that it has ([`next_line`], [`words_in`], [`next_word`]).
+//! - [`reader`] reads exactly such texts, and answers the first fault of any other.
+//!
+//! An [`Out`] and its two implementations are those of `texts`.
 #![tactic(auto)]
 
 mod chart_text;
@@ -14,3 +15,4 @@ pub mod reader;
 
 pub use chart_text::{add_chart, chart_name, write};
 pub use race_text::{RaceLines, add_races};
+pub use texts::{MemoryOut, Out, StreamOut};

@@ -12,6 +12,8 @@
 //!
 //! Of [`view`], of the words themselves: what some request asks for was done, or none was made of the words. Which request it
 //! is no contract says, since none says what `clap` reads.
+//!
+//! [`words`] reads what the words behind some options say.
 #![tactic(auto)]
 
 mod asking;

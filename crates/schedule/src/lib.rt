@@ -7,6 +7,9 @@
 //! within the limits; what is spelled so is read; and for anything else the answer is the first fault, in the order of
 //! `docs/FORMATS.md`. So no two schedules have one text, and the first faulty line decides, whatever follows it
 //! ([`laws`]). [`Schedule::write`] writes exactly this text, or with F24 a beginning of it.
+//!
+//! [`outcomes`] has what a schedule comes to, [`interleaver`] draws an order of its commands, and [`turns`] tells whose turn
+//! it is in a run.
 #![tactic(auto)]
 
 mod action_line;

@@ -8,6 +8,8 @@
 //! All posts meet before each command, so that each has seen all that the schedule has come to. The next meeting
 //! shows that only the command's own post has gone on in between: each answer is exact. In the end the board is
 //! gathered.
+//!
+//! [`notes`] finds the line of each note, and [`reordered_runs`] a run in which a receive comes first.
 #![tactic(auto)]
 
 mod commands;

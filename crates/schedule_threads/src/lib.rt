@@ -12,6 +12,8 @@
 //! - A note is given to the command that left it ([`laws::turns_law`]).
 //! - Where memory was refused in the run (F6) there is none.
 //! - Its text is written whole, or with F24 a beginning of it ([`RunOutcome::write`]).
+//!
+//! [`scripts`] makes the script of each instance.
 #![tactic(auto)]
 
 pub mod laws;
