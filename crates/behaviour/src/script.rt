@@ -22,7 +22,7 @@ pub struct Script {
 
 impl Model for Script {
     ghost use Rattle.std.specs.Prelude.{◌≤◌, length};
-    ghost use Rattle.behaviour.specs.Scripts.{ScriptView, script_act, script_after};
+    ghost use Rattle.behaviour.specs.Scripts.{ScriptView};
 
     ghost Value = { ScriptView };
 
@@ -74,6 +74,8 @@ impl Script {
 }
 
 impl Behaviour for Script {
+    ghost use Rattle.behaviour.specs.Scripts.{script_act, script_after};
+
     ghost act = { λ script last. script_act (script_after script last) };
 
     ghost after = { script_after };

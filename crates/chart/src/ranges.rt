@@ -57,9 +57,9 @@ pub struct EventRanges {
 }
 
 impl Model for EventRanges {
-    ghost use Rattle.std.specs.Prelude.{List, All, drop, reverse};
+    ghost use Rattle.std.specs.Prelude.{List};
     ghost use Rattle.chart.specs.declared.instance.EventNo.{EventNo};
-    ghost use Rattle.chart.specs.Ranges.{AreRanges, events_in, IsRange, IsWithinFirst};
+    ghost use Rattle.chart.specs.Ranges.{AreRanges, events_in};
 
     ghost Value = { List EventNo };
 
@@ -172,6 +172,10 @@ pub struct Events<'a> {
 }
 
 impl<'a> Model for Events<'a> {
+    ghost use Rattle.std.specs.Prelude.{List, All, drop};
+    ghost use Rattle.chart.specs.declared.instance.EventNo.{EventNo};
+    ghost use Rattle.chart.specs.Ranges.{IsRange, IsWithinFirst, events_in};
+
     ghost Value = { List EventNo };
 
     ghost view = { λ e. drop e.passed (events_in e.ranges.now) };
@@ -224,6 +228,10 @@ pub struct RangesBuilder {
 }
 
 impl Model for RangesBuilder {
+    ghost use Rattle.std.specs.Prelude.{List, reverse};
+    ghost use Rattle.chart.specs.declared.instance.EventNo.{EventNo};
+    ghost use Rattle.chart.specs.Ranges.{AreRanges, events_in};
+
     ghost Value = { List EventNo };
 
     ghost view = { λ b. events_in (reverse b.backwards.items) };

@@ -116,6 +116,9 @@ pub struct Ends {
 }
 
 impl Model for Ends {
+    ghost use Rattle.std.specs.Prelude.{List, Option};
+    ghost use Rattle.chart.specs.declared.instance.EventNo.{EventNo};
+
     ghost Value = { List (List (Option EventNo)) };
 
     ghost view = { λ e. e.lines.items };

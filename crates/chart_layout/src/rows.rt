@@ -92,6 +92,7 @@ pub struct Layout {
 }
 
 impl Model for Layout {
+    ghost use Rattle.std.specs.Prelude.{List};
     ghost use Rattle.chart_layout.specs.declared.row.Row.{Row};
     ghost use Rattle.chart_layout.specs.Indexes.{IsIndex};
 

@@ -38,7 +38,7 @@ pub struct Diff {
 }
 
 impl Model for Diff {
-    ghost use Rattle.std.specs.Prelude.{List, ◌≡◌, ◌≤◌, length, nat_eq};
+    ghost use Rattle.std.specs.Prelude.{List, ◌≡◌, ◌≤◌, length};
     ghost use Rattle.clock.specs.declared.diff.Change.{Change};
     ghost use Rattle.clock.specs.declared.clock.TheConstants.{INLINE_ENTRIES};
     ghost use Rattle.clock.specs.Places.{changes_of};
@@ -135,10 +135,12 @@ fn all_of(more: &Vec<Change>) -> &[Change]
 }
 
 impl PartialEq for Diff {
+    ghost use Rattle.std.specs.Prelude.{nat_eq};
     ghost use Rattle.std.specs.Cmp.Rules.{comparing};
     ghost use Rattle.std.specs.Ordering.{on, eq_of_both};
     ghost use Rattle.std.specs.Cmp.Lexicographic.{pointwise};
     ghost use Rattle.std.proofs.Common.{rules};
+    ghost use Rattle.clock.specs.declared.diff.Change.{Change};
 
     ghost eq = { pointwise (eq_of_both (on (λ (change : Change). change.instance) nat_eq)
         (on (λ (change : Change). change.entry) nat_eq)) };
@@ -151,5 +153,8 @@ impl PartialEq for Diff {
 }
 
 impl Eq for Diff {
+    ghost use Rattle.std.specs.Cmp.Rules.{comparing};
+    ghost use Rattle.std.proofs.Common.{rules};
+
     ghost laws = { Prim.search (comparing, rules) };
 }

@@ -18,7 +18,7 @@ pub enum DrawError {
 
 impl From<FormatError> for DrawError {
     ghost use Rattle.std.specs.Prelude.{◌≡◌};
-    ghost use Rattle.cmd_draw.specs.declared.error.DrawError.TheVariants.{Format, NoSuchEvent};
+    ghost use Rattle.cmd_draw.specs.declared.error.DrawError.TheVariants.{Format};
 
     ghost from_gives = { λ cause e. e ≡ Format cause };
 
@@ -28,6 +28,8 @@ impl From<FormatError> for DrawError {
 }
 
 impl From<ProgramError> for DrawError {
+    ghost use Rattle.std.specs.Prelude.{◌≡◌};
+    ghost use Rattle.cmd_draw.specs.declared.error.DrawError.TheVariants.{Format};
     ghost use Rattle.cmd_base.specs.declared.columns.error.FormatError.TheVariants.{Program};
 
     ghost from_gives = { λ cause e. e ≡ Format (Program cause) };
@@ -38,6 +40,9 @@ impl From<ProgramError> for DrawError {
 }
 
 impl From<Missing> for DrawError {
+    ghost use Rattle.std.specs.Prelude.{◌≡◌};
+    ghost use Rattle.cmd_draw.specs.declared.error.DrawError.TheVariants.{NoSuchEvent};
+
     ghost from_gives = { λ missing e. e ≡ NoSuchEvent missing };
 
     fn from(missing: Missing) -> DrawError {

@@ -29,6 +29,7 @@ impl From<ProgramError> for MendRefusal {
 }
 
 impl From<ViewError> for MendRefusal {
+    ghost use Rattle.std.specs.Prelude.{◌≡◌};
     ghost use Rattle.cmd_mend.specs.declared.error.MendRefusal.TheVariants.{View};
 
     ghost from_gives = { λ cause e. e ≡ View cause };

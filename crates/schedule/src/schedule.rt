@@ -14,7 +14,7 @@ pub struct Capacity {
 }
 
 impl Model for Capacity {
-    ghost use Rattle.std.specs.Prelude.{ℕ, ◌≤◌, ◌≡◌};
+    ghost use Rattle.std.specs.Prelude.{ℕ, ◌≤◌};
     ghost use Rattle.chart.specs.declared.history.TheConstants.{MAX_CAPACITY};
 
     ghost Value = { ℕ };
@@ -68,6 +68,9 @@ impl Model for Schedule {
 }
 
 impl Schedule {
+    ghost use Rattle.std.specs.Prelude.{◌≡◌};
+    ghost use Rattle.schedule.specs.Plans.{IsPlan};
+
     /// The schedule of these parts.
     pub fn new(names: Names, capacity: Capacity, commands: Vec<Command>) -> Schedule
         requires { IsPlan (record { names = names; capacity = capacity; commands = commands.items }) }

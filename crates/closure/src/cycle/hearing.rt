@@ -77,6 +77,7 @@ pub(crate) struct Hearing<'a> {
 }
 
 impl<'a> Model for Hearing<'a> {
+    ghost use Rattle.std.specs.Prelude.{List};
     ghost use Rattle.chart.specs.Charts.{LineView};
     ghost use Rattle.closure.specs.Cycle.Fronts.{AreHeard};
 

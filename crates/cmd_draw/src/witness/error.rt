@@ -28,6 +28,9 @@ impl From<ProgramError> for Undrawn {
 }
 
 impl From<ViewError> for Undrawn {
+    ghost use Rattle.std.specs.Prelude.{◌≡◌};
+    ghost use Rattle.cmd_draw.specs.declared.witness.error.Undrawn.TheVariants.{Pair};
+
     ghost from_gives = { λ cause e. e ≡ Pair cause };
 
     fn from(cause: ViewError) -> Undrawn {

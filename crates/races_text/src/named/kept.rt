@@ -47,7 +47,7 @@ struct Coming<'a> {
 }
 
 impl<'a> Model for Coming<'a> {
-    ghost use Rattle.std.specs.Prelude.{List, All, drop, filter};
+    ghost use Rattle.std.specs.Prelude.{List, All, drop};
     ghost use Rattle.chart.specs.declared.instance.EventNo.{EventNo};
     ghost use Rattle.chart.specs.Ranges.{IsRange, IsWithinFirst, events_in};
 
@@ -150,8 +150,9 @@ pub(crate) struct KeptRanges<'a> {
 }
 
 impl<'a> Model for KeptRanges<'a> {
+    ghost use Rattle.std.specs.Prelude.{List};
     ghost use Rattle.chart.specs.declared.ranges.EventRange.{EventRange};
-    ghost use Rattle.races_text.specs.Named.Kept.{kept_after, is_kept_after};
+    ghost use Rattle.races_text.specs.Named.Kept.{kept_after};
 
     ghost Value = { List EventRange };
 
@@ -199,6 +200,10 @@ pub struct KeptEvents<'a> {
 }
 
 impl<'a> Model for KeptEvents<'a> {
+    ghost use Rattle.std.specs.Prelude.{List, filter};
+    ghost use Rattle.chart.specs.declared.instance.EventNo.{EventNo};
+    ghost use Rattle.races_text.specs.Named.Kept.{is_kept_after};
+
     ghost Value = { List EventNo };
 
     ghost view = { λ k. filter (is_kept_after k.events.now k.only k.passed) k.coming };
