@@ -1,8 +1,9 @@
 //! What a board does for a message, as one would write it by hand over the kit's rings: the peer in Rattle that a
 //! board's times are compared with.
 //!
-//! Each instance records its own line: the events, what it knows of the others (its clock, an array of numbers), and a
-//! report for each receive, by ranges of neighbouring events. The peer in C, `bench/peers/ring.h`, does the same.
+//! Each instance records its own line: the events, what it knows of the others (its clock, an array of numbers),
+//! and a report for each receive, by ranges of neighbouring events. The peer in C, `bench/peers/ring.h`, does the
+//! same.
 use rtrb::{Consumer, Producer, RingBuffer};
 use std::alloc::{AllocError, AllocFailed, Global};
 

@@ -1,8 +1,9 @@
-//! What the library's parts cost: recorders, messages on threads, replays, and the reading, searching and writing of a
-//! chart. With a word that asks for times it tells them, and else what it would time, which doesn't depend on the machine.
+//! What the library's parts cost: recorders, messages on threads, replays, and the reading, searching and writing
+//! of a chart. With a word that asks for times it tells them, and else what it would time, which doesn't depend on
+//! the machine.
 //!
-//! - `recorders` and `threads`, with `time` behind: recorders on short and on long lines, and messages that behaviours and
-//!   posts pass.
+//! - `recorders` and `threads`, with `time` behind: recorders on short and on long lines, and messages that
+//!   behaviours and posts pass.
 //! - `replays FILE`, with `time NUMBER` behind: so many replays of a schedule.
 //! - `charts FILE`, with `time` behind: the text of a chart, which is written to standard output then.
 //! - `make` and `token`, `mixed` or `bursts` writes the text of a large chart with such traffic.

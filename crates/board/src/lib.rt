@@ -5,11 +5,12 @@
 //! made. A receive gets the first message that waited, or the first of several, and each report is exactly that of
 //! the chart of this history. Several messages are sent by one store, all of them or none ([`Post::send_all`]), and
 //! received by one ([`Post::receive_up_to`]). Posts that [`meet`] have then seen one history. At the end [`gather`]
-//! takes all posts of a board and answers its chart, its reports, what waits on each lane, and the lanes that were closed.
+//! takes all posts of a board and answers its chart, its reports, what waits on each lane, and the lanes that were
+//! closed.
 //!
 //! A post borrows its board's words. A [`Parked`] one doesn't: it is the same post without them. Each of its calls
-//! takes them, and it can be woken at them ([`Parked::wake`], `specs/Parked.antt`). [`open_parked`] makes a board whose
-//! words lie with the caller.
+//! takes them, and it can be woken at them ([`Parked::wake`], `specs/Parked.antt`). [`open_parked`] makes a board
+//! whose words lie with the caller.
 //!
 //! `specs/Views.antt` says what a contract sees of a post; `Sending`, `Taking`, `TakingMany`, `Glancing`, `Closing`,
 //! `Meeting` and `Gathering` say what each call answers.

@@ -3,10 +3,10 @@
 //!
 //! What is promised:
 //!
-//! - Of every run ([`every_run`]): what was sent, received and closed is a legal history, and each lane has passed on
-//!   what it says. The clock of each published message is what its send knows in the history's chart. The reports of an
-//!   instance's receives are those of its line's receives, and its recorder has this line, what it knows, and these
-//!   reports.
+//! - Of every run ([`every_run`]): what was sent, received and closed is a legal history, and each lane has passed
+//!   on what it says. The clock of each published message is what its send knows in the history's chart. The
+//!   reports of an instance's receives are those of its line's receives, and its recorder has this line, what it
+//!   knows, and these reports.
 //! - Each legal history is that of a run ([`every_history`]), so the laws leave out nothing that is allowed.
 //! - Along a lane the differences between the clocks of its sends, applied in order from zeros, give what each send
 //!   knows ([`differences_law`]).

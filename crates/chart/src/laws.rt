@@ -1,7 +1,7 @@
-//! The laws of charts, each the contract of a function that does nothing. Of names: that no word of the chart text's
-//! own is one. Of any chart: what is before a receive on its own line, what a send knows of each line, and what a
-//! receive hears. Of the charts of legal histories: that each receive has its send and no event is before itself, what
-//! one more event adds, what later events leave as it is, and what is there once.
+//! The laws of charts, each the contract of a function that does nothing. Of names: that no word of the chart
+//! text's own is one. Of any chart: what is before a receive on its own line, what a send knows of each line, and
+//! what a receive hears. Of the charts of legal histories: that each receive has its send and no event is before
+//! itself, what one more event adds, what later events leave as it is, and what is there once.
 ghost use Rattle.chart.specs.Laws.{KeywordLaw, ReportLaw, RacesLaw, OwnKnowledgeLaw, KnowledgeLaw, FirstHearingLaw};
 ghost use Rattle.chart.specs.Laws.{ReceiveHearingLaw, SendHearingLaw, NoSendLaw, OtherNameLaw, SendLaw, NoCycleLaw};
 ghost use Rattle.chart.specs.Laws.{OtherLineLaw, CloseLineLaw, SendLineLaw, ReceiveLineLaw, NewSendLaw, NewSendOwnLaw};

@@ -2,14 +2,14 @@
 //!
 //! What is promised:
 //!
-//! - [`schedule_in`] and [`chart_in`] answer what the text says, or its first fault. [`is_schedule`] tells which of the
-//!   two a file is by its first word.
+//! - [`schedule_in`] and [`chart_in`] answer what the text says, or its first fault. [`is_schedule`] tells which of
+//!   the two a file is by its first word.
 //! - [`closure_of`] takes exactly the charts that some run has, and refuses any other by its first fault.
 //! - [`refused`] and [`refused_by`] write a refusal's line, or a beginning of it, and answer the exit status 2.
 //! - [`number_in`] reads exactly the words of digits alone whose number has 64 bits.
 //!
-//! [`named`] writes refusals that name an instance, [`columns`] reads which instances are shown, and [`pairs`] which two events
-//! are asked about.
+//! [`named`] writes refusals that name an instance, [`columns`] reads which instances are shown, and [`pairs`]
+//! which two events are asked about.
 #![tactic(auto)]
 
 mod answer;

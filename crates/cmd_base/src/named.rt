@@ -3,9 +3,9 @@
 //! What is asked for is an instance by the bytes of its name ([`instance_said`]), and an event by its number on the
 //! instance's line ([`has_event`]).
 //!
-//! What is promised ([`refused_at`], [`refused_missing`]): the line has the refusal's number and name, then the name of the
-//! instance, and then a number where there is one. It was written, or a beginning of it where a put failed. Nothing here
-//! takes memory.
+//! What is promised ([`refused_at`], [`refused_missing`]): the line has the refusal's number and name, then the
+//! name of the instance, and then a number where there is one. It was written, or a beginning of it where a put
+//! failed. Nothing here takes memory.
 
 mod asked;
 mod line;

@@ -2,8 +2,8 @@
 //!
 //! What is promised:
 //!
-//! - [`pair_in`] finds exactly the receive and the earlier event of its line that the words name, or refuses them (F31,
-//!   F32).
+//! - [`pair_in`] finds exactly the receive and the earlier event of its line that the words name, or refuses them
+//!   (F31, F32).
 //! - [`refused`] prints the refusal's line, or a beginning of it where standard error failed.
 //! - [`write_sayings`] and [`write_chain`] write exactly their lines, unless a write failed (F24). Nothing here takes
 //!   memory.

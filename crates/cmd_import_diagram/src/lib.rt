@@ -1,9 +1,9 @@
 //! What `mscview import` answers to the bytes of a file.
 //!
-//! What is promised ([`import`]): with status 0 exactly the text of the chart was written that the diagram comes to, a
-//! possible one, and standard error tells what is left out of it, in the order of the first places, and each name that
-//! isn't its label's words. With status 2 the refusal's line was written, or a beginning of it where standard error
-//! failed, and nothing went to the output before it, unless a write failed (F24).
+//! What is promised ([`import`]): with status 0 exactly the text of the chart was written that the diagram comes
+//! to, a possible one, and standard error tells what is left out of it, in the order of the first places, and each
+//! name that isn't its label's words. With status 2 the refusal's line was written, or a beginning of it where
+//! standard error failed, and nothing went to the output before it, unless a write failed (F24).
 #![tactic(auto)]
 
 mod importing;

@@ -1,8 +1,9 @@
 //! What is told of a chart that was drawn from a log.
 //!
-//! What is promised ([`write_told`]): exactly the text of what is told was written, or where a write failed a beginning of
-//! it: how many lines don't match, what is left out, which receives are freed and which sends are invented, and each name
-//! that isn't its word. A line is told by its number, and by its file's name too where there are several.
+//! What is promised ([`write_told`]): exactly the text of what is told was written, or where a write failed a
+//! beginning of it: how many lines don't match, what is left out, which receives are freed and which sends are
+//! invented, and each name that isn't its word. A line is told by its number, and by its file's name too where
+//! there are several.
 
 mod overtaking;
 mod spot;

@@ -1,8 +1,8 @@
-//! What a page tells of a race: what `mscview why`, `mscview witness` and `mscview mend` leave of its two events, and which
-//! rows of it are shown.
+//! What a page tells of a race: what `mscview why`, `mscview witness` and `mscview mend` leave of its two events,
+//! and which rows of it are shown.
 //!
-//! What is promised of [`answers_of`], unless an allocation is refused: each text is what its command leaves of the file's
-//! bytes, and the rows that are shown are those round the two events.
+//! What is promised of [`answers_of`], unless an allocation is refused: each text is what its command leaves of the
+//! file's bytes, and the rows that are shown are those round the two events.
 
 mod answers;
 mod collected;

@@ -1,8 +1,8 @@
 //! The races of a page, and what it marks of each, as numbers.
 //!
-//! What is promised, unless an allocation is refused: the races are one for each range of earlier events of each receive's
-//! report ([`pairs_of`]). Of a receive all is known that has to come before it: of each line so many first events, and
-//! earlier receives from its sender ([`marks_of`]).
+//! What is promised, unless an allocation is refused: the races are one for each range of earlier events of each
+//! receive's report ([`pairs_of`]). Of a receive all is known that has to come before it: of each line so many
+//! first events, and earlier receives from its sender ([`marks_of`]).
 
 mod marks;
 mod pairs;

@@ -7,8 +7,8 @@
 //! - With status 2 the refusal's line was written, or a beginning of it where standard error failed, and nothing went
 //!   to the output before it, unless a write failed (F24).
 //! - What is written of a schedule whose instances run on threads is what a run of its own scripts came to
-//!   ([`perform_on_threads`]): each instance does its own commands, in their order. Its parts are there too: [`scripts`],
-//!   [`run_schedule`] and [`show_run`], by which any run decides the output's bytes.
+//!   ([`perform_on_threads`]): each instance does its own commands, in their order. Its parts are there too:
+//!   [`scripts`], [`run_schedule`] and [`show_run`], by which any run decides the output's bytes.
 //! - [`turns_in`] reads exactly the words of digits alone whose number is one of turns that a run may have.
 #![tactic(auto)]
 

@@ -1,11 +1,11 @@
 //! Charts from sequence diagrams that were drawn for other tools.
 //!
-//! What is promised, unless an allocation is refused ([`import_text`]): the chart, what is left out and what is told of
-//! names are a function of the text's bytes and of the options (`specs/Importing`), and any other text gets its first
-//! refusal. Lines that are skipped are blanks before anything is read. Where nothing may be left out, the first thing
-//! that would be is refused. What a text says before any chart is drawn is a function of them too ([`diagram_of_text`],
-//! `specs/Reading`). What else reads the text reads it without skipped lines and byte order mark too ([`blanked`],
-//! [`behind_mark`]), and finds a place in it ([`without_lines`], [`from_column`]).
+//! What is promised, unless an allocation is refused ([`import_text`]): the chart, what is left out and what is
+//! told of names are a function of the text's bytes and of the options (`specs/Importing`), and any other text gets
+//! its first refusal. Lines that are skipped are blanks before anything is read. Where nothing may be left out, the
+//! first thing that would be is refused. What a text says before any chart is drawn is a function of them too
+//! ([`diagram_of_text`], `specs/Reading`). What else reads the text reads it without skipped lines and byte order
+//! mark too ([`blanked`], [`behind_mark`]), and finds a place in it ([`without_lines`], [`from_column`]).
 //!
 //! [`margin`] has the notes and dividers that stand in a picture's margin.
 #![tactic(auto)]

@@ -2,7 +2,8 @@
 //!
 //! What is promised:
 //!
-//! - A label that is a name stays as it is, and what any label is spelled as is a name ([`spelled`], [`spelled_law`]).
+//! - A label that is a name stays as it is, and what any label is spelled as is a name ([`spelled`],
+//!   [`spelled_law`]).
 //! - What a new label is called no label before it is called ([`GivenNames::give`], [`called_law`]): its spelling, or
 //!   where another label has that, the spelling with the least number from 2 on that makes it free.
 //! - A name is told where it isn't the label with one `_` for each blank ([`tell_labels`]).

@@ -1,7 +1,8 @@
 //! Statements of PlantUML's sequence diagrams.
 //!
-//! What is promised ([`reading_of`]): what a statement means is a function of its words: the first of PlantUML's forms that
-//! it has, and the block that it begins. [`add_meaning`] adds what it says, and memory is refused at a growth alone.
+//! What is promised ([`reading_of`]): what a statement means is a function of its words: the first of PlantUML's
+//! forms that it has, and the block that it begins. [`add_meaning`] adds what it says, and memory is refused at a
+//! growth alone.
 #![tactic(auto)]
 
 mod life;

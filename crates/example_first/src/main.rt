@@ -1,4 +1,5 @@
-//! Two clients order at a server, each on a thread of its own. The server tells each race of its receives as it comes.
+//! Two clients order at a server, each on a thread of its own. The server tells each race of its receives as it
+//! comes.
 #![tactic(auto)]
 
 use anyhow::bail;

@@ -1,7 +1,7 @@
-//! A lane between two instances as a pure machine: a bounded ring of slots with one sender and one receiver, which its
-//! sender may close. It has two forms, by what the ends read and write of each other: index words and slot words. Each
-//! end is a value that says what comes next and what a loaded word means. It holds no message, so messages may be of
-//! any type.
+//! A lane between two instances as a pure machine: a bounded ring of slots with one sender and one receiver, which
+//! its sender may close. It has two forms, by what the ends read and write of each other: index words and slot
+//! words. Each end is a value that says what comes next and what a loaded word means. It holds no message, so
+//! messages may be of any type.
 //!
 //! What is promised of every run of the two ends, whatever the order of their steps ([`every_run`]):
 //!

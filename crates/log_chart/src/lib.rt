@@ -2,14 +2,15 @@
 //!
 //! What is promised, unless an allocation is refused ([`host_lines`]):
 //!
-//! - Each receive takes the first send of its lane with its id or, where it has none, its name that none before it took.
+//! - Each receive takes the first send of its lane with its id or, where it has none, its name that none before it
+//!   took.
 //! - What is lost is left out, and so is each message that overtakes; nothing else is. It is told by its number.
-//! - A host's line has its events that stay, in their order. Directly behind a send stand those that are invented there,
-//!   for receives without one, and at its head those that have no message of their lane before them.
+//! - A host's line has its events that stay, in their order. Directly behind a send stand those that are invented
+//!   there, for receives without one, and at its head those that have no message of their lane before them.
 //! - On each lane the n-th message that is received is the n-th that is sent ([`lane_law`]).
 //!
-//! [`cycles`] frees receives until no line comes before itself, [`charts`] draws the chart, and [`named`] makes entries of
-//! lines by names.
+//! [`cycles`] frees receives until no line comes before itself, [`charts`] draws the chart, and [`named`] makes
+//! entries of lines by names.
 #![tactic(auto)]
 
 mod begun;

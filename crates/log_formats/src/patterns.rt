@@ -1,7 +1,8 @@
 //! Logs that an expression tells how to read, in the syntax of Rust's regex crate.
 //!
-//! What is promised, unless an allocation is refused, given which lines match and what their groups are (the word of the
-//! crate `regex`): what is read of a log is a function of its bytes and of the expression's groups ([`read_by`]).
+//! What is promised, unless an allocation is refused, given which lines match and what their groups are (the word
+//! of the crate `regex`): what is read of a log is a function of its bytes and of the expression's groups
+//! ([`read_by`]).
 
 mod expression;
 mod feeds;

@@ -1,8 +1,8 @@
 //! Logs of messages: what their lines say.
 //!
 //! What is promised, unless an allocation is refused: what is read of a log is a function of its bytes, of an
-//! application's ([`read_plain`]), and of one for ShiViz ([`read_shiviz`], [`by_words`]): its events in the order of the
-//! lines, each with its place, and how many lines aren't read.
+//! application's ([`read_plain`]), and of one for ShiViz ([`read_shiviz`], [`by_words`]): its events in the order
+//! of the lines, each with its place, and how many lines aren't read.
 //!
 //! [`names`] gives the lines names for hosts and messages, and [`takes`] reads what each receive would have taken.
 #![tactic(auto)]

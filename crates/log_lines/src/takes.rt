@@ -1,8 +1,8 @@
 //! What a log tells beside its messages: what each receive would have taken, and which messages arrived when.
 //!
-//! What is promised, unless an allocation is refused: what is told is a function of the log's bytes ([`read_told`]), and so
-//! are the words of its lines ([`words_in`]); an arrival is one of the stream of the lines with its lane, and its id or
-//! name ([`arrivals_in`]).
+//! What is promised, unless an allocation is refused: what is told is a function of the log's bytes
+//! ([`read_told`]), and so are the words of its lines ([`words_in`]); an arrival is one of the stream of the lines
+//! with its lane, and its id or name ([`arrivals_in`]).
 
 mod arrivals;
 mod key;

@@ -1,4 +1,5 @@
-//! mscrun: reads the command line and one file, and hands the file's bytes to the library. Runs on threads begin here.
+//! mscrun: reads the command line and one file, and hands the file's bytes to the library. Runs on threads begin
+//! here.
 #![tactic(auto)]
 
 ghost use Rattle.std.specs.Prelude.{◌≡◌};

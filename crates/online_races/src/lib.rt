@@ -1,8 +1,8 @@
 //! The races of a receive, found as it comes (the races of Alur, Holzmann, Peled 1996, in this project's profile).
 //!
 //! What is promised: the answer has exactly those events of the line that the receive's send doesn't know, but for
-//! receives from the same sender and receives of the receive's own coregion, in increasing order. Where there are none,
-//! the call isn't refused.
+//! receives from the same sender and receives of the receive's own coregion, in increasing order. Where there are
+//! none, the call isn't refused.
 #![tactic(auto)]
 
 ghost use Rattle.std.specs.Prelude.{◌≡◌, ℕ, ◌-◌, ◌<◌, ◌≤◌, List, [], ◌++◌, length, map, take, vec_capacity, All};

@@ -1,5 +1,5 @@
-//! What a recording tells beside its chart: what each receive would have taken, which messages had arrived when, and for
-//! each race whether it was luck.
+//! What a recording tells beside its chart: what each receive would have taken, which messages had arrived when,
+//! and for each race whether it was luck.
 //!
 //! These are types alone, lent by whoever read the recording. What they mean is in `luck`.
 #![tactic(auto)]

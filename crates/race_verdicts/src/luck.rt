@@ -1,13 +1,13 @@
 //! Which races of a recording were luck.
 //!
-//! A race of a log's chart says that a receive's message could have come before an earlier event of its line. It was luck
-//! where the program didn't choose, and the message was the next one that the earlier receive would have had. What is
-//! promised, unless an allocation is refused ([`Judge::of`]):
+//! A race of a log's chart says that a receive's message could have come before an earlier event of its line. It
+//! was luck where the program didn't choose, and the message was the next one that the earlier receive would have
+//! had. What is promised, unless an allocation is refused ([`Judge::of`]):
 //!
-//! - For each receive and each earlier event of its line the first reason that holds why it was no luck, or that it was
-//!   ([`Judge::verdict`]): one of the two is begun in the middle; the earlier event is a send; what the chart leaves out puts
-//!   the earlier event before the message's send; the earlier receive would not take the message; it passed it over; the
-//!   message is behind another.
+//! - For each receive and each earlier event of its line the first reason that holds why it was no luck, or that it
+//!   was ([`Judge::verdict`]): one of the two is begun in the middle; the earlier event is a send; what the chart
+//!   leaves out puts the earlier event before the message's send; the earlier receive would not take the message;
+//!   it passed it over; the message is behind another.
 //! - That is all by the recording and the chart's enforced order: a pair has one verdict ([`one_verdict_law`]).
 
 mod arrivals;

@@ -1,5 +1,5 @@
-//! The races of a chart, told by the names of their messages: in words, a line for each range of earlier events, or as
-//! JSON, an object for each receive.
+//! The races of a chart, told by the names of their messages: in words, a line for each range of earlier events, or
+//! as JSON, an object for each receive.
 //!
 //! What is promised of [`write_races`]: exactly the ranges of the chart's reports were written, of the instances that
 //! are asked for and of the earlier events that are shown, each range as long as it can be and with the names of its

@@ -1,5 +1,5 @@
-//! Other runs of a chart's events: in which a pair stands the other way round, one such run as a list of steps, and which
-//! pairs stay as they are where more is enforced.
+//! Other runs of a chart's events: in which a pair stands the other way round, one such run as a list of steps, and
+//! which pairs stay as they are where more is enforced.
 #![tactic(auto)]
 
 pub mod completion;

@@ -1,5 +1,5 @@
-//! Commands' lines that are read at once: sends and receives whose words stand where theirs do, and whose names were mostly
-//! read before. What a line is that isn't read so is for [`crate::action_line`] to say.
+//! Commands' lines that are read at once: sends and receives whose words stand where theirs do, and whose names
+//! were mostly read before. What a line is that isn't read so is for [`crate::action_line`] to say.
 ghost use Rattle.std.specs.Prelude.{◌≡◌, ◌∷◌, Ok, IfSome};
 ghost use Rattle.texts.specs.Lines.{words_of};
 ghost use Rattle.schedule.specs.ActionLines.{action_by, action_of};

@@ -1,7 +1,7 @@
 //! Calls of posts, as tests make them, and what is asserted of what they answer. Messages have names of one letter.
 //!
-//! An assertion is a call: the borrow checker's part of a proof grows with each branch of a function, and an `assert!`
-//! or an `assert_eq!` is one.
+//! An assertion is a call: the borrow checker's part of a proof grows with each branch of a function, and an
+//! `assert!` or an `assert_eq!` is one.
 ghost use Rattle.std.specs.Prelude.{◌≡◌};
 ghost use Rattle.board.specs.Meeting.{AreOfOneBoard};
 

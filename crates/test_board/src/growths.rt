@@ -1,6 +1,6 @@
-//! Calls whose growth is refused: each is made once more, and then answers in full. A test ends with a growth of its
-//! own, whose refusal tells that each one before it was refused in an earlier run of the test. Posts of nine instances
-//! take memory for a difference of nine changes, those of two never.
+//! Calls whose growth is refused: each is made once more, and then answers in full. A test ends with a growth of
+//! its own, whose refusal tells that each one before it was refused in an earlier run of the test. Posts of nine
+//! instances take memory for a difference of nine changes, those of two never.
 ghost use Rattle.std.specs.Prelude.{◌≤◌};
 
 use crate::calls::{

@@ -1,4 +1,5 @@
-//! Whose calls a schedule's deeds are made by: those of posts, one message or a list at a time, or those of mailboxes.
+//! Whose calls a schedule's deeds are made by: those of posts, one message or a list at a time, or those of
+//! mailboxes.
 use board::{Arrival, Post, SendError, TakeError, Taken, TakenMany};
 use chart::{InstanceNo, Message};
 use mailbox::{Mailbox, any_from};

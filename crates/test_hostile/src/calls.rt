@@ -1,7 +1,7 @@
 //! Instances, messages and arrivals, as tests make and look at them, and what is asserted.
 //!
-//! An assertion is a call: the borrow checker's part of a proof grows with each branch of a function, and an `assert!`
-//! or an `assert_eq!` is one.
+//! An assertion is a call: the borrow checker's part of a proof grows with each branch of a function, and an
+//! `assert!` or an `assert_eq!` is one.
 ghost use Rattle.std.specs.Prelude.{◌≡◌};
 ghost use Rattle.board.specs.Meeting.{AreOfOneBoard};
 

@@ -1,5 +1,5 @@
-//! Boards of worked schedules that are gathered, with each growth of memory refused in turn: each refused call is made
-//! once more, and then answers in full.
+//! Boards of worked schedules that are gathered, with each growth of memory refused in turn: each refused call is
+//! made once more, and then answers in full.
 ghost use Rattle.std.specs.Prelude.{◌≡◌};
 ghost use Rattle.board.specs.Meeting.{AreOfOneBoard};
 ghost use Rattle.chart.specs.Reports.{AreReports};

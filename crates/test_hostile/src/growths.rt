@@ -1,6 +1,6 @@
-//! Worked schedules with each growth of memory refused in turn, by the calls of posts and by those of mailboxes: each
-//! refused call is made once more, and then answers in full. A test ends with a growth of its own, whose refusal tells
-//! that each one before it was refused in an earlier run of the test.
+//! Worked schedules with each growth of memory refused in turn, by the calls of posts and by those of mailboxes:
+//! each refused call is made once more, and then answers in full. A test ends with a growth of its own, whose
+//! refusal tells that each one before it was refused in an earlier run of the test.
 use crate::callers::{Caller, Listed, Single};
 use crate::calls::{every_growth_was_refused, has_come, holds, instance, message, put};
 use crate::schedules::{Deed, WORKED, Worked};

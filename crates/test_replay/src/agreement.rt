@@ -1,5 +1,5 @@
-//! That a schedule comes to what the plain model in Python says: worked schedules, and drawn orders of one. The model's
-//! answers are in `stored`, as `tools/model/stored_replays.py` prints them.
+//! That a schedule comes to what the plain model in Python says: worked schedules, and drawn orders of one. The
+//! model's answers are in `stored`, as `tools/model/stored_replays.py` prints them.
 
 use crate::calls::are_bytes;
 use crate::stored::{DRAWN, WORKED};

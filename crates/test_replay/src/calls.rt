@@ -1,8 +1,8 @@
 //! Instances and messages' names, by their numbers and letters; what is asserted; and the end of a test whose growths
 //! are refused.
 //!
-//! An assertion is a call: the borrow checker's part of a proof grows with each branch of a function, and an `assert!`
-//! or an `assert_eq!` is one.
+//! An assertion is a call: the borrow checker's part of a proof grows with each branch of a function, and an
+//! `assert!` or an `assert_eq!` is one.
 use chart::{EventNo, InstanceNo, Name};
 use std::alloc::Global;
 use std::process::Abort;

@@ -1,5 +1,5 @@
-//! Each call of a recorder among nine instances, whose differences may take memory, with each growth refused: it is made
-//! once more, and then answers in full.
+//! Each call of a recorder among nine instances, whose differences may take memory, with each growth refused: it is
+//! made once more, and then answers in full.
 ghost use Rattle.std.specs.Prelude.{◌≡◌, ◌≢◌, ◌≤◌, length};
 
 use crate::calls::{are, every_growth_was_refused, instance, name};
