@@ -1,5 +1,5 @@
--- The instances of a text by their names: what becomes of a new name, and the instance that a name has.
-use Rattle.std.specs.Prelude.{ℕ, ◌==◌, List, [], ◌∷◌, ◌++◌, length, Option, None, Some, Result, Ok, Err, bytes_eq, if◌then◌else◌}
+-- The instances of a text by their names: what becomes of a new name, the instance that a name has, and an instance's name.
+use Rattle.std.specs.Prelude.{ℕ, zero, suc, ◌==◌, List, [], ◌∷◌, ◌++◌, length, slice_get, Option, None, Some, unwrap_or, Result, Ok, Err, bytes_eq, if◌then◌else◌}
 use Rattle.std.specs.List.{list_any}
 use Rattle.chart.specs.Words.{Name}
 use Rattle.chart.specs.Names.{instance_of}

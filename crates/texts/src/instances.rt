@@ -1,7 +1,7 @@
 //! The instances of a text by their names, and a line's fault with its number, for the readers.
-ghost use Rattle.std.specs.Prelude.{◌≡◌};
+ghost use Rattle.std.specs.Prelude.{◌≡◌, ◌≤◌, length};
 ghost use Rattle.texts.specs.Faults.{Gives, in_line};
-ghost use Rattle.texts.specs.Instances.{with_name, known_of};
+ghost use Rattle.texts.specs.Instances.{with_name, known_of, name_at};
 
 use crate::fault::{Cause, Fault, TextError};
 use chart::{InstanceNo, Name, Names, NamesError};
