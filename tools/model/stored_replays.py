@@ -5,12 +5,14 @@ Prints crates/test_replay/src/stored.rt, in which tests find what the plain mode
 """
 
 import hashlib
-import os
+import pathlib
+import sys
 
+TOP = pathlib.Path(__file__).resolve().parents[2]
+sys.path.insert(0, str(TOP / "tools/lib"))
+from case_texts import read_case
 from replays import random, replay
 from schedule_texts import read_schedule
-
-CASES = os.path.join(os.path.dirname(os.path.abspath(__file__)), "..", "..", "cases")
 
 # The cases whose schedules are replayed, and a schedule that is none of them.
 WORKED = """
@@ -42,8 +44,9 @@ pub static DRAWN: &[u8] =
 
 
 def input_of(case):
-    with open(os.path.join(CASES, case, "input"), "rb") as file:
-        return file.read()
+    (path,) = TOP.glob(f"cases/mscrun/*/{case}.case")
+    sections, _ = read_case(path, TOP)
+    return sections["input"]
 
 
 def literal(text):
