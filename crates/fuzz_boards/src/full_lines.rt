@@ -9,6 +9,7 @@ use chart::{InstanceNo, MAX_EVENTS, Name};
 use instances::Trace;
 use std::alloc::Global;
 use std::thread::Threads;
+use std::time::Clock;
 
 const INSTANCES: usize = 8;
 
@@ -61,12 +62,19 @@ fn are_full(gathered: &Gathered) -> bool {
 }
 
 /// Eight instances fill their lines, and each tries a send and a receive more. How many lines there are is answered.
-pub fn fill_lines<R: Threads + Sync>(rt: &R, alloc: Global) -> anyhow::Result<usize> {
+pub fn fill_lines<R: Threads + Clock + Sync>(rt: &R, alloc: Global) -> anyhow::Result<usize> {
     let mut behaviours: Vec<Box<dyn Behaviour + Send>> = Vec::new(alloc);
     for place in 0..INSTANCES {
         behaviours.push(Box::new(alloc, filler(alloc, place)?)?)?;
     }
-    let ran = run_board(rt, alloc, SLOTS, behaviours, TURNS, &OthersFirst)?;
+    let ran = run_board(
+        rt,
+        alloc,
+        SLOTS,
+        behaviours,
+        TURNS,
+        &OthersFirst { clock: rt },
+    )?;
     if !are_full(&ran.gathered) {
         bail!("a line isn't full");
     }

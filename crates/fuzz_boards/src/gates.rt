@@ -3,6 +3,7 @@ use chart::InstanceNo;
 use instances::Gate;
 use std::sync::atomic::{AtomicU64, Ordering};
 use std::thread;
+use std::time::{Clock, Duration};
 
 /// How often an instance looks for the others before it begins without them.
 const PATIENCE: u32 = 10_000;
@@ -46,12 +47,25 @@ impl Gate for Together {
     }
 }
 
-/// Lets other threads go first before each act.
-#[derive(Clone, Copy, Debug)]
-pub struct OthersFirst;
+/// How many turns an instance has between two rests.
+const TURNS_TO_REST: u32 = 64;
 
-impl Gate for OthersFirst {
-    fn before(&self, _p: InstanceNo, _turn: u32) {
-        thread::yield_now();
+/// How long a rest is, in milliseconds.
+const REST: u64 = 4;
+
+/// Lets other threads go first before each act, and rests now and then. A machine whose processors are busy may run the
+/// others much later: an instance that only yields has spent its turns by then.
+#[derive(Clone, Copy)]
+pub struct OthersFirst<'a, R> {
+    pub clock: &'a R,
+}
+
+impl<R: Clock> Gate for OthersFirst<'_, R> {
+    fn before(&self, _p: InstanceNo, turn: u32) {
+        if turn % TURNS_TO_REST == 0 {
+            thread::sleep(self.clock, Duration::from_millis(REST));
+        } else {
+            thread::yield_now();
+        }
     }
 }

@@ -25,6 +25,7 @@ use running::{Runs, run_all};
 use std::convert::AsStr;
 use std::env;
 use std::thread::Threads;
+use std::time::Clock;
 
 /// Makes these runs, and tells how many were accepted.
 fn tell<R: Threads + Print + AllocGlobal + Sync>(rt: &R, runs: Runs) -> anyhow::Result<()> {
@@ -41,7 +42,7 @@ fn tell<R: Threads + Print + AllocGlobal + Sync>(rt: &R, runs: Runs) -> anyhow::
 }
 
 /// Makes all runs that have a name, and tells of each kind.
-fn tell_all<R: Threads + Print + AllocGlobal + Sync>(rt: &R) -> anyhow::Result<()> {
+fn tell_all<R: Threads + Clock + Print + AllocGlobal + Sync>(rt: &R) -> anyhow::Result<()> {
     for (instances, many) in [(3, 200), (8, 20), (32, 20)] {
         tell(
             rt,
